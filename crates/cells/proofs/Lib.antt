@@ -1,0 +1,4 @@
+pub mod Signed
+pub mod Stores
+pub mod Clearing
+pub mod Table

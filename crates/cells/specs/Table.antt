@@ -1,0 +1,45 @@
+-- A table has eight cells a label, labels from 1: label l's row starts at index 8 * (l - 1).
+-- Structure is read in ℕ: a cell is 0 of label 0, past the end, and where it is negative.
+use Prim.Native.Nat.{ℕ, zero, suc, _+_, _*_}
+use mathlib.Core.List.{List}
+use lib.IntN.{ℤ, pos}
+use Rattle.cells.specs.Cells.{intAt, natAt}
+
+-- cell j (0 to 7) of label l
+abbrev pub cell : List ℤ → ℕ → ℕ → ℕ
+cell t zero j = 0
+cell t (suc k) j = natAt t (8 * k + j)
+
+-- the kind code
+abbrev pub kind : List ℤ → ℕ → ℕ
+kind t l = cell t l 0
+
+-- the byte start (from 0) and the length of the name field; 0 and 0 for `-`
+abbrev pub nameStart : List ℤ → ℕ → ℕ
+nameStart t l = cell t l 1
+
+abbrev pub nameLength : List ℤ → ℕ → ℕ
+nameLength t l = cell t l 2
+
+-- the fields a, b and c as labels; 0 for `-`
+abbrev pub fieldA : List ℤ → ℕ → ℕ
+fieldA t l = cell t l 3
+
+abbrev pub fieldB : List ℤ → ℕ → ℕ
+fieldB t l = cell t l 4
+
+abbrev pub fieldC : List ℤ → ℕ → ℕ
+fieldC t l = cell t l 5
+
+-- the owner: a definition's Group, an expression's definition
+abbrev pub owner : List ℤ → ℕ → ℕ
+owner t l = cell t l 6
+
+-- the target of an R or C line, else 0
+abbrev pub target : List ℤ → ℕ → ℕ
+target t l = cell t l 7
+
+-- the number of an N line: its field a, which is any integer
+abbrev pub numberOf : List ℤ → ℕ → ℤ
+numberOf t zero = pos 0
+numberOf t (suc k) = intAt t (8 * k + 3)

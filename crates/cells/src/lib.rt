@@ -1,0 +1,110 @@
+// Signed cells of lent buffers. Arithmetic on a cell's sign and bits stands here, so that what is above works on
+// usize, u64 and bool and passes an i64 on whole. Readers are total: past the end there is a 0.
+
+ghost use mathlib.Core.Path.{_≡_};
+ghost use Prim.Native.Nat.{_+_, _-_, _*_, _^_, _≤_, _<_};
+ghost use lib.ListN.{length, set};
+ghost use lib.IntN.{pos, natAbs};
+ghost use Rattle.cells.specs.Cells.{isNegative, natOf, withSign, intAt, natAt, zeros, clearFrom};
+ghost use Rattle.cells.specs.Table.{cell};
+
+// ---- the sign and the size of a cell
+
+pub fn is_negative(x: i64) -> bool
+    ensures { λ r. ⌜ r ≡ isNegative x ⌝ }
+{
+    x < 0
+}
+
+// x, or 0 where x is negative.
+pub fn nat_of(x: i64) -> usize
+    ensures { λ r. ⌜ r ≡ natOf x ⌝ }
+{
+    if x < 0 { 0 } else { x as usize }
+}
+
+// The size of x, which is not the least number of its type.
+pub fn magnitude(x: i64) -> u64
+    requires { ⌜ natAbs x < 2 ^ 63 ⌝ }
+    ensures { λ r. ⌜ r ≡ natAbs x ⌝ }
+{
+    if x < 0 { (-x) as u64 } else { x as u64 }
+}
+
+// The number of size m with the given sign.
+pub fn with_sign(negative: bool, m: u64) -> i64
+    requires { ⌜ m < 2 ^ 63 ⌝ }
+    ensures { λ r. ⌜ r ≡ withSign negative m ⌝ }
+{
+    let x = m as i64;
+    if negative { -x } else { x }
+}
+
+// ---- cells by index
+
+pub fn int_at(t: &[i64], i: usize) -> i64
+    ensures { λ r. ⌜ r ≡ intAt (now (t .entry)) i ⌝ }
+{
+    if i < t.len() { t[i] } else { 0 }
+}
+
+pub fn nat_at(t: &[i64], i: usize) -> usize
+    ensures { λ r. ⌜ r ≡ natAt (now (t .entry)) i ⌝ }
+{
+    nat_of(int_at(t, i))
+}
+
+pub fn put_nat(t: &mut [i64], i: usize, v: usize)
+    requires { ⌜ (i < length (now t)) × (v ≤ 65536) ⌝ }
+    ensures { λ _. ⌜ now (t .exit) ≡ set (now (t .entry)) i (pos v) ⌝ }
+{
+    t[i] = v as i64;
+}
+
+pub fn put_int(t: &mut [i64], i: usize, v: i64)
+    requires { ⌜ i < length (now t) ⌝ }
+    ensures { λ _. ⌜ now (t .exit) ≡ set (now (t .entry)) i v ⌝ }
+{
+    t[i] = v;
+}
+
+// Every cell from index start on becomes 0.
+pub fn clear_from(t: &mut [i64], start: usize)
+    ensures { λ _. ⌜ now (t .exit) ≡ clearFrom start (now (t .entry)) ⌝ }
+{
+    let mut i = start;
+    while i < t.len() {
+        t[i] = 0;
+        i += 1;
+    }
+}
+
+pub fn clear(t: &mut [i64])
+    ensures { λ _. ⌜ now (t .exit) ≡ zeros (length (now (t .entry))) ⌝ }
+{
+    clear_from(t, 0);
+}
+
+// ---- cells by label
+
+// Cell j of label's row.
+pub fn cell_at(t: &[i64], label: usize, j: usize) -> usize
+    requires { ⌜ j < 8 ⌝ }
+    ensures { λ r. ⌜ r ≡ cell (now (t .entry)) label j ⌝ }
+{
+    if label == 0 {
+        return 0;
+    }
+    // such a row is past the end, and its index may not fit
+    if t.len() < label {
+        return 0;
+    }
+    nat_at(t, 8 * (label - 1) + j)
+}
+
+pub fn put_cell(t: &mut [i64], label: usize, j: usize, v: usize)
+    requires { ⌜ (1 ≤ label) × (8 * label ≤ length (now t)) × (j < 8) × (v ≤ 65536) ⌝ }
+    ensures { λ _. ⌜ now (t .exit) ≡ set (now (t .entry)) (8 * (label - 1) + j) (pos v) ⌝ }
+{
+    put_nat(t, 8 * (label - 1) + j, v);
+}

@@ -1,0 +1,93 @@
+-- Laws of the four operations: every result fits a cell, the range test, and one proof of the code's arms over the operation.
+use mathlib.Core.Path.{_≡_, refl, sym, subst}
+use mathlib.Core.Bool.{Bool, true, false, cond}
+use Prim.Native.Nat.{suc, _*_, _≤_}
+use native.Mathlib.Omega.{arith}
+use native.Mathlib.Nat.{mul-le-mul}
+use borrow.Author.Tests.{ltb-true, ltb-false, leb-true, lt-leb, le-leb}
+use lib.IntN.{ℤ, pos, negsuc, negℤ, natAbs}
+use lib.Signed.{ltZ}
+use mir.Syntax.{w64}
+use mir.Val.{toZ, ofZ, SFits}
+use mir.Facts.{toZ-ofZ}
+use Rattle.cells.proofs.Signed.{clash, natAbs-neg, fits-by}
+use Rattle.numbers.specs.Range.{limit, inRange}
+use Rattle.numbers.specs.Arithmetic.{rangedOf, dividesByZero, result, calculated}
+use Rattle.numbers.specs.declared.Tie.{Tie}
+use Rattle.numbers.specs.declared.Operation.{Operation}
+use Rattle.numbers.specs.declared.Operation.the-variants.{Sum, Difference, Product, Quotient}
+use Rattle.numbers.specs.declared.Calculated.{Calculated}
+use Rattle.numbers.specs.declared.Calculated.the-variants.{Number, OutOfRange, ZeroDivisor}
+use Rattle.numbers.proofs.Sizes.{add-size, mul-size}
+use Rattle.numbers.proofs.Rounding.{quotient-size}
+
+-- every result of two numbers of a sheet fits a cell
+pub result-fits : (tie : Tie) (op : Operation) (a b : ℤ) → natAbs a ≤ limit → natAbs b ≤ limit → SFits w64 (result tie op a b)
+unfolding result
+result-fits tie op a b ha hb = fits-by (result tie op a b) (limit * limit) (small op) tt
+  where
+    small : (op : Operation) → natAbs (result tie op a b) ≤ limit * limit
+    small Sum = omega (arith, add-size a b)
+    small Difference = omega (arith, add-size a (negℤ b), natAbs-neg b)
+    small Product = rw mul-size (mul-le-mul ha hb)
+    small Quotient = omega (arith, quotient-size tie a b)
+
+-- ---- the range test, as the code makes it
+
+pub range-low : (x : ℤ) → ltZ x (negsuc 999999999) ≡ true → OutOfRange ≡ rangedOf x
+unfolding rangedOf
+range-low (pos n) e = clash (sym e)
+range-low (negsuc n) e = rw (lt-leb (suc n) limit (omega (arith, ltb-true 999999999 n e)))
+
+pub range-high : (x : ℤ) → ltZ (pos 1000000000) x ≡ true → OutOfRange ≡ rangedOf x
+unfolding rangedOf
+range-high (pos n) e = rw (lt-leb n limit (ltb-true 1000000000 n e))
+range-high (negsuc n) e = clash (sym e)
+
+pub range-in : (x : ℤ) → ltZ x (negsuc 999999999) ≡ false → ltZ (pos 1000000000) x ≡ false → Number x ≡ rangedOf x
+unfolding rangedOf
+range-in (pos n) e f = rw (le-leb n limit (ltb-false 1000000000 n f))
+range-in (negsuc n) e f = rw (le-leb (suc n) limit (omega (arith, ltb-false 999999999 n e)))
+
+-- ---- a calculated number is in range
+
+abbrev Bounded : Calculated → Type 0
+Bounded (Number z) = natAbs z ≤ limit
+Bounded OutOfRange = Unit {0}
+Bounded ZeroDivisor = Unit {0}
+
+ranged-bounded : (x : ℤ) → Bounded (rangedOf x)
+unfolding rangedOf
+ranged-bounded x = go (inRange x) refl
+  where
+    go : (t : Bool) → inRange x ≡ t → Bounded (cond t (Number x) OutOfRange)
+    go true e = leb-true (natAbs x) limit e
+    go false e = tt
+
+bounded : (tie : Tie) (op : Operation) (a b : ℤ) → Bounded (calculated tie op a b)
+unfolding calculated
+bounded tie op a b = go (dividesByZero op b)
+  where
+    go : (t : Bool) → Bounded (cond t ZeroDivisor (rangedOf (result tie op a b)))
+    go true = tt
+    go false = ranged-bounded (result tie op a b)
+
+pub calculated-size : (tie : Tie) (op : Operation) (a b z : ℤ) → calculated tie op a b ≡ Number z → natAbs z ≤ limit
+calculated-size tie op a b z e = subst Bounded e (bounded tie op a b)
+
+-- ---- an arm of the code, whatever its operation: it ranges a number z that is the result
+
+pub calculated-by : (tie : Tie) (op arm : Operation) (a b z : ℤ) {r : Calculated} → op ≡ arm → dividesByZero arm b ≡ false
+    → z ≡ result tie arm a b → r ≡ rangedOf z → r ≡ calculated tie op a b
+unfolding calculated
+calculated-by tie op arm a b z p q e f = rw (p, q, ← e) f
+
+-- the operands and the result are read back from their bits
+module _ (tie : Tie) (arm : Operation) (a b : ℤ) (fa : SFits w64 a) (fb : SFits w64 b) (ha : natAbs a ≤ limit) (hb : natAbs b ≤ limit) where
+  pub arm-fits : SFits w64 (result tie arm (toZ w64 (ofZ w64 a)) (toZ w64 (ofZ w64 b)))
+  arm-fits = rw (toZ-ofZ fa, toZ-ofZ fb) (result-fits tie arm a b ha hb)
+
+  pub arm-is : (op : Operation) {r : Calculated} → op ≡ arm → dividesByZero arm b ≡ false
+      → r ≡ rangedOf (toZ w64 (ofZ w64 (result tie arm (toZ w64 (ofZ w64 a)) (toZ w64 (ofZ w64 b)))))
+      → r ≡ calculated tie op a b
+  arm-is op p q e = calculated-by tie op arm a b _ p q (rw (toZ-ofZ fa, toZ-ofZ fb) (toZ-ofZ (result-fits tie arm a b ha hb))) e

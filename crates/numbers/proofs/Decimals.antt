@@ -1,0 +1,200 @@
+-- Laws of decimal numbers: the digits one by one, as the code reads them, and what the definitions give.
+use mathlib.Core.Path.{_≡_, refl, sym, _∙_, subst}
+use mathlib.Core.Bool.{Bool, true, false, cond, _&&_, and-false}
+use mathlib.Core.List.{List, [], _∷_}
+use Prim.Native.Nat.{ℕ, _+_, _*_, _-_, _≤_, _<_}
+use native.Mathlib.Omega.{arith}
+use native.Mathlib.Numerals.{add-one}
+use borrow.Author.Tests.{leb-true, lt-leb, le-leb, ne-eqb}
+use lib.Dec.{leb, eqb}
+use lib.ListN.{length, getD}
+use lib.Seq.{slice, slice-cons, slice-empty}
+use lib.IntN.{ℤ, pos, natAbs}
+use Rattle.cells.specs.Cells.{withSign}
+use Rattle.cells.proofs.Signed.{clash, withSign-size}
+use Rattle.numbers.specs.Range.{limit}
+use Rattle.numbers.specs.Decimal.{isDigit, allDigits, value, noLeadingZero, digitsOf, decimalOf, AtMost, signedOf, numberOf}
+use Rattle.numbers.specs.declared.Decimal.{Decimal}
+use Rattle.numbers.specs.declared.Decimal.the-variants as decimal
+use Rattle.numbers.specs.declared.Number.{Number}
+use Rattle.numbers.specs.declared.Number.the-variants as number
+
+-- ---- a part of a text, byte by byte
+
+pub slice-next : (from to : ℕ) (s : List ℕ) → from < to → to ≤ length s → slice from to s ≡ getD s from 0 ∷ slice (from + 1) to s
+slice-next from to s h k = rw add-one (slice-cons from to s 0 h k)
+
+pub slice-none : (from to : ℕ) (s : List ℕ) → from ≡ to → slice from to s ≡ []
+slice-none from to s e = rw e (slice-empty to s)
+
+-- ---- digits
+
+pub digit-is : (c : ℕ) → 48 ≤ c → c ≤ 57 → isDigit c ≡ true
+digit-is c h k = rw (le-leb 48 c h, le-leb c 57 k)
+
+pub digit-low : (c : ℕ) → c < 48 → isDigit c ≡ false
+digit-low c h = rw (lt-leb 48 c h)
+
+pub digit-high : (c : ℕ) → 57 < c → isDigit c ≡ false
+digit-high c h = rw (lt-leb c 57 h) (and-false (leb 48 c))
+
+-- the first byte, for a digit and for any other
+pub digits-step : (max v c : ℕ) (f : List ℕ) → isDigit c ≡ true → digitsOf max v (c ∷ f) ≡ digitsOf max (10 * v + (c - 48)) f
+unfolding digitsOf allDigits value
+digits-step max v c f h = rw h
+
+pub digits-bad : (max v c : ℕ) (f : List ℕ) → isDigit c ≡ false → digitsOf max v (c ∷ f) ≡ decimal.Not
+unfolding digitsOf allDigits
+digits-bad max v c f h = rw h
+
+-- a value only grows
+grows : (v : ℕ) (f : List ℕ) → v ≤ value v f
+unfolding value
+grows v [] = omega arith
+grows v (c ∷ f) = let h : 10 * v + (c - 48) ≤ value (10 * v + (c - 48)) f = grows (10 * v + (c - 48)) f in omega arith
+
+pub digits-over : (max v : ℕ) (f : List ℕ) → max < v → digitsOf max v f ≡ decimal.Not
+unfolding digitsOf
+digits-over max v f h = rw (lt-leb (value v f) max (omega (arith, grows v f)), and-false)
+
+pub digits-end : (max v : ℕ) → v ≤ max → digitsOf max v [] ≡ decimal.Is v
+unfolding digitsOf allDigits value
+digits-end max v h = rw (le-leb v max h)
+
+-- ---- a decimal and a number, by what the code tests of text[from..to]
+
+first-nonzero : (c : ℕ) (f : List ℕ) → (c ≡ 48 → ⊥) → noLeadingZero (c ∷ f) ≡ true
+first-nonzero c [] h = refl
+first-nonzero c (d ∷ f) h = rw (ne-eqb c 48 h)
+
+module _ (from to : ℕ) (s : List ℕ) where
+  pub decimal-empty : (max : ℕ) → from ≡ to → decimal.Not ≡ decimalOf max (slice from to s)
+  unfolding decimalOf
+  decimal-empty max e = rw (slice-none from to s e)
+
+  pub number-empty : from ≡ to → number.Not ≡ numberOf (slice from to s)
+  unfolding numberOf
+  number-empty e = rw (slice-none from to s e)
+
+  module _ (h : from < to) (k : to ≤ length s) where
+    pub decimal-led : (max : ℕ) → getD s from 0 ≡ 48 → from + 1 < to → decimal.Not ≡ decimalOf max (slice from to s)
+    unfolding decimalOf
+    decimal-led max z l = rw (slice-next from to s h k, slice-next (from + 1) to s l k, z)
+
+    pub decimal-zero : (max : ℕ) → getD s from 0 ≡ 48 → to ≤ from + 1 → decimal.Is 0 ≡ decimalOf max (slice from to s)
+    unfolding decimalOf
+    decimal-zero max z l =
+        let e : from + 1 ≡ to = omega arith in
+        rw (slice-next from to s h k, slice-none (from + 1) to s e, z) (sym (digits-step max 0 48 [] refl ∙ digits-end max 0 (omega arith)))
+
+    pub decimal-plain : (max : ℕ) → (getD s from 0 ≡ 48 → ⊥) → digitsOf max 0 (slice from to s) ≡ decimalOf max (slice from to s)
+    unfolding decimalOf
+    decimal-plain max z = rw (slice-next from to s h k, first-nonzero (getD s from 0) (slice (from + 1) to s) z)
+
+    pub number-negative : getD s from 0 ≡ 45 → signedOf true (decimalOf limit (slice (from + 1) to s)) ≡ numberOf (slice from to s)
+    unfolding numberOf
+    number-negative z = rw (slice-next from to s h k, z)
+
+    pub number-plain : (getD s from 0 ≡ 45 → ⊥) → signedOf false (decimalOf limit (slice from to s)) ≡ numberOf (slice from to s)
+    unfolding numberOf
+    number-plain z = rw (slice-next from to s h k, ne-eqb (getD s from 0) 45 z)
+
+-- ---- what it takes for bytes to be a decimal, and no more
+
+pub record Written (max : ℕ) (f : List ℕ) (v : ℕ) : Type 0 where
+  pub plain : noLeadingZero f ≡ true
+  pub digits : allDigits f ≡ true
+  pub is : value 0 f ≡ v
+  pub most : v ≤ max
+
+pub written : (max : ℕ) (f : List ℕ) (v : ℕ) → decimalOf max f ≡ decimal.Is v → Written max f v
+unfolding decimalOf digitsOf
+written max f v = go (noLeadingZero f) (allDigits f) (leb (value 0 f) max) refl refl refl
+  where
+    never : decimal.Not ≡ decimal.Is v → Written max f v
+    never e = let z : _≡_ {A = ℕ} 0 1 = cc in absurd (omega arith)
+
+    go : (x y z : Bool) → noLeadingZero f ≡ x → allDigits f ≡ y → leb (value 0 f) max ≡ z
+        → cond x (cond (y && z) (decimal.Is (value 0 f)) decimal.Not) decimal.Not ≡ decimal.Is v → Written max f v
+    go true true true a b c e =
+        let is : value 0 f ≡ v = cc in
+        record { plain = a; digits = b; is = is; most = omega (arith, is, leb-true (value 0 f) max c) }
+    go true true false a b c e = never e
+    go true false z a b c e = never e
+    go false y z a b c e = never e
+
+pub decimal-is : (max : ℕ) (f : List ℕ) (v : ℕ) → Written max f v → decimalOf max f ≡ decimal.Is v
+unfolding decimalOf digitsOf
+decimal-is max f v w = rw (w .plain, w .digits, w .is, le-leb v max (w .most))
+
+-- ---- what the definitions give is at most the limit
+
+pub decimal-size : (max : ℕ) (f : List ℕ) (v : ℕ) → decimalOf max f ≡ decimal.Is v → v ≤ max
+decimal-size max f v e = written max f v e .most
+
+pub decimal-most : (max : ℕ) (f : List ℕ) → AtMost max (decimalOf max f)
+decimal-most max f = go (decimalOf max f) refl
+  where
+    go : (d : Decimal) → decimalOf max f ≡ d → AtMost max d
+    go (decimal.Is v) e = decimal-size max f v e
+    go decimal.Not e = tt
+
+abbrev Bounded : Number → Type 0
+Bounded (number.Is z) = natAbs z ≤ limit
+Bounded number.Not = Unit {0}
+
+signed-bounded : (negative : Bool) (d : Decimal) → AtMost limit d → Bounded (signedOf negative d)
+signed-bounded negative decimal.Not h = tt
+signed-bounded negative (decimal.Is v) h = go (negative && eqb v 0)
+  where
+    go : (x : Bool) → Bounded (cond x number.Not (number.Is (withSign negative v)))
+    go true = tt
+    go false = rw (withSign-size negative v) h
+
+bounded : (f : List ℕ) → Bounded (numberOf f)
+unfolding numberOf
+bounded [] = tt
+bounded (c ∷ f) = go (eqb c 45)
+  where
+    go : (x : Bool) → Bounded (cond x (signedOf true (decimalOf limit f)) (signedOf false (decimalOf limit (c ∷ f))))
+    go true = signed-bounded true (decimalOf limit f) (decimal-most limit f)
+    go false = signed-bounded false (decimalOf limit (c ∷ f)) (decimal-most limit (c ∷ f))
+
+pub number-size : (f : List ℕ) (z : ℤ) → numberOf f ≡ number.Is z → natAbs z ≤ limit
+number-size f z e = subst Bounded e (bounded f)
+
+-- ---- a larger limit gives the same decimal, and a decimal is a number
+
+pub decimal-more : (max more : ℕ) (f : List ℕ) (v : ℕ) → max ≤ more → decimalOf max f ≡ decimal.Is v → decimalOf more f ≡ decimal.Is v
+decimal-more max more f v h e =
+    let w : Written max f v = written max f v e in
+    decimal-is more f v (record { plain = w .plain; digits = w .digits; is = w .is; most = omega (arith, w .most) })
+
+first-digit : (c : ℕ) (f : List ℕ) → allDigits (c ∷ f) ≡ true → 48 ≤ c
+unfolding allDigits
+first-digit c f = go (leb 48 c) refl
+  where
+    go : (x : Bool) → leb 48 c ≡ x → (x && leb c 57) && allDigits f ≡ true → 48 ≤ c
+    go true a e = leb-true 48 c a
+    go false a e = clash (sym e)
+
+pub decimal-number : (max : ℕ) (f : List ℕ) (v : ℕ) → max ≤ limit → decimalOf max f ≡ decimal.Is v → numberOf f ≡ number.Is (pos v)
+unfolding numberOf
+decimal-number max [] v h e = clash (sym (written max [] v e .plain))
+decimal-number max (c ∷ f) v h e =
+    let d : 48 ≤ c = first-digit c f (written max (c ∷ f) v e .digits) in
+    rw (ne-eqb c 45 (λ (p : c ≡ 45). omega arith), decimal-more max limit (c ∷ f) v h e)
+
+-- ---- `-` alone and `0`
+
+pub decimal-missing : (max : ℕ) → decimalOf max (45 ∷ []) ≡ decimal.Not
+unfolding decimalOf digitsOf allDigits
+decimal-missing max = refl
+
+pub number-missing : numberOf (45 ∷ []) ≡ number.Not
+unfolding numberOf decimalOf
+number-missing = refl
+
+pub number-zero : numberOf (48 ∷ []) ≡ number.Is (pos 0)
+unfolding numberOf decimalOf digitsOf allDigits value
+number-zero = refl

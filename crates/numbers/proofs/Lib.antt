@@ -1,0 +1,6 @@
+pub mod Sizes
+pub mod Rounding
+pub mod Division
+pub mod Arithmetic
+pub mod Decimals
+mod Samples

@@ -1,0 +1,101 @@
+use mathlib.Core.Path.{_≡_, _∙_}
+use Prim.Native.Nat.{_/_, _%_, _+_, _<_, _^_}
+use native.Mathlib.Omega.{arith}
+use native.Mathlib.Nat.{div-le-self, mod-le}
+use lib.IntN.{natAbs}
+use mir.Facts.{toZ-ofZ}
+use borrow.Author.Needs.{needs, sfits-of}
+use Rattle.cells.proofs.Signed.{bits-pos}
+use Rattle.numbers.proofs.Division.{quot-fits, quot-read, rem-read}
+use Rattle.numbers.proofs.Rounding.{up-size, quotient-by}
+use Rattle.numbers.proofs.nearest.Statement.{statement}
+use Rattle.numbers.proofs.nearest.Tie as tie
+
+-- the sizes of the quotient, the remainder and the divisor
+size-q : (c : tie.After-magnitude) → c .magnitude .result ≡ natAbs (c .before .args .a) / natAbs (c .before .args .b)
+size-q c =
+    let s = c .before in
+    c .magnitude .ensures ∙ quot-read (s .args .a) (s .args .b) (s .fits .a) (s .fits .b) (s .pre .0)
+
+size-r : (c : tie.After-magnitude2) → c .magnitude2 .result ≡ natAbs (c .before .before .args .a) % natAbs (c .before .before .args .b)
+size-r c =
+    let s = c .before .before in
+    c .magnitude2 .ensures ∙ rem-read (s .args .a) (s .args .b) (s .fits .a) (s .fits .b) (s .pre .0)
+
+size-b : (c : tie.After-magnitude3) → c .magnitude3 .result ≡ natAbs (c .before .before .before .args .b)
+size-b c = rw (toZ-ofZ (c .before .before .before .fits .b)) at (c .magnitude3 .ensures)
+
+small : (c : tie.After-is-negative2) → c .before .before .before .before .before .magnitude .result + c .before .before .round-up .result < 2 ^ 63
+small c =
+    let u = c .before .before in
+    let q = u .before .before .before in
+    let s = q .before .args in
+    let up = up-size (s .tie) (q .magnitude .result) (u .before .before .magnitude2 .result) (u .before .magnitude3 .result) in
+    omega (arith, size-q q, div-le-self (natAbs (s .a)) (natAbs (s .b)), u .round-up .ensures, up)
+
+div-q : tie.Need-div-q
+div-q c =
+    (bits-pos (c .args .b) (c .fits .b) (c .pre .2), quot-fits (c .args .a) (c .args .b) (c .fits .a) (c .fits .b) (c .pre .0))
+
+rem-r : tie.Need-rem-r
+rem-r c = div-q c
+
+magnitude-requires : tie.Need-magnitude-requires
+magnitude-requires c κs =
+    let x = c .args in
+    let e = quot-read (x .a) (x .b) (c .fits .a) (c .fits .b) (c .pre .0) in
+    omega (arith, e, div-le-self (natAbs (x .a)) (natAbs (x .b)))
+
+magnitude-requires-2 : tie.Need-magnitude-requires-2
+magnitude-requires-2 c κs =
+    let s = c .before in
+    let x = s .args in
+    let e = rem-read (x .a) (x .b) (s .fits .a) (s .fits .b) (s .pre .0) in
+    omega (arith, e, mod-le (natAbs (x .a)) (natAbs (x .b)))
+
+magnitude-requires-3 : tie.Need-magnitude-requires-3
+magnitude-requires-3 c κs = rw (toZ-ofZ (c .before .before .fits .b)) (omega arith)
+
+round-up-requires : tie.Need-round-up-requires
+round-up-requires c κs =
+    let x = c .before .before .before .args in
+    omega (arith, size-r (c .before), mod-le (natAbs (x .a)) (natAbs (x .b)))
+
+is-negative-requires : tie.Need-is-negative-requires
+is-negative-requires c κs = search needs
+
+is-negative-requires-2 : tie.Need-is-negative-requires-2
+is-negative-requires-2 c κs = search needs
+
+add-with-sign : tie.Need-add-with-sign
+add-with-sign c = omega (arith, small c)
+
+with-sign-requires : tie.Need-with-sign-requires
+with-sign-requires c κs = omega (arith, small c)
+
+returns : tie.Need-returns
+returns c =
+    let na = c .before .before in
+    let u = na .before in
+    let b = u .before in
+    let s = b .before .before .before in
+    toZ-ofZ (sfits-of (c .with-sign .ok))
+    ∙ quotient-by (s .args .tie) (s .args .a) (s .args .b) (size-q (b .before .before)) (size-r (b .before))
+    (rw (size-b b) at (u .round-up .ensures))
+    (rw (na .is-negative .ensures, c .before .is-negative2 .ensures, toZ-ofZ (s .fits .a), toZ-ofZ (s .fits .b)) at (c .with-sign .ensures))
+
+pub nearest-spec : {M : Type 1} → statement M
+nearest-spec =
+    tie.close
+    (tie.spec
+    div-q
+    rem-r
+    magnitude-requires
+    magnitude-requires-2
+    magnitude-requires-3
+    round-up-requires
+    is-negative-requires
+    is-negative-requires-2
+    add-with-sign
+    with-sign-requires
+    returns)

@@ -1,0 +1,51 @@
+-- Numbers as a field writes them, in bytes: 45 is `-`, 48 to 57 are the digits.
+use Prim.Native.Nat.{ℕ, _+_, _*_, _-_, _≤_}
+use mathlib.Core.Bool.{Bool, true, false, cond, not, _&&_}
+use mathlib.Core.List.{List, [], _∷_}
+use lib.Dec.{leb, eqb}
+use Rattle.cells.specs.Cells.{withSign}
+use Rattle.numbers.specs.Range.{limit}
+use Rattle.numbers.specs.declared.Decimal.{Decimal}
+use Rattle.numbers.specs.declared.Decimal.the-variants as decimal
+use Rattle.numbers.specs.declared.Number.{Number}
+use Rattle.numbers.specs.declared.Number.the-variants as number
+
+abbrev pub isDigit : ℕ → Bool
+isDigit c = leb 48 c && leb c 57
+
+unfoldable pub allDigits : List ℕ → Bool
+allDigits [] = true
+allDigits (c ∷ f) = isDigit c && allDigits f
+
+-- the decimal value of digits that stand after digits of the value v
+unfoldable pub value : ℕ → List ℕ → ℕ
+value v [] = v
+value v (c ∷ f) = value (10 * v + (c - 48)) f
+
+-- not empty, and no leading zero: a 0 in front stands alone
+abbrev pub noLeadingZero : List ℕ → Bool
+noLeadingZero [] = false
+noLeadingZero (c ∷ []) = true
+noLeadingZero (c ∷ d ∷ f) = not (eqb c 48)
+
+-- digits, after digits of the value v, whose value is at most max
+unfoldable pub digitsOf : ℕ → ℕ → List ℕ → Decimal
+digitsOf max v f = cond (allDigits f && leb (value v f) max) (decimal.Is (value v f)) decimal.Not
+
+-- decimal, no leading zero, at most max
+unfoldable pub decimalOf : ℕ → List ℕ → Decimal
+decimalOf max f = cond (noLeadingZero f) (digitsOf max 0 f) decimal.Not
+
+abbrev pub AtMost : ℕ → Decimal → Type 0
+AtMost max (decimal.Is v) = v ≤ max
+AtMost max decimal.Not = Unit {0}
+
+-- a decimal after its sign; there is no `-0`
+abbrev pub signedOf : Bool → Decimal → Number
+signedOf negative (decimal.Is v) = cond (negative && eqb v 0) number.Not (number.Is (withSign negative v))
+signedOf negative decimal.Not = number.Not
+
+-- a *number* of document 01: decimal, -1000000000 to 1000000000, no leading zero, no `-0`, no plus sign
+unfoldable pub numberOf : List ℕ → Number
+numberOf [] = number.Not
+numberOf (c ∷ f) = cond (eqb c 45) (signedOf true (decimalOf limit f)) (signedOf false (decimalOf limit (c ∷ f)))

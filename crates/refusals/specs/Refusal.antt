@@ -1,0 +1,45 @@
+-- A refusal, and the shape that every row from 5 on shares: a check of one label, and the first label that fails it.
+use Prim.Native.Nat.{ℕ, zero, suc}
+use Rattle.refusals.specs.declared.Verdict.{Verdict}
+use Rattle.refusals.specs.declared.Verdict.the-variants.{Fine, Refused}
+use Rattle.refusals.specs.declared.Reply.{Reply}
+use Rattle.refusals.specs.declared.Reply.the-variants as reply
+
+-- document 01's number and place of a reply, 0 and 0 where it is an answer; and the count that it answers, 0 where it refuses
+abbrev pub numberOf : Reply → ℕ
+numberOf (reply.Answered n) = 0
+numberOf (reply.Refused r p) = r
+
+abbrev pub placeOf : Reply → ℕ
+placeOf (reply.Answered n) = 0
+placeOf (reply.Refused r p) = p
+
+abbrev pub countOf : Reply → ℕ
+countOf (reply.Answered n) = n
+countOf (reply.Refused r p) = 0
+
+-- the reply of a call whose rows found v and which answers n where they found nothing
+abbrev pub replyOf : Verdict → ℕ → Reply
+replyOf Fine n = reply.Answered n
+replyOf (Refused r p) n = reply.Refused r p
+
+-- one pass and, where it found nothing, the next
+abbrev pub orElse : Verdict → Verdict → Verdict
+orElse Fine w = w
+orElse (Refused r p) w = Refused r p
+
+-- the check of label k gave r: 0 goes on with v, any other number is the refusal, at k
+abbrev pub hit : ℕ → ℕ → Verdict → Verdict
+hit zero k v = v
+hit (suc r) k v = Refused (suc r) k
+
+-- the first of m labels, from k up, at which the check gives a number other than 0: that number, with the label as its place
+abbrev pub firstBad : (ℕ → ℕ) → ℕ → ℕ → Verdict
+firstBad check k zero = Fine
+firstBad check k (suc m) = let v = firstBad check (suc k) m in hit (check k) k v
+
+-- how many of n labels such a pass went by before it ended
+abbrev pub passed : Verdict → ℕ → ℕ
+passed Fine n = n
+passed (Refused r zero) n = zero
+passed (Refused r (suc k)) n = k

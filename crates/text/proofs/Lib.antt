@@ -1,0 +1,5 @@
+pub mod Slices
+pub mod Bytes
+pub mod Cuts
+pub mod Fields
+pub mod Names

@@ -1,0 +1,56 @@
+use Prim.Native.Nat.{ℕ}
+use native.Mathlib.Nat.{le-refl}
+use mathlib.Core.Path.{_∙_, sym, ap}
+use lib.ListN.{getD}
+use borrow.Author.Tests.{lt-ltb, le-ltb}
+use Rattle.text.proofs.Bytes.{run-more, run-stop}
+-- The last byte, 10, is no ink: the run of ink from `i` on is what is left of that from `from` on.
+use Prim.Native.Nat.{_+_, _-_, _≤_, _<_}
+use mathlib.Core.Path.{_≡_}
+use native.Mathlib.Omega.{arith}
+use borrow.Author.Needs.{needs}
+use lib.ListN.{length}
+use Rattle.text.specs.Bytes.{isInk}
+use Rattle.text.specs.Scans.{runEnd}
+use Rattle.text.proofs.ink_end.Statement.{statement}
+use Rattle.text.proofs.ink_end.Tie as tie
+
+abbrev Inv-loop : tie.InvT-loop
+Inv-loop text from i₀ i = (from ≤ i) × (i < length text) × (runEnd isInk text i (length text) ≡ runEnd isInk text from (length text))
+
+abbrev μ-loop : tie.MeasureT-loop
+μ-loop text from i₀ i = length text - i
+
+loop-holds : tie.Need-loop-holds Inv-loop μ-loop
+loop-holds c = search needs
+
+shared-slice-read-if1 : tie.Need-shared-slice-read-if1 Inv-loop μ-loop
+shared-slice-read-if1 c = omega arith
+
+add-i : tie.Need-add-i Inv-loop μ-loop
+add-i c = omega arith
+
+loop-less : tie.Need-loop-less Inv-loop μ-loop
+loop-less c = omega arith
+
+loop-again : tie.Need-loop-again Inv-loop μ-loop
+loop-again c =
+    let s = c .before .before .before .args .text .now in
+    let i = c .before .before .loop .i in
+    let h : i < length s = omega arith in
+    let apart : i ≡ length s - 1 → ⊥ = λ q. omega (arith, ap (λ (n : ℕ). getD s n 0) q ∙ c .before .before .before .pre .1) in (
+      omega arith,
+      omega (arith, apart),
+      run-more isInk s i (length s) h (le-refl (length s)) (lt-ltb _ _ (c .if1 .taken)) ∙ c .before .before .loop .inv .2,
+    )
+
+returns : tie.Need-returns Inv-loop μ-loop
+returns c =
+    let s = c .before .before .before .args .text .now in
+    let i = c .before .before .loop .i in
+    sym (run-stop isInk s i (length s) (omega arith) (le-refl (length s)) (le-ltb _ _ (c .if1 .left))) ∙ c .before .before .loop .inv .2
+
+pub ink-end-spec : {M : Type 1} → statement M
+ink-end-spec =
+    tie.close
+    (tie.spec Inv-loop μ-loop loop-holds shared-slice-read-if1 add-i loop-less loop-again returns)

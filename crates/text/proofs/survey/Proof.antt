@@ -1,0 +1,81 @@
+use lib.ListN.{getD}
+use Prim.Native.Nat.{_<_}
+-- The loop's invariant: what is counted so far, and what is left to count, make the whole count.
+use Prim.Native.Nat.{_+_, _-_, _≤_}
+use mathlib.Core.Path.{_≡_}
+use native.Mathlib.Omega.{arith}
+use borrow.Author.Needs.{needs}
+use lib.ListN.{length, drop}
+use Rattle.text.specs.Bytes.{countBy, isBad, isNewline}
+use Rattle.text.proofs.Bytes.{count-step, count-end, one-le}
+use Rattle.text.proofs.survey.Statement.{statement}
+use Rattle.text.proofs.survey.Tie as tie
+
+abbrev Inv-loop : tie.InvT-loop
+Inv-loop text bad₀ lines₀ i₀ bad lines i = (i ≤ length text) × (bad ≤ i) × (lines ≤ i) × (bad + countBy isBad (drop i text) ≡ countBy isBad text) × (lines + countBy isNewline (drop i text) ≡ countBy isNewline text)
+
+abbrev μ-loop : tie.MeasureT-loop
+μ-loop text bad₀ lines₀ i₀ bad lines i = length text - i
+
+loop-holds : tie.Need-loop-holds Inv-loop μ-loop
+loop-holds c = omega arith
+
+shared-slice-read-bad-byte : tie.Need-shared-slice-read-bad-byte Inv-loop μ-loop
+shared-slice-read-bad-byte c = omega arith
+
+bad-byte-requires : tie.Need-bad-byte-requires Inv-loop μ-loop
+bad-byte-requires c κs = search needs
+
+add-bad : tie.Need-add-bad Inv-loop μ-loop
+add-bad c = omega (arith, c .bad-byte .ensures, one-le (isBad (getD (c .before .before .before .before .before .args .text .now) (c .before .before .before .loop .i) 0)))
+
+shared-slice-read-newline : tie.Need-shared-slice-read-newline Inv-loop μ-loop
+shared-slice-read-newline c = omega arith
+
+newline-requires : tie.Need-newline-requires Inv-loop μ-loop
+newline-requires c κs = search needs
+
+add-lines : tie.Need-add-lines Inv-loop μ-loop
+add-lines c = omega (arith, c .newline .ensures, one-le (isNewline (getD (c .before .before .before .before .before .before .before .args .text .now) (c .before .before .before .before .before .loop .i) 0)))
+
+add-i : tie.Need-add-i Inv-loop μ-loop
+add-i c = omega arith
+
+loop-less : tie.Need-loop-less Inv-loop μ-loop
+loop-less c = omega arith
+
+loop-again : tie.Need-loop-again Inv-loop μ-loop
+loop-again c =
+    let s = c .before .before .before .before .before .before .before .args .text .now in
+    let i = c .before .before .before .before .before .loop .i in
+    let h : i < length s = omega arith in (
+      omega arith,
+      omega (arith, c .before .before .bad-byte .ensures, one-le (isBad (getD s i 0))),
+      omega (arith, c .newline .ensures, one-le (isNewline (getD s i 0))),
+      omega (arith, c .before .before .bad-byte .ensures, count-step isBad s i h),
+      omega (arith, c .newline .ensures, count-step isNewline s i h),
+    )
+
+returns : tie.Need-returns Inv-loop μ-loop
+returns c =
+    let s = c .before .before .before .args .text .now in
+    let i = c .before .loop .i in
+    (omega (arith, count-end isBad s i (omega arith)), omega (arith, count-end isNewline s i (omega arith)))
+
+pub survey-spec : {M : Type 1} → statement M
+survey-spec =
+    tie.close
+    (tie.spec
+    Inv-loop
+    μ-loop
+    loop-holds
+    shared-slice-read-bad-byte
+    bad-byte-requires
+    add-bad
+    shared-slice-read-newline
+    newline-requires
+    add-lines
+    add-i
+    loop-less
+    loop-again
+    returns)

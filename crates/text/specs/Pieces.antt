@@ -1,0 +1,46 @@
+-- The pieces of a list between separators: the lines of a text (byte 10), the fields of a line (32), the names of a path (46).
+use mathlib.Core.Bool.{Bool, true, false}
+use mathlib.Core.List.{List, [], _∷_}
+use Prim.Native.Nat.{ℕ, zero, suc, _+_}
+use lib.Dec.{eqb}
+use lib.ListN.{length, getD}
+use lib.Seq.{slice}
+
+abbrev pub onto : ℕ → List (List ℕ) → List (List ℕ)
+onto x [] = (x ∷ []) ∷ []
+onto x (p ∷ ps) = (x ∷ p) ∷ ps
+
+abbrev pub cutAt : Bool → ℕ → List (List ℕ) → List (List ℕ)
+cutAt true x ps = [] ∷ ps
+cutAt false x ps = onto x ps
+
+-- the pieces between the bytes b, first piece first, the bytes b left out; what stands after the last b is the last piece
+abbrev pub cut : ℕ → List ℕ → List (List ℕ)
+cut b [] = [] ∷ []
+cut b (x ∷ xs) = cutAt (eqb x b) x (cut b xs)
+
+-- where piece k begins in the list: past each piece before it, and the separator after that
+abbrev pub place : List (List ℕ) → ℕ → ℕ
+place [] k = 0
+place (p ∷ ps) zero = 0
+place (p ∷ ps) (suc k) = length p + 1 + place ps k
+
+-- the first piece
+abbrev pub firstOf : List (List ℕ) → List ℕ
+firstOf [] = []
+firstOf (p ∷ ps) = p
+
+-- what a text holds from position i on, and the fields of the line that begins there
+abbrev pub rest : List ℕ → ℕ → List ℕ
+rest s i = slice i (length s) s
+
+abbrev pub fieldsFrom : List ℕ → ℕ → List (List ℕ)
+fieldsFrom s i = cut 32 (firstOf (cut 10 (rest s i)))
+
+-- k pieces, none of them empty
+abbrev pub fieldsAre : ℕ → List (List ℕ) → Bool
+fieldsAre zero [] = true
+fieldsAre zero (f ∷ fs) = false
+fieldsAre (suc k) [] = false
+fieldsAre (suc k) ([] ∷ fs) = false
+fieldsAre (suc k) ((x ∷ f) ∷ fs) = fieldsAre k fs

@@ -1,0 +1,212 @@
+// The text of a sheet: its bytes, the pieces between separators, and the forms of a field.
+// A part of the text is given by two positions, `from` and `to`, the second past its last byte.
+
+ghost use mathlib.Core.Path.{_≡_};
+ghost use Prim.Native.Nat.{_+_, _-_, _≤_, _<_};
+ghost use lib.ListN.{length, getD};
+ghost use lib.Seq.{slice};
+ghost use Rattle.text.specs.Bytes.{one, countBy, isBad, isNewline, isLetter, isAlphanumeric, isInk, same, endsLines};
+ghost use Rattle.text.specs.Forms.{isName, isPath, labelOf};
+ghost use Rattle.text.specs.Scans.{runEnd, fieldEnd, nameEnd};
+use numbers::Decimal;
+
+// ---- the bytes of a text
+
+// 1 for a byte that row 1 does not allow, else 0.
+fn bad_byte(b: u8) -> usize
+    ensures { λ r. ⌜ r ≡ one (isBad b) ⌝ }
+{
+    if b == 10 {
+        return 0;
+    }
+    if b < 32 {
+        return 1;
+    }
+    if 126 < b {
+        return 1;
+    }
+    0
+}
+
+// 1 for the byte that ends a line, else 0.
+fn newline(b: u8) -> usize
+    ensures { λ r. ⌜ r ≡ one (isNewline b) ⌝ }
+{
+    if b == 10 { 1 } else { 0 }
+}
+
+pub struct Counts {
+    pub bad: usize,
+    pub lines: usize,
+}
+
+// Row 1's bytes and the lines are counted in one pass.
+pub fn survey(text: &[u8]) -> Counts
+    ensures { λ r. ⌜ (r .bad ≡ countBy isBad (now (text .entry))) × (r .lines ≡ countBy isNewline (now (text .entry))) ⌝ }
+{
+    let mut bad: usize = 0;
+    let mut lines: usize = 0;
+    let mut i = 0;
+    while i < text.len() {
+        bad += bad_byte(text[i]);
+        lines += newline(text[i]);
+        i += 1;
+    }
+    Counts { bad, lines }
+}
+
+// Whether the part of the text is these bytes.
+pub fn same_bytes(text: &[u8], from: usize, to: usize, want: &[u8]) -> bool
+    requires { ⌜ (from ≤ to) × (to ≤ length (now text)) ⌝ }
+    ensures { λ r. ⌜ r ≡ same (slice from to (now (text .entry))) (now (want .entry)) ⌝ }
+{
+    if to - from != want.len() {
+        return false;
+    }
+    let mut i = from;
+    let mut j = 0;
+    while i < to {
+        if text[i] != want[j] {
+            return false;
+        }
+        i += 1;
+        j += 1;
+    }
+    true
+}
+
+// ---- the fields of a line
+
+// Where the bytes above 32 end that begin at `from`. After row 1 that is at a byte 32 or 10.
+fn ink_end(text: &[u8], from: usize) -> usize
+    requires { ⌜ (from < length (now text)) × endsLines (now text) ⌝ }
+    ensures { λ r. ⌜ r ≡ runEnd isInk (now (text .entry)) from (length (now (text .entry))) ⌝ }
+{
+    let mut i = from;
+    while 32 < text[i] {
+        i += 1;
+    }
+    i
+}
+
+// Where the field that begins at `from` ends, if it is not empty and the byte `stop` ends it; else 0.
+pub fn field_end(text: &[u8], from: usize, stop: u8) -> usize
+    requires { ⌜ (from < length (now text)) × endsLines (now text) ⌝ }
+    ensures { λ r. ⌜ r ≡ fieldEnd (now (text .entry)) from stop ⌝ }
+{
+    let end = ink_end(text, from);
+    if end == from {
+        return 0;
+    }
+    if text[end] == stop {
+        return end;
+    }
+    0
+}
+
+// ---- names and paths
+
+pub fn is_letter(b: u8) -> bool
+    ensures { λ r. ⌜ r ≡ isLetter b ⌝ }
+{
+    if b < 65 {
+        return false;
+    }
+    if b <= 90 {
+        return true;
+    }
+    if b < 97 {
+        return false;
+    }
+    b <= 122
+}
+
+pub fn is_alphanumeric(b: u8) -> bool
+    ensures { λ r. ⌜ r ≡ isAlphanumeric b ⌝ }
+{
+    if is_letter(b) {
+        return true;
+    }
+    if b < 48 {
+        return false;
+    }
+    b <= 57
+}
+
+// Where the letters and digits end that begin at `from`.
+fn alphanumeric_end(text: &[u8], from: usize, to: usize) -> usize
+    requires { ⌜ (from ≤ to) × (to ≤ length (now text)) ⌝ }
+    ensures { λ r. ⌜ r ≡ runEnd isAlphanumeric (now (text .entry)) from to ⌝ }
+{
+    let mut i = from;
+    while i < to {
+        if is_alphanumeric(text[i]) {
+            i += 1;
+        } else {
+            return i;
+        }
+    }
+    i
+}
+
+// Where the letters and digits end that begin at `from`, if they are a name; else 0.
+pub fn name_end(text: &[u8], from: usize, to: usize) -> usize
+    requires { ⌜ (from < to) × (to ≤ length (now text)) ⌝ }
+    ensures { λ r. ⌜ r ≡ nameEnd (now (text .entry)) from to ⌝ }
+{
+    if is_letter(text[from]) {
+        let end = alphanumeric_end(text, from, to);
+        if end - from <= 16 {
+            return end;
+        }
+    }
+    0
+}
+
+// A name: 1 to 16 letters or digits, a letter first.
+pub fn is_name(text: &[u8], from: usize, to: usize) -> bool
+    requires { ⌜ (from < to) × (to ≤ length (now text)) ⌝ }
+    ensures { λ r. ⌜ r ≡ isName (slice from to (now (text .entry))) ⌝ }
+{
+    name_end(text, from, to) == to
+}
+
+// A path: 1 to 8 names joined by dots.
+pub fn is_path(text: &[u8], from: usize, to: usize) -> bool
+    requires { ⌜ (from < to) × (to ≤ length (now text)) ⌝ }
+    ensures { λ r. ⌜ r ≡ isPath (slice from to (now (text .entry))) ⌝ }
+{
+    let mut at = from;
+    let mut names: usize = 1;
+    while at < to {
+        let end = name_end(text, at, to);
+        if end == to {
+            return names <= 8;
+        }
+        if end == 0 {
+            return false;
+        }
+        if text[end] != 46 {
+            return false;
+        }
+        at = end + 1;
+        names += 1;
+    }
+    false
+}
+
+// ---- label fields
+
+// The label of a label field, which is 1 to n.
+pub fn read_label(text: &[u8], from: usize, to: usize, n: u64) -> Decimal
+    requires { ⌜ (from ≤ to) × (to ≤ length (now text)) × (n ≤ 1024) ⌝ }
+    ensures { λ r. ⌜ r ≡ labelOf n (slice from to (now (text .entry))) ⌝ }
+{
+    let Decimal::Is(v) = numbers::read_decimal(text, from, to, n) else {
+        return Decimal::Not;
+    };
+    if v == 0 {
+        return Decimal::Not;
+    }
+    Decimal::Is(v)
+}

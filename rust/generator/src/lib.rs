@@ -1,0 +1,67 @@
+//! Random order sheets from a seed, so that a failure can be run again, and
+//! fixed shapes for speed figures.
+//!
+//! `random` makes sheets that read, `damage` spoils them, `lent` chooses
+//! buffer lengths and orders for Follow, `shapes` holds the fixed sheets.
+
+#![forbid(unsafe_code)]
+
+mod builder;
+mod damage;
+mod lent;
+mod random;
+mod rng;
+mod shapes;
+
+pub use damage::damaged;
+pub use lent::{buffer_length, order};
+pub use random::sheet;
+pub use rng::Rng;
+pub use shapes::{everyday, late_refusal, shapes, Shape};
+
+/// All that one trial of all the calls needs.
+#[derive(Debug, Clone, PartialEq, Eq)]
+pub struct Case {
+    pub text: Vec<u8>,
+    /// Lengths of the buffers to lend.
+    pub table: usize,
+    pub plan: usize,
+    pub results: usize,
+    /// What the buffers are full of beforehand.
+    pub rubbish: i64,
+    /// A label for Name.
+    pub label: i64,
+    /// A list for Follow.
+    pub order: Vec<i64>,
+}
+
+/// The trial with this seed.
+pub fn case(seed: u64) -> Case {
+    let rng = &mut Rng::new(seed);
+    let text = any_sheet(rng);
+    let lines = line_count(&text);
+    Case {
+        table: buffer_length(rng, 8 * lines),
+        plan: buffer_length(rng, lines),
+        results: buffer_length(rng, 3 * lines),
+        rubbish: *rng.pick(&[0, 1, -1, i64::MIN, i64::MAX, 77]),
+        label: lent::label(rng, lines),
+        order: order(rng, &text),
+        text,
+    }
+}
+
+/// A sheet of any sort: about half of them read.
+pub fn any_sheet(rng: &mut Rng) -> Vec<u8> {
+    if rng.chance(55) {
+        sheet(rng)
+    } else {
+        damaged(rng)
+    }
+}
+
+/// The number n of lines after line one, whatever the text.
+pub fn line_count(text: &[u8]) -> usize {
+    let ends = text.iter().filter(|&&byte| byte == b'\n').count();
+    ends.saturating_sub(1)
+}

@@ -1,0 +1,601 @@
+//! Random sheets that read.
+//!
+//! A sheet is one tree under label 1: a definition hangs under its Group, an
+//! expression under the line that uses it, and labels rise along every branch.
+//! So the tree is grown first and labels are dealt out afterwards, in any
+//! sequence that takes a line before those under it.
+
+use std::io::Write;
+
+use crate::rng::Rng;
+
+const OUTERMOST: usize = 0;
+const MAX_LINES: usize = 1_024;
+const MAX_LEVEL: usize = 32;
+const MAX_PATH: usize = 8;
+
+/// One line of the tree; links are other nodes.
+struct Node {
+    kind: u8,
+    /// Name or path; empty for `-`.
+    name: Vec<u8>,
+    /// The Group of a definition.
+    group: usize,
+    /// Body or operands.
+    operands: Vec<usize>,
+    /// The number of an N.
+    number: i64,
+}
+
+/// A definition's standing: it may mention definitions of a lower rank, a
+/// function also functions of its own rank. Ranks of values differ, so no
+/// value reaches itself.
+type Rank = usize;
+
+/// What sort of sheet to grow; shares are percents.
+struct Manner {
+    /// Lines wanted at least.
+    lines: usize,
+    /// Groups put in before anything else.
+    first_groups: usize,
+    /// Groups among the definitions, functions among the rest.
+    groups: usize,
+    functions: usize,
+    /// Lines of a body, about.
+    body: usize,
+    /// Groups mostly in each other.
+    deep: bool,
+    /// Leaves that mention a value; calls among the other expressions;
+    /// functions that call themselves round.
+    reading: usize,
+    calling: usize,
+    recursion: usize,
+    /// Ranks of values without regard to Groups.
+    shuffled: bool,
+    /// Mentions as they come, so that values may reach themselves.
+    wild: bool,
+    /// How long names are and how often they repeat.
+    naming: usize,
+}
+
+impl Manner {
+    fn new(rng: &mut Rng) -> Self {
+        let manner = Manner {
+            lines: 1,
+            first_groups: 0,
+            groups: *rng.pick(&[0, 10, 20, 30, 50]),
+            functions: *rng.pick(&[0, 15, 30, 50]),
+            body: rng.range(2, 9),
+            deep: rng.chance(20),
+            reading: rng.range(10, 80),
+            calling: 25,
+            recursion: 50,
+            shuffled: rng.chance(30),
+            wild: rng.chance(6),
+            naming: rng.below(4),
+        };
+        match rng.below(100) {
+            // Values of several Groups that read each other crosswise.
+            0..=39 => Manner {
+                lines: rng.range(16, 60),
+                first_groups: rng.range(2, 4),
+                groups: rng.range(0, 15),
+                functions: rng.range(0, 15),
+                body: rng.range(2, 3),
+                reading: rng.range(85, 100),
+                shuffled: true,
+                ..manner
+            },
+            // Functions that call each other and take many steps.
+            40..=57 => Manner {
+                lines: rng.range(12, 30),
+                groups: rng.range(0, 15),
+                functions: rng.range(30, 70),
+                calling: 70,
+                recursion: rng.range(60, 100),
+                ..manner
+            },
+            _ => manner,
+        }
+    }
+}
+
+struct Grower<'r> {
+    rng: &'r mut Rng,
+    manner: Manner,
+    nodes: Vec<Node>,
+    groups: Vec<usize>,
+    values: Vec<usize>,
+    functions: Vec<usize>,
+    /// Members of each Group, by node.
+    members: Vec<Vec<usize>>,
+    ranks: Vec<Rank>,
+    /// How many lines the sheet may come to, those still to come included.
+    limit: usize,
+    /// Values and functions still without a body.
+    waiting: usize,
+}
+
+/// A random sheet that reads; a few have a value that reaches itself.
+pub fn sheet(rng: &mut Rng) -> Vec<u8> {
+    let lines = size(rng);
+    sheet_of(rng, lines)
+}
+
+/// Small sheets above all.
+fn size(rng: &mut Rng) -> usize {
+    match rng.below(1_000) {
+        0..=19 => rng.range(1, 3),
+        20..=499 => rng.range(4, 24),
+        500..=919 => rng.range(16, 60),
+        920..=987 => rng.range(60, 160),
+        988..=996 => rng.range(160, 500),
+        _ => rng.range(500, MAX_LINES),
+    }
+}
+
+/// A random sheet of about this many lines, at most 1,024.
+pub fn sheet_of(rng: &mut Rng, lines: usize) -> Vec<u8> {
+    let manner = Manner::new(rng);
+    let lines = if lines < 4 {
+        lines
+    } else {
+        lines.max(manner.lines)
+    };
+    let mut grower = Grower {
+        manner,
+        limit: MAX_LINES.min(2 * lines + 12),
+        waiting: 0,
+        nodes: Vec::new(),
+        groups: vec![OUTERMOST],
+        values: Vec::new(),
+        functions: Vec::new(),
+        members: vec![Vec::new()],
+        ranks: Vec::new(),
+        rng,
+    };
+    grower.add(b'G', OUTERMOST);
+    grower.grow_definitions(lines);
+    grower.deal_ranks();
+    grower.grow_bodies(lines);
+    grower.render()
+}
+
+impl Grower<'_> {
+    fn add(&mut self, kind: u8, group: usize) -> usize {
+        self.nodes.push(Node {
+            kind,
+            name: Vec::new(),
+            group,
+            operands: Vec::new(),
+            number: 0,
+        });
+        self.nodes.len() - 1
+    }
+
+    /// Definitions without bodies, for a sheet of `lines` lines.
+    fn grow_definitions(&mut self, lines: usize) {
+        let mut left = lines - 1;
+        for _ in 0..self.manner.first_groups.min(left) {
+            let group = self.choose_group();
+            self.define(b'G', group);
+            left -= 1;
+        }
+        while left > 0 {
+            let group = self.choose_group();
+            if left == 1 && self.rng.chance(70) {
+                break;
+            }
+            if left == 1 || self.rng.chance(self.manner.groups) {
+                self.define(b'G', group);
+                left -= 1;
+            } else {
+                let function = self.rng.chance(self.manner.functions);
+                self.define(if function { b'F' } else { b'V' }, group);
+                left = left.saturating_sub(1 + self.manner.body);
+            }
+        }
+    }
+
+    fn choose_group(&mut self) -> usize {
+        match self.groups.last() {
+            Some(&last) if self.manner.deep && self.rng.chance(70) => last,
+            _ => *self.rng.pick(&self.groups),
+        }
+    }
+
+    fn define(&mut self, kind: u8, group: usize) {
+        let name = self.new_name(group);
+        let node = self.add(kind, group);
+        self.nodes[node].name = name;
+        self.members.resize_with(node + 1, Vec::new);
+        self.members[group].push(node);
+        match kind {
+            b'G' => self.groups.push(node),
+            b'V' => self.values.push(node),
+            _ => self.functions.push(node),
+        }
+    }
+
+    /// A name that no member of the Group has yet.
+    fn new_name(&mut self, group: usize) -> Vec<u8> {
+        for _ in 0..4 {
+            let name = self.random_name();
+            if self.find(group, &name).is_none() {
+                return name;
+            }
+        }
+        format!("n{}", self.nodes.len()).into_bytes()
+    }
+
+    fn random_name(&mut self) -> Vec<u8> {
+        const SHORT: [&str; 6] = ["a", "b", "c", "A", "B", "x1"];
+        const WORDS: [&str; 8] = [
+            "sphere", "prism", "Right", "right", "left", "frame", "axis", "total",
+        ];
+        const LONG: [&str; 4] = [
+            "abcdefghijklmnop",
+            "abcdefghijklmnoq",
+            "Abcdefghijklmnop",
+            "abcdefgh",
+        ];
+        let name = match self.manner.naming {
+            0 => self.rng.pick(&SHORT).to_string(),
+            1 => self.rng.pick(&WORDS).to_string(),
+            2 => self.rng.pick(&LONG).to_string(),
+            _ => format!("v{}", self.rng.below(40)),
+        };
+        name.into_bytes()
+    }
+
+    fn find(&self, group: usize, name: &[u8]) -> Option<usize> {
+        let members = &self.members[group];
+        members
+            .iter()
+            .copied()
+            .find(|&m| self.nodes[m].name == name)
+    }
+
+    /// Values get odd ranks, all different, functions even ones, few of them.
+    /// In sequence of Groups the sheet has a whole order; shuffled, most often
+    /// none.
+    fn deal_ranks(&mut self) {
+        self.ranks = vec![0; self.nodes.len()];
+        let mut values = Vec::new();
+        self.values_by_group(OUTERMOST, &mut values);
+        if self.manner.shuffled {
+            self.rng.shuffle(&mut values);
+        }
+        for (place, &value) in values.iter().enumerate() {
+            self.ranks[value] = 2 * place + 1;
+        }
+        let steps = [0; 3].map(|_| 2 * self.rng.below(values.len() + 1));
+        for at in 0..self.functions.len() {
+            self.ranks[self.functions[at]] = *self.rng.pick(&steps);
+        }
+    }
+
+    fn values_by_group(&mut self, group: usize, values: &mut Vec<usize>) {
+        let mut members = self.members[group].clone();
+        self.rng.shuffle(&mut members);
+        for member in members {
+            match self.nodes[member].kind {
+                b'G' => self.values_by_group(member, values),
+                b'V' => values.push(member),
+                _ => {}
+            }
+        }
+    }
+
+    fn grow_bodies(&mut self, lines: usize) {
+        let mut owners = [&self.values[..], &self.functions[..]].concat();
+        self.rng.shuffle(&mut owners);
+        self.waiting = owners.len();
+        for owner in owners {
+            let spare = lines.saturating_sub(self.nodes.len() + self.waiting);
+            let twice_fair = 2 * spare / self.waiting;
+            let budget = 1 + self.rng.below(twice_fair + 1).min(spare);
+            self.waiting -= 1;
+            let body = self.body(owner, budget);
+            self.nodes[owner].operands.push(body);
+        }
+    }
+
+    fn body(&mut self, owner: usize, budget: usize) -> usize {
+        if self.nodes[owner].kind == b'F' && self.rng.chance(self.manner.recursion) {
+            if let Some(body) = self.recursion(owner) {
+                return body;
+            }
+        }
+        if budget >= 20 && self.rng.chance(15) {
+            return self.chain(owner, 1, budget);
+        }
+        self.expression(owner, 1, budget)
+    }
+
+    /// A function that calls itself or another one round: endlessly, counting
+    /// down, or counting down twice over, which takes twelve lines.
+    fn recursion(&mut self, owner: usize) -> Option<usize> {
+        if self.nodes.len() + self.waiting + 12 > self.limit {
+            return None;
+        }
+        let again = self.function_path(owner)?;
+        match self.rng.below(10) {
+            0 => {
+                let argument = self.add(b'P', 0);
+                Some(self.call(again, argument))
+            }
+            1..=5 => {
+                let call = self.call_with_less(&again);
+                Some(self.until_zero(owner, call))
+            }
+            _ => {
+                let sum = self.add(b'A', 0);
+                for _ in 0..2 {
+                    let call = self.call_with_less(&again);
+                    self.nodes[sum].operands.push(call);
+                }
+                Some(self.until_zero(owner, sum))
+            }
+        }
+    }
+
+    /// If the argument is not 0 then `rest`, else a leaf.
+    fn until_zero(&mut self, owner: usize, rest: usize) -> usize {
+        let test = self.add(b'P', 0);
+        let last = self.leaf(owner);
+        let choice = self.add(b'I', 0);
+        self.nodes[choice].operands = vec![test, rest, last];
+        choice
+    }
+
+    fn call(&mut self, path: Vec<u8>, argument: usize) -> usize {
+        let call = self.add(b'C', 0);
+        self.nodes[call].name = path;
+        self.nodes[call].operands.push(argument);
+        call
+    }
+
+    /// A call on the argument less 1.
+    fn call_with_less(&mut self, path: &[u8]) -> usize {
+        let argument = self.add(b'P', 0);
+        let one = self.add(b'N', 0);
+        self.nodes[one].number = 1;
+        let less = self.add(b'S', 0);
+        self.nodes[less].operands = vec![argument, one];
+        self.call(path.to_vec(), less)
+    }
+
+    /// Operations nested as deep as allowed, or nearly.
+    fn chain(&mut self, owner: usize, level: usize, budget: usize) -> usize {
+        if budget < 3 || level == MAX_LEVEL {
+            return self.leaf(owner);
+        }
+        let node = self.operation();
+        let other = self.leaf(owner);
+        let rest = self.chain(owner, level + 1, budget - 2);
+        self.nodes[node].operands = vec![other, rest];
+        if self.rng.chance(50) {
+            self.nodes[node].operands.swap(0, 1);
+        }
+        node
+    }
+
+    fn operation(&mut self) -> usize {
+        let kind = *self.rng.pick(b"AASSMD");
+        self.add(kind, 0)
+    }
+
+    /// An expression of at most `budget` lines.
+    fn expression(&mut self, owner: usize, level: usize, budget: usize) -> usize {
+        if budget < 2 || level == MAX_LEVEL || self.rng.chance(8) {
+            return self.leaf(owner);
+        }
+        if budget == 2 || self.rng.chance(self.manner.calling) {
+            return match self.function_path(owner) {
+                Some(path) => {
+                    let argument = self.argument(owner, level + 1, budget - 1);
+                    self.call(path, argument)
+                }
+                None => self.leaf(owner),
+            };
+        }
+        let choice = budget >= 4 && self.rng.chance(25);
+        let node = if choice {
+            self.add(b'I', 0)
+        } else {
+            self.operation()
+        };
+        let mut left = budget - 1;
+        for later in (0..if choice { 3 } else { 2 }).rev() {
+            let share = if later == 0 {
+                left
+            } else {
+                self.rng.range(1, left - later)
+            };
+            let operand = self.expression(owner, level + 1, share);
+            self.nodes[node].operands.push(operand);
+            left -= share;
+        }
+        node
+    }
+
+    /// The argument of a call: often a number of rounds near the depth limit.
+    fn argument(&mut self, owner: usize, level: usize, budget: usize) -> usize {
+        if self.rng.chance(40) {
+            return self.expression(owner, level, budget);
+        }
+        let node = self.add(b'N', 0);
+        let few = self.rng.range(0, 14);
+        let many = self.rng.range(60, 66);
+        self.nodes[node].number = *self.rng.pick(&[few, many]) as i64;
+        node
+    }
+
+    fn leaf(&mut self, owner: usize) -> usize {
+        if self.rng.chance(self.manner.reading) {
+            if let Some(path) = self.value_path(owner) {
+                let node = self.add(b'R', 0);
+                self.nodes[node].name = path;
+                return node;
+            }
+        }
+        if self.nodes[owner].kind == b'F' && self.rng.chance(60) {
+            return self.add(b'P', 0);
+        }
+        let node = self.add(b'N', 0);
+        self.nodes[node].number = self.number();
+        node
+    }
+
+    fn number(&mut self) -> i64 {
+        let small = self.rng.range(0, 12) as i64 - 4;
+        match self.rng.below(20) {
+            0..=11 => small,
+            12..=13 => 0,
+            14 => 1_000_000_000,
+            15 => -1_000_000_000,
+            16 => *self
+                .rng
+                .pick(&[999_999_999, -999_999_999, 31_623, 500_000_000]),
+            _ => self.rng.below(2_000_000_001) as i64 - 1_000_000_000,
+        }
+    }
+
+    fn value_path(&mut self, owner: usize) -> Option<Vec<u8>> {
+        (0..4).find_map(|_| {
+            let target = *self.values.get(self.rng.below(self.values.len().max(1)))?;
+            self.path(owner, target)
+        })
+    }
+
+    fn function_path(&mut self, owner: usize) -> Option<Vec<u8>> {
+        (0..4).find_map(|_| {
+            let target = *self
+                .functions
+                .get(self.rng.below(self.functions.len().max(1)))?;
+            self.path(owner, target)
+        })
+    }
+
+    /// A path from the owner to the target, if it may mention it and one of
+    /// the Groups around both has it in sight.
+    fn path(&mut self, owner: usize, target: usize) -> Option<Vec<u8>> {
+        let both_functions = self.nodes[owner].kind == b'F' && self.nodes[target].kind == b'F';
+        let [own, other] = [self.ranks[owner], self.ranks[target]];
+        if !(self.manner.wild || other < own || both_functions && other == own) {
+            return None;
+        }
+        let from = self.nodes[owner].group;
+        let longest = self.rng.chance(25);
+        let mut names = vec![target];
+        let mut found = None;
+        loop {
+            let head = names[names.len() - 1];
+            if self.settles(from, head) {
+                found = Some(names.len());
+                if !longest || self.rng.chance(50) {
+                    break;
+                }
+            }
+            let group = self.nodes[head].group;
+            if group == OUTERMOST || names.len() == MAX_PATH {
+                break;
+            }
+            names.push(group);
+        }
+        names.truncate(found?);
+        let parts: Vec<&[u8]> = names
+            .iter()
+            .rev()
+            .map(|&n| &self.nodes[n].name[..])
+            .collect();
+        Some(parts.join(&b'.'))
+    }
+
+    /// Whether a search from the Group `from` outward finds this very head.
+    fn settles(&self, from: usize, head: usize) -> bool {
+        let mut group = from;
+        loop {
+            if let Some(member) = self.find(group, &self.nodes[head].name) {
+                return member == head;
+            }
+            if group == OUTERMOST {
+                return false;
+            }
+            group = self.nodes[group].group;
+        }
+    }
+
+    /// Deals out labels and writes the text.
+    fn render(&mut self) -> Vec<u8> {
+        let sequence = self.sequence();
+        let mut labels = vec![0; self.nodes.len()];
+        for (label, &node) in (1..).zip(&sequence) {
+            labels[node] = label;
+        }
+        let mut text = b"kind name a b c\n".to_vec();
+        for &node in &sequence {
+            self.render_line(&labels, node, &mut text);
+        }
+        text
+    }
+
+    /// The nodes, each after the one it hangs under.
+    fn sequence(&mut self) -> Vec<usize> {
+        let manner = self.rng.below(4);
+        let mut ready = vec![OUTERMOST];
+        let mut sequence = Vec::with_capacity(self.nodes.len());
+        while !ready.is_empty() {
+            let last = ready.len() - 1;
+            let at = match manner {
+                0 => last,
+                1 if self.rng.chance(70) => last,
+                2 => ready
+                    .iter()
+                    .position(|&n| is_definition(&self.nodes[n]))
+                    .unwrap_or(last),
+                _ => self.rng.below(ready.len()),
+            };
+            let node = ready.swap_remove(at);
+            sequence.push(node);
+            ready.extend_from_slice(&self.nodes[node].operands);
+            ready.extend_from_slice(self.members.get(node).map_or(&[], |members| members));
+        }
+        sequence
+    }
+
+    fn render_line(&self, labels: &[usize], node: usize, text: &mut Vec<u8>) {
+        let Node {
+            kind,
+            name,
+            group,
+            operands,
+            number,
+        } = &self.nodes[node];
+        text.extend_from_slice(&[*kind, b' ']);
+        text.extend_from_slice(if name.is_empty() { b"-" } else { name });
+        let mut fields = 0;
+        let mut field = |number: i64| {
+            fields += 1;
+            write!(text, " {number}").expect("writing to a Vec does not fail");
+        };
+        match kind {
+            b'G' | b'V' | b'F' if node == OUTERMOST => field(0),
+            b'G' | b'V' | b'F' => field(labels[*group] as i64),
+            b'N' => field(*number),
+            _ => {}
+        }
+        operands
+            .iter()
+            .for_each(|&operand| field(labels[operand] as i64));
+        for _ in fields..3 {
+            text.extend_from_slice(b" -");
+        }
+        text.push(b'\n');
+    }
+}
+
+fn is_definition(node: &Node) -> bool {
+    matches!(node.kind, b'G' | b'V' | b'F')
+}

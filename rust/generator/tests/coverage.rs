@@ -1,0 +1,187 @@
+//! The random trials meet every refusal, every state and both orders, and a
+//! seed always gives the same trial.
+
+use generator::{case, Case};
+use reference::{Order, Refusal};
+
+const CASES: u64 = 20_000;
+
+#[derive(Default)]
+struct Counts {
+    /// Refusals of Run, and of Follow alone (17, 18), by number.
+    refusals: [usize; 19],
+    states: [usize; 6],
+    whole: usize,
+    mixed: usize,
+    /// Follow's answers, and those for another order than the plan.
+    followed: usize,
+    other_orders: usize,
+    all_steps: usize,
+    lines: usize,
+    longest: usize,
+    names: usize,
+}
+
+struct Buffers {
+    table: Vec<i64>,
+    plan: Vec<i64>,
+    results: Vec<i64>,
+}
+
+impl Buffers {
+    fn new(case: &Case) -> Self {
+        Buffers {
+            table: vec![case.rubbish; case.table],
+            plan: vec![case.rubbish; case.plan],
+            results: vec![case.rubbish; case.results],
+        }
+    }
+}
+
+impl Counts {
+    fn run(&mut self, case: &Case) {
+        let Buffers {
+            mut table,
+            mut plan,
+            mut results,
+        } = Buffers::new(case);
+        let lines = generator::line_count(&case.text);
+        self.lines += lines;
+        match reference::run(&case.text, &mut table, &mut plan, &mut results) {
+            Ok((length, order)) => {
+                match order {
+                    Order::Whole => self.whole += 1,
+                    Order::Mixed => self.mixed += 1,
+                }
+                for label in &plan[..length] {
+                    let at = 3 * (*label as usize - 1);
+                    self.states[results[at] as usize] += 1;
+                    self.all_steps += usize::from(results[at + 2] == 20_000);
+                }
+                self.longest = self.longest.max(lines);
+                self.follow(case, &plan[..length], &results);
+            }
+            Err(refusal) => {
+                self.refusals[refusal.number as usize] += 1;
+                let mut cells = table.iter().chain(&plan).chain(&results);
+                assert!(cells.all(|&cell| cell == 0));
+            }
+        }
+    }
+
+    /// Follow on a sheet that Run accepts: a proper order gives Run's results.
+    fn follow(&mut self, case: &Case, plan: &[i64], wanted: &[i64]) {
+        let Buffers {
+            mut table,
+            mut results,
+            ..
+        } = Buffers::new(case);
+        match reference::follow(&case.text, &case.order, &mut table, &mut results) {
+            Ok(length) => {
+                assert_eq!(length, case.order.len());
+                assert_eq!(results, wanted);
+                self.followed += 1;
+                self.other_orders += usize::from(case.order != plan);
+            }
+            Err(refusal) => self.refusals[refusal.number as usize] += 1,
+        }
+    }
+
+    fn name(&mut self, case: &Case) {
+        let mut table = Buffers::new(case).table;
+        let part = reference::name(&case.text, &mut table, case.label);
+        self.names += usize::from(!part.is_empty());
+    }
+}
+
+#[test]
+fn every_rule_is_met() {
+    let mut counts = Counts::default();
+    for seed in 0..CASES {
+        let case = case(seed);
+        counts.run(&case);
+        counts.name(&case);
+    }
+    println!(
+        "lines in all {}, longest accepted {}",
+        counts.lines, counts.longest
+    );
+    println!("whole {}, mixed {}", counts.whole, counts.mixed);
+    for (number, count) in counts.refusals.iter().enumerate().skip(1) {
+        println!("refusal {number}: {count}");
+        assert!(*count >= 50, "refusal {number}: {count}");
+    }
+    for (state, count) in counts.states.iter().enumerate().skip(1) {
+        println!("state {state}: {count}");
+        assert!(*count >= 300, "state {state}: {count}");
+    }
+    println!("all 20,000 steps {}", counts.all_steps);
+    println!(
+        "followed {}, not the plan {}",
+        counts.followed, counts.other_orders
+    );
+    println!("names {}", counts.names);
+    assert!(counts.whole > 2_000 && counts.mixed > 1_000);
+    assert!(counts.other_orders > 500 && counts.names > 2_000);
+    assert!(counts.longest > 900);
+}
+
+/// Every refusal from 5 to 16 also has its sheet of 1,024 lines.
+#[test]
+fn late_refusals() {
+    let (mut table, mut plan) = (vec![0; 8 * 1024], vec![0; 1024]);
+    for number in 5..=16 {
+        let text = generator::late_refusal(number);
+        assert_eq!(generator::line_count(&text), 1_024);
+        let place = if matches!(number, 11 | 16) {
+            1_023
+        } else {
+            1_024
+        };
+        let refusal = reference::plan(&text, &mut table, &mut plan);
+        assert_eq!(refusal, Err(Refusal { number, place }));
+    }
+}
+
+#[test]
+fn shapes_run() {
+    for shape in generator::shapes() {
+        let lines = generator::line_count(&shape.text);
+        let refused = shape.name.starts_with("refusal");
+        assert_eq!(
+            reference::print(&shape.text).starts_with(b"refusal"),
+            refused,
+            "{}",
+            shape.name
+        );
+        assert!(
+            lines > 950 || shape.name.starts_with("one value"),
+            "{} {lines}",
+            shape.name
+        );
+    }
+}
+
+#[test]
+fn everyday_orders_have_their_lines_and_a_whole_plan() {
+    for lines in (1..=80).chain([250, 500, 1_000, 1_023, 1_024]) {
+        let text = generator::everyday(lines, 7);
+        let (mut table, mut plan) = (vec![0; 8 * lines], vec![0; lines]);
+        let planned = reference::plan(&text, &mut table, &mut plan);
+        assert!(
+            matches!(planned, Ok((_, Order::Whole))),
+            "{lines} {planned:?}"
+        );
+        assert_eq!(generator::line_count(&text), lines);
+    }
+}
+
+#[test]
+fn a_seed_gives_the_same_trial() {
+    for seed in 0..200 {
+        assert_eq!(case(seed), case(seed));
+    }
+    // Known beforehand, so another machine or a later change is noticed.
+    let mut rng = generator::Rng::new(1);
+    assert_eq!(rng.word(), 0x910A_2DEC_8902_5CC1);
+}

@@ -1,0 +1,299 @@
+//! The reference against the paper's definitions, taken word for word with no
+//! care for speed: reaching as a table filled until nothing changes, needs and
+//! plans by looking at every pair, evaluation as a function of what is left.
+
+use generator::{any_sheet, line_count, sheet, Rng};
+use reference::Order;
+
+/// A sheet that reads: its text and its table. Labels count from 1.
+struct Facts {
+    text: Vec<u8>,
+    table: Vec<i64>,
+    count: usize,
+    reaches: Vec<Vec<bool>>,
+}
+
+impl Facts {
+    fn new(text: Vec<u8>) -> Option<Self> {
+        let count = line_count(&text);
+        let mut table = vec![0; 8 * count];
+        reference::read(&text, &mut table).ok()?;
+        let mut facts = Facts {
+            text,
+            table,
+            count,
+            reaches: vec![vec![false; count + 1]; count + 1],
+        };
+        facts.fill_reaches();
+        Some(facts)
+    }
+
+    fn cell(&self, label: usize, cell: usize) -> usize {
+        self.table[8 * (label - 1) + cell] as usize
+    }
+
+    fn kind(&self, label: usize) -> usize {
+        self.cell(label, 0)
+    }
+
+    fn is_definition(&self, label: usize) -> bool {
+        self.kind(label) <= 3
+    }
+
+    fn name(&self, label: usize) -> &[u8] {
+        &self.text[self.cell(label, 1)..][..self.cell(label, 2)]
+    }
+
+    fn values(&self) -> Vec<usize> {
+        (1..=self.count)
+            .filter(|&label| self.kind(label) == 2)
+            .collect()
+    }
+
+    fn members(&self, group: usize) -> Vec<usize> {
+        let is_member = |&label: &usize| self.is_definition(label) && self.cell(label, 3) == group;
+        (2..=self.count).filter(is_member).collect()
+    }
+
+    fn fill_reaches(&mut self) {
+        for label in 1..=self.count {
+            if let target @ 1.. = self.cell(label, 7) {
+                let owner = self.cell(label, 6);
+                self.reaches[owner][target] = true;
+            }
+        }
+        for middle in 1..=self.count {
+            let onward = self.reaches[middle].clone();
+            for row in self.reaches.iter_mut().filter(|row| row[middle]) {
+                row.iter_mut()
+                    .zip(&onward)
+                    .for_each(|(cell, more)| *cell |= more);
+            }
+        }
+    }
+
+    /// Whether a value is this member or under it.
+    fn is_under(&self, value: usize, member: usize) -> bool {
+        value == member || value != 0 && self.is_under(self.cell(value, 6), member)
+    }
+
+    fn needs(&self, p: usize, q: usize) -> bool {
+        let values = self.values();
+        let under = |member| values.iter().filter(move |&&v| self.is_under(v, member));
+        p != q && under(p).any(|&v| under(q).any(|&w| self.reaches[v][w]))
+    }
+
+    fn whole(&self, group: usize) -> Option<Vec<usize>> {
+        let mut left = self.members(group);
+        let mut listed = Vec::new();
+        while !left.is_empty() {
+            let ready = |&p: &usize| !left.iter().any(|&q| self.needs(p, q));
+            let next = left.iter().copied().find(ready)?;
+            left.retain(|&p| p != next);
+            match self.kind(next) {
+                1 => listed.extend(self.whole(next)?),
+                2 => listed.push(next),
+                _ => {}
+            }
+        }
+        Some(listed)
+    }
+
+    fn mixed(&self) -> Vec<usize> {
+        let mut left = self.values();
+        let mut listed = Vec::new();
+        while !left.is_empty() {
+            let ready = |&v: &usize| !left.iter().any(|&w| self.reaches[v][w]);
+            let next = left.iter().copied().find(ready).expect("no cycle");
+            left.retain(|&v| v != next);
+            listed.push(next);
+        }
+        listed
+    }
+
+    fn is_proper(&self, order: &[usize]) -> bool {
+        let late = |at: usize| order[at..].iter().any(|&w| self.reaches[order[at]][w]);
+        !(0..order.len()).any(late)
+    }
+
+    fn is_whole(&self, order: &[usize]) -> bool {
+        let mut groups = (1..=self.count).filter(|&label| self.kind(label) == 1);
+        groups.all(|group| {
+            let inside = |&v: &usize| self.is_under(v, group);
+            match (
+                order.iter().position(inside),
+                order.iter().rposition(inside),
+            ) {
+                (Some(first), Some(last)) => order[first..=last].iter().all(inside),
+                _ => true,
+            }
+        })
+    }
+
+    /// The target of an R or C by the search of the paper.
+    fn target(&self, label: usize) -> usize {
+        let member = |group: usize, name: &[u8]| {
+            let mut members = self.members(group).into_iter();
+            members.find(|&m| self.name(m) == name)
+        };
+        let mut names = self.name(label).split(|&byte| byte == b'.');
+        let head = names.next().expect("a head");
+        let mut group = self.cell(self.cell(label, 6), 6);
+        let mut found = loop {
+            match member(group, head) {
+                Some(found) => break found,
+                None => group = self.cell(group, 6),
+            }
+        };
+        for name in names {
+            found = member(found, name).expect("a later name");
+        }
+        found
+    }
+
+    /// The reply of an expression inside a call (argument, depth).
+    fn reply(&self, label: usize, call: (i64, u32), left: u32, results: &[i64]) -> Reply {
+        if left == 0 {
+            return (Err(4), 0);
+        }
+        let left = left - 1;
+        let operand = |cell, left| self.reply(self.cell(label, cell), call, left, results);
+        let target = self.cell(label, 7);
+        match self.kind(label) {
+            4 => (Ok(self.table[8 * (label - 1) + 3]), left),
+            5 => (Ok(call.0), left),
+            6 => match results[3 * (target - 1)] {
+                1 => (Ok(results[3 * (target - 1) + 1]), left),
+                state => (Err(state), left),
+            },
+            7 => then(operand(3, left), |argument, left| match call.1 {
+                64 => (Err(5), left),
+                depth => {
+                    let body = self.cell(target, 4);
+                    self.reply(body, (argument, depth + 1), left, results)
+                }
+            }),
+            12 => then(operand(3, left), |test, left| {
+                operand(if test == 0 { 5 } else { 4 }, left)
+            }),
+            kind => then(operand(3, left), |a, left| {
+                then(operand(4, left), |b, left| (operate(kind, a, b), left))
+            }),
+        }
+    }
+}
+
+/// A number or the state of a failure, and the steps left.
+type Reply = (Result<i64, i64>, u32);
+
+/// "The first failure ends the value."
+fn then((answer, left): Reply, next: impl FnOnce(i64, u32) -> Reply) -> Reply {
+    match answer {
+        Ok(number) => next(number, left),
+        Err(state) => (Err(state), left),
+    }
+}
+
+fn operate(kind: usize, a: i64, b: i64) -> Result<i64, i64> {
+    let result = match kind {
+        8 => a + b,
+        9 => a - b,
+        10 => a * b,
+        _ if b == 0 => return Err(3),
+        // |a / b| + 1/2, rounded down, with the sign of a / b.
+        _ => a.signum() * b.signum() * ((2 * a.abs() + b.abs()) / (2 * b.abs())),
+    };
+    let limit = 1_000_000_000;
+    Some(result)
+        .filter(|result| (-limit..=limit).contains(result))
+        .ok_or(2)
+}
+
+/// Run's plan, order and results, or the place of its refusal 16.
+fn run(facts: &Facts) -> Result<(Vec<usize>, Order, Vec<i64>), u64> {
+    let (mut table, mut plan) = (vec![0; 8 * facts.count], vec![0; facts.count]);
+    let mut results = vec![0; 3 * facts.count];
+    let answer = reference::run(&facts.text, &mut table, &mut plan, &mut results);
+    let (length, order) = answer.map_err(|refusal| {
+        assert_eq!(refusal.number, 16);
+        refusal.place
+    })?;
+    assert_eq!(table, facts.table);
+    let plan = plan[..length].iter().map(|&label| label as usize).collect();
+    Ok((plan, order, results))
+}
+
+#[test]
+fn reference_keeps_to_the_definitions() {
+    let mut checked = [0; 3];
+    for seed in 0..6_000 {
+        let rng = &mut Rng::new(1_000_000 + seed);
+        let text = if seed % 3 == 0 {
+            any_sheet(rng)
+        } else {
+            sheet(rng)
+        };
+        if line_count(&text) > 90 {
+            continue;
+        }
+        let Some(facts) = Facts::new(text) else {
+            continue;
+        };
+        for label in (1..=facts.count).filter(|&label| facts.cell(label, 7) != 0) {
+            assert_eq!(facts.target(label), facts.cell(label, 7), "seed {seed}");
+        }
+        let cycle = facts.values().into_iter().find(|&v| facts.reaches[v][v]);
+        match (run(&facts), cycle) {
+            (Err(place), Some(value)) => {
+                assert_eq!(place, value as u64, "seed {seed}");
+                checked[0] += 1;
+            }
+            (Ok((plan, order, results)), None) => {
+                check_plan(&facts, &plan, order);
+                check_results(&facts, &plan, &results);
+                checked[1 + order as usize] += 1;
+            }
+            (run, cycle) => panic!("seed {seed}: {run:?}, {cycle:?}"),
+        }
+    }
+    println!("cycles, whole, mixed: {checked:?}");
+    assert!(checked.iter().all(|&count| count > 100));
+}
+
+fn check_plan(facts: &Facts, plan: &[usize], order: Order) {
+    let wanted = facts.whole(1);
+    assert_eq!(order == Order::Whole, wanted.is_some());
+    assert_eq!(plan, wanted.unwrap_or_else(|| facts.mixed()));
+    assert!(facts.is_proper(plan));
+    assert!(order == Order::Mixed || facts.is_whole(plan));
+    if plan.len() <= 6 && order == Order::Mixed {
+        let mut values = facts.values();
+        assert!(!some_order(&mut values, 0, &|order| {
+            facts.is_proper(order) && facts.is_whole(order)
+        }));
+    }
+}
+
+/// Whether some sequence of the values, the first `fixed` kept, is wanted.
+fn some_order(values: &mut [usize], fixed: usize, wanted: &dyn Fn(&[usize]) -> bool) -> bool {
+    if fixed == values.len() {
+        return wanted(values);
+    }
+    (fixed..values.len()).any(|other| {
+        values.swap(fixed, other);
+        let found = some_order(values, fixed + 1, wanted);
+        values.swap(fixed, other);
+        found
+    })
+}
+
+fn check_results(facts: &Facts, plan: &[usize], results: &[i64]) {
+    let mut wanted = vec![0; 3 * facts.count];
+    for &value in plan {
+        let (answer, left) = facts.reply(facts.cell(value, 4), (0, 0), 20_000, &wanted);
+        let (state, number) = answer.map_or_else(|state| (state, 0), |number| (1, number));
+        let steps = i64::from(20_000 - left);
+        wanted[3 * (value - 1)..][..3].copy_from_slice(&[state, number, steps]);
+    }
+    assert_eq!(results, wanted);
+}

@@ -1,0 +1,189 @@
+//! Evaluation ("Working out").
+
+use crate::lines::in_range;
+use crate::sheet::{Kind, Label, Sheet};
+
+/// Why a value has no number; the codes are the paper's states.
+#[derive(Debug, Clone, Copy, PartialEq, Eq)]
+enum Failure {
+    Range = 2,
+    ZeroDivisor = 3,
+    OutOfSteps = 4,
+    TooDeep = 5,
+}
+
+type Answer = Result<i64, Failure>;
+
+/// What a value came to and the steps it took.
+#[derive(Debug, Clone, Copy)]
+pub struct Outcome {
+    answer: Answer,
+    steps: u32,
+}
+
+impl Outcome {
+    /// State, number ("0 on failure") and steps.
+    pub fn cells(&self) -> [i64; 3] {
+        let (state, number) = match self.answer {
+            Ok(number) => (1, number),
+            Err(failure) => (failure as i64, 0),
+        };
+        [state, number, i64::from(self.steps)]
+    }
+}
+
+/// The steps that one value may take; how deep its calls may go.
+#[derive(Debug, Clone, Copy)]
+struct Allowance {
+    left: u32,
+}
+
+impl Allowance {
+    const STEPS: u32 = 20_000;
+    const DEPTH: u32 = 64;
+
+    fn fresh() -> Self {
+        Allowance { left: Self::STEPS }
+    }
+
+    /// Takes one step, if one is left.
+    fn step(self) -> Option<Self> {
+        let left = self.left.checked_sub(1)?;
+        Some(Allowance { left })
+    }
+
+    fn taken(self) -> u32 {
+        Self::STEPS - self.left
+    }
+}
+
+/// What one call carries: its argument and its depth.
+#[derive(Debug, Clone, Copy)]
+struct Frame {
+    argument: i64,
+    depth: u32,
+}
+
+/// Evaluates the values of a proper order in turn; outcomes by label from 1,
+/// none for lines that are no value.
+pub fn evaluate(sheet: &Sheet, order: &[Label]) -> Vec<Option<Outcome>> {
+    let mut outcomes = vec![None; sheet.count()];
+    for &value in order {
+        let mut evaluation = Evaluation {
+            sheet,
+            outcomes: &outcomes,
+            allowance: Allowance::fresh(),
+        };
+        // A value has no P (row 10), so its argument is never asked for.
+        let frame = Frame {
+            argument: 0,
+            depth: 0,
+        };
+        let answer = evaluation.expression(sheet.line(value).link(1), frame);
+        let steps = evaluation.allowance.taken();
+        outcomes[value - 1] = Some(Outcome { answer, steps });
+    }
+    outcomes
+}
+
+/// The evaluation of one value.
+struct Evaluation<'e> {
+    sheet: &'e Sheet<'e>,
+    outcomes: &'e [Option<Outcome>],
+    allowance: Allowance,
+}
+
+impl Evaluation<'_> {
+    /// "Entering an expression takes one step; with none left the state is 4."
+    fn expression(&mut self, label: Label, frame: Frame) -> Answer {
+        self.allowance = self.allowance.step().ok_or(Failure::OutOfSteps)?;
+        let line = self.sheet.line(label);
+        match line.kind {
+            Kind::Number => Ok(line.fields[0]),
+            Kind::Argument => Ok(frame.argument),
+            Kind::Read => self.stored(line.target as Label),
+            Kind::Call => self.call(line.target as Label, line.link(0), frame),
+            Kind::Choice => {
+                let test = self.expression(line.link(0), frame)?;
+                let branch = if test != 0 { 1 } else { 2 };
+                self.expression(line.link(branch), frame)
+            }
+            operation => {
+                let a = self.expression(line.link(0), frame)?;
+                let b = self.expression(line.link(1), frame)?;
+                operate(operation, a, b)
+            }
+        }
+    }
+
+    /// "The target's stored answer, failures too."
+    fn stored(&self, value: Label) -> Answer {
+        let outcome = self.outcomes[value - 1].expect("a proper order lists it earlier");
+        outcome.answer
+    }
+
+    /// "C works out its argument; at depth 64 the state is then 5, else the
+    /// target's body is worked out one deeper."
+    fn call(&mut self, function: Label, argument: Label, frame: Frame) -> Answer {
+        let argument = self.expression(argument, frame)?;
+        if frame.depth == Allowance::DEPTH {
+            return Err(Failure::TooDeep);
+        }
+        let depth = frame.depth + 1;
+        let body = self.sheet.line(function).link(1);
+        self.expression(body, Frame { argument, depth })
+    }
+}
+
+fn operate(operation: Kind, a: i64, b: i64) -> Answer {
+    let result = match operation {
+        Kind::Sum => a + b,
+        Kind::Difference => a - b,
+        Kind::Product => a * b,
+        Kind::Quotient if b == 0 => return Err(Failure::ZeroDivisor),
+        Kind::Quotient => nearest(a, b),
+        other => unreachable!("{other:?} is no operation"),
+    };
+    if in_range(result) {
+        Ok(result)
+    } else {
+        Err(Failure::Range)
+    }
+}
+
+/// "The nearest whole number to a / b, halves away from zero."
+fn nearest(a: i64, b: i64) -> i64 {
+    let toward_zero = a / b;
+    if 2 * (a % b).abs() >= b.abs() {
+        toward_zero + a.signum() * b.signum()
+    } else {
+        toward_zero
+    }
+}
+
+#[cfg(test)]
+mod tests {
+    use super::nearest;
+
+    /// The nearest number q has |a - q b| at most |b| / 2, and a half goes
+    /// away from zero.
+    #[test]
+    fn nearest_number_for_every_sign() {
+        for a in -60i64..=60 {
+            for b in (-25i64..=25).filter(|&b| b != 0) {
+                let q = nearest(a, b);
+                let rest = 2 * (a - q * b).abs();
+                assert!(rest <= b.abs(), "{a} / {b} gave {q}");
+                if rest == b.abs() {
+                    assert!((q * b).abs() > a.abs(), "{a} / {b} gave {q}");
+                }
+            }
+        }
+        let million = 1_000_000_000;
+        assert_eq!(nearest(million, 1), million);
+        assert_eq!(nearest(million, -1), -million);
+        assert_eq!(nearest(1, million), 0);
+        assert_eq!(nearest(-million / 2, million), -1);
+        assert_eq!(nearest(million / 2 - 1, million), 0);
+    }
+}

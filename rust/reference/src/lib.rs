@@ -1,0 +1,237 @@
+//! The rules of order sheets (document 01, "the paper") in Rust.
+//!
+//! One module for each stage, in the order in which refusals are found:
+//! `text` (rows 1 to 3), `lines` (5 to 7), `tree` (8 to 11), `paths` (12 to
+//! 15), `reach` (16), `order` (the plans, 17 and 18), then `evaluate`. The
+//! calls below put the stages together and add row 4. They clear every buffer
+//! first and write only once nothing is left to refuse, so a refusal leaves
+//! zeros everywhere.
+
+#![forbid(unsafe_code)]
+
+mod adjacency;
+mod bits;
+mod evaluate;
+mod lines;
+mod order;
+mod paths;
+mod print;
+mod reach;
+mod sheet;
+mod text;
+mod tree;
+
+use evaluate::Outcome;
+use sheet::{Label, Sheet};
+
+pub use print::print;
+
+/// A refusal: its number and its place in the paper's table.
+#[derive(Debug, Clone, Copy, PartialEq, Eq)]
+pub struct Refusal {
+    pub number: u64,
+    pub place: u64,
+}
+
+impl Refusal {
+    pub(crate) fn new(number: u64, place: usize) -> Self {
+        let place = place as u64;
+        Refusal { number, place }
+    }
+}
+
+/// Whether a plan keeps the values of every Group together.
+#[derive(Debug, Clone, Copy, PartialEq, Eq)]
+pub enum Order {
+    Whole,
+    Mixed,
+}
+
+/// Cells for each label in the table and in the results.
+const TABLE_CELLS: usize = 8;
+const RESULT_CELLS: usize = 3;
+
+/// The lengths of the buffers lent for writing; `None` for one not lent.
+#[derive(Default)]
+struct Lent {
+    table: Option<usize>,
+    plan: Option<usize>,
+    results: Option<usize>,
+}
+
+impl Lent {
+    /// Row 4, "lowest place first, only those lent".
+    fn check(&self, count: usize) -> Result<(), Refusal> {
+        let wanted = [
+            (self.table, TABLE_CELLS * count),
+            (self.plan, count),
+            (self.results, RESULT_CELLS * count),
+        ];
+        for (place, (length, cells)) in (1..).zip(wanted) {
+            if length.is_some_and(|length| length < cells) {
+                return Err(Refusal::new(4, place));
+            }
+        }
+        Ok(())
+    }
+}
+
+/// A sheet with its plan.
+struct Planned<'a> {
+    sheet: Sheet<'a>,
+    plan: Vec<Label>,
+    order: Order,
+}
+
+/// Read: writes the table and answers n.
+pub fn read(text: &[u8], table: &mut [i64]) -> Result<usize, Refusal> {
+    table.fill(0);
+    let lent = Lent {
+        table: Some(table.len()),
+        ..Lent::default()
+    };
+    let sheet = read_sheet(text, &lent)?;
+    write_table(&sheet, table);
+    Ok(sheet.count())
+}
+
+/// The first stage of Read alone: rows 1 to 7. Owner and target stay 0.
+pub fn read_lines(text: &[u8], table: &mut [i64]) -> Result<usize, Refusal> {
+    table.fill(0);
+    let lent = Lent {
+        table: Some(table.len()),
+        ..Lent::default()
+    };
+    let sheet = split_sheet(text, &lent)?;
+    write_table(&sheet, table);
+    Ok(sheet.count())
+}
+
+/// Name: writes the table as Read does and hands back that label's name field
+/// "as that very part of the text".
+pub fn name<'a>(text: &'a [u8], table: &mut [i64], label: i64) -> &'a [u8] {
+    table.fill(0);
+    let lent = Lent {
+        table: Some(table.len()),
+        ..Lent::default()
+    };
+    let Ok(sheet) = read_sheet(text, &lent) else {
+        return &text[..0];
+    };
+    write_table(&sheet, table);
+    match usize::try_from(label) {
+        Ok(label) if sheet.labels().contains(&label) => sheet.name(label),
+        _ => &text[..0],
+    }
+}
+
+/// Plan: writes the table and the plan, and answers the plan's length.
+pub fn plan(text: &[u8], table: &mut [i64], plan: &mut [i64]) -> Result<(usize, Order), Refusal> {
+    table.fill(0);
+    plan.fill(0);
+    let lent = Lent {
+        table: Some(table.len()),
+        plan: Some(plan.len()),
+        results: None,
+    };
+    let planned = plan_sheet(text, &lent)?;
+    write_table(&planned.sheet, table);
+    write_plan(&planned.plan, plan);
+    Ok((planned.plan.len(), planned.order))
+}
+
+/// Run: Plan, then every value of the plan evaluated into the results.
+pub fn run(
+    text: &[u8],
+    table: &mut [i64],
+    plan: &mut [i64],
+    results: &mut [i64],
+) -> Result<(usize, Order), Refusal> {
+    table.fill(0);
+    plan.fill(0);
+    results.fill(0);
+    let lent = Lent {
+        table: Some(table.len()),
+        plan: Some(plan.len()),
+        results: Some(results.len()),
+    };
+    let planned = plan_sheet(text, &lent)?;
+    write_table(&planned.sheet, table);
+    write_plan(&planned.plan, plan);
+    write_results(&evaluate::evaluate(&planned.sheet, &planned.plan), results);
+    Ok((planned.plan.len(), planned.order))
+}
+
+/// Follow: evaluates the values in the order lent and answers its length.
+pub fn follow(
+    text: &[u8],
+    order: &[i64],
+    table: &mut [i64],
+    results: &mut [i64],
+) -> Result<usize, Refusal> {
+    table.fill(0);
+    results.fill(0);
+    let lent = Lent {
+        table: Some(table.len()),
+        plan: None,
+        results: Some(results.len()),
+    };
+    let sheet = read_sheet(text, &lent)?;
+    let listed = order::check(&sheet, &reach::reach(&sheet)?, order)?;
+    write_table(&sheet, table);
+    write_results(&evaluate::evaluate(&sheet, &listed), results);
+    Ok(listed.len())
+}
+
+/// Rows 1 to 7.
+fn split_sheet<'a>(text: &'a [u8], lent: &Lent) -> Result<Sheet<'a>, Refusal> {
+    let count = text::count_lines(text)?;
+    lent.check(count)?;
+    let lines = lines::split(text, count)?;
+    Ok(Sheet { text, lines })
+}
+
+/// Rows 1 to 15: the sheet with owners and targets.
+fn read_sheet<'a>(text: &'a [u8], lent: &Lent) -> Result<Sheet<'a>, Refusal> {
+    let mut sheet = split_sheet(text, lent)?;
+    tree::connect(&mut sheet)?;
+    paths::resolve(&mut sheet)?;
+    Ok(sheet)
+}
+
+/// Rows 1 to 16, and the plan.
+fn plan_sheet<'a>(text: &'a [u8], lent: &Lent) -> Result<Planned<'a>, Refusal> {
+    let sheet = read_sheet(text, lent)?;
+    let (plan, order) = order::plan(&sheet, &reach::reach(&sheet)?);
+    Ok(Planned { sheet, plan, order })
+}
+
+fn write_table(sheet: &Sheet, table: &mut [i64]) {
+    for (cells, line) in table.chunks_exact_mut(TABLE_CELLS).zip(&sheet.lines) {
+        let [a, b, c] = line.fields;
+        cells.copy_from_slice(&[
+            line.kind as i64,
+            i64::from(line.name.start),
+            i64::from(line.name.length),
+            a,
+            b,
+            c,
+            i64::from(line.owner),
+            i64::from(line.target),
+        ]);
+    }
+}
+
+fn write_plan(listed: &[Label], plan: &mut [i64]) {
+    for (cell, &label) in plan.iter_mut().zip(listed) {
+        *cell = label as i64;
+    }
+}
+
+fn write_results(outcomes: &[Option<Outcome>], results: &mut [i64]) {
+    for (cells, outcome) in results.chunks_exact_mut(RESULT_CELLS).zip(outcomes) {
+        if let Some(outcome) = outcome {
+            cells.copy_from_slice(&outcome.cells());
+        }
+    }
+}

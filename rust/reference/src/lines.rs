@@ -1,0 +1,193 @@
+//! Rows 5 to 7: one pass down the lines.
+
+use crate::sheet::{Kind, Label, Line, Span};
+use crate::text::FIRST_LINE;
+use crate::Refusal;
+
+/// What a kind wants in a field. `Group` and `Expression` are both label
+/// fields; row 8 asks what they lead to.
+#[derive(Debug, Clone, Copy, PartialEq, Eq)]
+pub enum Form {
+    Missing,
+    Name,
+    Path,
+    Group,
+    Expression,
+    Number,
+}
+
+struct KindRow {
+    letter: u8,
+    kind: Kind,
+    name: Form,
+    fields: [Form; 3],
+}
+
+const fn row(letter: u8, kind: Kind, name: Form, fields: [Form; 3]) -> KindRow {
+    KindRow {
+        letter,
+        kind,
+        name,
+        fields,
+    }
+}
+
+/// "Which fields a kind has is one fixed table of twelve rows."
+const KINDS: [KindRow; 12] = {
+    use Form::{Expression as Expr, Group, Missing, Name, Number, Path};
+    [
+        row(b'G', Kind::Group, Name, [Group, Missing, Missing]),
+        row(b'V', Kind::Value, Name, [Group, Expr, Missing]),
+        row(b'F', Kind::Function, Name, [Group, Expr, Missing]),
+        row(b'N', Kind::Number, Missing, [Number, Missing, Missing]),
+        row(b'P', Kind::Argument, Missing, [Missing; 3]),
+        row(b'R', Kind::Read, Path, [Missing; 3]),
+        row(b'C', Kind::Call, Path, [Expr, Missing, Missing]),
+        row(b'A', Kind::Sum, Missing, [Expr, Expr, Missing]),
+        row(b'S', Kind::Difference, Missing, [Expr, Expr, Missing]),
+        row(b'M', Kind::Product, Missing, [Expr, Expr, Missing]),
+        row(b'D', Kind::Quotient, Missing, [Expr, Expr, Missing]),
+        row(b'I', Kind::Choice, Missing, [Expr; 3]),
+    ]
+};
+
+/// The outermost Group's line, "always `G - 0 - -`".
+const OUTERMOST: [&[u8]; 5] = [b"G", b"-", b"0", b"-", b"-"];
+
+const FIELDS: usize = 5;
+const MAX_NAME: usize = 16;
+const MAX_PATH: usize = 8;
+const MAX_NUMBER: i64 = 1_000_000_000;
+
+/// The forms of fields a, b and c of a kind.
+pub fn forms(kind: Kind) -> [Form; 3] {
+    KINDS[kind as usize - 1].fields
+}
+
+/// The lines after line one, `count` of them.
+pub fn split(text: &[u8], count: usize) -> Result<Vec<Line>, Refusal> {
+    let mut lines = Vec::with_capacity(count);
+    let mut start = FIRST_LINE.len();
+    for label in 1..=count {
+        let (spans, next) = cut(text, start);
+        let line = spans
+            .ok_or(5)
+            .and_then(|spans| parse(text, spans, label, count))
+            .map_err(|number| Refusal::new(number, label))?;
+        lines.push(line);
+        start = next;
+    }
+    Ok(lines)
+}
+
+/// The fields of the line at `start`, if they are five and none is empty, and
+/// the start of the next line.
+fn cut(text: &[u8], start: usize) -> (Option<[Span; FIELDS]>, usize) {
+    let mut spans = [Span::default(); FIELDS];
+    let mut count = 0;
+    let mut filled = true;
+    let mut from = start;
+    for (at, &byte) in (start..).zip(&text[start..]) {
+        if byte != b' ' && byte != b'\n' {
+            continue;
+        }
+        if let Some(span) = spans.get_mut(count) {
+            *span = Span {
+                start: from as u32,
+                length: (at - from) as u32,
+            };
+        }
+        filled &= at > from;
+        count += 1;
+        from = at + 1;
+        if byte == b'\n' {
+            break;
+        }
+    }
+    ((filled && count == FIELDS).then_some(spans), from)
+}
+
+/// One line from its five fields, or the number of its refusal (6 or 7).
+fn parse(text: &[u8], spans: [Span; FIELDS], label: Label, count: usize) -> Result<Line, u64> {
+    let parts = spans.map(|span| &text[span.start as usize..][..span.length as usize]);
+    let [letter, name, fields @ ..] = parts;
+    let mut kinds = KINDS.iter();
+    let row = kinds.find(|row| *letter == [row.letter]).ok_or(6u64)?;
+    let mut line = Line {
+        kind: row.kind,
+        name: Span::default(),
+        fields: [0; 3],
+        owner: 0,
+        target: 0,
+    };
+    if label == 1 {
+        return if parts == OUTERMOST { Ok(line) } else { Err(7) };
+    }
+    cell_of(row.name, name, count).ok_or(7u64)?;
+    if row.name != Form::Missing {
+        line.name = spans[1];
+    }
+    for ((cell, form), part) in line.fields.iter_mut().zip(row.fields).zip(fields) {
+        *cell = cell_of(form, part, count).ok_or(7u64)?;
+    }
+    Ok(line)
+}
+
+/// The cell for a field of this form (0 for names, paths and `-`), or `None`
+/// if the field has another form.
+fn cell_of(form: Form, part: &[u8], count: usize) -> Option<i64> {
+    match form {
+        Form::Missing => (part == b"-").then_some(0),
+        Form::Name => is_name(part).then_some(0),
+        Form::Path => is_path(part).then_some(0),
+        Form::Group | Form::Expression => label_field(part, count),
+        Form::Number => number(part),
+    }
+}
+
+/// "1 to 16 ASCII letters or digits, a letter first."
+fn is_name(part: &[u8]) -> bool {
+    part.len() <= MAX_NAME
+        && part.first().is_some_and(u8::is_ascii_alphabetic)
+        && part.iter().all(u8::is_ascii_alphanumeric)
+}
+
+/// "1 to 8 names joined by dots."
+fn is_path(part: &[u8]) -> bool {
+    let mut names = 0;
+    part.split(|&byte| byte == b'.').all(|name| {
+        names += 1;
+        names <= MAX_PATH && is_name(name)
+    })
+}
+
+/// "Decimal, 1 to n, no leading zero."
+fn label_field(part: &[u8], count: usize) -> Option<i64> {
+    decimal(part).filter(|label| (1..=count as i64).contains(label))
+}
+
+/// "Decimal, -1000000000 to 1000000000, no leading zero, no `-0`, no plus
+/// sign."
+fn number(part: &[u8]) -> Option<i64> {
+    let number = match part.strip_prefix(b"-") {
+        Some(digits) => -decimal(digits).filter(|&number| number > 0)?,
+        None => decimal(part)?,
+    };
+    in_range(number).then_some(number)
+}
+
+pub fn in_range(number: i64) -> bool {
+    (-MAX_NUMBER..=MAX_NUMBER).contains(&number)
+}
+
+/// Digits alone, no leading zero, no more of them than the number range has.
+fn decimal(digits: &[u8]) -> Option<i64> {
+    if !(1..=10).contains(&digits.len()) || (digits.len() > 1 && digits[0] == b'0') {
+        return None;
+    }
+    digits.iter().try_fold(0, |number, digit| {
+        digit
+            .is_ascii_digit()
+            .then(|| number * 10 + i64::from(digit - b'0'))
+    })
+}

@@ -1,0 +1,97 @@
+//! Rows 8 to 11: what each line leads to, and the owner of each line.
+
+use crate::lines::{forms, Form};
+use crate::sheet::{Kind, Label, Line, Sheet};
+use crate::Refusal;
+
+const MAX_LEVEL: u32 = 32;
+
+/// Checks rows 8 to 11 and fills in every owner.
+pub fn connect(sheet: &mut Sheet) -> Result<(), Refusal> {
+    check_links(sheet)?;
+    check_uses(sheet)?;
+    let levels = fill_owners(sheet);
+    check_arguments(sheet)?;
+    check_levels(sheet, &levels)
+}
+
+/// The body or operands of a line.
+fn operands(line: &Line) -> impl Iterator<Item = Label> + '_ {
+    let forms = forms(line.kind);
+    (0..forms.len())
+        .filter(move |&field| forms[field] == Form::Expression)
+        .map(|field| line.link(field))
+}
+
+/// Refuses the lowest label for which `faulty` holds.
+fn refuse_if(
+    sheet: &Sheet,
+    number: u64,
+    faulty: impl FnMut(&Label) -> bool,
+) -> Result<(), Refusal> {
+    match sheet.labels().find(faulty) {
+        Some(label) => Err(Refusal::new(number, label)),
+        None => Ok(()),
+    }
+}
+
+/// Row 8: Groups lie below their members, operands above their line. Row 7
+/// has seen to label 1.
+fn check_links(sheet: &Sheet) -> Result<(), Refusal> {
+    refuse_if(sheet, 8, |&label| {
+        let line = sheet.line(label);
+        let faulty = |(field, form)| match form {
+            Form::Group => line.link(field) >= label || sheet.kind(line.link(field)) != Kind::Group,
+            Form::Expression => {
+                line.link(field) <= label || sheet.kind(line.link(field)).is_definition()
+            }
+            _ => false,
+        };
+        label > 1 && forms(line.kind).into_iter().enumerate().any(faulty)
+    })
+}
+
+/// Row 9: every expression is used by one field.
+fn check_uses(sheet: &Sheet) -> Result<(), Refusal> {
+    let mut uses = vec![0u32; sheet.count() + 1];
+    for line in &sheet.lines {
+        for operand in operands(line) {
+            uses[operand] += 1;
+        }
+    }
+    refuse_if(sheet, 9, |&label| {
+        !sheet.kind(label).is_definition() && uses[label] != 1
+    })
+}
+
+/// Fills in the owners and gives the level of every expression, by label.
+/// Operands stand above their line, so one pass upward meets a line's owner
+/// before its operands ask for it.
+fn fill_owners(sheet: &mut Sheet) -> Vec<u32> {
+    let mut levels = vec![0; sheet.count() + 1];
+    for label in sheet.labels() {
+        let line = *sheet.line(label);
+        let definition = line.kind.is_definition();
+        if definition {
+            sheet.lines[label - 1].owner = line.link(0) as u32;
+        }
+        let owner = if definition { label as u32 } else { line.owner };
+        for operand in operands(&line) {
+            sheet.lines[operand - 1].owner = owner;
+            levels[operand] = levels[label] + 1;
+        }
+    }
+    levels
+}
+
+/// Row 10: "P owned by a V".
+fn check_arguments(sheet: &Sheet) -> Result<(), Refusal> {
+    refuse_if(sheet, 10, |&label| {
+        sheet.kind(label) == Kind::Argument && sheet.kind(sheet.owner(label)) == Kind::Value
+    })
+}
+
+/// Row 11: "level above 32".
+fn check_levels(sheet: &Sheet, levels: &[u32]) -> Result<(), Refusal> {
+    refuse_if(sheet, 11, |&label| levels[label] > MAX_LEVEL)
+}

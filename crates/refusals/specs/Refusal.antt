@@ -1,5 +1,5 @@
 -- A refusal, and the shape that every row from 5 on shares: a check of one label, and the first label that fails it.
-use Prim.Native.Nat.{ℕ, zero, suc}
+use Prim.Native.Nat.{ℕ, zero, suc, _-_}
 use Rattle.refusals.specs.declared.Verdict.{Verdict}
 use Rattle.refusals.specs.declared.Verdict.the-variants.{Fine, Refused}
 use Rattle.refusals.specs.declared.Reply.{Reply}
@@ -41,5 +41,4 @@ firstBad check k (suc m) = let v = firstBad check (suc k) m in hit (check k) k v
 -- how many of n labels such a pass went by before it ended
 abbrev pub passed : Verdict → ℕ → ℕ
 passed Fine n = n
-passed (Refused r zero) n = zero
-passed (Refused r (suc k)) n = k
+passed (Refused r k) n = k - 1

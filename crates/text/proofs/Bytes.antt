@@ -30,6 +30,15 @@ pub one-le : (b : Bool) → one b ≤ 1
 one-le true = omega arith
 one-le false = omega arith
 
+-- a byte that passes is counted
+some-go : (b : Bool) (n : ℕ) → 1 ≤ n → 1 ≤ one b + n
+some-go b n h = omega arith
+
+pub count-some : (p : ℕ → Bool) (s : List ℕ) (i : ℕ) → i < length s → p (getD s i 0) ≡ true → 1 ≤ countBy p s
+count-some p [] i h e = absurd (not-suc-le-zero h)
+count-some p (x ∷ xs) zero h e = rw e (omega arith)
+count-some p (x ∷ xs) (suc i) h e = some-go (p x) (countBy p xs) (count-some p xs i (le-of-suc-le-suc h) e)
+
 -- no byte fails: all pass, and the other way round
 none-bad : (x : ℕ) (xs : List ℕ) (b : Bool) → all isAllowed xs ≡ eqb (countBy isBad xs) 0 → (b && all isAllowed xs) ≡ eqb (one (not b) + countBy isBad xs) 0
 none-bad x xs true e = let q : 0 + countBy isBad xs ≡ countBy isBad xs = omega arith in rw q e
@@ -39,11 +48,11 @@ pub all-allowed : (s : List ℕ) → all isAllowed s ≡ eqb (countBy isBad s) 0
 all-allowed [] = refl
 all-allowed (x ∷ xs) = none-bad x xs (isAllowed x) (all-allowed xs)
 
-and-left : (a b : Bool) → (a && b) ≡ true → a ≡ true
+pub and-left : (a b : Bool) → (a && b) ≡ true → a ≡ true
 and-left true b e = refl
 and-left false b e = e
 
-and-right : (a b : Bool) → (a && b) ≡ true → b ≡ true
+pub and-right : (a b : Bool) → (a && b) ≡ true → b ≡ true
 and-right true b e = e
 and-right false b e = absurd (true-false (sym e))
 
@@ -75,6 +84,16 @@ same-lengths [] [] e = absurd (e refl)
 same-lengths [] (y ∷ ys) e = refl
 same-lengths (x ∷ xs) [] e = refl
 same-lengths (x ∷ xs) (y ∷ ys) e = and-false (eqb x y) (same xs ys) (same-lengths xs ys (λ q. e (ap suc q)))
+
+same-go : (x y : ℕ) (xs ys : List ℕ) → (same xs ys ≡ true → xs ≡ ys) → (b : Bool) → eqb x y ≡ b → (b && same xs ys) ≡ true → _≡_ {A = List ℕ} (x ∷ xs) (y ∷ ys)
+same-go x y xs ys rest true f g = let p : x ≡ y = eqb-true x y f in let q = rest g in cc
+same-go x y xs ys rest false f g = absurd (true-false (sym g))
+
+pub same-eq : (xs ys : List ℕ) → same xs ys ≡ true → xs ≡ ys
+same-eq [] [] e = refl
+same-eq [] (y ∷ ys) e = absurd (true-false (sym e))
+same-eq (x ∷ xs) [] e = absurd (true-false (sym e))
+same-eq (x ∷ xs) (y ∷ ys) e = same-go x y xs ys (same-eq xs ys) (eqb x y) refl e
 
 -- ---- runs
 

@@ -1,6 +1,6 @@
 -- The fields of a line at the positions that `field_end` finds.
 use mathlib.Core.Path.{_≡_, refl, ap, sym, _∙_}
-use mathlib.Core.Bool.{Bool, true, false, _&&_, _||_, cond}
+use mathlib.Core.Bool.{Bool, true, false, not, _&&_, _||_, cond}
 use mathlib.Core.Logic.{_⊎_, inl, inr, ⊎-elim}
 use mathlib.Core.List.{List, [], _∷_, _++_}
 use Prim.Native.Nat.{ℕ, zero, suc, _+_, _-_, _≤_, _<_}
@@ -9,7 +9,7 @@ use native.Mathlib.Omega.{arith}
 use lib.Dec.{eqb, ltb, leb}
 use lib.ListN.{length, getD, drop, take, take-append-drop}
 use lib.Seq.{slice, slice-empty, length-slice}
-use borrow.Author.Tests.{eq-eqb, ne-eqb, eqb-true, eqb-false, leb-true, ltb-true, ltb-false, lt-ltb, le-ltb}
+use borrow.Author.Tests.{eq-eqb, ne-eqb, eqb-true, eqb-false, leb-true, ltb-true, ltb-false, lt-ltb, le-ltb, not-false}
 use Rattle.text.specs.Bytes.{all, run, isAllowed, isInk, endsLines}
 use Rattle.text.specs.Pieces.{cut, firstOf, rest, fieldsFrom, fieldsAre}
 use Rattle.text.specs.Scans.{runEnd, fieldEnd}
@@ -58,6 +58,67 @@ allowed-gap x a i = go (eqb x 10) (leb 32 x) refl refl a
     go false true e f b = inr (omega (arith, leb-true 32 x f, ltb-false 32 x i))
     go false false e f b = absurd (true-false (sym b))
 
+-- ---- a run of bytes that pass a test which byte 10 fails: it ends before the last byte does
+
+module _ (p : ℕ → Bool) (stops : p 10 ≡ false) (s : List ℕ) (from : ℕ) (h : from < length s) (ends : endsLines s) where
+  abbrev ran : ℕ
+  ran = run p (rest s from)
+
+  long : length (rest s from) ≡ length s - from
+  long = length-slice from (length s) s (omega arith)
+
+  short : from + ran < length s
+  short =
+      let k = length s - 1 - from in
+      let q : from + k ≡ length s - 1 = omega arith in
+      let e : getD (rest s from) k 0 ≡ 10 = getD-slice s from (length s) k (omega arith) ∙ ap (λ (n : ℕ). getD s n 0) q ∙ ends in
+      omega (arith, run-until p (rest s from) k (omega (arith, long)) (ap p e ∙ stops), long)
+
+  inner : ran < length (rest s from)
+  inner = omega (arith, long, short)
+
+  at : getD (rest s from) ran 0 ≡ getD s (from + ran) 0
+  at = getD-slice s from (length s) ran short
+
+  front : take ran (rest s from) ≡ slice from (from + ran) s
+  front = take-slice from ran (length s) s (omega (arith, short))
+
+  back : drop (ran + 1) (rest s from) ≡ rest s (from + ran + 1)
+  back = let q : from + (ran + 1) ≡ from + ran + 1 = omega arith in drop-slice s from (length s) (ran + 1) ∙ ap (λ (n : ℕ). rest s n) q
+
+-- ---- the line that begins at a position
+
+abbrev other : ℕ → Bool
+other x = not (eqb x 10)
+
+module _ (s : List ℕ) (from : ℕ) (h : from < length s) (ends : endsLines s) where
+  abbrev line : List ℕ
+  line = firstOf (cut 10 (rest s from))
+
+  abbrev size : ℕ
+  size = run other (rest s from)
+
+  split : cut 10 (rest s from) ≡ slice from (from + size) s ∷ cut 10 (rest s (from + size + 1))
+  split =
+      let i = inner other refl s from h ends in
+      let x = getD (rest s from) size 0 in
+      let e : x ≡ 10 = eqb-true x 10 (not-false (eqb x 10) (run-fails other (rest s from) i)) in
+      cut-more other 10 (rest s from) refl i e ∙ rw (front other refl s from h ends, back other refl s from h ends)
+
+  size-is : length line ≡ size
+  size-is =
+      let g = short other refl s from h ends in
+      let q : from + size - from ≡ size = omega arith in
+      ap length (ap firstOf split) ∙ length-slice from (from + size) s (omega (arith, g)) ∙ q
+
+  pub line-inside : from + length line < length s
+  line-inside = omega (arith, size-is, short other refl s from h ends)
+
+  pub line-next : cut 10 (rest s from) ≡ line ∷ cut 10 (rest s (from + length line + 1))
+  line-next = split ∙ rw (size-is) (ap (λ (p : List ℕ). p ∷ cut 10 (rest s (from + size + 1))) (sym (ap firstOf split)))
+
+-- ---- a field of it
+
 module _ (s : List ℕ) (from : ℕ) (h : from < length s) (ends : endsLines s) where
   abbrev l : List ℕ
   l = rest s from
@@ -65,49 +126,45 @@ module _ (s : List ℕ) (from : ℕ) (h : from < length s) (ends : endsLines s) 
   abbrev r : ℕ
   r = run isInk l
 
-  long : length l ≡ length s - from
-  long = length-slice from (length s) s (omega arith)
+  short′ : from + r < length s
+  short′ = short isInk refl s from h ends
 
-  -- the run ends before the last byte does
-  short : from + r < length s
-  short =
-      let q : from + (length s - 1 - from) ≡ length s - 1 = omega arith in
-      let e : getD l (length s - 1 - from) 0 ≡ 10 = getD-slice s from (length s) (length s - 1 - from) (omega arith) ∙ ap (λ (n : ℕ). getD s n 0) q ∙ ends in
-      omega (arith, run-until isInk l (length s - 1 - from) (omega (arith, long)) (ap isInk e), long)
+  inner′ : r < length l
+  inner′ = inner isInk refl s from h ends
 
-  at : getD l r 0 ≡ getD s (from + r) 0
-  at = getD-slice s from (length s) r short
+  at′ : getD l r 0 ≡ getD s (from + r) 0
+  at′ = at isInk refl s from h ends
 
-  front : take r l ≡ slice from (from + r) s
-  front = take-slice from r (length s) s (omega (arith, short))
+  front′ : take r l ≡ slice from (from + r) s
+  front′ = front isInk refl s from h ends
 
-  back : drop (r + 1) l ≡ rest s (from + r + 1)
-  back = let q : from + (r + 1) ≡ from + r + 1 = omega arith in drop-slice s from (length s) (r + 1) ∙ ap (λ (n : ℕ). rest s n) q
+  back′ : drop (r + 1) l ≡ rest s (from + r + 1)
+  back′ = back isInk refl s from h ends
 
   spaced : 0 < r → getD s (from + r) 0 ≡ 32 → Spaced s from (from + r)
   spaced w e =
-      let k : r < length l = omega (arith, long, short) in
+      let k : r < length l = inner′ in
       let apart : from + r ≡ length s - 1 → ⊥ = λ q. omega (arith, sym e ∙ ap (λ (n : ℕ). getD s n 0) q ∙ ends) in
-      let i : from + r + 1 < length s = omega (arith, apart, short) in
+      let i : from + r + 1 < length s = omega (arith, apart, short′) in
       let q : from + (r + 1) ≡ from + r + 1 = omega arith in
       let head : take (r + 1) l ≡ slice from (from + r + 1) s = take-slice from (r + 1) (length s) s (omega arith) ∙ ap (λ (n : ℕ). slice from n s) q in
       record {
         wide = omega arith;
         inside = i;
-        fields = fields-space l k (at ∙ e) ∙ rw (front, back);
+        fields = fields-space l k (at′ ∙ e) ∙ rw (front′, back′);
         line =
-            λ t ps g d. line-space l (slice (from + r + 1) t s) ps k (at ∙ e) (ap (cut 10) back ∙ d)
+            λ t ps g d. line-space l (slice (from + r + 1) t s) ps k (at′ ∙ e) (ap (cut 10) back′ ∙ d)
             ∙ ap (λ (x : List ℕ). x ∷ ps) (ap (λ (y : List ℕ). y ++ slice (from + r + 1) t s) head ∙ slice-join from (from + r + 1) t s (omega arith) g);
       }
 
   last : 0 < r → getD s (from + r) 0 ≡ 10 → Last s from (from + r)
   last w e =
-      let k : r < length l = omega (arith, long, short) in
+      let k : r < length l = inner′ in
       record {
         wide = omega arith;
-        inside = short;
-        fields = fields-newline l k (at ∙ e) ∙ rw front;
-        line = cut-more isInk 10 l refl k (at ∙ e) ∙ rw (front, back);
+        inside = short′;
+        fields = fields-newline l k (at′ ∙ e) ∙ rw front′;
+        line = cut-more isInk 10 l refl k (at′ ∙ e) ∙ rw (front′, back′);
       }
 
   -- ---- what `fieldEnd` says
@@ -131,7 +188,7 @@ module _ (s : List ℕ) (from : ℕ) (h : from < length s) (ends : endsLines s) 
 
   pub end-inside : runEnd isInk s from (length s) < length s
   unfolding runEnd
-  end-inside = short
+  end-inside = short′
 
   pub end-empty : (stop : ℕ) → runEnd isInk s from (length s) ≡ from → fieldEnd s from stop ≡ 0
   unfolding fieldEnd
@@ -155,14 +212,14 @@ module _ (s : List ℕ) (from : ℕ) (h : from < length s) (ends : endsLines s) 
     -- after row 1, what ends a run of ink is a space or the end of the line
     gap : (getD s (from + r) 0 ≡ 10) ⊎ (getD s (from + r) 0 ≡ 32)
     gap =
-        allowed-gap (getD s (from + r) 0) (all-at isAllowed s (from + r) allowed short)
-        (ap isInk (sym at) ∙ run-fails isInk l (omega (arith, long, short)))
+        allowed-gap (getD s (from + r) 0) (all-at isAllowed s (from + r) allowed short′)
+        (ap isInk (sym at′) ∙ run-fails isInk l (inner′))
 
     by-newline : getD s (from + r) 0 ≡ 10 → fieldsFrom s from ≡ take r l ∷ []
-    by-newline e = fields-newline l (omega (arith, long, short)) (at ∙ e)
+    by-newline e = fields-newline l (inner′) (at′ ∙ e)
 
     by-space : getD s (from + r) 0 ≡ 32 → fieldsFrom s from ≡ take r l ∷ cut 32 (firstOf (cut 10 (drop (r + 1) l)))
-    by-space e = fields-space l (omega (arith, long, short)) (at ∙ e)
+    by-space e = fields-space l (inner′) (at′ ∙ e)
 
     empty : (k : ℕ) → r ≡ 0 → fieldsAre (suc k) (fieldsFrom s from) ≡ false
     empty k e =

@@ -3,3 +3,4 @@ pub mod Bytes
 pub mod Cuts
 pub mod Fields
 pub mod Names
+pub mod Labels

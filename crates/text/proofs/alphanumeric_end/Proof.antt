@@ -1,11 +1,9 @@
-use mathlib.Core.Path.{_∙_, sym}
-use Rattle.text.proofs.Bytes.{run-more, run-stop, run-end}
 -- The run from `i` on is what is left of that from `from` on.
-use Prim.Native.Nat.{_+_, _-_, _≤_, _<_}
-use mathlib.Core.Path.{_≡_}
+use mathlib.Core.Path.{_∙_, sym, _≡_}
+use Prim.Native.Nat.{_-_, _≤_}
 use native.Mathlib.Omega.{arith}
 use borrow.Author.Needs.{needs}
-use lib.ListN.{length}
+use Rattle.text.proofs.Bytes.{run-more, run-stop, run-end}
 use Rattle.text.specs.Bytes.{isAlphanumeric}
 use Rattle.text.specs.Scans.{runEnd}
 use Rattle.text.proofs.alphanumeric_end.Statement.{statement}

@@ -1,11 +1,9 @@
-use lib.ListN.{getD}
 -- Each answer by the tests that led to it.
-use mathlib.Core.Path.{_≡_, _∙_, sym, ap}
-use Prim.Native.Nat.{_<_}
+use mathlib.Core.Path.{_∙_, sym, ap}
 use native.Mathlib.Omega.{arith}
-use lib.ListN.{length}
-use Rattle.text.proofs.Fields.{end-inside, end-empty, end-found, end-other}
+use lib.ListN.{getD}
 use borrow.Author.Needs.{needs}
+use Rattle.text.proofs.Fields.{end-inside, end-empty, end-found, end-other}
 use Rattle.text.proofs.field_end.Statement.{statement}
 use Rattle.text.proofs.field_end.Tie as tie
 

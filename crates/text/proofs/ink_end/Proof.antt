@@ -1,15 +1,12 @@
-use Prim.Native.Nat.{ℕ}
+-- The last byte, 10, is no ink: the run of ink from `i` on is what is left of that from `from` on.
+use mathlib.Core.Path.{_∙_, sym, ap, _≡_}
+use Prim.Native.Nat.{ℕ, _-_, _≤_, _<_}
 use native.Mathlib.Nat.{le-refl}
-use mathlib.Core.Path.{_∙_, sym, ap}
-use lib.ListN.{getD}
+use native.Mathlib.Omega.{arith}
+use lib.ListN.{getD, length}
+use borrow.Author.Needs.{needs}
 use borrow.Author.Tests.{lt-ltb, le-ltb}
 use Rattle.text.proofs.Bytes.{run-more, run-stop}
--- The last byte, 10, is no ink: the run of ink from `i` on is what is left of that from `from` on.
-use Prim.Native.Nat.{_+_, _-_, _≤_, _<_}
-use mathlib.Core.Path.{_≡_}
-use native.Mathlib.Omega.{arith}
-use borrow.Author.Needs.{needs}
-use lib.ListN.{length}
 use Rattle.text.specs.Bytes.{isInk}
 use Rattle.text.specs.Scans.{runEnd}
 use Rattle.text.proofs.ink_end.Statement.{statement}

@@ -1,8 +1,8 @@
 -- Each answer by the tests that led to it.
 use mathlib.Core.Path.{_∙_, sym}
+use borrow.Author.Needs.{needs}
 use borrow.Author.Tests.{le-leb, lt-leb}
 use Rattle.text.specs.Bytes.{isAlphanumeric}
-use borrow.Author.Needs.{needs}
 use Rattle.text.proofs.is_alphanumeric.Statement.{statement}
 use Rattle.text.proofs.is_alphanumeric.Tie as tie
 

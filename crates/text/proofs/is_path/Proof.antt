@@ -1,18 +1,15 @@
-use Rattle.text.proofs.Slices.{slice-none}
-use mathlib.Core.Path.{_∙_, sym, ap}
-use lib.Dec.{leb}
-use lib.ListN.{getD}
-use Rattle.text.specs.Forms.{isPath}
-use Rattle.text.proofs.Names.{path-fails, path-last, path-last-name, path-inside, path-other, Named, path-step, path-false, path-by, path-empty}
 -- The names from `at` on are what is left of the path's names, and `names` counts those before with the one that begins at `at`.
-use Prim.Native.Nat.{_+_, _-_, _≤_, _<_}
-use mathlib.Core.Path.{_≡_}
+use mathlib.Core.Path.{_∙_, sym, ap, _≡_}
+use Prim.Native.Nat.{_+_, _-_, _≤_}
 use native.Mathlib.Omega.{arith}
-use borrow.Author.Needs.{needs}
-use lib.ListN.{length}
+use lib.Dec.{leb}
+use lib.ListN.{getD, length}
 use lib.Seq.{slice}
-use Rattle.text.specs.Pieces.{cut}
+use borrow.Author.Needs.{needs}
+use Rattle.text.proofs.Slices.{slice-none}
 use Rattle.text.specs.Forms.{allNames}
+use Rattle.text.proofs.Names.{path-fails, path-last, path-last-name, path-inside, path-other, Named, path-step, path-false, path-by, path-empty}
+use Rattle.text.specs.Pieces.{cut}
 use Rattle.text.proofs.is_path.Statement.{statement}
 use Rattle.text.proofs.is_path.Tie as tie
 

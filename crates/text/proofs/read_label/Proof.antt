@@ -1,9 +1,9 @@
 -- Each answer by what the decimal is.
 use mathlib.Core.Path.{_≡_, refl, _∙_, sym}
 use Prim.Native.Nat.{ℕ, zero, suc}
+use borrow.Author.Needs.{needs}
 use Rattle.numbers.specs.declared.Decimal.the-variants.{Is}
 use Rattle.text.specs.Forms.{fromOne, labelOf}
-use borrow.Author.Needs.{needs}
 use Rattle.text.proofs.read_label.Statement.{statement}
 use Rattle.text.proofs.read_label.Tie as tie
 

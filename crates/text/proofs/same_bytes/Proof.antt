@@ -1,15 +1,13 @@
+-- What is left of both is the same exactly if the whole is.
 use mathlib.Core.Bool.{true}
-use mathlib.Core.Path.{_∙_, sym}
-use lib.Seq.{length-slice}
+use mathlib.Core.Path.{_∙_, sym, _≡_}
+use Prim.Native.Nat.{_+_, _-_, _≤_}
+use native.Mathlib.Omega.{arith}
+use lib.ListN.{length, drop}
+use lib.Seq.{length-slice, slice}
+use borrow.Author.Needs.{needs}
 use Rattle.text.proofs.Slices.{slice-none, past-drop}
 use Rattle.text.proofs.Bytes.{same-hit, same-miss, same-lengths}
--- What is left of both is the same exactly if the whole is.
-use Prim.Native.Nat.{_+_, _-_, _≤_, _<_}
-use mathlib.Core.Path.{_≡_}
-use native.Mathlib.Omega.{arith}
-use borrow.Author.Needs.{needs}
-use lib.ListN.{length, drop}
-use lib.Seq.{slice}
 use Rattle.text.specs.Bytes.{same}
 use Rattle.text.proofs.same_bytes.Statement.{statement}
 use Rattle.text.proofs.same_bytes.Tie as tie

@@ -1,11 +1,9 @@
-use lib.ListN.{getD}
-use Prim.Native.Nat.{_<_}
 -- The loop's invariant: what is counted so far, and what is left to count, make the whole count.
-use Prim.Native.Nat.{_+_, _-_, _≤_}
 use mathlib.Core.Path.{_≡_}
+use Prim.Native.Nat.{_<_, _+_, _-_, _≤_}
 use native.Mathlib.Omega.{arith}
+use lib.ListN.{getD, length, drop}
 use borrow.Author.Needs.{needs}
-use lib.ListN.{length, drop}
 use Rattle.text.specs.Bytes.{countBy, isBad, isNewline}
 use Rattle.text.proofs.Bytes.{count-step, count-end, one-le}
 use Rattle.text.proofs.survey.Statement.{statement}

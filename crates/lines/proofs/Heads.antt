@@ -1,0 +1,190 @@
+-- Rows 1 to 3, case by case, and what is known of a text that they do not refuse.
+use mathlib.Core.Path.{_≡_, refl, ap, sym, _∙_}
+use mathlib.Core.Bool.{Bool, true, false, not, cond, _&&_}
+use mathlib.Core.List.{List, [], _∷_, _++_}
+use Prim.Native.Nat.{ℕ, zero, suc, _+_, _-_, _≤_, _<_}
+use native.Mathlib.Omega.{arith}
+use lib.Dec.{leb, eqb}
+use lib.ListN.{length, getD, take}
+use lib.Seq.{take-all}
+use borrow.Author.Tests.{eqb-true, leb-true, le-leb, lt-leb, eq-eqb, ne-eqb, not-true}
+use Rattle.refusals.specs.Refusal.{replyOf}
+use Rattle.refusals.specs.declared.Verdict.{Verdict}
+use Rattle.refusals.specs.declared.Verdict.the-variants.{Fine, Refused}
+use Rattle.refusals.specs.declared.Reply.{Reply}
+use Rattle.refusals.specs.declared.Reply.the-variants as reply
+use Rattle.text.specs.Bytes.{all, countBy, isAllowed, isBad, isNewline, same, endsLines}
+use Rattle.text.specs.Pieces.{cut, cutAt, firstOf}
+use Rattle.text.proofs.Bytes.{true-false, and-left, and-right, and-false, all-allowed, count-some, same-lengths, same-eq}
+use Rattle.text.proofs.Cuts.{first-onto}
+use Rattle.lines.specs.Lines.{isText, line, firstLine, labels, headBad}
+
+-- ---- row 1
+
+module _ (s : List ℕ) where
+  abbrev counted : ℕ
+  counted = cond (isText s) (countBy isNewline s) 0
+
+  pub text-empty : length s < 1 → 0 ≡ counted
+  unfolding isText
+  text-empty h = rw (lt-leb 1 (length s) h)
+
+  pub text-long : 65536 < length s → 0 ≡ counted
+  unfolding isText
+  text-long h = rw (lt-leb (length s) 65536 h, and-false (leb 1 (length s)) false refl)
+
+  pub text-open : (getD s (length s - 1) 0 ≡ 10 → ⊥) → 0 ≡ counted
+  unfolding isText
+  text-open f = rw (ne-eqb (getD s (length s - 1) 0) 10 f, and-false (leb 1 (length s) && leb (length s) 65536) false refl)
+
+  pub text-bad : (countBy isBad s ≡ 0 → ⊥) → 0 ≡ counted
+  unfolding isText
+  text-bad f =
+      rw (all-allowed s, ne-eqb (countBy isBad s) 0 f, and-false (leb 1 (length s) && leb (length s) 65536 && eqb (getD s (length s - 1) 0) 10) false refl)
+
+  pub text-right : 1 ≤ length s → length s ≤ 65536 → getD s (length s - 1) 0 ≡ 10 → countBy isBad s ≡ 0 → countBy isNewline s ≡ counted
+  unfolding isText
+  text-right h k e z =
+      rw (le-leb 1 (length s) h, le-leb (length s) 65536 k, eq-eqb (getD s (length s - 1) 0) 10 e, all-allowed s, eq-eqb (countBy isBad s) 0 z)
+
+  -- what row 1 lets pass
+  module _ (t : isText s ≡ true) where
+    sized : (leb 1 (length s) && leb (length s) 65536 && eqb (getD s (length s - 1) 0) 10) ≡ true
+    unfolding isText
+    sized = and-left (leb 1 (length s) && leb (length s) 65536 && eqb (getD s (length s - 1) 0) 10) (all isAllowed s) t
+
+    pub text-allowed : all isAllowed s ≡ true
+    unfolding isText
+    text-allowed = and-right (leb 1 (length s) && leb (length s) 65536 && eqb (getD s (length s - 1) 0) 10) (all isAllowed s) t
+
+    pub text-ends : endsLines s
+    text-ends = eqb-true (getD s (length s - 1) 0) 10 (and-right (leb 1 (length s) && leb (length s) 65536) (eqb (getD s (length s - 1) 0) 10) sized)
+
+    both : (leb 1 (length s) && leb (length s) 65536) ≡ true
+    both = and-left (leb 1 (length s) && leb (length s) 65536) (eqb (getD s (length s - 1) 0) 10) sized
+
+    pub text-some : 1 ≤ length s
+    text-some = leb-true 1 (length s) (and-left (leb 1 (length s)) (leb (length s) 65536) both)
+
+    pub text-size : length s ≤ 65536
+    text-size = leb-true (length s) 65536 (and-right (leb 1 (length s)) (leb (length s) 65536) both)
+
+    pub text-lines : 1 ≤ countBy isNewline s
+    text-lines = count-some isNewline s (length s - 1) (omega (arith, text-some)) (eq-eqb (getD s (length s - 1) 0) 10 text-ends)
+
+  -- no line is counted exactly where row 1 refuses
+  pub none-counted : counted ≡ 0 → isText s ≡ false
+  none-counted e = go (isText s) refl e
+    where
+      go : (b : Bool) → isText s ≡ b → cond b (countBy isNewline s) 0 ≡ 0 → b ≡ false
+      go true t z = absurd (omega (arith, text-lines t))
+      go false t z = refl
+
+  pub some-counted : (counted ≡ 0 → ⊥) → isText s ≡ true
+  some-counted f = go (isText s) refl f
+    where
+      go : (b : Bool) → isText s ≡ b → (cond b (countBy isNewline s) 0 ≡ 0 → ⊥) → b ≡ true
+      go true t z = refl
+      go false t z = absurd (z refl)
+
+length-take-short : (n : ℕ) (s : List ℕ) → length s < n → length (take n s) ≡ length s
+length-take-short n s h = ap length (take-all n s (omega arith))
+
+pub counted-is : (s : List ℕ) → isText s ≡ true → cond (isText s) (countBy isNewline s) 0 ≡ countBy isNewline s
+counted-is s t = rw t
+
+-- ---- row 2: a text with a line begins with the bytes x, none of them 10, and a 10 exactly if x is its first line
+
+abbrev other : ℕ → Bool
+other x = not (eqb x 10)
+
+first-bytes : (x s : List ℕ) → all other x ≡ true → 1 ≤ countBy isNewline s → same (firstOf (cut 10 s)) x ≡ same (take (suc (length x)) s) (x ++ 10 ∷ [])
+first-bytes x [] a h = absurd (omega arith)
+first-bytes [] (y ∷ ys) a h = go (eqb y 10)
+  where
+    go : (t : Bool) → same (firstOf (cutAt t y (cut 10 ys))) [] ≡ (t && true)
+    go true = refl
+    go false = rw (first-onto y (cut 10 ys))
+first-bytes (z ∷ x) (y ∷ ys) a h = go (eqb y 10) refl h (first-bytes x ys (and-right (other z) (all other x) a))
+  where
+    go : (t : Bool) → eqb y 10 ≡ t → 1 ≤ countBy isNewline (y ∷ ys)
+        → (1 ≤ countBy isNewline ys → same (firstOf (cut 10 ys)) x ≡ same (take (suc (length x)) ys) (x ++ 10 ∷ []))
+        → same (firstOf (cutAt t y (cut 10 ys))) (z ∷ x) ≡ (eqb y z && same (take (suc (length x)) ys) (x ++ 10 ∷ []))
+    go true e g rest =
+        let apart : eqb z 10 ≡ false = not-true (eqb z 10) (and-left (other z) (all other x) a) in
+        rw (ne-eqb y z (λ q. true-false (sym e ∙ ap (λ (n : ℕ). eqb n 10) q ∙ apart)))
+    go false e g rest = let k : 1 ≤ 0 + countBy isNewline ys = rw e at g in rw (first-onto y (cut 10 ys), rest (omega arith))
+
+get-first : (ps : List (List ℕ)) → getD ps 0 [] ≡ firstOf ps
+get-first [] = refl
+get-first (p ∷ ps) = refl
+
+module _ (s : List ℕ) (h : 1 ≤ countBy isNewline s) where
+  -- the sixteen bytes `kind name a b c` and 10
+  pub first-line : same (line s 0) firstLine ≡ same (take 16 s) (107 ∷ 105 ∷ 110 ∷ 100 ∷ 32 ∷ 110 ∷ 97 ∷ 109 ∷ 101 ∷ 32 ∷ 97 ∷ 32 ∷ 98 ∷ 32 ∷ 99 ∷ 10 ∷ [])
+  unfolding line firstLine
+  first-line = ap (λ (l : List ℕ). same l firstLine) (get-first (cut 10 s)) ∙ first-bytes firstLine s refl h
+
+  pub first-short : length s < 16 → false ≡ same (line s 0) firstLine
+  first-short k =
+      rw first-line
+      (sym (same-lengths (take 16 s) (107 ∷ 105 ∷ 110 ∷ 100 ∷ 32 ∷ 110 ∷ 97 ∷ 109 ∷ 101 ∷ 32 ∷ 97 ∷ 32 ∷ 98 ∷ 32 ∷ 99 ∷ 10 ∷ []) (λ e. omega (arith, e, length-take-short 16 s k))))
+
+-- ---- rows 1 to 3 together
+
+module _ (s : List ℕ) where
+  abbrev reply-is : Reply
+  reply-is = replyOf (headBad s) (labels s)
+
+  pub head-text : isText s ≡ false → reply.Refused 1 0 ≡ reply-is
+  unfolding headBad
+  head-text e = rw e
+
+  module _ (t : isText s ≡ true) where
+    pub head-first : same (line s 0) firstLine ≡ false → reply.Refused 2 0 ≡ reply-is
+    unfolding headBad
+    head-first e = rw (t, e)
+
+    module _ (f : same (line s 0) firstLine ≡ true) where
+      pub head-none : countBy isNewline s < 2 → reply.Refused 3 0 ≡ reply-is
+      unfolding headBad labels
+      head-none h = rw (t, f, lt-leb 1 (countBy isNewline s - 1) (omega arith))
+
+      pub head-many : 1025 < countBy isNewline s → reply.Refused 3 0 ≡ reply-is
+      unfolding headBad labels
+      head-many h = rw (t, f, lt-leb (countBy isNewline s - 1) 1024 (omega arith), and-false (leb 1 (countBy isNewline s - 1)) false refl)
+
+      pub head-right : 2 ≤ countBy isNewline s → countBy isNewline s ≤ 1025 → reply.Answered (countBy isNewline s - 1) ≡ reply-is
+      unfolding headBad labels
+      head-right h k = rw (t, f, le-leb 1 (countBy isNewline s - 1) (omega arith), le-leb (countBy isNewline s - 1) 1024 (omega arith))
+
+-- ---- what rows 1 to 3 let pass
+
+pub record Headed (s : List ℕ) : Type 0 where
+  pub size : length s ≤ 65536
+  pub some : 1 ≤ length s
+  pub ends : endsLines s
+  pub allowed : all isAllowed s ≡ true
+  pub first : line s 0 ≡ firstLine
+  pub low : 1 ≤ labels s
+  pub high : labels s ≤ 1024
+
+refused-fine : (b : Bool) (v : Verdict) (r p : ℕ) → cond b v (Refused r p) ≡ Fine → (b ≡ true) × (v ≡ Fine)
+refused-fine true v r p e = (refl, e)
+refused-fine false v r p e = let z : _≡_ {A = ℕ} 0 1 = cc in absurd (omega arith)
+
+pub headed : (s : List ℕ) → headBad s ≡ Fine → Headed s
+unfolding headBad
+headed s e =
+    let one = refused-fine (isText s) _ 1 0 e in
+    let two = refused-fine (same (line s 0) firstLine) _ 2 0 (one .1) in
+    let three = refused-fine (leb 1 (labels s) && leb (labels s) 1024) Fine 3 0 (two .1) in
+    record {
+      size = text-size s (one .0);
+      some = text-some s (one .0);
+      ends = text-ends s (one .0);
+      allowed = text-allowed s (one .0);
+      first = same-eq (line s 0) firstLine (two .0);
+      low = leb-true 1 (labels s) (and-left (leb 1 (labels s)) (leb (labels s) 1024) (three .0));
+      high = leb-true (labels s) 1024 (and-right (leb 1 (labels s)) (leb (labels s) 1024) (three .0));
+    }

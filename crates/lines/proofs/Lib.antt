@@ -1,0 +1,6 @@
+pub mod Codes
+pub mod Fields
+pub mod Splits
+pub mod Rows
+pub mod Heads
+pub mod Pass

@@ -1,0 +1,177 @@
+-- One line, case by case: its cells by the places of its fields, and the row that refuses it.
+use mathlib.Core.Path.{_≡_, refl, ap, sym, _∙_}
+use mathlib.Core.Bool.{Bool, true, false, cond, _&&_}
+use mathlib.Core.List.{List, [], _∷_}
+use Prim.Native.Nat.{ℕ, zero, suc, _+_, _-_, _≤_, _<_}
+use native.Mathlib.Omega.{arith}
+use lib.Dec.{eqb, leb, leb·zero}
+use lib.IntN.{ℤ, pos}
+use lib.ListN.{length, getD}
+use lib.Seq.{slice, length-slice}
+use borrow.Author.Tests.{eq-eqb, ne-eqb, eqb-true}
+use Rattle.numbers.specs.Decimal.{decimalOf, digitsOf, allDigits, value}
+use Rattle.numbers.specs.declared.Decimal.the-variants.{Not}
+use Rattle.text.specs.Bytes.{same}
+use Rattle.text.specs.Pieces.{rest, cut, place, firstOf, fieldsFrom, fieldsAre}
+use Rattle.text.specs.Forms.{labelOf}
+use Rattle.text.proofs.Bytes.{same-eq, and-false}
+use Rattle.lines.proofs.Splits.{full}
+use Rattle.lines.specs.Kinds.{kinds, kindAt, codeOf}
+use Rattle.lines.specs.Fields.{dash, fieldOf, isRight, held, kindCode}
+use Rattle.lines.specs.Lines.{rootLine, lineBad, formsRight, field}
+use Rattle.lines.specs.Steps.{lineFrom, Lined, FiveAt, operandsOf, operandsAt, rowBy, rowAt, rootRead, rowRead, decide, lineRead}
+use Rattle.lines.specs.declared.Kind.{Kind}
+use Rattle.lines.specs.declared.Ends.{Ends}
+use Rattle.lines.specs.declared.Row.{Row}
+use Rattle.lines.specs.declared.Field.{Field}
+use Rattle.lines.specs.declared.Field.the-variants.{Holds, Wrong}
+use Rattle.lines.specs.declared.Operands.{Operands}
+use Rattle.lines.specs.declared.Operands.the-variants as operands
+use Rattle.lines.specs.declared.Line.{Line}
+use Rattle.lines.specs.declared.Line.the-variants.{Passes, Fails}
+
+-- ---- what the operands' fields hold
+
+pub wrong-operands : (r : Bool) (x y z : Field) → operandsOf x y z ≡ operands.Wrong → (r && isRight x && isRight y && isRight z) ≡ false
+wrong-operands r (Holds a) (Holds b) (Holds c) e = let q : _≡_ {A = ℕ} 0 1 = cc in absurd (omega arith)
+wrong-operands r (Holds a) (Holds b) Wrong e = and-false (r && true && true) false refl
+wrong-operands r (Holds a) Wrong z e = rw (and-false (r && true) false refl)
+wrong-operands r Wrong y z e = rw (and-false r false refl)
+
+pub record Held (x y z : Field) (a b c : ℤ) : Type 0 where
+  pub first : x ≡ Holds a
+  pub second : y ≡ Holds b
+  pub third : z ≡ Holds c
+
+pub hold-operands : (x y z : Field) (a b c : ℤ) → operandsOf x y z ≡ operands.Hold a b c → Held x y z a b c
+hold-operands (Holds u) (Holds v) (Holds w) a b c e = record { first = cc; second = cc; third = cc }
+hold-operands (Holds u) (Holds v) Wrong a b c e = let q : _≡_ {A = ℕ} 0 1 = cc in absurd (omega arith)
+hold-operands (Holds u) Wrong z a b c e = let q : _≡_ {A = ℕ} 0 1 = cc in absurd (omega arith)
+hold-operands Wrong y z a b c e = let q : _≡_ {A = ℕ} 0 1 = cc in absurd (omega arith)
+
+-- ---- the line of label 1
+
+-- the label field `0` is of wrong form, so that label 1's cell a is 0
+zero-label : (n : ℕ) → labelOf n (48 ∷ []) ≡ Not
+unfolding labelOf decimalOf digitsOf allDigits value
+zero-label n = rw (leb·zero n)
+
+by-test : (b : Bool) (r : Row) → cond b (Passes r) (Fails 7) ≡ decide (cond b 0 7) r
+by-test true r = refl
+by-test false r = refl
+
+-- ---- by the places of the fields
+
+module _ (n : ℕ) (s : List ℕ) (from : ℕ) (e : Ends) (f : FiveAt s from e) where
+  abbrev code : ℕ
+  code = kindCode (slice from (e .kind) s)
+
+  end-inside : e .c ≤ length s
+  end-inside = omega (arith, f .lined .inside)
+
+  line-is : lineFrom s from ≡ slice from (e .c) s
+  line-is = ap firstOf (f .lined .line)
+
+  end-is : from + length (lineFrom s from) ≡ e .c
+  end-is = omega (arith, ap length line-is, length-slice from (e .c) s end-inside, f .wide0, f .wide1, f .wide2, f .wide3, f .wide4)
+
+  pub kind-is : kindCode (field (fieldsFrom s from) 0) ≡ code
+  kind-is = rw (f .are)
+
+  row-is : rowAt n s from (fieldsFrom s from)
+      ≡ rowBy s e code
+      (held (fieldOf (kindAt code .a) n (slice (e .name + 1) (e .a) s)))
+      (held (fieldOf (kindAt code .b) n (slice (e .a + 1) (e .b) s)))
+      (held (fieldOf (kindAt code .c) n (slice (e .b + 1) (e .c) s)))
+  row-is =
+      let l : length (slice from (e .kind) s) ≡ e .kind - from = length-slice from (e .kind) s (omega (arith, end-inside, f .wide1, f .wide2, f .wide3, f .wide4)) in
+      let m : length (slice (e .kind + 1) (e .name) s) ≡ e .name - (e .kind + 1) = length-slice (e .kind + 1) (e .name) s (omega (arith, end-inside, f .wide2, f .wide3, f .wide4)) in
+      let p : from + (length (slice from (e .kind) s) + 1 + 0) ≡ e .kind + 1 = omega (arith, f .wide0) in
+      rw (end-is, f .are, p, m)
+
+  -- label 1
+  pub root-right : same (slice from (e .c) s) rootLine ≡ true
+      → Passes (record { code = pos 1; start = pos 0; length = pos 0; a = pos 0; b = pos 0; c = pos 0; end = e .c }) ≡ rootRead n s from
+  unfolding rootLine codeOf kinds kindAt fieldOf
+  root-right g =
+      let q : lineFrom s from ≡ rootLine = line-is ∙ same-eq (slice from (e .c) s) rootLine g in
+      rw (end-is, q, zero-label n)
+
+  pub root-wrong : same (slice from (e .c) s) rootLine ≡ false → Fails 7 ≡ rootRead n s from
+  root-wrong g = rw (line-is, g)
+
+  -- another label: its forms, its cells
+  forms-are : formsRight n (kindAt code) (fieldsFrom s from)
+      ≡ (isRight (fieldOf (kindAt code .name) n (slice (e .kind + 1) (e .name) s))
+      && isRight (fieldOf (kindAt code .a) n (slice (e .name + 1) (e .a) s))
+      && isRight (fieldOf (kindAt code .b) n (slice (e .a + 1) (e .b) s))
+      && isRight (fieldOf (kindAt code .c) n (slice (e .b + 1) (e .c) s)))
+  forms-are = rw (f .are)
+
+  name-wrong : fieldOf (kindAt code .name) n (slice (e .kind + 1) (e .name) s) ≡ Wrong → Fails 7 ≡ rowRead n s from
+  name-wrong g = rw (kind-is, forms-are, g)
+
+  operands-wrong : operandsAt s e (kindAt code) n ≡ operands.Wrong → Fails 7 ≡ rowRead n s from
+  operands-wrong g =
+      rw (
+        kind-is,
+        forms-are,
+        wrong-operands
+            (isRight (fieldOf (kindAt code .name) n (slice (e .kind + 1) (e .name) s)))
+            (fieldOf (kindAt code .a) n (slice (e .name + 1) (e .a) s))
+            (fieldOf (kindAt code .b) n (slice (e .a + 1) (e .b) s))
+            (fieldOf (kindAt code .c) n (slice (e .b + 1) (e .c) s)) g,
+      )
+
+  row-right : (x a b c : ℤ) → fieldOf (kindAt code .name) n (slice (e .kind + 1) (e .name) s) ≡ Holds x → operandsAt s e (kindAt code) n ≡ operands.Hold a b c
+      → Passes (rowBy s e code a b c) ≡ rowRead n s from
+  row-right x a b c g h =
+      let o = hold-operands (fieldOf (kindAt code .a) n (slice (e .name + 1) (e .a) s)) (fieldOf (kindAt code .b) n (slice (e .a + 1) (e .b) s)) (fieldOf (kindAt code .c) n (slice (e .b + 1) (e .c) s)) a b c h in
+      rw (row-is, kind-is, forms-are, g, o .first, o .second, o .third)
+
+  -- the same for what the code holds: the code and the kind that it looked up, and the row that it made
+  module _ (found : ℕ) (k : Kind) (p : found ≡ code) (q : k ≡ kindAt found) where
+    by-kind : k ≡ kindAt code
+    by-kind = q ∙ ap kindAt p
+
+    pub read-name-wrong : fieldOf (k .name) n (slice (e .kind + 1) (e .name) s) ≡ Wrong → Fails 7 ≡ rowRead n s from
+    read-name-wrong g = name-wrong (rw by-kind at g)
+
+    pub read-operands-wrong : operandsAt s e k n ≡ operands.Wrong → Fails 7 ≡ rowRead n s from
+    read-operands-wrong g = operands-wrong (rw by-kind at g)
+
+    pub read-right : (x a b c : ℤ) (r : Row) → fieldOf (k .name) n (slice (e .kind + 1) (e .name) s) ≡ Holds x → operandsAt s e k n ≡ operands.Hold a b c
+        → r ≡ rowBy s e found a b c → Passes r ≡ rowRead n s from
+    read-right x a b c r g h m =
+        ap Passes (m ∙ ap (λ (y : ℕ). rowBy s e y a b c) p) ∙ row-right x a b c (rw by-kind at g) (rw by-kind at h)
+
+  -- ---- rows 5 to 7 at a line with five fields
+
+  fields-right : fieldsAre 5 (fieldsFrom s from) ≡ true
+  fields-right =
+      let h = end-inside in
+      rw (
+        f .are,
+        full s 4 from (e .kind) _ (f .wide0) (omega (arith, h, f .wide1, f .wide2, f .wide3, f .wide4)),
+        full s 3 (e .kind + 1) (e .name) _ (f .wide1) (omega (arith, h, f .wide2, f .wide3, f .wide4)),
+        full s 2 (e .name + 1) (e .a) _ (f .wide2) (omega (arith, h, f .wide3, f .wide4)),
+        full s 1 (e .a + 1) (e .b) _ (f .wide3) (omega (arith, h, f .wide4)),
+        full s 0 (e .b + 1) (e .c) [] (f .wide4) h,
+      )
+
+  module _ (k : ℕ) where
+    pub line-kind : code ≡ 0 → Fails 6 ≡ lineRead n k s from
+    unfolding lineRead lineBad
+    line-kind g = rw (fields-right, kind-is, eq-eqb code 0 g)
+
+    pub line-root : (code ≡ 0 → ⊥) → k ≡ 1 → rootRead n s from ≡ lineRead n k s from
+    unfolding lineRead lineBad
+    line-root g q = rw (fields-right, ap (λ (m : ℕ). eqb m 0) kind-is ∙ ne-eqb code 0 g, eq-eqb k 1 q) (by-test (same (lineFrom s from) rootLine) (rowAt n s from (fieldsFrom s from)))
+
+    pub line-row : (code ≡ 0 → ⊥) → (k ≡ 1 → ⊥) → rowRead n s from ≡ lineRead n k s from
+    unfolding lineRead lineBad
+    line-row g q = rw (fields-right, ap (λ (m : ℕ). eqb m 0) kind-is ∙ ne-eqb code 0 g, ne-eqb k 1 q) (by-test (formsRight n (kindAt (kindCode (field (fieldsFrom s from) 0))) (fieldsFrom s from)) (rowAt n s from (fieldsFrom s from)))
+
+pub line-fields : (n k : ℕ) (s : List ℕ) (from : ℕ) → fieldsAre 5 (fieldsFrom s from) ≡ false → Fails 5 ≡ lineRead n k s from
+unfolding lineRead lineBad
+line-fields n k s from g = rw g

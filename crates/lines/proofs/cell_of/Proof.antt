@@ -1,0 +1,15 @@
+use native.Mathlib.Omega.{arith}
+use mir.Facts.{toZ-pos}
+use mir.Syntax.{w64}
+use borrow.Author.Needs.{needs}
+use Rattle.lines.proofs.cell_of.Statement.{statement}
+use Rattle.lines.proofs.cell_of.Tie as tie
+
+cast-result : tie.Need-cast-result
+cast-result c = search needs
+
+returns : tie.Need-returns
+returns c = toZ-pos w64 {n = c .args .x} (omega arith)
+
+pub cell-of-spec : {M : Type 1} → statement M
+cell-of-spec = tie.close (tie.spec cast-result returns)

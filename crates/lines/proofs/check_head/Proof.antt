@@ -1,0 +1,48 @@
+-- Rows 1 to 3, test by test.
+use mathlib.Core.Path.{_∙_, sym, ap}
+use Prim.Native.Nat.{_-_}
+use native.Mathlib.Omega.{arith}
+use borrow.Author.Needs.{needs}
+use Rattle.refusals.specs.declared.Reply.the-variants.{Answered}
+use Rattle.lines.proofs.Heads.{none-counted, some-counted, counted-is, text-lines, head-text, head-first, head-none, head-many, head-right}
+use Rattle.lines.proofs.check_head.Statement.{statement}
+use Rattle.lines.proofs.check_head.Tie as tie
+
+text-lines-requires : tie.Need-text-lines-requires
+text-lines-requires c κs = search needs
+
+returns : tie.Need-returns
+returns c = head-text (c .before .before .before .args .text .now) (none-counted (c .before .before .before .args .text .now) (sym (c .before .text-lines .ensures) ∙ c .if1 .taken))
+
+first-line-right-requires : tie.Need-first-line-right-requires
+first-line-right-requires c κs = text-lines (c .before .before .before .args .text .now) (some-counted (c .before .before .before .args .text .now) (λ z. c .if1 .left (c .before .text-lines .ensures ∙ z)))
+
+returns-2 : tie.Need-returns-2
+returns-2 c = head-none (c .before .before .before .before .before .before .args .text .now) (some-counted (c .before .before .before .before .before .before .args .text .now) (λ z. c .before .before .before .if1 .left (c .before .before .before .before .text-lines .ensures ∙ z))) (sym (c .before .before .first-line-right .ensures) ∙ c .before .if2 .taken) (omega (arith, counted-is (c .before .before .before .before .before .before .args .text .now) (some-counted (c .before .before .before .before .before .before .args .text .now) (λ z. c .before .before .before .if1 .left (c .before .before .before .before .text-lines .ensures ∙ z))), c .before .before .before .before .text-lines .ensures))
+
+returns-3 : tie.Need-returns-3
+returns-3 c = head-many (c .before .before .before .before .before .before .before .args .text .now) (some-counted (c .before .before .before .before .before .before .before .args .text .now) (λ z. c .before .before .before .before .if1 .left (c .before .before .before .before .before .text-lines .ensures ∙ z))) (sym (c .before .before .before .first-line-right .ensures) ∙ c .before .before .if2 .taken) (omega (arith, counted-is (c .before .before .before .before .before .before .before .args .text .now) (some-counted (c .before .before .before .before .before .before .before .args .text .now) (λ z. c .before .before .before .before .if1 .left (c .before .before .before .before .before .text-lines .ensures ∙ z))), c .before .before .before .before .before .text-lines .ensures))
+
+sub-t6 : tie.Need-sub-t6
+sub-t6 c = search needs
+
+returns-4 : tie.Need-returns-4
+returns-4 c =
+    let q = c .before .before .before .before .before .text-lines .ensures ∙ counted-is (c .before .before .before .before .before .before .before .args .text .now) (some-counted (c .before .before .before .before .before .before .before .args .text .now) (λ z. c .before .before .before .before .if1 .left (c .before .before .before .before .before .text-lines .ensures ∙ z))) in
+    ap (λ m. Answered (m - 1)) q ∙ head-right (c .before .before .before .before .before .before .before .args .text .now) (some-counted (c .before .before .before .before .before .before .before .args .text .now) (λ z. c .before .before .before .before .if1 .left (c .before .before .before .before .before .text-lines .ensures ∙ z))) (sym (c .before .before .before .first-line-right .ensures) ∙ c .before .before .if2 .taken) (omega arith) (omega arith)
+
+returns-5 : tie.Need-returns-5
+returns-5 c = head-first (c .before .before .before .before .before .args .text .now) (some-counted (c .before .before .before .before .before .args .text .now) (λ z. c .before .before .if1 .left (c .before .before .before .text-lines .ensures ∙ z))) (sym (c .before .first-line-right .ensures) ∙ c .if2 .left)
+
+pub check-head-spec : {M : Type 1} → statement M
+check-head-spec =
+    tie.close
+    (tie.spec
+    text-lines-requires
+    returns
+    first-line-right-requires
+    returns-2
+    returns-3
+    sub-t6
+    returns-4
+    returns-5)

@@ -1,0 +1,83 @@
+-- What the loop keeps is `Going`; its laws are in Pass.
+use mathlib.Core.Path.{_≡_, _∙_, sym, ap}
+use Prim.Native.Nat.{_+_, _-_, _*_}
+use native.Mathlib.Omega.{arith}
+use lib.ListN.{length}
+use borrow.Author.Needs.{needs}
+use Rattle.lines.specs.Lines.{linesWritten}
+use Rattle.lines.proofs.Heads.{headed}
+use Rattle.lines.proofs.Pass.{Going, Stopped, start, inside, went, stopped, turn, stop, done}
+use Rattle.lines.proofs.read_lines.Statement.{statement}
+use Rattle.lines.proofs.read_lines.Tie as tie
+
+abbrev Inv-loop : tie.InvT-loop
+Inv-loop text n table₀ at₀ label₀ table at label = Going text n table₀ at label table
+
+abbrev μ-loop : tie.MeasureT-loop
+μ-loop text n table₀ at₀ label₀ table at label = n + 1 - label
+
+loop-holds : tie.Need-loop-holds Inv-loop μ-loop
+loop-holds c = start (c .before .args .text .now) (c .before .args .n) (headed (c .before .args .text .now) (c .before .pre .0)) (c .before .pre .1) (c .before .args .table .now)
+
+step-requires : tie.Need-step-requires Inv-loop μ-loop
+step-requires c κs =
+    let h = headed (c .before .before .before .before .args .text .now) (c .before .before .before .before .pre .0) in
+    let g = c .before .before .loop .inv in
+    ((inside (c .before .before .before .before .args .text .now) (c .before .before .before .before .args .n) (headed (c .before .before .before .before .args .text .now) (c .before .before .before .before .pre .0)) (c .before .before .before .before .pre .1) (c .before .before .before .before .args .table .now) (c .before .before .loop .at) (c .before .before .loop .label) (c .before .before .loop .table) (c .before .before .loop .inv) (omega arith), omega (arith, h .high), h .size, h .ends, h .allowed), (g .low, omega (arith, h .high), omega (arith, g .size, c .before .before .before .before .pre .2)))
+
+enum-known-row : tie.Need-enum-known-row Inv-loop μ-loop
+enum-known-row c = search needs
+
+refused : (c : tie.After-known-told Inv-loop μ-loop) → Stopped (c .before .before .before .before .before .before .before .before .before .args .n) (c .before .before .before .before .before .before .before .loop .label) (c .before .before .before .before .before .before .before .before .before .args .text .now) (c .before .before .before .before .before .before .before .loop .at) (c .before .row .given .0 .0)
+refused c = stopped (c .before .before .before .before .before .before .before .before .before .args .n) (c .before .before .before .before .before .before .before .loop .label) (c .before .before .before .before .before .before .before .before .before .args .text .now) (c .before .before .before .before .before .before .before .loop .at) (c .before .row .given .0 .0) (sym (c .before .before .before .before .step .ensures .0) ∙ c .before .row .given .1)
+
+-- a line that is refused leaves the table as it was
+kept : (c : tie.After-known-told Inv-loop μ-loop) → c .before .before .before .before .step .last .1 .1 .1 .1 .0 ≡ c .before .before .before .before .before .before .before .loop .table
+kept c = c .before .before .before .before .step .ensures .1 ∙ refused c .cells (8 * (c .before .before .before .before .before .before .before .loop .label - 1)) (c .before .before .before .before .before .before .before .loop .table)
+
+same-length : tie.Need-same-length Inv-loop μ-loop
+same-length c = ap length (kept c) ∙ c .before .before .before .before .before .before .before .loop .inv .size
+
+returns : tie.Need-returns Inv-loop μ-loop
+returns c = (stop (c .before .before .before .before .before .before .before .before .before .args .text .now) (c .before .before .before .before .before .before .before .before .before .args .n) (headed (c .before .before .before .before .before .before .before .before .before .args .text .now) (c .before .before .before .before .before .before .before .before .before .pre .0)) (c .before .before .before .before .before .before .before .before .before .pre .1) (c .before .before .before .before .before .before .before .before .before .args .table .now) (c .before .before .before .before .before .before .before .loop .at) (c .before .before .before .before .before .before .before .loop .label) (c .before .before .before .before .before .before .before .loop .table) (c .before .before .before .before .before .before .before .loop .inv) (omega arith) (c .before .row .given .0 .0) (refused c), kept c ∙ c .before .before .before .before .before .before .before .loop .inv .table)
+
+enum-known-next : tie.Need-enum-known-next Inv-loop μ-loop
+enum-known-next c = search needs
+
+add-label : tie.Need-add-label Inv-loop μ-loop
+add-label c = omega arith
+
+loop-less : tie.Need-loop-less Inv-loop μ-loop
+loop-less c = omega arith
+
+loop-again : tie.Need-loop-again Inv-loop μ-loop
+loop-again c =
+    turn (c .before .before .before .before .before .before .before .before .before .args .text .now) (c .before .before .before .before .before .before .before .before .before .args .n) (headed (c .before .before .before .before .before .before .before .before .before .args .text .now) (c .before .before .before .before .before .before .before .before .before .pre .0)) (c .before .before .before .before .before .before .before .before .before .pre .1) (c .before .before .before .before .before .before .before .before .before .args .table .now) (c .before .before .before .before .before .before .before .loop .at) (c .before .before .before .before .before .before .before .loop .label) (c .before .before .before .before .before .before .before .loop .table) (c .before .before .before .before .before .before .before .loop .inv) (omega arith) (c .before .next .given .0 .0) (c .before .before .before .before .step .last .1 .1 .1 .1 .0)
+    (went (c .before .before .before .before .before .before .before .before .before .args .n) (c .before .before .before .before .before .before .before .loop .label) (c .before .before .before .before .before .before .before .before .before .args .text .now) (c .before .before .before .before .before .before .before .loop .at) (c .before .next .given .0 .0) (sym (c .before .before .before .before .step .ensures .0) ∙ c .before .next .given .1)) (c .before .before .before .before .step .ensures .1) (c .before .before .before .before .before .before .before .before .before .pre .2)
+
+same-length-2 : tie.Need-same-length-2 Inv-loop μ-loop
+same-length-2 c = c .before .loop .inv .size
+
+returns-2 : tie.Need-returns-2 Inv-loop μ-loop
+returns-2 c =
+    let g = c .before .loop .inv in
+    let q : c .before .loop .label - 1 ≡ c .before .before .before .args .n = omega (arith, g .high) in
+    (done (c .before .before .before .args .text .now) (c .before .before .before .args .n) (headed (c .before .before .before .args .text .now) (c .before .before .before .pre .0)) (c .before .before .before .pre .1) (c .before .before .before .args .table .now) (c .before .loop .at) (c .before .loop .label) (c .before .loop .table) (c .before .loop .inv) (omega arith), g .table ∙ ap (λ k. linesWritten (c .before .before .before .args .text .now) (c .before .before .before .args .n) k (c .before .before .before .args .table .now)) q)
+
+pub read-lines-spec : {M : Type 1} → statement M
+read-lines-spec =
+    tie.close
+    (tie.spec
+    Inv-loop
+    μ-loop
+    loop-holds
+    step-requires
+    enum-known-row
+    same-length
+    returns
+    enum-known-next
+    add-label
+    loop-less
+    loop-again
+    same-length-2
+    returns-2)

@@ -1,0 +1,24 @@
+use mathlib.Core.Path.{_∙_, sym}
+use borrow.Author.Needs.{needs}
+use Rattle.lines.specs.Lines.{rootLine}
+use Rattle.lines.proofs.Rows.{root-right, root-wrong}
+use Rattle.lines.proofs.read_root.Statement.{statement}
+use Rattle.lines.proofs.read_root.Tie as tie
+
+slice-aggregate-same-bytes : tie.Need-slice-aggregate-same-bytes
+slice-aggregate-same-bytes c = search needs
+
+same-bytes-requires : tie.Need-same-bytes-requires
+same-bytes-requires c κs = search needs
+
+returns : tie.Need-returns
+unfolding rootLine
+returns c = root-right (c .before .before .before .before .args .n) (c .before .before .before .before .args .text .now) (c .before .before .before .before .args .from) (c .before .before .before .before .args .e) (c .before .before .before .before .pre) (sym (c .before .same-bytes .ensures) ∙ c .if1 .taken)
+
+returns-2 : tie.Need-returns-2
+unfolding rootLine
+returns-2 c = root-wrong (c .before .before .before .before .args .n) (c .before .before .before .before .args .text .now) (c .before .before .before .before .args .from) (c .before .before .before .before .args .e) (c .before .before .before .before .pre) (sym (c .before .same-bytes .ensures) ∙ c .if1 .left)
+
+pub read-root-spec : {M : Type 1} → statement M
+read-root-spec =
+    tie.close (tie.spec slice-aggregate-same-bytes same-bytes-requires returns returns-2)

@@ -1,0 +1,40 @@
+-- Row 1, test by test.
+use mathlib.Core.Path.{_∙_, sym}
+use native.Mathlib.Omega.{arith}
+use borrow.Author.Needs.{needs}
+use Rattle.lines.proofs.Heads.{text-empty, text-long, text-open, text-bad, text-right}
+use Rattle.lines.proofs.text_lines.Statement.{statement}
+use Rattle.lines.proofs.text_lines.Tie as tie
+
+returns : tie.Need-returns
+returns c = text-empty (c .before .before .args .text .now) (c .if1 .taken)
+
+returns-2 : tie.Need-returns-2
+returns-2 c = text-long (c .before .before .before .args .text .now) (c .if2 .taken)
+
+shared-slice-read-if3 : tie.Need-shared-slice-read-if3
+shared-slice-read-if3 c = search needs
+
+returns-3 : tie.Need-returns-3
+returns-3 c = text-open (c .before .before .before .before .before .args .text .now) (c .if3 .taken)
+
+survey-requires : tie.Need-survey-requires
+survey-requires c κs = search needs
+
+returns-4 : tie.Need-returns-4
+returns-4 c = text-bad (c .before .before .before .before .before .before .before .before .args .text .now) (λ z. c .if4 .taken (c .before .before .survey .ensures .0 ∙ z))
+
+returns-5 : tie.Need-returns-5
+returns-5 c = c .before .before .survey .ensures .1 ∙ text-right (c .before .before .before .before .before .before .before .before .args .text .now) (omega arith) (omega arith) (c .before .before .before .if3 .left) (sym (c .before .before .survey .ensures .0) ∙ c .if4 .left)
+
+pub text-lines-spec : {M : Type 1} → statement M
+text-lines-spec =
+    tie.close
+    (tie.spec
+    returns
+    returns-2
+    shared-slice-read-if3
+    returns-3
+    survey-requires
+    returns-4
+    returns-5)

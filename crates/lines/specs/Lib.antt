@@ -1,0 +1,4 @@
+pub mod Kinds
+pub mod Fields
+pub mod Lines
+pub mod Steps

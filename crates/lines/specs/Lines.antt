@@ -1,0 +1,111 @@
+-- Rows 1 to 3 and 5 to 7 of document 01's table "Where each refusal is found", and the cells that Read writes of each line.
+use mathlib.Core.Bool.{Bool, cond, _&&_}
+use mathlib.Core.List.{List, [], _∷_, _++_}
+use Prim.Native.Nat.{ℕ, zero, suc, _+_, _-_, _*_}
+use lib.Dec.{leb, eqb}
+use lib.IntN.{ℤ, pos}
+use lib.ListN.{length, getD, drop}
+use Rattle.text.specs.Bytes.{all, countBy, isAllowed, isNewline, same}
+use Rattle.text.specs.Pieces.{cut, place, fieldsAre}
+use Rattle.refusals.specs.Rows.{textRow, firstLineRow, labelsRow, fieldsRow, kindRow, formRow}
+use Rattle.refusals.specs.Refusal.{firstBad, orElse}
+use Rattle.refusals.specs.declared.Verdict.{Verdict}
+use Rattle.refusals.specs.declared.Verdict.the-variants.{Fine, Refused}
+use Rattle.lines.specs.declared.Kind.{Kind}
+use Rattle.lines.specs.Kinds.{kindAt}
+use Rattle.lines.specs.Fields.{dash, fieldOf, isRight, held, kindCode}
+
+-- ---- rows 1 to 3, at place 0
+
+-- a sheet is 1 to 65,536 bytes of lines, each ended by byte 10; all others are 32 to 126
+unfoldable pub isText : List ℕ → Bool
+isText s = leb 1 (length s) && leb (length s) 65536 && eqb (getD s (length s - 1) 0) 10 && all isAllowed s
+
+-- line k of the text: line 0 holds the column names, and line k after it has label k
+unfoldable pub line : List ℕ → ℕ → List ℕ
+line s k = getD (cut 10 s) k []
+
+-- n, the number of labels
+unfoldable pub labels : List ℕ → ℕ
+labels s = countBy isNewline s - 1
+
+-- `kind name a b c`
+unfoldable pub firstLine : List ℕ
+firstLine = 107 ∷ 105 ∷ 110 ∷ 100 ∷ 32 ∷ 110 ∷ 97 ∷ 109 ∷ 101 ∷ 32 ∷ 97 ∷ 32 ∷ 98 ∷ 32 ∷ 99 ∷ []
+
+abbrev unless : Bool → ℕ → Verdict → Verdict
+unless ok row next = cond ok next (Refused row 0)
+
+unfoldable pub headBad : List ℕ → Verdict
+headBad s =
+    unless (isText s) textRow
+    (unless (same (line s 0) firstLine) firstLineRow
+    (unless (leb 1 (labels s) && leb (labels s) 1024) labelsRow
+    Fine))
+
+-- ---- rows 5 to 7, one pass down the lines, the lowest number first in a line
+
+-- `G - 0 - -`, which label 1 always is
+unfoldable pub rootLine : List ℕ
+rootLine = 71 ∷ 32 ∷ 45 ∷ 32 ∷ 48 ∷ 32 ∷ 45 ∷ 32 ∷ 45 ∷ []
+
+-- the field j of a line with the fields fs: 0 kind, 1 name, 2 a, 3 b, 4 c
+abbrev pub field : List (List ℕ) → ℕ → List ℕ
+field fs j = getD fs j []
+
+-- the fields name, a, b and c have the forms that the kind wants
+abbrev pub formsRight : ℕ → Kind → List (List ℕ) → Bool
+formsRight n k fs =
+    isRight (fieldOf (k .name) n (field fs 1))
+    && isRight (fieldOf (k .a) n (field fs 2))
+    && isRight (fieldOf (k .b) n (field fs 3))
+    && isRight (fieldOf (k .c) n (field fs 4))
+
+-- the row that refuses the line l of label k, in a sheet of n labels, with the fields fs; 0 where none does
+abbrev pub fieldsBad : ℕ → ℕ → List ℕ → List (List ℕ) → ℕ
+fieldsBad n k l fs =
+    cond (fieldsAre 5 fs)
+    (cond (eqb (kindCode (field fs 0)) 0) kindRow
+    (cond (cond (eqb k 1) (same l rootLine) (formsRight n (kindAt (kindCode (field fs 0))) fs)) 0 formRow))
+    fieldsRow
+
+unfoldable pub lineBad : ℕ → ℕ → List ℕ → ℕ
+lineBad n k l = fieldsBad n k l (cut 32 l)
+
+abbrev pub lineCheck : List ℕ → ℕ → ℕ → ℕ
+lineCheck s n k = lineBad n k (line s k)
+
+unfoldable pub linesBad : List ℕ → ℕ → Verdict
+linesBad s n = firstBad (lineCheck s n) 1 n
+
+-- rows 1 to 7, row 4 aside
+unfoldable pub textBad : List ℕ → Verdict
+textBad s = orElse (headBad s) (linesBad s (labels s))
+
+-- ---- the eight cells of a line that begins at place p of the text and has the fields fs: kind code, start and length of the name
+-- field (0, 0 for `-`), a, b, c (0 for `-`), owner and target, which later passes write
+
+abbrev pub nameCell : List (List ℕ) → ℕ → ℤ
+nameCell fs x = pos (cond (same (field fs 1) dash) 0 x)
+
+unfoldable pub rowOf : ℕ → ℕ → List (List ℕ) → List ℤ
+rowOf n p fs =
+    let k = kindAt (kindCode (field fs 0)) in
+    pos (kindCode (field fs 0))
+    ∷ nameCell fs (p + place fs 1)
+    ∷ nameCell fs (length (field fs 1))
+    ∷ held (fieldOf (k .a) n (field fs 2))
+    ∷ held (fieldOf (k .b) n (field fs 3))
+    ∷ held (fieldOf (k .c) n (field fs 4))
+    ∷ pos 0
+    ∷ pos 0
+    ∷ []
+
+-- the cells of labels 1 to k
+abbrev pub rows : List ℕ → ℕ → ℕ → List ℤ
+rows s n zero = []
+rows s n (suc k) = rows s n k ++ rowOf n (place (cut 10 s) (suc k)) (cut 32 (line s (suc k)))
+
+-- a table in which the cells of labels 1 to k are written, and the others are as they were
+abbrev pub linesWritten : List ℕ → ℕ → ℕ → List ℤ → List ℤ
+linesWritten s n k t = rows s n k ++ drop (8 * k) t

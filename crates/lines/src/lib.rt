@@ -1,0 +1,538 @@
+// The lines of a sheet: rows 1 to 3 and 5 to 7 of document 01's table of refusals, and the cells of each line that passes.
+
+ghost use mathlib.Core.Path.{_≡_};
+ghost use mathlib.Core.Bool.{true, cond};
+ghost use Prim.Native.Nat.{_+_, _-_, _*_, _≤_, _<_};
+ghost use lib.IntN.{pos};
+ghost use lib.ListN.{length};
+ghost use lib.Seq.{slice, sets};
+ghost use Rattle.text.specs.Bytes.{all, countBy, isAllowed, isNewline, endsLines, same};
+ghost use Rattle.text.specs.Forms.{labelOf};
+ghost use Rattle.numbers.specs.Decimal.{numberOf};
+ghost use Rattle.refusals.specs.Refusal.{passed, replyOf};
+ghost use Rattle.lines.specs.Kinds.{kindAt, codeOf};
+ghost use Rattle.lines.specs.Fields.{dash, blankIf, fromLabel, fromNumber, fieldOf, kindCode};
+ghost use Rattle.lines.specs.Lines.{isText, line, firstLine, labels, headBad, linesBad, linesWritten};
+ghost use Rattle.lines.specs.Steps.{FiveAt, SplitOf, operandsAt, cellsOf, rowBy, rowRead, rootRead, lineRead, stepOf, written};
+use numbers::Decimal;
+use numbers::Number;
+use refusals::Reply;
+use refusals::Verdict;
+
+// ---- the table of kinds
+
+// What a field of a line holds. `Missing` is `-` alone; `Group` and `Operand` are label fields, of a Group and of an expression.
+pub enum Form {
+    Missing,
+    Name,
+    Path,
+    Group,
+    Operand,
+    Number,
+}
+
+pub struct Kind {
+    pub letter: u8,
+    pub name: Form,
+    pub a: Form,
+    pub b: Form,
+    pub c: Form,
+}
+
+// Document 01's one fixed table of twelve rows. A kind's code is the place of its row, from 1.
+const KINDS: [Kind; 12] = [
+    Kind {
+        letter: b'G',
+        name: Form::Name,
+        a: Form::Group,
+        b: Form::Missing,
+        c: Form::Missing,
+    },
+    Kind {
+        letter: b'V',
+        name: Form::Name,
+        a: Form::Group,
+        b: Form::Operand,
+        c: Form::Missing,
+    },
+    Kind {
+        letter: b'F',
+        name: Form::Name,
+        a: Form::Group,
+        b: Form::Operand,
+        c: Form::Missing,
+    },
+    Kind {
+        letter: b'N',
+        name: Form::Missing,
+        a: Form::Number,
+        b: Form::Missing,
+        c: Form::Missing,
+    },
+    Kind {
+        letter: b'P',
+        name: Form::Missing,
+        a: Form::Missing,
+        b: Form::Missing,
+        c: Form::Missing,
+    },
+    Kind {
+        letter: b'R',
+        name: Form::Path,
+        a: Form::Missing,
+        b: Form::Missing,
+        c: Form::Missing,
+    },
+    Kind {
+        letter: b'C',
+        name: Form::Path,
+        a: Form::Operand,
+        b: Form::Missing,
+        c: Form::Missing,
+    },
+    Kind {
+        letter: b'A',
+        name: Form::Missing,
+        a: Form::Operand,
+        b: Form::Operand,
+        c: Form::Missing,
+    },
+    Kind {
+        letter: b'S',
+        name: Form::Missing,
+        a: Form::Operand,
+        b: Form::Operand,
+        c: Form::Missing,
+    },
+    Kind {
+        letter: b'M',
+        name: Form::Missing,
+        a: Form::Operand,
+        b: Form::Operand,
+        c: Form::Missing,
+    },
+    Kind {
+        letter: b'D',
+        name: Form::Missing,
+        a: Form::Operand,
+        b: Form::Operand,
+        c: Form::Missing,
+    },
+    Kind {
+        letter: b'I',
+        name: Form::Missing,
+        a: Form::Operand,
+        b: Form::Operand,
+        c: Form::Operand,
+    },
+];
+
+// The row of the kind with this code.
+pub fn kind_row(code: usize) -> Kind
+    requires { ⌜ (1 ≤ code) × (code ≤ 12) ⌝ }
+    ensures { λ r. ⌜ r ≡ kindAt code ⌝ }
+{
+    KINDS[code - 1]
+}
+
+// The code of the kind with this letter, or 0.
+pub fn code_of(letter: u8) -> usize
+    ensures { λ r. ⌜ r ≡ codeOf letter ⌝ }
+{
+    let mut code: usize = 1;
+    while code <= 12 {
+        let kind = kind_row(code);
+        if kind.letter == letter {
+            return code;
+        }
+        code += 1;
+    }
+    0
+}
+
+// ---- one field
+
+// What a field holds for its cell, or that it is of wrong form.
+pub enum Field {
+    Holds(i64),
+    Wrong,
+}
+
+// Whether the part of the text is `-` alone.
+fn is_dash(text: &[u8], from: usize, to: usize) -> bool
+    requires { ⌜ (from < to) × (to ≤ length (now text)) ⌝ }
+    ensures { λ r. ⌜ r ≡ same (slice from to (now (text .entry))) dash ⌝ }
+{
+    if to - from != 1 {
+        return false;
+    }
+    text[from] == 45
+}
+
+fn blank_if(right: bool) -> Field
+    ensures { λ r. ⌜ r ≡ blankIf right ⌝ }
+{
+    if right { Field::Holds(0) } else { Field::Wrong }
+}
+
+fn label_field(text: &[u8], from: usize, to: usize, n: usize) -> Field
+    requires { ⌜ (from < to) × (to ≤ length (now text)) × (n ≤ 1024) ⌝ }
+    ensures { λ r. ⌜ r ≡ fromLabel (labelOf n (slice from to (now (text .entry)))) ⌝ }
+{
+    match text::read_label(text, from, to, n as u64) {
+        Decimal::Is(v) => Field::Holds(v as i64),
+        Decimal::Not => Field::Wrong,
+    }
+}
+
+fn number_field(text: &[u8], from: usize, to: usize) -> Field
+    requires { ⌜ (from < to) × (to ≤ length (now text)) ⌝ }
+    ensures { λ r. ⌜ r ≡ fromNumber (numberOf (slice from to (now (text .entry)))) ⌝ }
+{
+    match numbers::read_number(text, from, to) {
+        Number::Is(x) => Field::Holds(x),
+        Number::Not => Field::Wrong,
+    }
+}
+
+// A field, read in the form that the table of kinds wants.
+pub fn read_field(text: &[u8], from: usize, to: usize, form: Form, n: usize) -> Field
+    requires { ⌜ (from < to) × (to ≤ length (now text)) × (n ≤ 1024) ⌝ }
+    ensures { λ r. ⌜ r ≡ fieldOf form n (slice from to (now (text .entry))) ⌝ }
+{
+    match form {
+        Form::Missing => blank_if(is_dash(text, from, to)),
+        Form::Name => blank_if(text::is_name(text, from, to)),
+        Form::Path => blank_if(text::is_path(text, from, to)),
+        Form::Group => label_field(text, from, to, n),
+        Form::Operand => label_field(text, from, to, n),
+        Form::Number => number_field(text, from, to),
+    }
+}
+
+// The code of the kind that a line's first field names, or 0.
+fn kind_code(text: &[u8], from: usize, to: usize) -> usize
+    requires { ⌜ (from < to) × (to ≤ length (now text)) ⌝ }
+    ensures { λ r. ⌜ r ≡ kindCode (slice from to (now (text .entry))) ⌝ }
+{
+    if to - from != 1 {
+        return 0;
+    }
+    code_of(text[from])
+}
+
+// ---- one line
+
+// Where the five fields of a line end; the last one ends where the line does.
+pub struct Ends {
+    pub kind: usize,
+    pub name: usize,
+    pub a: usize,
+    pub b: usize,
+    pub c: usize,
+}
+
+pub enum Split {
+    Five(Ends),
+    Other,
+}
+
+// The five fields of the line that begins at `from`, if it has five and none is empty.
+pub fn split_line(text: &[u8], from: usize) -> Split
+    requires { ⌜ (from < length (now text)) × endsLines (now text) × (all isAllowed (now text) ≡ true) ⌝ }
+    ensures { λ r. ⌜ SplitOf (now (text .entry)) from r ⌝ }
+{
+    let kind = text::field_end(text, from, 32);
+    if kind == 0 {
+        return Split::Other;
+    }
+    let name = text::field_end(text, kind + 1, 32);
+    if name == 0 {
+        return Split::Other;
+    }
+    let a = text::field_end(text, name + 1, 32);
+    if a == 0 {
+        return Split::Other;
+    }
+    let b = text::field_end(text, a + 1, 32);
+    if b == 0 {
+        return Split::Other;
+    }
+    let c = text::field_end(text, b + 1, 10);
+    if c == 0 {
+        return Split::Other;
+    }
+    Split::Five(Ends {
+        kind,
+        name,
+        a,
+        b,
+        c,
+    })
+}
+
+// The cells of a line, and where the line ends.
+pub struct Row {
+    pub code: i64,
+    pub start: i64,
+    pub length: i64,
+    pub a: i64,
+    pub b: i64,
+    pub c: i64,
+    pub end: usize,
+}
+
+// A line that passes rows 5 to 7, or the number of the row that refuses it.
+pub enum Line {
+    Passes(Row),
+    Fails(u64),
+}
+
+// A position, a length or a code as a cell.
+fn cell_of(x: usize) -> i64
+    requires { ⌜ x ≤ 65536 ⌝ }
+    ensures { λ r. ⌜ r ≡ pos x ⌝ }
+{
+    x as i64
+}
+
+// What the fields a, b and c hold, or that one of them is of wrong form.
+pub enum Operands {
+    Hold(i64, i64, i64),
+    Wrong,
+}
+
+fn read_operands(text: &[u8], e: Ends, kind: Kind, n: usize) -> Operands
+    requires { ⌜ (e .name + 1 < e .a) × (e .a + 1 < e .b) × (e .b + 1 < e .c) × (e .c ≤ length (now text)) × (n ≤ 1024) ⌝ }
+    ensures { λ r. ⌜ r ≡ operandsAt (now (text .entry)) e kind n ⌝ }
+{
+    let form_a = kind.a;
+    let form_b = kind.b;
+    let form_c = kind.c;
+    let Field::Holds(a) = read_field(text, e.name + 1, e.a, form_a, n) else {
+        return Operands::Wrong;
+    };
+    let Field::Holds(b) = read_field(text, e.a + 1, e.b, form_b, n) else {
+        return Operands::Wrong;
+    };
+    let Field::Holds(c) = read_field(text, e.b + 1, e.c, form_c, n) else {
+        return Operands::Wrong;
+    };
+    Operands::Hold(a, b, c)
+}
+
+// The cells of a line whose fields end at these places, with what a, b and c hold.
+fn row_of(text: &[u8], e: Ends, code: usize, a: i64, b: i64, c: i64) -> Row
+    requires { ⌜ (e .kind + 1 < e .name) × (e .name ≤ length (now text)) × (e .name ≤ 65536) × (code ≤ 12) ⌝ }
+    ensures { λ r. ⌜ r ≡ rowBy (now (text .entry)) e code a b c ⌝ }
+{
+    let from = e.kind + 1;
+    let to = e.name;
+    let end = e.c;
+    let code = cell_of(code);
+    if is_dash(text, from, to) {
+        return Row {
+            code,
+            start: 0,
+            length: 0,
+            a,
+            b,
+            c,
+            end,
+        };
+    }
+    let start = cell_of(from);
+    let length = cell_of(to - from);
+    Row {
+        code,
+        start,
+        length,
+        a,
+        b,
+        c,
+        end,
+    }
+}
+
+// A line of a known kind with five fields, other than label 1's.
+fn read_row(text: &[u8], from: usize, e: Ends, code: usize, n: usize) -> Line
+    requires { ⌜ FiveAt (now text) from e × (code ≡ kindCode (slice from (e .kind) (now text))) × (1 ≤ code) × (n ≤ 1024) × (length (now text) ≤ 65536) ⌝ }
+    ensures { λ r. ⌜ r ≡ rowRead n (now (text .entry)) from ⌝ }
+{
+    let kind = kind_row(code);
+    let form = kind.name;
+    let Field::Holds(_) = read_field(text, e.kind + 1, e.name, form, n) else {
+        return Line::Fails(7);
+    };
+    let Operands::Hold(a, b, c) = read_operands(text, e, kind, n) else {
+        return Line::Fails(7);
+    };
+    Line::Passes(row_of(text, e, code, a, b, c))
+}
+
+// The line of label 1, which is always `G - 0 - -`.
+fn read_root(text: &[u8], from: usize, e: Ends, n: usize) -> Line
+    requires { ⌜ FiveAt (now text) from e ⌝ }
+    ensures { λ r. ⌜ r ≡ rootRead n (now (text .entry)) from ⌝ }
+{
+    let end = e.c;
+    if text::same_bytes(text, from, end, b"G - 0 - -") {
+        return Line::Passes(Row {
+            code: 1,
+            start: 0,
+            length: 0,
+            a: 0,
+            b: 0,
+            c: 0,
+            end,
+        });
+    }
+    Line::Fails(7)
+}
+
+// A line with five fields: rows 6 and 7.
+fn read_five(text: &[u8], from: usize, e: Ends, n: usize, label: usize) -> Line
+    requires { ⌜ FiveAt (now text) from e × (n ≤ 1024) × (length (now text) ≤ 65536) ⌝ }
+    ensures { λ r. ⌜ r ≡ lineRead n label (now (text .entry)) from ⌝ }
+{
+    let kind = e.kind;
+    let code = kind_code(text, from, kind);
+    if code == 0 {
+        return Line::Fails(6);
+    }
+    if label == 1 {
+        return read_root(text, from, e, n);
+    }
+    read_row(text, from, e, code, n)
+}
+
+// The line that begins at `from`: rows 5 to 7, lowest number first.
+pub fn read_line(text: &[u8], from: usize, n: usize, label: usize) -> Line
+    requires { ⌜ (from < length (now text)) × (n ≤ 1024) × (length (now text) ≤ 65536) × endsLines (now text) × (all isAllowed (now text) ≡ true) ⌝ }
+    ensures { λ r. ⌜ r ≡ lineRead n label (now (text .entry)) from ⌝ }
+{
+    match split_line(text, from) {
+        Split::Five(e) => read_five(text, from, e, n, label),
+        Split::Other => Line::Fails(5),
+    }
+}
+
+// ---- the pass down the lines
+
+// The eight cells of a row, written from index `base` on; owner and target are left 0 for later passes.
+fn put_row(table: &mut [i64], base: usize, row: Row)
+    requires { ⌜ base + 8 ≤ length (now table) ⌝ }
+    ensures { λ _. ⌜ now (table .exit) ≡ sets (now (table .entry)) base (cellsOf row) ⌝ }
+{
+    let code = row.code;
+    let start = row.start;
+    let length = row.length;
+    let a = row.a;
+    let b = row.b;
+    let c = row.c;
+    table[base] = code;
+    table[base + 1] = start;
+    table[base + 2] = length;
+    table[base + 3] = a;
+    table[base + 4] = b;
+    table[base + 5] = c;
+    table[base + 6] = 0;
+    table[base + 7] = 0;
+}
+
+// Where the next line begins, or the row that refuses this one.
+pub enum Next {
+    At(usize),
+    Stop(u64),
+}
+
+// The line of a label, which begins at `at`: checked, and its cells written.
+fn step(text: &[u8], at: usize, n: usize, label: usize, table: &mut [i64]) -> Next
+    requires { ⌜ (at < length (now text)) × (n ≤ 1024) × (length (now text) ≤ 65536) × endsLines (now text) × (all isAllowed (now text) ≡ true) ⌝ }
+    requires { ⌜ (1 ≤ label) × (label ≤ 1024) × (8 * label ≤ length (now table)) ⌝ }
+    ensures { λ r. ⌜ r ≡ stepOf (lineRead n label (now (text .entry)) at) ⌝ }
+    ensures { λ r. ⌜ now (table .exit) ≡ written (lineRead n label (now (text .entry)) at) (8 * (label - 1)) (now (table .entry)) ⌝ }
+{
+    match read_line(text, at, n, label) {
+        Line::Fails(row) => Next::Stop(row),
+        Line::Passes(row) => {
+            let next = row.end + 1;
+            put_row(table, 8 * (label - 1), row);
+            Next::At(next)
+        }
+    }
+}
+
+// Rows 5 to 7, one pass down the lines. The cells of each line that passes are written; the others of the table stay.
+pub fn read_lines(text: &[u8], n: usize, table: &mut [i64]) -> Verdict
+    requires { ⌜ (headBad (now text) ≡ Verdict.Fine) × (n ≡ labels (now text)) × (8 * n ≤ length (now table)) ⌝ }
+    ensures { λ r. ⌜ r ≡ linesBad (now (text .entry)) n ⌝ }
+    ensures { λ r. ⌜ now (table .exit) ≡ linesWritten (now (text .entry)) n (passed r n) (now (table .entry)) ⌝ }
+{
+    let mut at: usize = 16; // past the first line
+    let mut label: usize = 1;
+    while label <= n {
+        match step(text, at, n, label, table) {
+            Next::Stop(row) => return Verdict::Refused(row, label as u64),
+            Next::At(next) => {
+                at = next;
+                label += 1;
+            }
+        }
+    }
+    Verdict::Fine
+}
+
+// ---- rows 1 to 3
+
+// The number of lines of a text that row 1 does not refuse, else 0.
+fn text_lines(text: &[u8]) -> usize
+    ensures { λ r. ⌜ r ≡ cond (isText (now (text .entry))) (countBy isNewline (now (text .entry))) 0 ⌝ }
+{
+    let size = text.len();
+    if size < 1 {
+        return 0;
+    }
+    if 65536 < size {
+        return 0;
+    }
+    if text[size - 1] != 10 {
+        return 0;
+    }
+    let counts = text::survey(text);
+    if counts.bad != 0 {
+        return 0;
+    }
+    counts.lines
+}
+
+// Whether line one holds the column names.
+fn first_line_right(text: &[u8]) -> bool
+    requires { ⌜ 1 ≤ countBy isNewline (now text) ⌝ }
+    ensures { λ r. ⌜ r ≡ same (line (now (text .entry)) 0) firstLine ⌝ }
+{
+    if text.len() < 16 {
+        return false;
+    }
+    text::same_bytes(text, 0, 16, b"kind name a b c\n")
+}
+
+// Rows 1 to 3: the number of labels, or the refusal.
+pub fn check_head(text: &[u8]) -> Reply
+    ensures { λ r. ⌜ r ≡ replyOf (headBad (now (text .entry))) (labels (now (text .entry))) ⌝ }
+{
+    let lines = text_lines(text);
+    if lines == 0 {
+        return Reply::Refused(1, 0);
+    }
+    if first_line_right(text) {
+        if lines < 2 {
+            return Reply::Refused(3, 0);
+        }
+        if 1025 < lines {
+            return Reply::Refused(3, 0);
+        }
+        return Reply::Answered((lines - 1) as u64);
+    }
+    Reply::Refused(2, 0)
+}

@@ -1,0 +1,26 @@
+-- A label field's label is 1 to n.
+use mathlib.Core.Path.{_≡_, refl, sym, _∙_}
+use mathlib.Core.List.{List}
+use Prim.Native.Nat.{ℕ, zero, suc, _≤_}
+use native.Mathlib.Omega.{arith}
+use Rattle.numbers.specs.Decimal.{decimalOf}
+use Rattle.numbers.specs.declared.Decimal.{Decimal}
+use Rattle.numbers.specs.declared.Decimal.the-variants.{Is, Not}
+use Rattle.numbers.proofs.Decimals.{decimal-size}
+use Rattle.text.specs.Forms.{fromOne, labelOf}
+
+from-one : (d : Decimal) (v : ℕ) → fromOne d ≡ Is v → (d ≡ Is v) × (1 ≤ v)
+from-one (Is zero) v e = let z : _≡_ {A = ℕ} 0 1 = cc in absurd (omega arith)
+from-one (Is (suc w)) v e = let q : suc w ≡ v = cc in (e, omega arith)
+from-one Not v e = let z : _≡_ {A = ℕ} 0 1 = cc in absurd (omega arith)
+
+module _ (n : ℕ) (f : List ℕ) (v : ℕ) (e : labelOf n f ≡ Is v) where
+  is : (decimalOf n f ≡ Is v) × (1 ≤ v)
+  unfolding labelOf
+  is = from-one (decimalOf n f) v e
+
+  pub label-most : v ≤ n
+  label-most = decimal-size n f v (is .0)
+
+  pub label-least : 1 ≤ v
+  label-least = is .1

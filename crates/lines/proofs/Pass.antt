@@ -78,12 +78,12 @@ row-length : (n p : ℕ) (fs : List (List ℕ)) → length (rowOf n p fs) ≡ 8
 unfolding rowOf
 row-length n p fs = refl
 
-rows-length : (s : List ℕ) (n k : ℕ) → length (rows s n k) ≡ 8 * k
+pub rows-length : (s : List ℕ) (n k : ℕ) → length (rows s n k) ≡ 8 * k
 rows-length s n zero = refl
 rows-length s n (suc k) =
     omega (arith, length-append (rows s n k) (rowOf n (place (cut 10 s) (suc k)) (cut 32 (line s (suc k)))), rows-length s n k, row-length n (place (cut 10 s) (suc k)) (cut 32 (line s (suc k))))
 
-written-length : (s : List ℕ) (n k : ℕ) (t : List ℤ) → 8 * k ≤ length t → length (linesWritten s n k t) ≡ length t
+pub written-length : (s : List ℕ) (n k : ℕ) (t : List ℤ) → 8 * k ≤ length t → length (linesWritten s n k t) ≡ length t
 written-length s n k t h = omega (arith, length-append (rows s n k) (drop (8 * k) t), length-drop (8 * k) t, rows-length s n k)
 
 -- eight cells more

@@ -4,3 +4,4 @@ pub mod Splits
 pub mod Rows
 pub mod Heads
 pub mod Pass
+mod Samples

@@ -2,3 +2,4 @@ pub mod Signed
 pub mod Stores
 pub mod Clearing
 pub mod Table
+pub mod Columns

@@ -1,0 +1,119 @@
+-- A column of a table: cell j of each label from 1 to n.
+use mathlib.Core.Path.{_≡_, refl, ap, sym, _∙_}
+use mathlib.Core.Bool.{Bool, true, false, cond}
+use mathlib.Core.List.{List}
+use Prim.Native.Nat.{ℕ, zero, suc, _+_, _-_, _*_, _/_, _%_, _<_, _≤_}
+use native.Mathlib.Omega.{arith}
+use native.Mathlib.Nat.{not-suc-le-zero}
+use borrow.Author.Tests.{ltb-true, ltb-false, eqb-true, eqb-false, eq-eqb, ne-eqb}
+use lib.Dec.{eqb, ltb}
+use lib.IntN.{ℤ, pos}
+use lib.ListN.{length, set, length-set}
+use lib.Seq.{set-set, set-comm, set-getD, ext-getD}
+use Rattle.cells.specs.Cells.{natOf, intAt, natAt}
+use Rattle.cells.specs.Table.{cell, numberOf, withColumn, changed}
+use Rattle.cells.proofs.Stores.{intAt-put, intAt-other}
+use Rattle.cells.proofs.Table.{cell-at}
+
+pub column-length : (j : ℕ) (f : ℕ → ℕ) (n : ℕ) (t : List ℤ) → length (withColumn j f n t) ≡ length t
+column-length j f zero t = refl
+column-length j f (suc k) t = length-set (withColumn j f k t) (8 * k + j) (pos (f (suc k))) ∙ column-length j f k t
+
+-- ---- reads
+
+module _ (j : ℕ) (f : ℕ → ℕ) (small : j < 8) where
+  -- what is no cell of the column stays
+  pub column-keeps : (n : ℕ) (t : List ℤ) (i : ℕ) → ((k : ℕ) → k < n → i ≡ 8 * k + j → ⊥) → intAt (withColumn j f n t) i ≡ intAt t i
+  column-keeps zero t i h = refl
+  column-keeps (suc n) t i h =
+      intAt-other (withColumn j f n t) (8 * n + j) i (pos (f (suc n))) (h n (omega arith)) ∙ column-keeps n t i (λ k l. h k (omega arith))
+
+  has-go : (n : ℕ) (t : List ℤ) (k : ℕ) → k < suc n → 8 * suc n ≤ length t → (k < n → intAt (withColumn j f n t) (8 * k + j) ≡ pos (f (suc k)))
+      → (b : Bool) → eqb k n ≡ b → intAt (withColumn j f (suc n) t) (8 * k + j) ≡ pos (f (suc k))
+  has-go n t k l g older true e =
+      rw (eqb-true k n e) (intAt-put (withColumn j f n t) (8 * n + j) (pos (f (suc n))) (omega (arith, column-length j f n t)))
+  has-go n t k l g older false e =
+      let d = eqb-false k n e in
+      intAt-other (withColumn j f n t) (8 * n + j) (8 * k + j) (pos (f (suc n))) (λ q. d (omega arith)) ∙ older (omega (arith, d))
+
+  pub column-has : (n : ℕ) (t : List ℤ) (k : ℕ) → k < n → 8 * n ≤ length t → intAt (withColumn j f n t) (8 * k + j) ≡ pos (f (suc k))
+  column-has zero t k l g = absurd (not-suc-le-zero l)
+  column-has (suc n) t k l g = has-go n t k l g (λ m. column-has n t k m (omega arith)) (eqb k n) refl
+
+  pub column-own : (n : ℕ) (t : List ℤ) (l : ℕ) → 1 ≤ l → l ≤ n → 8 * n ≤ length t → cell (withColumn j f n t) l j ≡ f l
+  column-own n t zero h m g = absurd (not-suc-le-zero h)
+  column-own n t (suc k) h m g = ap natOf (column-has n t k (omega arith) g)
+
+  pub column-other : (n : ℕ) (t : List ℤ) (l i : ℕ) → i < 8 → (i ≡ j → ⊥) → cell (withColumn j f n t) l i ≡ cell t l i
+  column-other n t zero i a d = refl
+  column-other n t (suc l) i a d = ap natOf (column-keeps n t (8 * l + i) (λ k m q. d (omega arith)))
+
+  pub column-number : (n : ℕ) (t : List ℤ) (l : ℕ) → (3 ≡ j → ⊥) → numberOf (withColumn j f n t) l ≡ numberOf t l
+  column-number n t zero d = refl
+  column-number n t (suc l) d = column-keeps n t (8 * l + 3) (λ k m q. d (omega arith))
+
+-- ---- equal columns, and a store in one
+
+pub column-same : (j : ℕ) (f g : ℕ → ℕ) (n : ℕ) (t : List ℤ) → ((l : ℕ) → 1 ≤ l → l ≤ n → f l ≡ g l) → withColumn j f n t ≡ withColumn j g n t
+column-same j f g zero t h = refl
+column-same j f g (suc k) t h =
+    let e : f (suc k) ≡ g (suc k) = h (suc k) (omega arith) (omega arith) in
+    let r = column-same j f g k t (λ l a b. h l a (omega arith)) in
+    ap (λ (w : List ℤ). set w (8 * k + j) (pos (f (suc k)))) r ∙ ap (λ (v : ℕ). set (withColumn j g k t) (8 * k + j) (pos v)) e
+
+changed-other : (f : ℕ → ℕ) (x v l : ℕ) → (l ≡ x → ⊥) → f l ≡ changed f x v l
+changed-other f x v l d = rw (ne-eqb l x d)
+
+changed-own : (f : ℕ → ℕ) (x v : ℕ) → changed f x v x ≡ v
+changed-own f x v = rw (eq-eqb x x refl)
+
+put-go : (j : ℕ) (f : ℕ → ℕ) (k x v : ℕ) (t : List ℤ) → 1 ≤ x → x ≤ suc k
+    → (x ≤ k → set (withColumn j f k t) (8 * (x - 1) + j) (pos v) ≡ withColumn j (changed f x v) k t)
+    → (b : Bool) → eqb x (suc k) ≡ b → set (withColumn j f (suc k) t) (8 * (x - 1) + j) (pos v) ≡ withColumn j (changed f x v) (suc k) t
+put-go j f k x v t h m older true e =
+    let q : x ≡ suc k = eqb-true x (suc k) e in
+    let i : 8 * (x - 1) + j ≡ 8 * k + j = omega arith in
+    let own : v ≡ changed f x v (suc k) = sym (ap (changed f x v) (sym q) ∙ changed-own f x v) in
+    rw i (set-set (withColumn j f k t) (8 * k + j) (pos (f (suc k))) (pos v)
+    ∙ ap (λ (w : List ℤ). set w (8 * k + j) (pos v)) (column-same j f (changed f x v) k t (λ l a b. changed-other f x v l (λ z. omega arith)))
+    ∙ ap (λ (y : ℕ). set (withColumn j (changed f x v) k t) (8 * k + j) (pos y)) own)
+put-go j f k x v t h m older false e =
+    let d = eqb-false x (suc k) e in
+    let c : f (suc k) ≡ changed f x v (suc k) = changed-other f x v (suc k) (λ z. d (sym z)) in
+    set-comm (withColumn j f k t) (8 * k + j) (8 * (x - 1) + j) (pos (f (suc k))) (pos v) (λ z. d (omega arith))
+    ∙ ap (λ (w : List ℤ). set w (8 * k + j) (pos (f (suc k)))) (older (omega (arith, d)))
+    ∙ ap (λ (y : ℕ). set (withColumn j (changed f x v) k t) (8 * k + j) (pos y)) c
+
+-- a store in a column changes one label of it
+pub column-put : (j : ℕ) (f : ℕ → ℕ) (n x v : ℕ) (t : List ℤ) → 1 ≤ x → x ≤ n → set (withColumn j f n t) (8 * (x - 1) + j) (pos v) ≡ withColumn j (changed f x v) n t
+column-put j f zero x v t h m = absurd (omega arith)
+column-put j f (suc k) x v t h m = put-go j f k x v t h m (λ g. column-put j f k x v t h g) (eqb x (suc k)) refl
+
+-- a column written over a column
+pub column-over : (j : ℕ) (f g : ℕ → ℕ) (n : ℕ) (t : List ℤ) → j < 8 → 8 * n ≤ length t → withColumn j g n (withColumn j f n t) ≡ withColumn j g n t
+column-over j f g n t a room =
+    ext-getD (pos 0) (withColumn j g n (withColumn j f n t)) (withColumn j g n t)
+    (column-length j g n (withColumn j f n t) ∙ column-length j f n t ∙ sym (column-length j g n t))
+    (λ i h. at i (eqb (i % 8) j) (ltb (i / 8) n) refl refl)
+  where
+    long : 8 * n ≤ length (withColumn j f n t)
+    long = omega (arith, column-length j f n t)
+
+    outside : (i : ℕ) → ((k : ℕ) → k < n → i ≡ 8 * k + j → ⊥) → intAt (withColumn j g n (withColumn j f n t)) i ≡ intAt (withColumn j g n t) i
+    outside i d = column-keeps j g a n (withColumn j f n t) i d ∙ column-keeps j f a n t i d ∙ sym (column-keeps j g a n t i d)
+
+    at : (i : ℕ) (x y : Bool) → eqb (i % 8) j ≡ x → ltb (i / 8) n ≡ y → intAt (withColumn j g n (withColumn j f n t)) i ≡ intAt (withColumn j g n t) i
+    at i true true e l =
+        let q : i ≡ 8 * (i / 8) + j = omega (arith, eqb-true (i % 8) j e) in
+        let m : i / 8 < n = ltb-true (i / 8) n l in
+        ap (intAt (withColumn j g n (withColumn j f n t))) q ∙ column-has j g a n (withColumn j f n t) (i / 8) m long
+        ∙ sym (ap (intAt (withColumn j g n t)) q ∙ column-has j g a n t (i / 8) m room)
+    at i true false e l = outside i (λ k m q. omega (arith, ltb-false (i / 8) n l))
+    at i false y e l = outside i (λ k m q. eqb-false (i % 8) j e (omega arith))
+
+-- a column of the cells that stand there
+pub column-is : (j : ℕ) (n : ℕ) (t : List ℤ) → ((k : ℕ) → k < n → intAt t (8 * k + j) ≡ pos (cell t (suc k) j)) → withColumn j (λ l. cell t l j) n t ≡ t
+column-is j zero t h = refl
+column-is j (suc k) t h =
+    let r = column-is j k t (λ i m. h i (omega arith)) in
+    ap (λ (w : List ℤ). set w (8 * k + j) (pos (cell t (suc k) j))) r ∙ ap (λ (z : ℤ). set t (8 * k + j) z) (sym (h k (omega arith))) ∙ set-getD t (8 * k + j) (pos 0)

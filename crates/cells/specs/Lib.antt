@@ -1,3 +1,4 @@
 pub mod Cells
 pub mod Table
 pub mod Accepted
+pub mod Reaches

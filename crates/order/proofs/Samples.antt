@@ -1,0 +1,115 @@
+-- Worked examples, which antt computes: document 01's samples 1, 2, 3 and 8, its "Mistakes to shut out", and rows 16 to 18.
+use mathlib.Core.Path.{_≡_, refl}
+use mathlib.Core.List.{List, [], _∷_}
+use Prim.Native.Nat.{ℕ}
+use lib.IntN.{ℤ, pos, negℤ}
+use Rattle.order.specs.Order.{plan, cycle, whole, mixed, place16}
+use Rattle.order.specs.Following.{place17, place18}
+
+-- ---- rows of a table, each before the rows after it; names have no part in planning, and are left out
+
+abbrev row : ℕ → ℤ → ℕ → ℕ → ℕ → List ℤ → List ℤ
+row k a b o t rest = pos k ∷ pos 0 ∷ pos 0 ∷ a ∷ pos b ∷ pos 0 ∷ pos o ∷ pos t ∷ rest
+
+-- a Group in Group g; a value and a function in Group g with body b
+abbrev group : ℕ → List ℤ → List ℤ
+group g = row 1 (pos g) 0 g 0
+
+abbrev value : ℕ → ℕ → List ℤ → List ℤ
+value g b = row 2 (pos g) b g 0
+
+abbrev function : ℕ → ℕ → List ℤ → List ℤ
+function g b = row 3 (pos g) b g 0
+
+-- of definition d: a number; the argument; a read of e; a call of e on a; an operation on a and b
+abbrev number : ℕ → ℤ → List ℤ → List ℤ
+number d z = row 4 z 0 d 0
+
+abbrev argument : ℕ → List ℤ → List ℤ
+argument d = row 5 (pos 0) 0 d 0
+
+abbrev read : ℕ → ℕ → List ℤ → List ℤ
+read d e = row 6 (pos 0) 0 d e
+
+abbrev call : ℕ → ℕ → ℕ → List ℤ → List ℤ
+call d e a = row 7 (pos a) 0 d e
+
+abbrev operation : ℕ → ℕ → ℕ → ℕ → List ℤ → List ℤ
+operation d k a b = row k (pos a) b d 0
+
+-- ---- document 01's samples
+
+abbrev table₁ : List ℤ
+table₁ =
+    group 0 (value 1 6 (group 1 (value 3 9 (value 3 14
+    (operation 2 8 7 8 (read 2 4 (number 2 (pos 5)
+    (operation 4 11 10 13 (operation 4 10 11 12 (read 4 5 (number 4 (pos 10) (number 4 (pos 100)
+    (number 5 (negℤ (pos 325)) [])))))))))))))
+
+sample₁ : plan table₁ 14 ≡ whole (5 ∷ 4 ∷ 2 ∷ [])
+sample₁ = refl
+
+-- label 1 alone
+sample₂ : plan (group 0 []) 1 ≡ whole []
+sample₂ = refl
+
+-- values 4 and 5 in Group 2, 6 and 7 in Group 3; 4 reads 6, 7 reads 5
+abbrev table₃ : List ℤ
+table₃ =
+    group 0 (group 1 (group 1
+    (value 2 8 (value 2 9 (value 3 10 (value 3 11
+    (read 4 6 (number 5 (pos 20) (number 6 (pos 30) (read 7 5 []))))))))))
+
+sample₃ : plan table₃ 11 ≡ mixed (5 ∷ 6 ∷ 4 ∷ 7 ∷ [])
+sample₃ = refl
+
+-- a value reading itself
+sample₈ : plan (group 0 (value 1 3 (read 2 2 []))) 3 ≡ cycle 2
+sample₈ = refl
+
+-- ---- document 01's "Mistakes to shut out"
+
+-- two functions that call each other are no cycle
+each-other : plan (group 0 (function 1 5 (function 1 7 (value 1 9 (call 2 3 6 (argument 2 (call 3 2 8 (argument 3 (call 4 2 10 (number 4 (pos 1) [])))))))))) 10
+    ≡ whole (4 ∷ [])
+each-other = refl
+
+-- value 4 is read inside function 3, which value 2 calls: it comes first
+inside : plan (group 0 (value 1 5 (function 1 7 (value 1 8 (call 2 3 6 (number 2 (pos 1) (read 3 4 (number 4 (pos 1) [])))))))) 8 ≡ whole (4 ∷ 2 ∷ [])
+inside = refl
+
+-- Group 3 comes before Group 2, which needs it
+needed-first : plan (group 0 (group 1 (group 1 (value 2 6 (value 3 7 (read 4 5 (number 5 (pos 1) []))))))) 7 ≡ whole (5 ∷ 4 ∷ [])
+needed-first = refl
+
+-- ---- the smallest label: value 3 is free, and so comes before 4, though 2 needs 4 alone
+
+smallest : plan (group 0 (value 1 5 (value 1 6 (value 1 7 (read 2 4 (number 3 (pos 1) (number 4 (pos 1) []))))))) 7 ≡ whole (3 ∷ 4 ∷ 2 ∷ [])
+smallest = refl
+
+-- ---- row 16's place: the smallest V that reaches itself, not one that only reaches a cycle
+
+reaching : place16 (group 0 (value 1 5 (value 1 6 (value 1 7 (read 2 3 (read 3 4 (read 4 3 []))))))) 7 ≡ 3
+reaching = refl
+
+free : place16 table₁ 14 ≡ 0
+free = refl
+
+-- ---- rows 17 and 18 for sample 1: proper; a Group, a repetition, a negative number, no label; too short; too early
+
+proper : (place17 table₁ 14 (pos 5 ∷ pos 4 ∷ pos 2 ∷ []) ≡ 0) × (place18 table₁ 14 (pos 5 ∷ pos 4 ∷ pos 2 ∷ []) ≡ 0)
+proper = (refl, refl)
+
+no-value :
+    (place17 table₁ 14 (pos 5 ∷ pos 3 ∷ pos 2 ∷ []) ≡ 2)
+    × (place17 table₁ 14 (pos 5 ∷ pos 4 ∷ pos 5 ∷ []) ≡ 3)
+    × (place17 table₁ 14 (negℤ (pos 5) ∷ pos 4 ∷ pos 2 ∷ []) ≡ 1)
+    × (place17 table₁ 14 (pos 5 ∷ pos 4 ∷ pos 2 ∷ pos 0 ∷ []) ≡ 4)
+    × (place17 table₁ 14 (pos 5 ∷ pos 4 ∷ pos 2 ∷ pos 15 ∷ []) ≡ 4)
+no-value = (refl, refl, refl, refl, refl)
+
+too-short : (place17 table₁ 14 [] ≡ 1) × (place17 table₁ 14 (pos 5 ∷ pos 4 ∷ []) ≡ 3) × (place17 (group 0 []) 1 [] ≡ 0)
+too-short = (refl, refl, refl)
+
+too-early : (place18 table₁ 14 (pos 4 ∷ pos 5 ∷ pos 2 ∷ []) ≡ 1) × (place18 table₁ 14 (pos 5 ∷ pos 2 ∷ pos 4 ∷ []) ≡ 2)
+too-early = (refl, refl)

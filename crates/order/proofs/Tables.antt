@@ -1,0 +1,208 @@
+-- What holds of every table that Read accepts, in the words of specs/Order.antt; and the test of reaching is the relation.
+use mathlib.Core.Path.{_≡_, refl, ap, _∙_}
+use mathlib.Core.Logic.{_⊎_, inl, inr, _↔_}
+use mathlib.Core.List.{List}
+use mathlib.Core.Bool.{true, false, _&&_, _||_}
+use Prim.Native.Nat.{ℕ, zero, suc, _+_, _*_, _≤_, _<_}
+use native.Mathlib.Omega.{arith}
+use native.Mathlib.Decide.{decLe}
+use lib.Dec.{eqb}
+use lib.IntN.{ℤ}
+use borrow.Author.Tests.{eqb-true, eq-eqb, ne-eqb}
+use Rattle.cells.specs.Cells.{natOf}
+use Rattle.cells.specs.Table.{cell, kind, owner, target}
+use Rattle.cells.specs.Accepted.{Accepted}
+use Rattle.cells.specs.Reaches.{HasPath, Mentions, Reaches, once, then}
+use Rattle.order.specs.Lists.{one, count, _∈_}
+use Rattle.order.specs.Order.{isG, isV, isF, isDefinition, labels, values, isMember, members, hasPath, isMention, mentions, reached, reaches}
+use Rattle.order.proofs.Tests.{so-or-not, and-left, and-right, and-intro, or-cases, or-left, or-right}
+use Rattle.order.proofs.Lists.{mem-of, of-mem, any-true, any-intro, in-filter, count-filter-pass, count-filter-fail, count-filter-le, count-upFrom, upFrom-once}
+use Rattle.order.proofs.Closure.{Chain, step, then as on, closure-exact, closure-count}
+
+-- ---- kinds
+
+pub v-kind : (t : List ℤ) (v : ℕ) → isV t v ≡ true → kind t v ≡ 2
+v-kind t v e = eqb-true (kind t v) 2 e
+
+pub kind-v : (t : List ℤ) (v : ℕ) → kind t v ≡ 2 → isV t v ≡ true
+kind-v t v e = eq-eqb (kind t v) 2 e
+
+pub g-kind : (t : List ℤ) (g : ℕ) → isG t g ≡ true → kind t g ≡ 1
+g-kind t g e = eqb-true (kind t g) 1 e
+
+pub kind-g : (t : List ℤ) (g : ℕ) → kind t g ≡ 1 → isG t g ≡ true
+kind-g t g e = eq-eqb (kind t g) 1 e
+
+pub v-not-g : (t : List ℤ) (l : ℕ) → isV t l ≡ true → isG t l ≡ false
+v-not-g t l e = ne-eqb (kind t l) 1 (λ (z : kind t l ≡ 1). omega (arith, v-kind t l e))
+
+pub g-def : (t : List ℤ) (l : ℕ) → isG t l ≡ true → isDefinition t l ≡ true
+g-def t l e = or-left (isG t l || isV t l) (isF t l) (or-left (isG t l) (isV t l) e)
+
+pub v-def : (t : List ℤ) (l : ℕ) → isV t l ≡ true → isDefinition t l ≡ true
+v-def t l e = or-left (isG t l || isV t l) (isF t l) (or-right (isG t l) (isV t l) e)
+
+-- a definition's kind is 1 to 3
+def-kind : (t : List ℤ) (l : ℕ) → isDefinition t l ≡ true → (1 ≤ kind t l) × (kind t l ≤ 3)
+def-kind t l h = go (or-cases (isG t l || isV t l) (isF t l) h)
+  where
+    two : (isG t l ≡ true) ⊎ (isV t l ≡ true) → (1 ≤ kind t l) × (kind t l ≤ 3)
+    two (inl e) = let k = g-kind t l e in (omega arith, omega arith)
+    two (inr e) = let k = v-kind t l e in (omega arith, omega arith)
+
+    go : ((isG t l || isV t l) ≡ true) ⊎ (isF t l ≡ true) → (1 ≤ kind t l) × (kind t l ≤ 3)
+    go (inl e) = two (or-cases (isG t l) (isV t l) e)
+    go (inr e) = let k = eqb-true (kind t l) 3 e in (omega arith, omega arith)
+
+path-kind : (t : List ℤ) (x : ℕ) → hasPath t x ≡ true → HasPath t x
+path-kind t x h = go (or-cases (eqb (kind t x) 6) (eqb (kind t x) 7) h)
+  where
+    go : (eqb (kind t x) 6 ≡ true) ⊎ (eqb (kind t x) 7 ≡ true) → HasPath t x
+    go (inl q) = inl (eqb-true (kind t x) 6 q)
+    go (inr q) = inr (eqb-true (kind t x) 7 q)
+
+kind-path : (t : List ℤ) (x : ℕ) → HasPath t x → hasPath t x ≡ true
+kind-path t x (inl q) = or-left (eqb (kind t x) 6) (eqb (kind t x) 7) (eq-eqb (kind t x) 6 q)
+kind-path t x (inr q) = or-right (eqb (kind t x) 6) (eqb (kind t x) 7) (eq-eqb (kind t x) 7 q)
+
+-- ---- reaching is transitive
+
+pub reaches-trans : {t : List ℤ} {a b c : ℕ} → Reaches t a b → Reaches t b c → Reaches t a c
+reaches-trans r (once m) = then r m
+reaches-trans r (then q m) = then (reaches-trans r q) m
+
+module _ (t : List ℤ) (n : ℕ) (ok : Accepted t n) where
+  -- ---- labels are 1 to n
+
+  cell-out : (l j : ℕ) → n < l → cell t l j ≡ 0
+  cell-out zero j h = refl
+  cell-out (suc k) j h = ap natOf (ok .unused (8 * k + j) (omega arith))
+
+  -- what has a kind is a label
+  pub kind-label : (l : ℕ) → 1 ≤ kind t l → (1 ≤ l) × (l ≤ n)
+  kind-label zero h = absurd (omega arith)
+  kind-label (suc k) h = go (decLe (suc k) n)
+    where
+      go : Dec (suc k ≤ n) → (1 ≤ suc k) × (suc k ≤ n)
+      go (yes e) = (omega arith, e)
+      go (no e) = absurd (omega (arith, cell-out (suc k) 0 (omega arith)))
+
+  pub def-label : (l : ℕ) → isDefinition t l ≡ true → (1 ≤ l) × (l ≤ n)
+  def-label l d = kind-label l (def-kind t l d .0)
+
+  pub pos-of : (l : ℕ) → isDefinition t l ≡ true → 1 ≤ l
+  pos-of l d = def-label l d .0
+
+  pub in-labels : (l : ℕ) → 1 ≤ l → l ≤ n → l ∈ labels n
+  in-labels l a b = omega (arith, count-upFrom l 1 n a (omega arith))
+
+  -- ---- owners
+
+  pub owner-below : (l : ℕ) → 1 ≤ l → owner t l < l
+  owner-below l h = go (decLe l n)
+    where
+      go : Dec (l ≤ n) → owner t l < l
+      go (yes e) = ok .falls l h e
+      go (no e) = omega (arith, cell-out l 6 (omega arith))
+
+  pub top-group : isG t 1 ≡ true
+  top-group = kind-g t 1 (ok .root)
+
+  pub owner-group : (l : ℕ) → isDefinition t l ≡ true → 2 ≤ l → isG t (owner t l) ≡ true
+  owner-group l d h = kind-g t (owner t l) (ok .group l h (def-label l d .1) (def-kind t l d .1))
+
+  -- ---- values and members
+
+  pub count-values : (v : ℕ) → count v (values t n) ≡ one (isV t v)
+  count-values v = go (so-or-not (isV t v))
+    where
+      go : (isV t v ≡ true) ⊎ (isV t v ≡ false) → count v (values t n) ≡ one (isV t v)
+      go (inl e) =
+          let b = def-label v (v-def t v e) in
+          count-filter-pass (isV t) v (labels n) e ∙ count-upFrom v 1 n (b .0) (omega arith) ∙ rw e
+      go (inr e) = count-filter-fail (isV t) v (labels n) e ∙ rw e
+
+  pub in-values : (v : ℕ) → isV t v ≡ true → v ∈ values t n
+  in-values v e = let h : count v (values t n) ≡ 1 = rw e at (count-values v) in omega arith
+
+  pub value-of : (v : ℕ) → v ∈ values t n → isV t v ≡ true
+  value-of v m = in-filter (isV t) v (labels n) m .1
+
+  pub values-once : (v : ℕ) → count v (values t n) ≤ 1
+  values-once v = omega (arith, count-filter-le (isV t) v (labels n), upFrom-once v 1 n)
+
+  pub member-of : (g p : ℕ) → p ∈ members t n g → (isDefinition t p ≡ true) × (owner t p ≡ g)
+  member-of g p m =
+      let h = in-filter (isMember t g) p (labels n) m .1 in
+      (and-left (isDefinition t p) (eqb (owner t p) g) h, eqb-true (owner t p) g (and-right (isDefinition t p) (eqb (owner t p) g) h))
+
+  pub count-member : (g p : ℕ) → isDefinition t p ≡ true → owner t p ≡ g → count p (members t n g) ≡ 1
+  count-member g p d e =
+      let b = def-label p d in
+      count-filter-pass (isMember t g) p (labels n) (and-intro (isDefinition t p) (eqb (owner t p) g) d (eq-eqb (owner t p) g e))
+      ∙ count-upFrom p 1 n (b .0) (omega arith)
+
+  pub members-once : (g p : ℕ) → count p (members t n g) ≤ 1
+  members-once g p = omega (arith, count-filter-le (isMember t g) p (labels n), upFrom-once p 1 n)
+
+  -- ---- the tests of mentioning and reaching are the relations
+
+  path-label : (x : ℕ) → HasPath t x → (1 ≤ x) × (x ≤ n)
+  path-label x (inl e) = kind-label x (omega arith)
+  path-label x (inr e) = kind-label x (omega arith)
+
+  target-label : (x : ℕ) → HasPath t x → (1 ≤ target t x) × (target t x ≤ n)
+  target-label x (inl e) = kind-label (target t x) (omega (arith, ok .reads x e))
+  target-label x (inr e) = kind-label (target t x) (omega (arith, ok .calls x e))
+
+  pub mentions-exact : (d e : ℕ) → (mentions t n d e ≡ true) ↔ Mentions t d e
+  mentions-exact d e = (λ h. let w = any-true (isMention t d e) (labels n) h in found (w .0) (w .2), seen)
+    where
+      found : (x : ℕ) → isMention t d e x ≡ true → Mentions t d e
+      found x h =
+          let a = and-left (hasPath t x && eqb (owner t x) d) (eqb (target t x) e) h in
+          record {
+            line = x;
+            path = path-kind t x (and-left (hasPath t x) (eqb (owner t x) d) a);
+            owned = eqb-true (owner t x) d (and-right (hasPath t x) (eqb (owner t x) d) a);
+            aimed = eqb-true (target t x) e (and-right (hasPath t x && eqb (owner t x) d) (eqb (target t x) e) h);
+          }
+
+      seen : Mentions t d e → mentions t n d e ≡ true
+      seen m =
+          let x = m .line in
+          let b = path-label x (m .path) in
+          any-intro (isMention t d e) (labels n) x (in-labels x (b .0) (b .1))
+          (and-intro (hasPath t x && eqb (owner t x) d) (eqb (target t x) e)
+          (and-intro (hasPath t x) (eqb (owner t x) d) (kind-path t x (m .path)) (eq-eqb (owner t x) d (m .owned)))
+          (eq-eqb (target t x) e (m .aimed)))
+
+  mention-label : (d e : ℕ) → mentions t n d e ≡ true → e ∈ labels n
+  mention-label d e h = at (mentions-exact d e .0 h)
+    where
+      at : Mentions t d e → e ∈ labels n
+      at m = let b = target-label (m .line) (m .path) in in-labels e (omega (arith, m .aimed, b .0)) (omega (arith, m .aimed, b .1))
+
+  -- `reached t n d` holds exactly what d reaches, each once
+  pub reached-exact : (d e : ℕ) → (e ∈ reached t n d) ↔ Reaches t d e
+  reached-exact d e = (λ i. onto (x .0 i), λ r. x .1 (back r))
+    where
+      x : (e ∈ reached t n d) ↔ Chain (mentions t n) d e
+      x = closure-exact (mentions t n) (labels n) mention-label d e
+
+      onto : {e : ℕ} → Chain (mentions t n) d e → Reaches t d e
+      onto {e} (step m) = once (mentions-exact d e .0 m)
+      onto {e} (on {c = c} r m) = then (onto r) (mentions-exact c e .0 m)
+
+      back : {e : ℕ} → Reaches t d e → Chain (mentions t n) d e
+      back {e} (once m) = step (mentions-exact d e .1 m)
+      back {e = f} (then {e = e} r m) = on (back r) (mentions-exact e f .1 m)
+
+  pub reached-once : (d e : ℕ) → count e (reached t n d) ≤ 1
+  reached-once d e = omega (arith, closure-count (mentions t n) (labels n) d e, upFrom-once e 1 n)
+
+  pub reaches-exact : (d e : ℕ) → (reaches t n d e ≡ true) ↔ Reaches t d e
+  reaches-exact d e = (λ h. reached-exact d e .0 (of-mem e (reached t n d) h), λ r. mem-of e (reached t n d) (reached-exact d e .1 r))
+
+  pub reaches-chain : (a b c : ℕ) → reaches t n a b ≡ true → reaches t n b c ≡ true → reaches t n a c ≡ true
+  reaches-chain a b c p q = reaches-exact a c .1 (reaches-trans (reaches-exact a b .0 p) (reaches-exact b c .0 q))

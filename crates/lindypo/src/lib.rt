@@ -45,7 +45,7 @@ fn read_body(text: &[u8], n: usize, table: &mut [i64]) -> Reply
 {
     if table.len() < 8 * n {
         cells::clear(table);
-        return Reply::Refused(4, 1);
+        return Reply::Refused(refusals::BUFFERS, 1);
     }
     match lines::read_lines(text, n, table) {
         Verdict::Fine => {

@@ -362,10 +362,10 @@ fn read_row(text: &[u8], from: usize, e: Ends, code: usize, n: usize) -> Line
     let kind = kind_row(code);
     let form = kind.name;
     let Field::Holds(_) = read_field(text, e.kind + 1, e.name, form, n) else {
-        return Line::Fails(7);
+        return Line::Fails(refusals::FORM);
     };
     let Operands::Hold(a, b, c) = read_operands(text, e, kind, n) else {
-        return Line::Fails(7);
+        return Line::Fails(refusals::FORM);
     };
     Line::Passes(row_of(text, e, code, a, b, c))
 }
@@ -387,7 +387,7 @@ fn read_root(text: &[u8], from: usize, e: Ends, n: usize) -> Line
             end,
         });
     }
-    Line::Fails(7)
+    Line::Fails(refusals::FORM)
 }
 
 // A line with five fields: rows 6 and 7.
@@ -398,7 +398,7 @@ fn read_five(text: &[u8], from: usize, e: Ends, n: usize, label: usize) -> Line
     let kind = e.kind;
     let code = kind_code(text, from, kind);
     if code == 0 {
-        return Line::Fails(6);
+        return Line::Fails(refusals::KIND);
     }
     if label == 1 {
         return read_root(text, from, e, n);
@@ -413,7 +413,7 @@ pub fn read_line(text: &[u8], from: usize, n: usize, label: usize) -> Line
 {
     match split_line(text, from) {
         Split::Five(e) => read_five(text, from, e, n, label),
-        Split::Other => Line::Fails(5),
+        Split::Other => Line::Fails(refusals::FIELDS),
     }
 }
 
@@ -503,7 +503,7 @@ fn text_lines(text: &[u8]) -> usize
     if counts.bad != 0 {
         return 0;
     }
-    counts.lines
+    counts.lines as usize
 }
 
 // Whether line one holds the column names.
@@ -523,16 +523,16 @@ pub fn check_head(text: &[u8]) -> Reply
 {
     let lines = text_lines(text);
     if lines == 0 {
-        return Reply::Refused(1, 0);
+        return Reply::Refused(refusals::TEXT, 0);
     }
     if first_line_right(text) {
         if lines < 2 {
-            return Reply::Refused(3, 0);
+            return Reply::Refused(refusals::LABELS, 0);
         }
         if 1025 < lines {
-            return Reply::Refused(3, 0);
+            return Reply::Refused(refusals::LABELS, 0);
         }
         return Reply::Answered((lines - 1) as u64);
     }
-    Reply::Refused(2, 0)
+    Reply::Refused(refusals::FIRST_LINE, 0)
 }

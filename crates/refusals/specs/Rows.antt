@@ -28,3 +28,48 @@ kindRow = 6
 -- a field of wrong form, or label 1 not as it must be
 abbrev pub formRow : ℕ
 formRow = 7
+
+-- from label 2, a definition's Group field is not a G with a label below its own; or a body or operand is not an expression with a
+-- label above its own line's
+abbrev pub structureRow : ℕ
+structureRow = 8
+
+-- an expression used by no field, or by two or more
+abbrev pub usesRow : ℕ
+usesRow = 9
+
+-- P owned by a V
+abbrev pub argumentRow : ℕ
+argumentRow = 10
+
+-- level above 32
+abbrev pub levelRow : ℕ
+levelRow = 11
+
+-- a smaller label in its Group has that name
+abbrev pub duplicateRow : ℕ
+duplicateRow = 12
+
+-- head not found
+abbrev pub headRow : ℕ
+headRow = 13
+
+-- a later name not found, or asked of a V or F
+abbrev pub laterRow : ℕ
+laterRow = 14
+
+-- target of the wrong kind
+abbrev pub targetRow : ℕ
+targetRow = 15
+
+-- V reaches itself
+abbrev pub cycleRow : ℕ
+cycleRow = 16
+
+-- an order list: a position that is no V label or repeats one, or a V is missing
+abbrev pub listedRow : ℕ
+listedRow = 17
+
+-- an order list: a position whose label reaches a V not listed earlier
+abbrev pub earlyRow : ℕ
+earlyRow = 18

@@ -15,6 +15,28 @@ pub const KIND: u64 = 6;
 
 pub const FORM: u64 = 7;
 
+pub const STRUCTURE: u64 = 8;
+
+pub const USES: u64 = 9;
+
+pub const ARGUMENT: u64 = 10;
+
+pub const LEVEL: u64 = 11;
+
+pub const DUPLICATE: u64 = 12;
+
+pub const HEAD: u64 = 13;
+
+pub const LATER: u64 = 14;
+
+pub const TARGET: u64 = 15;
+
+pub const CYCLE: u64 = 16;
+
+pub const LISTED: u64 = 17;
+
+pub const EARLY: u64 = 18;
+
 // What a pass finds: nothing, or a refusal, which is a number and a place.
 pub enum Verdict {
     Fine,

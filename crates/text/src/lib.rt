@@ -13,7 +13,7 @@ use numbers::Decimal;
 // ---- the bytes of a text
 
 // 1 for a byte that row 1 does not allow, else 0.
-fn bad_byte(b: u8) -> usize
+fn bad_byte(b: u8) -> u32
     ensures { λ r. ⌜ r ≡ one (isBad b) ⌝ }
 {
     if b == 10 {
@@ -29,23 +29,24 @@ fn bad_byte(b: u8) -> usize
 }
 
 // 1 for the byte that ends a line, else 0.
-fn newline(b: u8) -> usize
+fn newline(b: u8) -> u32
     ensures { λ r. ⌜ r ≡ one (isNewline b) ⌝ }
 {
     if b == 10 { 1 } else { 0 }
 }
 
 pub struct Counts {
-    pub bad: usize,
-    pub lines: usize,
+    pub bad: u32,
+    pub lines: u32,
 }
 
-// Row 1's bytes and the lines are counted in one pass.
+// Row 1's bytes and the lines are counted in one pass. The counts are narrow, so that several bytes are counted at once.
 pub fn survey(text: &[u8]) -> Counts
+    requires { ⌜ length (now text) ≤ 65536 ⌝ }
     ensures { λ r. ⌜ (r .bad ≡ countBy isBad (now (text .entry))) × (r .lines ≡ countBy isNewline (now (text .entry))) ⌝ }
 {
-    let mut bad: usize = 0;
-    let mut lines: usize = 0;
+    let mut bad: u32 = 0;
+    let mut lines: u32 = 0;
     let mut i = 0;
     while i < text.len() {
         bad += bad_byte(text[i]);

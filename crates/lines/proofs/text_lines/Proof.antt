@@ -24,8 +24,13 @@ survey-requires c κs = search needs
 returns-4 : tie.Need-returns-4
 returns-4 c = text-bad (c .before .before .before .before .before .before .before .before .args .text .now) (λ z. c .if4 .taken (c .before .before .survey .ensures .0 ∙ z))
 
+cast-result : tie.Need-cast-result
+cast-result c = search needs
+
 returns-5 : tie.Need-returns-5
-returns-5 c = c .before .before .survey .ensures .1 ∙ text-right (c .before .before .before .before .before .before .before .before .args .text .now) (omega arith) (omega arith) (c .before .before .before .if3 .left) (sym (c .before .before .survey .ensures .0) ∙ c .if4 .left)
+returns-5 c =
+    c .before .before .before .survey .ensures .1
+    ∙ text-right (c .before .before .before .before .before .before .before .before .before .args .text .now) (omega arith) (omega arith) (c .before .before .before .before .if3 .left) (sym (c .before .before .before .survey .ensures .0) ∙ c .before .if4 .left)
 
 pub text-lines-spec : {M : Type 1} → statement M
 text-lines-spec =
@@ -37,4 +42,5 @@ text-lines-spec =
     returns-3
     survey-requires
     returns-4
+    cast-result
     returns-5)

@@ -1,0 +1,211 @@
+//! The lines stage, rows 1 to 7: the proved library's time beside the Rust
+//! reference's. It prints and judges nothing.
+//!
+//! Both are release builds and get the same sheets and the same table of 8n
+//! cells, which both clear. Rounds of the library and of the reference take
+//! turns; after some to warm up the median counts. One sheet read again and
+//! again is soon known by heart to the processor; several in turn are not.
+
+#![forbid(unsafe_code)]
+
+use std::fs;
+use std::hint::black_box;
+use std::path::Path;
+use std::time::Instant;
+
+/// Rounds that count, and those before them.
+const ROUNDS: usize = 201;
+const WARM_UP: usize = 20;
+
+/// About this many seconds for each round.
+const ROUND: f64 = 0.001;
+
+const LINES: [usize; 4] = [15, 60, 250, 1_024];
+
+/// The sheets that the growth is measured between.
+const GROWTH: [usize; 2] = [256, 1_024];
+
+/// How many different sheets are read in turn.
+const SHEETS: u64 = 16;
+
+type Call = fn(&[u8], &mut [i64]) -> usize;
+
+fn library(text: &[u8], table: &mut [i64]) -> usize {
+    lindypo::lines(text, table).unwrap_or(0)
+}
+
+fn reference(text: &[u8], table: &mut [i64]) -> usize {
+    reference::read_lines(text, table).unwrap_or(0)
+}
+
+/// Sheets of as many lines each, to be read in turn.
+struct Workload {
+    name: String,
+    texts: Vec<Vec<u8>>,
+}
+
+impl Workload {
+    fn one(name: &str, text: Vec<u8>) -> Self {
+        Workload {
+            name: name.to_string(),
+            texts: vec![text],
+        }
+    }
+
+    fn everyday(lines: usize, sheets: u64) -> Self {
+        let name = match sheets {
+            1 => "everyday order".to_string(),
+            _ => format!("{sheets} everyday orders in turn"),
+        };
+        let texts = (1..=sheets).map(|seed| generator::everyday(lines, seed));
+        Workload {
+            name,
+            texts: texts.collect(),
+        }
+    }
+
+    fn lines(&self) -> usize {
+        generator::line_count(&self.texts[0])
+    }
+
+    /// The bytes of a sheet, on average.
+    fn bytes(&self) -> usize {
+        self.texts.iter().map(Vec::len).sum::<usize>() / self.texts.len()
+    }
+}
+
+/// Seconds a call of the library and of the reference.
+struct Times {
+    library: f64,
+    reference: f64,
+}
+
+fn main() {
+    println!("lines stage, rows 1 to 7, microseconds a call: median of {ROUNDS} rounds");
+    println!();
+    println!(
+        "{:<28} {:>6} {:>7} {:>9} {:>10} {:>6}",
+        "sheet", "lines", "bytes", "library", "reference", "ratio"
+    );
+    for workload in workloads() {
+        let [times] = measure([&workload]);
+        print(&workload, &times);
+    }
+    println!();
+    print_growth();
+}
+
+fn workloads() -> Vec<Workload> {
+    let mut list = vec![Workload::one("the paper's example", example())];
+    list.extend(LINES.map(|lines| Workload::everyday(lines, 1)));
+    list.extend(LINES.map(|lines| Workload::everyday(lines, SHEETS)));
+    let late = generator::late_refusal(7);
+    list.push(Workload::one("refusal 7 at the last label", late));
+    list
+}
+
+fn example() -> Vec<u8> {
+    let sheets = Path::new(env!("CARGO_MANIFEST_DIR")).join("../../sheets");
+    fs::read(sheets.join("01-example.sheet")).expect("the example")
+}
+
+fn print(workload: &Workload, times: &Times) {
+    println!(
+        "{:<28} {:>6} {:>7} {:>9.2} {:>10.2} {:>6.2}",
+        workload.name,
+        workload.lines(),
+        workload.bytes(),
+        1e6 * times.library,
+        1e6 * times.reference,
+        times.library / times.reference
+    );
+}
+
+/// How time grows with the lines: 1 is in proportion, 2 with their square.
+fn print_growth() {
+    let [small, large] = GROWTH.map(|lines| Workload::everyday(lines, SHEETS));
+    let [small, large] = measure([&small, &large]);
+    let more = GROWTH[1] as f64 / GROWTH[0] as f64;
+    let exponent = |small: f64, large: f64| (large / small).ln() / more.ln();
+    println!(
+        "growth from {} to {} lines, exponent: library {:.2}, reference {:.2}",
+        GROWTH[0],
+        GROWTH[1],
+        exponent(small.library, large.library),
+        exponent(small.reference, large.reference)
+    );
+}
+
+/// A workload with the table that both are lent, and the times of each round.
+struct Job<'a> {
+    texts: &'a [Vec<u8>],
+    table: Vec<i64>,
+    /// How often a round goes through the texts.
+    turns: usize,
+    library: Vec<f64>,
+    reference: Vec<f64>,
+}
+
+impl<'a> Job<'a> {
+    fn new(workload: &'a Workload) -> Self {
+        let mut job = Job {
+            texts: &workload.texts,
+            table: vec![0; 8 * workload.lines()],
+            turns: 1,
+            library: Vec::new(),
+            reference: Vec::new(),
+        };
+        let once = job.time(reference) * job.texts.len() as f64;
+        job.turns = (ROUND / once).ceil() as usize;
+        job
+    }
+
+    fn round(&mut self) -> Times {
+        Times {
+            library: self.time(library),
+            reference: self.time(reference),
+        }
+    }
+
+    /// Seconds a call.
+    fn time(&mut self, call: Call) -> f64 {
+        let start = Instant::now();
+        for _ in 0..self.turns {
+            for text in self.texts {
+                black_box(call(black_box(text), black_box(&mut self.table)));
+            }
+        }
+        start.elapsed().as_secs_f64() / (self.turns * self.texts.len()) as f64
+    }
+
+    fn keep(&mut self, times: Times) {
+        self.library.push(times.library);
+        self.reference.push(times.reference);
+    }
+
+    fn finish(self) -> Times {
+        Times {
+            library: median(self.library),
+            reference: median(self.reference),
+        }
+    }
+}
+
+/// The median times of each workload, in rounds through all of them.
+fn measure<const COUNT: usize>(workloads: [&Workload; COUNT]) -> [Times; COUNT] {
+    let mut jobs = workloads.map(Job::new);
+    for round in 0..WARM_UP + ROUNDS {
+        for job in &mut jobs {
+            let times = job.round();
+            if round >= WARM_UP {
+                job.keep(times);
+            }
+        }
+    }
+    jobs.map(Job::finish)
+}
+
+fn median(mut times: Vec<f64>) -> f64 {
+    times.sort_by(f64::total_cmp);
+    times[times.len() / 2]
+}

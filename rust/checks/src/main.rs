@@ -1,0 +1,32 @@
+//! `cargo run --release -p checks -- SEED COUNT`: as many random trials as
+//! wanted. Status 1 and the seed where the library and the reference differ.
+
+use std::env;
+use std::process::ExitCode;
+
+const USAGE: &str = "two numbers, please: the first seed and the count";
+
+fn main() -> ExitCode {
+    match run() {
+        Ok(tally) => {
+            println!("{tally}");
+            ExitCode::SUCCESS
+        }
+        Err(message) => {
+            eprintln!("{message}");
+            ExitCode::FAILURE
+        }
+    }
+}
+
+fn run() -> Result<checks::Tally, String> {
+    let words: Vec<String> = env::args().skip(1).collect();
+    let [seed, count] = &words[..] else {
+        return Err(USAGE.to_string());
+    };
+    checks::check_seeds(number(seed)?, number(count)?)
+}
+
+fn number(word: &str) -> Result<u64, String> {
+    word.parse().map_err(|_| format!("{word}: {USAGE}"))
+}

@@ -1,0 +1,145 @@
+-- What the calls of the cycle ask: an entry leads to the entries of its operands, and the cells that it reads are there.
+use mathlib.Core.Path.{_≡_, sym, ap, _∙_, subst}
+use mathlib.Core.List.{List}
+use mathlib.Core.Logic.{inl, inr}
+use Prim.Native.Nat.{ℕ, _+_, _*_, _≤_, _<_}
+use native.Mathlib.Omega.{arith}
+use lib.IntN.{ℤ, natAbs}
+use lib.ListN.{length}
+use Rattle.cells.specs.Table.{kind, fieldA, fieldB, target}
+use Rattle.numbers.specs.Range.{limit}
+use Rattle.numbers.specs.declared.Operation.{Operation}
+use Rattle.evaluation.specs.Evaluation.{kindOf, branchOf, depthLimit, one, outcome, nothing}
+use Rattle.evaluation.specs.Ready.{Settled, Line, Entry, Entered, Cell, Room, Evaluable}
+use Rattle.evaluation.specs.declared.Arguments.{Arguments}
+use Rattle.evaluation.specs.declared.Kind.{Kind}
+use Rattle.evaluation.specs.declared.Kind.the-variants as kinds
+use Rattle.evaluation.specs.declared.Outcome.{Outcome}
+use Rattle.evaluation.proofs.Codes.{by-code}
+use Rattle.evaluation.proofs.Closure.{Within, All, all-closed, Leads, leads, first, body-within, body-label, cell-ok}
+use Rattle.evaluation.proofs.Range.{in-range}
+use Rattle.evaluation.proofs.Steps.{left-less}
+
+-- the kinds that evaluate operands
+abbrev pub Composite : Kind → Type 0
+Composite kinds.Number = ⊥
+Composite kinds.Argument = ⊥
+Composite kinds.Read = ⊥
+Composite kinds.Call = Unit {0}
+Composite (kinds.Operation op) = Unit {0}
+Composite kinds.Choice = Unit {0}
+Composite kinds.Other = ⊥
+
+composite : (c : ℕ) → Composite (kindOf c) → 7 ≤ c
+composite c =
+    by-code (λ k. Composite k → 7 ≤ c) c (λ e h. absurd h) (λ e h. absurd h) (λ e h. absurd h) (λ e h. omega arith)
+    (λ op a b h. omega arith) (λ e h. omega arith) (λ f h. absurd h)
+
+-- the kind that the code found
+pub is-kind : {c n : ℕ} {k k′ : Kind} → c ≡ n → k ≡ kindOf c → k ≡ k′ → k′ ≡ kindOf n
+is-kind p q e = sym e ∙ q ∙ ap kindOf p
+
+module _ {t r : List ℤ} {l : ℕ} {g : Arguments} {d : ℕ} where
+  pub as-kind : Entry t r l g d → {d′ c : ℕ} {k k′ : Kind} → d′ ≡ d → c ≡ kind t l → k ≡ kindOf c → k ≡ k′ → Entered k′ t r l g d′
+  as-kind e h p q x = record {
+    entry = record { ready = e .ready; line = e .line; given = e .given; shallow = rw h (e .shallow) };
+    of = sym (is-kind p q x);
+  }
+
+  -- a cell other than field a, of any line
+  pub line-cell : Entry t r l g d → (j : ℕ) → j < 8 → (j ≡ 3 → ⊥) → Cell t l j
+  line-cell e j h f =
+      cell-ok t (e .ready .count) (e .ready .accepted) l j (e .line .low) (e .line .high) h (λ _ x. f x)
+
+  pub number-cell : Entry t r l g d → (1 ≤ l) × (8 * l ≤ length t)
+  number-cell e = let c = line-cell e 0 (omega arith) (λ x. omega arith) in (c .low, c .room)
+
+  enter : (e : Entry t r l g d) {x y : ℕ} → y ≡ x → Within t (e .ready .count) All x → Entry t r y g d
+  enter e {x} {y} p h = record {
+    ready = e .ready;
+    line = subst (λ (n : ℕ). Line t (e .ready .count) n) (sym p) (h .line);
+    given = e .given;
+    shallow = e .shallow;
+  }
+
+  module _ {k : Kind} (e : Entered k t r l g d) where
+    here : Within t (e .entry .ready .count) All l
+    here = record { line = e .entry .line; owned = tt }
+
+    has : Leads t (e .entry .ready .count) (e .entry .ready .accepted) All All (all-closed t) k l
+    has =
+        subst (λ (k : Kind). Leads t (e .entry .ready .count) (e .entry .ready .accepted) All All (all-closed t) k l) (e .of)
+        (leads t (e .entry .ready .count) (e .entry .ready .accepted) All All (all-closed t) l here)
+
+    from-seven : Composite k → 7 ≤ kind t l
+    from-seven c = composite (kind t l) (subst Composite (sym (e .of)) c)
+
+    pub operand-cell : Composite k → (j : ℕ) → j < 8 → Cell t l j
+    operand-cell c j i =
+        let h = from-seven c in
+        cell-ok t (e .entry .ready .count) (e .entry .ready .accepted) l j (e .entry .line .low) (e .entry .line .high) i (λ x _. omega arith)
+
+    pub first-entry : Composite k → {x : ℕ} → x ≡ fieldA t l → Entry t r x g d
+    first-entry c p =
+        enter (e .entry) p (first t (e .entry .ready .count) (e .entry .ready .accepted) All All (all-closed t) l here (from-seven c))
+
+  pub second-entry : {op : Operation} → Entered (kinds.Operation op) t r l g d → {x : ℕ} → x ≡ fieldB t l → Entry t r x g d
+  unfolding Leads
+  second-entry e p = enter (e .entry) p (has e .1)
+
+  pub branch-entry : Entered kinds.Choice t r l g d → (y : ℤ) {x : ℕ} → x ≡ branchOf t l y → Entry t r x g d
+  unfolding Leads
+  branch-entry e y p = enter (e .entry) p (has e .1 y)
+
+  pub body-entry : Entered kinds.Call t r l g d → {x z : ℕ} {y : ℤ} → z ≡ target t l → x ≡ fieldB t z → natAbs y ≤ limit → d + 1 ≤ depthLimit → Entry t r x (one y) (d + 1)
+  unfolding Leads
+  body-entry e {x} {z} p q h k =
+      let b = enter (e .entry) (q ∙ ap (fieldB t) p) (has e .1) in
+      record { ready = b .ready; line = b .line; given = h; shallow = k }
+
+  pub body-cell : Entered kinds.Call t r l g d → {z : ℕ} → z ≡ target t l → Cell t z 4
+  unfolding Leads
+  body-cell e {z} p =
+      let q = e .entry .ready in
+      let b = body-label t (q .count) (q .accepted) (target t l) (inr (has e .2)) in
+      subst (λ (x : ℕ). Cell t x 4) (sym p) (cell-ok t (q .count) (q .accepted) (target t l) 4 (b .0) (b .1) (omega arith) (λ _ x. omega arith))
+
+  pub read-asks : Entered kinds.Read t r l g d → Cell t l 7 × Room r (target t l) × Settled 0 r (target t l)
+  unfolding Leads
+  read-asks e =
+      let q = e .entry .ready in
+      let b = body-label t (q .count) (q .accepted) (target t l) (inl (has e .0)) in (
+        line-cell (e .entry) 7 (omega arith) (λ x. omega arith),
+        record { low = b .0; room = omega (arith, b .1, q .room) },
+        q .settled (target t l),
+      )
+
+-- ---- after an operand
+
+module _ (t r : List ℤ) (x : ℕ) (g : Arguments) (s d : ℕ) {o : Outcome} (p : o ≡ outcome t r x g s d) where
+  pub number-ranged : Entry t r x g d → {y : ℤ} → y ≡ o .number → natAbs y ≤ limit
+  number-ranged e q =
+      rw (q, p) (in-range t r (e .ready) x g s d (e .line) (e .given) .ranged)
+
+  pub left-less-by : o .left ≤ s
+  left-less-by = rw p (left-less t r x g s d)
+
+-- ---- a value
+
+module _ {t r : List ℤ} {v : ℕ} (e : Evaluable t r v) where
+  label : (1 ≤ v) × (v ≤ e .ready .count)
+  label = body-label t (e .ready .count) (e .ready .accepted) v (inl (e .value))
+
+  pub value-cell : Cell t v 4
+  value-cell = cell-ok t (e .ready .count) (e .ready .accepted) v 4 (label .0) (label .1) (omega arith) (λ _ x. omega arith)
+
+  pub value-room : Room r v
+  value-room = record { low = label .0; room = omega (arith, label .1, e .ready .room) }
+
+  pub value-entry : {x : ℕ} → x ≡ fieldB t v → Entry t r x nothing 0
+  value-entry p = record {
+    ready = e .ready;
+    line = subst (λ (n : ℕ). Line t (e .ready .count) n) (sym p) (body-within t (e .ready .count) (e .ready .accepted) All All (all-closed t) v (inl (e .value)) tt .line);
+    given = omega arith;
+    shallow = omega arith;
+  }

@@ -1,0 +1,10 @@
+mod Samples
+pub mod Codes
+pub mod Steps
+pub mod Closure
+pub mod Range
+pub mod Local
+pub mod Stored
+mod Leaves
+mod Entries
+mod Answers

@@ -1,0 +1,119 @@
+-- Every number met is in range, and 0 on failure, and every state is one of document 01's: from 0 on where stored results may still
+-- be zeros, from 1 on where every value that is reached has been evaluated.
+use mathlib.Core.Path.{_≡_, refl}
+use mathlib.Core.Bool.{Bool, true, false, cond}
+use mathlib.Core.List.{List}
+use mathlib.Core.Logic.{inl}
+use Prim.Native.Nat.{ℕ, zero, suc, _+_, _≤_}
+use native.Mathlib.Omega.{arith}
+use borrow.Author.Tests.{eqb-true}
+use lib.Dec.{eqb}
+use lib.IntN.{ℤ, pos, natAbs}
+use Rattle.cells.specs.Table.{kind, fieldB, target}
+use Rattle.cells.specs.Accepted.{Accepted}
+use Rattle.cells.specs.Reaches.{Reaches}
+use Rattle.numbers.specs.Range.{limit}
+use Rattle.numbers.specs.Arithmetic.{calculated}
+use Rattle.numbers.specs.declared.Operation.{Operation}
+use Rattle.numbers.specs.declared.Calculated.{Calculated}
+use Rattle.numbers.specs.declared.Calculated.the-variants as calculation
+use Rattle.numbers.proofs.Arithmetic.{calculated-size}
+use Rattle.evaluation.specs.States.{hasNumber, lastState}
+use Rattle.evaluation.specs.Results.{stateAt, numberAt}
+use Rattle.evaluation.specs.Evaluation.{Way, gives, fails, onNumber, unlessFailed, answerAt, outcomeOf, tieRule, kindOf, depthLimit, bodyBy, callBy, operationBy, choiceBy, enteredBy, stepBy, within, outcome, nothing, valueOutcome}
+use Rattle.evaluation.specs.Ready.{Settled, Ready, Line}
+use Rattle.evaluation.specs.declared.Arguments.{Arguments}
+use Rattle.evaluation.specs.declared.Kind.{Kind}
+use Rattle.evaluation.specs.declared.Kind.the-variants as kinds
+use Rattle.evaluation.specs.declared.Outcome.{Outcome}
+use Rattle.evaluation.proofs.Closure.{Within, Closed, All, all-closed, From, from-closed, Leads, leads, body-within}
+
+pub record Good (low : ℕ) (o : Outcome) : Type 0 where
+  pub least : low ≤ o .state
+  pub most : o .state ≤ lastState
+  pub ranged : natAbs (o .number) ≤ limit
+  pub blank : (o .state ≡ hasNumber → ⊥) → o .number ≡ pos 0
+
+module _ (low : ℕ) (small : low ≤ hasNumber) where
+  gives-good : (y : ℤ) (s : ℕ) → natAbs y ≤ limit → Good low (gives y s)
+  gives-good y s h = record { least = small; most = omega arith; ranged = h; blank = λ f. absurd (f refl) }
+
+  fails-good : (e s : ℕ) → low ≤ e → e ≤ lastState → Good low (fails e s)
+  fails-good e s h k = record { least = h; most = k; ranged = omega arith; blank = λ f. refl }
+
+  unless-good : (o : Outcome) (k : ℤ → ℕ → Outcome) → Good low o → ((y : ℤ) (m : ℕ) → natAbs y ≤ limit → Good low (k y m)) → Good low (unlessFailed o k)
+  unfolding onNumber
+  unless-good o k h f = by (eqb (o .state) hasNumber)
+    where
+      by : (b : Bool) → Good low (onNumber b o k)
+      by true = f (o .number) (o .left) (h .ranged)
+      by false = fails-good (o .state) (o .left) (h .least) (h .most)
+
+  answer-good : (r : List ℤ) (l s : ℕ) → Settled low r l → Good low (answerAt r l s)
+  unfolding answerAt
+  answer-good r l s h = by (eqb (stateAt r l) hasNumber) refl
+    where
+      by : (b : Bool) → eqb (stateAt r l) hasNumber ≡ b → Good low (cond b (gives (numberAt r l) s) (fails (stateAt r l) s))
+      by true e = gives-good (numberAt r l) s (h .ranged (eqb-true (stateAt r l) hasNumber e))
+      by false e = fails-good (stateAt r l) s (h .least) (h .most)
+
+  calculated-good : (op : Operation) (a b : ℤ) (s : ℕ) → Good low (outcomeOf (calculated tieRule op a b) s)
+  unfolding outcomeOf
+  calculated-good op a b s = by (calculated tieRule op a b) refl
+    where
+      by : (c : Calculated) → calculated tieRule op a b ≡ c → Good low (outcomeOf c s)
+      by (calculation.Number z) e = gives-good z s (calculated-size tieRule op a b z e)
+      by calculation.OutOfRange e = fails-good 2 s (omega arith) (omega arith)
+      by calculation.ZeroDivisor e = fails-good 3 s (omega arith) (omega arith)
+
+  module _ (t r : List ℤ) (n : ℕ) (w : Accepted t n) (D E : ℕ → Type 0) (c : Closed t D E) (settled : (x : ℕ) → kind t x ≡ 2 → E x → Settled low r x) where
+    entered-good : (rec : Way) → ((l : ℕ) (g : Arguments) (s d : ℕ) → Within t n D l → natAbs (g .first) ≤ limit → Good low (rec l g s d))
+        → (k : Kind) (l : ℕ) (g : Arguments) (s d : ℕ) → natAbs (g .first) ≤ limit → Leads t n w D E c k l → Good low (enteredBy rec t r k l g s d)
+    unfolding Leads enteredBy callBy bodyBy operationBy choiceBy
+    entered-good rec a kinds.Number l g s d h q = gives-good _ s q
+    entered-good rec a kinds.Argument l g s d h q = gives-good _ s h
+    entered-good rec a kinds.Read l g s d h q = answer-good r (target t l) s (settled (target t l) (q .0) (q .1))
+    entered-good rec a kinds.Call l g s d h q = unless-good _ _ (a _ g s d (q .0) h) (λ y m i. by y m i (eqb d depthLimit))
+      where
+        by : (y : ℤ) (m : ℕ) → natAbs y ≤ limit → (b : Bool) → Good low (bodyBy b rec t l y m d)
+        by y m i true = fails-good 5 m (omega arith) (omega arith)
+        by y m i false = a _ _ m (d + 1) (q .1) i
+    entered-good rec a (kinds.Operation op) l g s d h q =
+        unless-good _ _ (a _ g s d (q .0) h) (λ y m i. unless-good _ _ (a _ g m d (q .1) h) (λ z k j. calculated-good op y z k))
+    entered-good rec a kinds.Choice l g s d h q = unless-good _ _ (a _ g s d (q .0) h) (λ y m i. a _ g m d (q .1 y) h)
+    entered-good rec a kinds.Other l g s d h q = absurd q
+
+    within-good : (f : ℕ) (l : ℕ) (g : Arguments) (s d : ℕ) → Within t n D l → natAbs (g .first) ≤ limit → Good low (within f t r l g s d)
+    unfolding within stepBy
+    within-good zero l g s d p h = fails-good 4 0 (omega arith) (omega arith)
+    within-good (suc f) l g zero d p h = fails-good 4 0 (omega arith) (omega arith)
+    within-good (suc f) l g (suc s) d p h =
+        entered-good (within f t r) (within-good f) (kindOf (kind t l)) l g s d h (leads t n w D E c l p)
+
+    pub good : (l : ℕ) (g : Arguments) (s d : ℕ) → Within t n D l → natAbs (g .first) ≤ limit → Good low (outcome t r l g s d)
+    unfolding outcome
+    good l g s d p h = within-good s l g s d p h
+
+-- ---- an expression, from results that are ready
+
+pub in-range : (t r : List ℤ) (q : Ready t r) (l : ℕ) (g : Arguments) (s d : ℕ) → Line t (q .count) l → natAbs (g .first) ≤ limit → Good 0 (outcome t r l g s d)
+in-range t r q l g s d h k =
+    good 0 (omega arith) t r (q .count) (q .accepted) All All (all-closed t) (λ x _ _. q .settled x) l g s d (record { line = h; owned = tt }) k
+
+-- ---- a value
+
+module _ (low : ℕ) (small : low ≤ hasNumber) (t r : List ℤ) (n : ℕ) (w : Accepted t n) (D E : ℕ → Type 0) (c : Closed t D E) where
+  value-good : ((x : ℕ) → kind t x ≡ 2 → E x → Settled low r x) → (v : ℕ) → kind t v ≡ 2 → D v → Good low (valueOutcome t r v)
+  unfolding valueOutcome
+  value-good settled v k h =
+      good low small t r n w D E c settled (fieldB t v) nothing 20000 0 (body-within t n w D E c v (inl k) h) (omega arith)
+
+-- where every value that v reaches has been evaluated, v has a state from 1 to 5 and a number in range
+pub value-settled : (t r : List ℤ) (n : ℕ) → Accepted t n → (v : ℕ) → kind t v ≡ 2
+    → ((x : ℕ) → kind t x ≡ 2 → Reaches t v x → Settled 1 r x) → Good 1 (valueOutcome t r v)
+value-settled t r n w v k h = value-good 1 (omega arith) t r n w (From t v) (Reaches t v) (from-closed t v) h v k (inl refl)
+
+-- whatever has been evaluated, the state is at most 5 and the number in range
+pub value-ranged : (t r : List ℤ) (q : Ready t r) (v : ℕ) → kind t v ≡ 2 → Good 0 (valueOutcome t r v)
+value-ranged t r q v k =
+    value-good 0 (omega arith) t r (q .count) (q .accepted) All All (all-closed t) (λ x _ _. q .settled x) v k tt

@@ -1,0 +1,116 @@
+-- What is stored: a value's three cells hold it, every other cell stays, and results stay ready for the next value.
+use mathlib.Core.Path.{_≡_, refl, sym, ap, _∙_, subst}
+use mathlib.Core.Bool.{Bool, true, false}
+use mathlib.Core.List.{List, [], _∷_}
+use mathlib.Core.Logic.{_⊎_, inl, inr, _≢_}
+use Prim.Native.Nat.{ℕ, zero, suc, _+_, _-_, _*_, _≤_, _<_}
+use native.Mathlib.Omega.{arith}
+use native.Mathlib.Nat.{add-zero}
+use borrow.Author.Tests.{eqb-true, eqb-false, ltb-true, ltb-false}
+use lib.Dec.{eqb, ltb}
+use lib.IntN.{ℤ, pos, natAbs}
+use lib.ListN.{length, length-replicate}
+use lib.Seq.{length-sets}
+use Rattle.cells.specs.Cells.{natOf, intAt, zeros}
+use Rattle.cells.specs.Accepted.{Accepted}
+use Rattle.cells.proofs.Stores.{intAt-zeros, sets-before, sets-past, sets-in}
+use Rattle.numbers.specs.Range.{limit}
+use Rattle.evaluation.specs.States.{hasNumber, lastState}
+use Rattle.evaluation.specs.Results.{stateAt, numberAt, stored, store}
+use Rattle.evaluation.specs.Evaluation.{valueOutcome, valueOf, evaluated}
+use Rattle.evaluation.specs.Ready.{Settled, Ready, Room, Evaluable}
+use Rattle.evaluation.specs.declared.Outcome.{Outcome}
+use Rattle.evaluation.specs.declared.Value.{Value}
+use Rattle.evaluation.proofs.Range.{Good, value-ranged}
+use Rattle.evaluation.proofs.Entries.{value-room}
+
+module _ (r : List ℤ) (l : ℕ) (v : Value) where
+  pub store-length : length (store r l v) ≡ length r
+  store-length = length-sets r (3 * (l - 1)) (pos (v .state) ∷ v .number ∷ pos (v .steps) ∷ [])
+
+  -- every other cell stays
+  pub store-other : (i : ℕ) → (i < 3 * (l - 1)) ⊎ (3 * (l - 1) + 3 ≤ i) → intAt (store r l v) i ≡ intAt r i
+  store-other i (inl h) = sets-before (pos (v .state) ∷ v .number ∷ pos (v .steps) ∷ []) r (3 * (l - 1)) i h
+  store-other i (inr h) = sets-past (pos (v .state) ∷ v .number ∷ pos (v .steps) ∷ []) r (3 * (l - 1)) i h
+
+  cell-other : (m j : ℕ) → suc m ≢ l → j < 3 → 1 ≤ l → intAt (store r l v) (3 * m + j) ≡ intAt r (3 * m + j)
+  cell-other m j d h k = store-other (3 * m + j) (side (ltb m (l - 1)) refl)
+    where
+      side : (b : Bool) → ltb m (l - 1) ≡ b → (3 * m + j < 3 * (l - 1)) ⊎ (3 * (l - 1) + 3 ≤ 3 * m + j)
+      side true e = inl (omega (arith, ltb-true m (l - 1) e))
+      side false e = inr (omega (arith, ltb-false m (l - 1) e, d))
+
+  -- and so do the results of every other label
+  pub stored-other : (m : ℕ) → m ≢ l → 1 ≤ l → stored (store r l v) m ≡ stored r m
+  stored-other zero d h = refl
+  stored-other (suc m) d h =
+      let a : intAt (store r l v) (3 * m) ≡ intAt r (3 * m) = rw add-zero at (cell-other m 0 d (omega arith) h) in
+      let b = cell-other m 1 d (omega arith) h in
+      let c = cell-other m 2 d (omega arith) h in
+      λ i. record { number = b i; state = natOf (a i); steps = natOf (c i) }
+
+  cell-own : 1 ≤ l → 3 * l ≤ length r → (j : ℕ) → j < 3 → intAt (store r l v) (3 * (l - 1) + j) ≡ intAt (pos (v .state) ∷ v .number ∷ pos (v .steps) ∷ []) j
+  cell-own h g j k = sets-in (pos (v .state) ∷ v .number ∷ pos (v .steps) ∷ []) r (3 * (l - 1)) j k (omega arith)
+
+pub stored-own : (r : List ℤ) (l : ℕ) (v : Value) → Room r l → stored (store r l v) l ≡ v
+stored-own r zero v h = absurd (omega (arith, h .low))
+stored-own r (suc m) v h =
+    let a : intAt (store r (suc m) v) (3 * m) ≡ pos (v .state) = rw add-zero at (own 0 (omega arith)) in
+    let b : intAt (store r (suc m) v) (3 * m + 1) ≡ v .number = own 1 (omega arith) in
+    let c : intAt (store r (suc m) v) (3 * m + 2) ≡ pos (v .steps) = own 2 (omega arith) in
+    λ i. record { number = b i; state = natOf (a i); steps = natOf (c i) }
+  where
+    own : (j : ℕ) → j < 3 → intAt (store r (suc m) v) (3 * m + j) ≡ intAt (pos (v .state) ∷ v .number ∷ pos (v .steps) ∷ []) j
+    own j k =
+        let e : m ≡ suc m - 1 = omega arith in
+        ap (λ (n : ℕ). intAt (store r (suc m) v) (3 * n + j)) e ∙ cell-own r (suc m) v (h .low) (h .room) j k
+
+-- ---- results that are ready
+
+-- a stored value as a property of what is read back
+settled-by : {low : ℕ} {r : List ℤ} {l : ℕ} {v : Value} → stored r l ≡ v → low ≤ v .state → v .state ≤ lastState → (v .state ≡ hasNumber → natAbs (v .number) ≤ limit) → Settled low r l
+settled-by {low} {r} {l} {v} e a b c = record {
+  least = rw (ap (λ (v : Value). v .state) e) a;
+  most = rw (ap (λ (v : Value). v .state) e) b;
+  ranged = λ h. rw (ap (λ (v : Value). v .number) e) (c (sym (ap (λ (v : Value). v .state) e) ∙ h));
+}
+
+pub settled-own : (low : ℕ) (r : List ℤ) (l : ℕ) (o : Outcome) → Room r l → Good low o → Settled low (store r l (valueOf o)) l
+settled-own low r l o h g = settled-by (stored-own r l (valueOf o) h) (g .least) (g .most) (λ _. g .ranged)
+
+pub settled-other : (low : ℕ) (r : List ℤ) (l : ℕ) (v : Value) (m : ℕ) → m ≢ l → 1 ≤ l → Settled low r m → Settled low (store r l v) m
+settled-other low r l v m d h s = settled-by (stored-other r l v m d h) (s .least) (s .most) (s .ranged)
+
+pub ready-zeros : (t : List ℤ) (n m : ℕ) → Accepted t n → 3 * n ≤ m → Ready t (zeros m)
+ready-zeros t n m w h = record {
+  count = n;
+  accepted = w;
+  room = rw (length-replicate {0} {A = ℤ} m (pos 0)) h;
+  settled = blank;
+}
+  where
+    state : (l : ℕ) → stateAt (zeros m) l ≡ 0
+    state zero = refl
+    state (suc l) = ap natOf (intAt-zeros m (3 * l))
+
+    number : (l : ℕ) → numberAt (zeros m) l ≡ pos 0
+    number zero = refl
+    number (suc l) = intAt-zeros m (3 * l + 1)
+
+    blank : (l : ℕ) → Settled 0 (zeros m) l
+    blank l = record { least = omega arith; most = omega (arith, state l); ranged = λ e. rw (number l) (omega arith) }
+
+-- what `evaluate_into` leaves
+pub ready-stored : (t r : List ℤ) (v : ℕ) → Evaluable t r v → Ready t (store r v (evaluated t r v))
+ready-stored t r v e = record {
+  count = e .ready .count;
+  accepted = e .ready .accepted;
+  room = rw (store-length r v (evaluated t r v)) (e .ready .room);
+  settled = λ l. go l (eqb l v) refl;
+}
+  where
+    go : (l : ℕ) (b : Bool) → eqb l v ≡ b → Settled 0 (store r v (evaluated t r v)) l
+    go l true p =
+        subst (λ (x : ℕ). Settled 0 (store r v (evaluated t r v)) x) (sym (eqb-true l v p))
+        (settled-own 0 r v (valueOutcome t r v) (value-room e) (value-ranged t r (e .ready) v (e .value)))
+    go l false p = settled-other 0 r v (evaluated t r v) l (eqb-false l v p) (value-room e .low) (e .ready .settled l)

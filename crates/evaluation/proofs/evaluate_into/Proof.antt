@@ -1,0 +1,21 @@
+use mathlib.Core.Path.{ap, _∙_}
+use Rattle.evaluation.specs.Results.{store}
+use Rattle.evaluation.proofs.Entries.{value-room}
+use borrow.Author.Needs.{needs}
+use Rattle.evaluation.proofs.evaluate_into.Statement.{statement}
+use Rattle.evaluation.proofs.evaluate_into.Tie as tie
+
+evaluate-requires : tie.Need-evaluate-requires
+evaluate-requires c κs = search needs
+
+put-value-requires : tie.Need-put-value-requires
+put-value-requires c κs = value-room (c .before .before .before .pre)
+
+same-length : tie.Need-same-length
+same-length c = search needs
+
+returns : tie.Need-returns
+returns c = let s = c .before .before .before .before .before in c .before .put-value .ensures ∙ ap (λ v. store (s .args .results .now) (s .args .label) v) (c .before .before .before .evaluate .ensures)
+
+pub evaluate-into-spec : {M : Type 1} → statement M
+evaluate-into-spec = tie.close (tie.spec evaluate-requires put-value-requires same-length returns)

@@ -1,0 +1,4 @@
+pub mod States
+pub mod Results
+pub mod Evaluation
+pub mod Ready

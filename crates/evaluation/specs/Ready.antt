@@ -1,0 +1,64 @@
+-- What evaluation asks of its table, of the results stored so far and of what it enters. A table that Read accepts, and results
+-- that start as zeros and get one evaluated value after the other, meet it.
+use mathlib.Core.Path.{_≡_}
+use mathlib.Core.List.{List}
+use Prim.Native.Nat.{ℕ, _+_, _-_, _*_, _≤_, _<_}
+use lib.IntN.{ℤ, pos, natAbs}
+use lib.ListN.{length}
+use Rattle.cells.specs.Cells.{intAt}
+use Rattle.cells.specs.Table.{cell, kind}
+use Rattle.cells.specs.Accepted.{Accepted}
+use Rattle.numbers.specs.Range.{limit}
+use Rattle.evaluation.specs.declared.Arguments.{Arguments}
+use Rattle.evaluation.specs.declared.Kind.{Kind}
+use Rattle.evaluation.specs.States.{hasNumber, lastState}
+use Rattle.evaluation.specs.Results.{stateAt, numberAt}
+use Rattle.evaluation.specs.Evaluation.{kindOf, depthLimit}
+
+-- label l's stored state is from `low` on and a state of document 01, and a stored number is in range
+pub record Settled (low : ℕ) (r : List ℤ) (l : ℕ) : Type 0 where
+  pub least : low ≤ stateAt r l
+  pub most : stateAt r l ≤ lastState
+  pub ranged : stateAt r l ≡ hasNumber → natAbs (numberAt r l) ≤ limit
+
+pub record Ready (t r : List ℤ) : Type 0 where
+  pub count : ℕ
+  pub accepted : Accepted t count
+  pub room : 3 * count ≤ length r
+  pub settled : (l : ℕ) → Settled 0 r l
+
+-- l is an expression of a table of n labels
+pub record Line (t : List ℤ) (n l : ℕ) : Type 0 where
+  pub low : 1 ≤ l
+  pub high : l ≤ n
+  pub least : 4 ≤ kind t l
+  pub most : kind t l ≤ 12
+
+-- expression l may be entered with arguments g at depth d
+pub record Entry (t r : List ℤ) (l : ℕ) (g : Arguments) (d : ℕ) : Type 0 where
+  pub ready : Ready t r
+  pub line : Line t (ready .count) l
+  pub given : natAbs (g .first) ≤ limit
+  pub shallow : d ≤ depthLimit
+
+-- and it is of kind k
+pub record Entered (k : Kind) (t r : List ℤ) (l : ℕ) (g : Arguments) (d : ℕ) : Type 0 where
+  pub entry : Entry t r l g d
+  pub of : kindOf (kind t l) ≡ k
+
+-- cell j of label l can be read, and is no negative number
+pub record Cell (t : List ℤ) (l j : ℕ) : Type 0 where
+  pub low : 1 ≤ l
+  pub room : 8 * l ≤ length t
+  pub column : j < 8
+  pub natural : intAt t (8 * (l - 1) + j) ≡ pos (cell t l j)
+
+-- label l's results have their room in r
+pub record Room (r : List ℤ) (l : ℕ) : Type 0 where
+  pub low : 1 ≤ l
+  pub room : 3 * l ≤ length r
+
+-- value v may be evaluated
+pub record Evaluable (t r : List ℤ) (v : ℕ) : Type 0 where
+  pub ready : Ready t r
+  pub value : kind t v ≡ 2

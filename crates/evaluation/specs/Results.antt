@@ -1,0 +1,28 @@
+-- Results have three cells a label, labels from 1: state, number and steps of label l stand from index 3 * (l - 1) on.
+-- As in a table, all is 0 of label 0 and past the end.
+use Prim.Native.Nat.{ℕ, zero, suc, _+_, _-_, _*_}
+use mathlib.Core.List.{List, [], _∷_}
+use lib.IntN.{ℤ, pos}
+use lib.Seq.{sets}
+use Rattle.cells.specs.Cells.{intAt, natAt}
+use Rattle.evaluation.specs.declared.Value.{Value}
+
+abbrev pub stateAt : List ℤ → ℕ → ℕ
+stateAt r zero = 0
+stateAt r (suc k) = natAt r (3 * k)
+
+abbrev pub numberAt : List ℤ → ℕ → ℤ
+numberAt r zero = pos 0
+numberAt r (suc k) = intAt r (3 * k + 1)
+
+abbrev pub stepsAt : List ℤ → ℕ → ℕ
+stepsAt r zero = 0
+stepsAt r (suc k) = natAt r (3 * k + 2)
+
+-- the results of label l
+abbrev pub stored : List ℤ → ℕ → Value
+stored r l = record { number = numberAt r l; state = stateAt r l; steps = stepsAt r l }
+
+-- results with v as those of label l
+abbrev pub store : List ℤ → ℕ → Value → List ℤ
+store r l v = sets r (3 * (l - 1)) (pos (v .state) ∷ v .number ∷ pos (v .steps) ∷ [])

@@ -1,0 +1,349 @@
+// Evaluation of a sheet's values, document 01's "Working out". Cells are read where they stand, by labels that `Entry`
+// knows to be the table's, so that no read needs a test.
+use cells::nat_of;
+use numbers::Calculated;
+use numbers::Operation;
+use numbers::Tie;
+ghost use mathlib.Core.Path.{_≡_};
+ghost use Prim.Native.Nat.{_-_, _*_, _≤_, _<_};
+ghost use lib.ListN.{length};
+ghost use lib.IntN.{natAbs};
+ghost use Rattle.cells.specs.Table.{cell, numberOf, target};
+ghost use Rattle.numbers.specs.Range.{limit};
+ghost use Rattle.evaluation.specs.Results.{store};
+ghost use Rattle.evaluation.specs.Evaluation.{gives, fails, answerAt, outcomeOf, tieRule, kindOf, stepLimit, branchOf, callBy, operationBy, choiceBy, outcome, evaluated};
+ghost use Rattle.numbers.specs.Arithmetic.{calculated};
+ghost use Rattle.evaluation.specs.Ready.{Settled, Entry, Entered, Cell, Room, Evaluable};
+
+// ---- what evaluation carries
+
+// Document 01's states of a result.
+pub const NUMBER: u32 = 1;
+
+pub const OUT_OF_RANGE: u32 = 2;
+
+pub const ZERO_DIVISOR: u32 = 3;
+
+pub const OUT_OF_STEPS: u32 = 4;
+
+pub const TOO_DEEP: u32 = 5;
+
+// What an expression comes to, and the steps left. A failure has number 0. The fields leave no gap, which keeps a copy
+// cheap: one is made at every return.
+pub struct Outcome {
+    pub number: i64,
+    pub state: u32,
+    pub left: u32,
+}
+
+// What a value comes to, and the steps taken.
+pub struct Value {
+    pub number: i64,
+    pub state: u32,
+    pub steps: u32,
+}
+
+// What a call hands to the body of its target.
+pub struct Arguments {
+    pub first: i64,
+    pub count: usize,
+}
+
+pub enum Kind {
+    Number,
+    Argument,
+    Read,
+    Call,
+    Operation(Operation),
+    Choice,
+    Other,
+}
+
+// What a value may still use: steps left, and how deep its calls have gone.
+pub struct Allowance {
+    pub left: u32,
+    pub depth: u32,
+}
+
+impl Allowance {
+    pub const STEPS: u32 = 20000;
+
+    pub const DEPTH: u32 = 64;
+
+    pub fn fresh() -> Self
+        ensures { λ r. ⌜ (r .left ≡ stepLimit) × (r .depth ≡ 0) ⌝ }
+    {
+        Allowance {
+            left: Allowance::STEPS,
+            depth: 0,
+        }
+    }
+
+    // Takes one step.
+    pub fn step(self) -> Self
+        requires { ⌜ 0 < self .left ⌝ }
+        ensures { λ r. ⌜ (r .left ≡ self .left - 1) × (r .depth ≡ self .depth) ⌝ }
+    {
+        Allowance {
+            left: self.left - 1,
+            depth: self.depth,
+        }
+    }
+}
+
+fn success(number: i64, left: u32) -> Outcome
+    ensures { λ r. ⌜ r ≡ gives number left ⌝ }
+{
+    Outcome {
+        number: number,
+        state: NUMBER,
+        left: left,
+    }
+}
+
+fn failure(state: u32, left: u32) -> Outcome
+    ensures { λ r. ⌜ r ≡ fails state left ⌝ }
+{
+    Outcome {
+        number: 0,
+        state: state,
+        left: left,
+    }
+}
+
+// ---- cells
+
+fn kind_of(code: usize) -> Kind
+    ensures { λ r. ⌜ r ≡ kindOf code ⌝ }
+{
+    match code {
+        4 => Kind::Number,
+        5 => Kind::Argument,
+        6 => Kind::Read,
+        7 => Kind::Call,
+        8 => Kind::Operation(Operation::Sum),
+        9 => Kind::Operation(Operation::Difference),
+        10 => Kind::Operation(Operation::Product),
+        11 => Kind::Operation(Operation::Quotient),
+        12 => Kind::Choice,
+        _ => Kind::Other,
+    }
+}
+
+// Cell j of label's row.
+fn field(table: &[i64], label: usize, j: usize) -> usize
+    requires { ⌜ Cell (now table) label j ⌝ }
+    ensures { λ r. ⌜ r ≡ cell (now (table .entry)) label j ⌝ }
+{
+    table[8 * (label - 1) + j] as usize
+}
+
+// The number of an N line.
+fn number_of(table: &[i64], label: usize) -> i64
+    requires { ⌜ (1 ≤ label) × (8 * label ≤ length (now table)) ⌝ }
+    ensures { λ r. ⌜ r ≡ numberOf (now (table .entry)) label ⌝ }
+{
+    table[8 * (label - 1) + 3]
+}
+
+// The branch that a test of this number takes.
+fn branch_of(table: &[i64], label: usize, test: i64) -> usize
+    requires { ⌜ Cell (now table) label 4 × Cell (now table) label 5 ⌝ }
+    ensures { λ r. ⌜ r ≡ branchOf (now (table .entry)) label test ⌝ }
+{
+    if test == 0 {
+        return field(table, label, 5);
+    }
+    field(table, label, 4)
+}
+
+// The stored answer of a label.
+fn answer_at(results: &[i64], label: usize, left: u32) -> Outcome
+    requires { ⌜ Room (now results) label × Settled 0 (now results) label ⌝ }
+    ensures { λ r. ⌜ r ≡ answerAt (now (results .entry)) label left ⌝ }
+{
+    let at = 3 * (label - 1);
+    let state = nat_of(results[at]) as u32;
+    if state == NUMBER {
+        return success(results[at + 1], left);
+    }
+    failure(state, left)
+}
+
+// "R the target's stored answer, failures too."
+fn read(table: &[i64], results: &[i64], label: usize, left: u32) -> Outcome
+    requires { ⌜ Cell (now table) label 7 × Room (now results) (target (now table) label) × Settled 0 (now results) (target (now table) label) ⌝ }
+    ensures { λ r. ⌜ r ≡ answerAt (now (results .entry)) (target (now (table .entry)) label) left ⌝ }
+{
+    answer_at(results, field(table, label, 7), left)
+}
+
+// ---- arithmetic
+
+fn outcome_of(c: Calculated, left: u32) -> Outcome
+    ensures { λ r. ⌜ r ≡ outcomeOf c left ⌝ }
+{
+    match c {
+        Calculated::Number(z) => success(z, left),
+        Calculated::OutOfRange => failure(OUT_OF_RANGE, left),
+        Calculated::ZeroDivisor => failure(ZERO_DIVISOR, left),
+    }
+}
+
+fn combine(op: Operation, a: i64, b: i64, left: u32) -> Outcome
+    requires { ⌜ (natAbs a ≤ limit) × (natAbs b ≤ limit) ⌝ }
+    ensures { λ r. ⌜ r ≡ outcomeOf (calculated tieRule op a b) left ⌝ }
+{
+    outcome_of(numbers::calculate(Tie::Away, op, a, b), left)
+}
+
+// ---- the cycle
+
+// An expression: takes a step and goes by its kind.
+fn expression(
+    table: &[i64],
+    results: &[i64],
+    label: usize,
+    given: Arguments,
+    allowance: Allowance,
+) -> Outcome
+    requires { ⌜ Entry (now table) (now results) label given (allowance .depth) ⌝ }
+    ensures { λ r. ⌜ r ≡ outcome (now (table .entry)) (now (results .entry)) label given (allowance .left) (allowance .depth) ⌝ }
+{
+    let left = allowance.left;
+    if left == 0 {
+        return failure(OUT_OF_STEPS, 0);
+    }
+    let rest = allowance.step();
+    let code = field(table, label, 0);
+    let kind = kind_of(code);
+    match kind {
+        Kind::Number => success(number_of(table, label), rest.left),
+        Kind::Argument => success(given.first, rest.left),
+        Kind::Read => read(table, results, label, rest.left),
+        Kind::Call => call(table, results, label, given, rest),
+        Kind::Operation(op) => operation(table, results, op, label, given, rest),
+        Kind::Choice => choice(table, results, label, given, rest),
+        Kind::Other => failure(0, rest.left),
+    }
+}
+
+// A call: its argument, then the body of its target one deeper.
+fn call(table: &[i64], results: &[i64], label: usize, given: Arguments, rest: Allowance) -> Outcome
+    requires { ⌜ Entered Kind.Call (now table) (now results) label given (rest .depth) ⌝ }
+    ensures { λ r. ⌜ r ≡ callBy (outcome (now (table .entry)) (now (results .entry))) (now (table .entry)) label given (rest .left) (rest .depth) ⌝ }
+{
+    let argument = field(table, label, 3);
+    let first = expression(table, results, argument, given, rest);
+    if first.state != NUMBER {
+        return failure(first.state, first.left);
+    }
+    let depth = rest.depth;
+    if depth == Allowance::DEPTH {
+        return failure(TOO_DEEP, first.left);
+    }
+    let target = field(table, label, 7);
+    let body = field(table, target, 4);
+    let passed = Arguments {
+        first: first.number,
+        count: 1,
+    };
+    let deeper = Allowance {
+        left: first.left,
+        depth: depth + 1,
+    };
+    expression(table, results, body, passed, deeper)
+}
+
+// A sum, difference, product or quotient: a, then b.
+fn operation(
+    table: &[i64],
+    results: &[i64],
+    op: Operation,
+    label: usize,
+    given: Arguments,
+    rest: Allowance,
+) -> Outcome
+    requires { ⌜ Entered (Kind.Operation op) (now table) (now results) label given (rest .depth) ⌝ }
+    ensures { λ r. ⌜ r ≡ operationBy (outcome (now (table .entry)) (now (results .entry))) (now (table .entry)) op label given (rest .left) (rest .depth) ⌝ }
+{
+    let a = field(table, label, 3);
+    let first = expression(table, results, a, given, rest);
+    if first.state != NUMBER {
+        return failure(first.state, first.left);
+    }
+    let b = field(table, label, 4);
+    let next = Allowance {
+        left: first.left,
+        depth: rest.depth,
+    };
+    let second = expression(table, results, b, given, next);
+    if second.state != NUMBER {
+        return failure(second.state, second.left);
+    }
+    combine(op, first.number, second.number, second.left)
+}
+
+// A choice: its test, then one branch only.
+fn choice(
+    table: &[i64],
+    results: &[i64],
+    label: usize,
+    given: Arguments,
+    rest: Allowance,
+) -> Outcome
+    requires { ⌜ Entered Kind.Choice (now table) (now results) label given (rest .depth) ⌝ }
+    ensures { λ r. ⌜ r ≡ choiceBy (outcome (now (table .entry)) (now (results .entry))) (now (table .entry)) label given (rest .left) (rest .depth) ⌝ }
+{
+    let tested = field(table, label, 3);
+    let test = expression(table, results, tested, given, rest);
+    if test.state != NUMBER {
+        return failure(test.state, test.left);
+    }
+    let branch = branch_of(table, label, test.number);
+    let next = Allowance {
+        left: test.left,
+        depth: rest.depth,
+    };
+    expression(table, results, branch, given, next)
+}
+
+// ---- a value
+
+// Evaluates a value from the results stored so far.
+pub fn evaluate(table: &[i64], results: &[i64], label: usize) -> Value
+    requires { ⌜ Evaluable (now table) (now results) label ⌝ }
+    ensures { λ r. ⌜ r ≡ evaluated (now (table .entry)) (now (results .entry)) label ⌝ }
+{
+    let body = field(table, label, 4);
+    let none = Arguments { first: 0, count: 0 };
+    let o = expression(table, results, body, none, Allowance::fresh());
+    Value {
+        number: o.number,
+        state: o.state,
+        steps: Allowance::STEPS - o.left,
+    }
+}
+
+// Stores a value's results and leaves every other cell.
+pub fn put_value(results: &mut [i64], label: usize, v: Value)
+    requires { ⌜ Room (now results) label ⌝ }
+    ensures { λ _. ⌜ now (results .exit) ≡ store (now (results .entry)) label v ⌝ }
+{
+    let at = 3 * (label - 1);
+    let state = v.state as i64;
+    let number = v.number;
+    let steps = v.steps as i64;
+    results[at] = state;
+    results[at + 1] = number;
+    results[at + 2] = steps;
+}
+
+// Evaluates a value and stores its results.
+pub fn evaluate_into(table: &[i64], results: &mut [i64], label: usize)
+    requires { ⌜ Evaluable (now table) (now results) label ⌝ }
+    ensures { λ _. ⌜ now (results .exit) ≡ store (now (results .entry)) label (evaluated (now (table .entry)) (now (results .entry)) label) ⌝ }
+{
+    let v = evaluate(table, results, label);
+    put_value(results, label, v);
+}

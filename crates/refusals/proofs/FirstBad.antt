@@ -86,3 +86,9 @@ found-step check m k r p rest (suc x) c f =
 pub first-found : (check : ℕ → ℕ) (m k r p : ℕ) → firstBad check k m ≡ Refused r p → Found check k m r p
 first-found check zero k r p e = let z : _≡_ {A = ℕ} 0 1 = cc in absurd (omega arith)
 first-found check (suc m) k r p e = found-step check m k r p (first-found check m (suc k) r p) (check k) refl e
+
+-- checks that agree at every label find the same
+pub first-same : (f g : ℕ → ℕ) (m k : ℕ) → ((j : ℕ) → k ≤ j → j < k + m → f j ≡ g j) → firstBad f k m ≡ firstBad g k m
+first-same f g zero k h = refl
+first-same f g (suc m) k h =
+    rw (h k (omega arith) (omega arith), first-same f g m (suc k) (λ j a b. h j (omega arith) (omega arith)))

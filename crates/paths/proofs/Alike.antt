@@ -1,0 +1,99 @@
+-- Rows 12 to 15 read every cell of a table but the targets: two tables that are alike but for those give the same.
+use mathlib.Core.Path.{_≡_, refl, sym, _∙_}
+use mathlib.Core.List.{List, [], _∷_}
+use Prim.Native.Nat.{ℕ, zero, suc, _+_, _-_}
+use native.Mathlib.Omega.{arith}
+use lib.IntN.{ℤ}
+use lib.ListN.{length, drop}
+use Rattle.cells.specs.Table.{kind, nameStart, nameLength, owner, withColumn}
+use Rattle.cells.proofs.Columns.{column-other}
+use Rattle.order.specs.Order.{isDefinition, hasPath}
+use Rattle.text.specs.Pieces.{firstOf}
+use Rattle.paths.specs.Names.{nameOf, isNamed, member}
+use Rattle.paths.specs.Paths.{settled, headFrom, below, descended, namesOf, headOf, targetOf, headCell, targetBy, targetCell}
+use Rattle.paths.specs.Buckets.{bucketAt, inBucket, Rows, LinkedFrom, Linked}
+use Rattle.paths.proofs.FirstLabel.{first-same}
+
+pub record Alike (t u : List ℤ) : Type 0 where
+  pub kinds : (l : ℕ) → kind u l ≡ kind t l
+  pub starts : (l : ℕ) → nameStart u l ≡ nameStart t l
+  pub lengths : (l : ℕ) → nameLength u l ≡ nameLength t l
+  pub owners : (l : ℕ) → owner u l ≡ owner t l
+
+pub column-alike : (f : ℕ → ℕ) (n : ℕ) (t : List ℤ) → Alike t (withColumn 7 f n t)
+column-alike f n t = record {
+  kinds = λ l. column-other 7 f (omega arith) n t l 0 (omega arith) (λ e. omega arith);
+  starts = λ l. column-other 7 f (omega arith) n t l 1 (omega arith) (λ e. omega arith);
+  lengths = λ l. column-other 7 f (omega arith) n t l 2 (omega arith) (λ e. omega arith);
+  owners = λ l. column-other 7 f (omega arith) n t l 6 (omega arith) (λ e. omega arith);
+}
+
+module _ (s : List ℕ) (t u : List ℤ) (a : Alike t u) where
+  pub definition-alike : (l : ℕ) → isDefinition u l ≡ isDefinition t l
+  definition-alike l = rw (a .kinds l)
+
+  pub path-alike : (l : ℕ) → hasPath u l ≡ hasPath t l
+  path-alike l = rw (a .kinds l)
+
+  name-alike : (l : ℕ) → nameOf s u l ≡ nameOf s t l
+  name-alike l = rw (a .starts l, a .lengths l)
+
+  named-alike : (g : ℕ) (w : List ℕ) (m : ℕ) → isNamed s u g w m ≡ isNamed s t g w m
+  named-alike g w m = rw (definition-alike m, a .owners m, name-alike m)
+
+  member-alike : (n g : ℕ) (w : List ℕ) → member s u n g w ≡ member s t n g w
+  unfolding member
+  member-alike n g w = first-same (isNamed s u g w) (isNamed s t g w) n 1 (λ x l h. named-alike g w x)
+
+  settled-alike : (n : ℕ) (w : List ℕ) (k g : ℕ) → settled s u n w k g ≡ settled s t n w k g
+  settled-alike n w zero g = refl
+  settled-alike n w (suc k) g = rw (member-alike n g w, a .owners g, settled-alike n w k (owner t g))
+
+  descended-alike : (n : ℕ) (ws : List (List ℕ)) (m : ℕ) → descended s u n m ws ≡ descended s t n m ws
+  descended-alike n [] m = refl
+  descended-alike n (w ∷ ws) m = rw (a .kinds m, member-alike n m w) (descended-alike n ws (below s t n m w))
+
+  head-alike : (n x : ℕ) → headOf s u n x ≡ headOf s t n x
+  unfolding headOf headFrom
+  head-alike n x =
+      rw (name-alike x, a .owners x, a .owners (owner t x)) (settled-alike n (firstOf (namesOf s t x)) (owner t (owner t x)) (owner t (owner t x)))
+
+  pub head-cell-alike : (n x : ℕ) → headCell s u n x ≡ headCell s t n x
+  head-cell-alike n x = rw (path-alike x, head-alike n x)
+
+  pub target-by-alike : (n x head : ℕ) → targetBy s u n x head ≡ targetBy s t n x head
+  target-by-alike n x head = rw (path-alike x, name-alike x, descended-alike n (drop 1 (namesOf s t x)) head)
+
+  pub target-alike : (n x : ℕ) → targetOf s u n x ≡ targetOf s t n x
+  unfolding targetOf
+  target-alike n x = rw (head-alike n x, name-alike x) (descended-alike n (drop 1 (namesOf s t x)) (headOf s t n x))
+
+  pub target-cell-alike : (n x : ℕ) → targetCell s u n x ≡ targetCell s t n x
+  target-cell-alike n x = rw (path-alike x, target-alike n x)
+
+  bucket-alike : (buckets l : ℕ) → bucketAt s u buckets l ≡ bucketAt s t buckets l
+  bucket-alike buckets l = rw (name-alike l, a .owners l)
+
+  in-bucket-alike : (buckets b l : ℕ) → inBucket s u buckets b l ≡ inBucket s t buckets b l
+  in-bucket-alike buckets b l = rw (definition-alike l, bucket-alike buckets l)
+
+  pub rows-alike : (n : ℕ) → length u ≡ length t → Rows s t n → Rows s u n
+  rows-alike n e r = record {
+    few = r .few;
+    room = omega (arith, r .room);
+    names = λ l. rw (a .starts l, a .lengths l) (r .names l);
+    falls = λ l h g. rw (a .owners l) (r .falls l h g);
+    beyond = λ l h. a .kinds l ∙ r .beyond l h;
+    rooted = λ l d o. r .rooted l (sym (definition-alike l) ∙ d) (sym (a .owners l) ∙ o);
+  }
+
+  chains-alike : (buckets n k : ℕ) (first next : List ℕ) → LinkedFrom s t buckets n k first next → LinkedFrom s u buckets n k first next
+  chains-alike buckets n k first next h = record {
+    heads = λ b l. h .heads b l ∙ sym (first-same (inBucket s u buckets b) (inBucket s t buckets b) (n + 1 - k) k (λ x p q. in-bucket-alike buckets b x));
+    nexts = λ l p q d.
+        h .nexts l p q (sym (definition-alike l) ∙ d)
+        ∙ rw (bucket-alike buckets l) (sym (first-same (inBucket s u buckets (bucketAt s t buckets l)) (inBucket s t buckets (bucketAt s t buckets l)) (n - l) (l + 1) (λ x v w. in-bucket-alike buckets (bucketAt s t buckets l) x)));
+  }
+
+  pub linked-alike : (n : ℕ) (first next : List ℕ) → Linked s t n first next → Linked s u n first next
+  linked-alike n first next h = record { buckets = h .buckets; room = h .room; chains = chains-alike (length first) n 1 first next (h .chains) }

@@ -1,0 +1,9 @@
+pub mod Scanning
+pub mod Definitions
+pub mod FirstLabel
+pub mod Members
+pub mod Chains
+pub mod Resolving
+pub mod Alike
+pub mod Passes
+pub mod Joining

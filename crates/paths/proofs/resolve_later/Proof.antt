@@ -1,0 +1,52 @@
+use mathlib.Core.Path.{_∙_, sym}
+use Rattle.refusals.specs.Refusal.{firstBad}
+use Rattle.paths.specs.Paths.{laterBad}
+use Rattle.paths.proofs.Joining.{refused-first, fine-then, targets-checked}
+use Rattle.paths.proofs.Passes.{not-fine}
+use borrow.Author.Needs.{needs}
+use Rattle.paths.proofs.resolve_later.Statement.{statement}
+use Rattle.paths.proofs.resolve_later.Tie as tie
+
+settle-targets-requires : tie.Need-settle-targets-requires
+settle-targets-requires c κs = search needs
+
+enum-told : tie.Need-enum-told
+enum-told c = search needs
+
+check-targets-requires : tie.Need-check-targets-requires
+check-targets-requires c κs = search needs
+
+enum-known-row : tie.Need-enum-known-row
+enum-known-row c = search needs
+
+same-length : tie.Need-same-length
+same-length c = search needs
+
+returns : tie.Need-returns
+returns c =
+    let u = c .before .before .before .before .before .settle-targets .ensures in
+    let f = c .before .before .enum-told .given .1 in
+    let e = u .1 f in
+    (c .check-targets .ensures ∙ targets-checked (c .before .before .before .before .before .before .before .before .before .before .args .text .now) (c .before .before .before .before .before .before .before .before .before .before .args .table .now) (c .before .before .before .before .before .settle-targets .last .1 .0) (c .before .before .before .before .before .before .before .before .before .before .args .n) e (c .before .before .before .before .before .before .before .before .before .before .pre .0 .0 .room) ∙ fine-then (firstBad (laterBad (c .before .before .before .before .before .before .before .before .before .before .args .text .now) (c .before .before .before .before .before .before .before .before .before .before .args .table .now) (c .before .before .before .before .before .before .before .before .before .before .args .n)) 1 (c .before .before .before .before .before .before .before .before .before .before .args .n)) _ (sym (u .0) ∙ f), λ _. e)
+
+same-length-2 : tie.Need-same-length-2
+same-length-2 c = search needs
+
+returns-2 : tie.Need-returns-2
+returns-2 c =
+    let u = c .before .before .before .before .settle-targets .ensures in
+    let r = c .before .row .given in
+    (refused-first _ _ (r .0 .0) (r .0 .1 .0) (sym (u .0) ∙ r .1), λ z. not-fine (r .0 .0) (r .0 .1 .0) z)
+
+pub resolve-later-spec : {M : Type 1} → statement M
+resolve-later-spec =
+    tie.close
+    (tie.spec
+    settle-targets-requires
+    enum-told
+    check-targets-requires
+    enum-known-row
+    same-length
+    returns
+    same-length-2
+    returns-2)

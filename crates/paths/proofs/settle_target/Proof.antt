@@ -1,0 +1,29 @@
+use mathlib.Core.Path.{_∙_, ap}
+use Prim.Native.Nat.{_+_, _-_, _*_}
+use lib.IntN.{pos}
+use lib.ListN.{set}
+use Rattle.paths.specs.Paths.{targetBy}
+use borrow.Author.Needs.{needs}
+use Rattle.paths.proofs.settle_target.Statement.{statement}
+use Rattle.paths.proofs.settle_target.Tie as tie
+
+cell-at-requires : tie.Need-cell-at-requires
+cell-at-requires c κs = search needs
+
+target-at-requires : tie.Need-target-at-requires
+target-at-requires c κs = search needs
+
+put-cell-requires : tie.Need-put-cell-requires
+put-cell-requires c κs = search needs
+
+same-length : tie.Need-same-length
+same-length c = search needs
+
+returns : tie.Need-returns
+returns c =
+    let e = c .before .before .before .target-at .ensures .0 ∙ ap (targetBy (c .before .before .before .before .before .before .before .before .before .before .args .text .now) (c .before .before .before .before .before .before .before .before .before .before .args .table .now) (c .before .before .before .before .before .before .before .before .before .before .args .n) (c .before .before .before .before .before .before .before .before .before .before .args .label)) (c .before .before .before .before .before .cell-at .ensures) in
+    (e, c .before .put-cell .ensures ∙ ap (λ v. set (c .before .before .before .before .before .before .before .before .before .before .args .table .now) (8 * (c .before .before .before .before .before .before .before .before .before .before .args .label - 1) + 7) (pos v)) e)
+
+pub settle-target-spec : {M : Type 1} → statement M
+settle-target-spec =
+    tie.close (tie.spec cell-at-requires target-at-requires put-cell-requires same-length returns)

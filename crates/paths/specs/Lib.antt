@@ -1,0 +1,3 @@
+pub mod Names
+pub mod Paths
+pub mod Buckets

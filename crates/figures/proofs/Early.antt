@@ -1,0 +1,139 @@
+-- No value is read before it has been evaluated, whichever proper order one works down.
+use mathlib.Core.Path.{_≡_, refl, sym, ap, _∙_, subst}
+use mathlib.Core.List.{List, [], _∷_, _++_, append-assoc, append-nil}
+use mathlib.Core.Logic.{_⊎_, inl, inr}
+use Prim.Native.Nat.{ℕ, _+_, _*_, _≤_}
+use native.Mathlib.Omega.{arith}
+use native.Mathlib.Decide.{ℕ-discrete}
+use lib.IntN.{ℤ}
+use lib.ListN.{length}
+use Rattle.cells.specs.Cells.{zeros}
+use Rattle.cells.specs.Table.{kind, target}
+use Rattle.cells.specs.Accepted.{Accepted}
+use Rattle.cells.specs.Reaches.{Reaches}
+use Rattle.order.specs.Lists.{_∈_}
+use Rattle.order.specs.Order.{NoCycle, Proper, mixedPlan}
+use Rattle.order.specs.Evaluating.{down}
+use Rattle.order.proofs.Lists.{count-parts, in-here, in-left, in-right, in-append, in-single}
+use Rattle.order.proofs.Mixed.{listed-once, listed-value, mixed-proper}
+use Rattle.order.proofs.Evaluating.{run-append, run-fits, run-other}
+use Rattle.evaluation.specs.Results.{stored}
+use Rattle.evaluation.specs.Evaluation.{one, valueOutcome, evaluated}
+use Rattle.evaluation.specs.Ready.{Settled, Room}
+use Rattle.evaluation.specs.declared.Arguments.{Arguments}
+use Rattle.evaluation.specs.declared.Kind.{Kind}
+use Rattle.evaluation.specs.declared.Kind.the-variants as kinds
+use Rattle.evaluation.proofs.Closure.{Within, From, from-closed, Leads, leads, body-within}
+use Rattle.evaluation.proofs.Range.{value-settled}
+use Rattle.evaluation.proofs.Stored.{store-length, settled-own, settled-other}
+use Rattle.figures.specs.Figures.{figures, resultCells, evaluateInto}
+use Rattle.figures.specs.Entered.{IsKind, firstOutcome, Enters, itself, argument, body, first, second, test, branch, EntersRead, NeverEarly}
+use Rattle.figures.proofs.Rows.{same-stored, length-zeros}
+use Rattle.figures.proofs.Working.{value-label, working, down-figures, figures-stored}
+
+-- ---- what is entered is of v, or of a function that v reaches
+
+module _ (t : List ℤ) (n : ℕ) (ok : Accepted t n) (v : ℕ) where
+  abbrev Own : ℕ → Type 0
+  Own x = Within t n (From t v) x
+
+  abbrev Leads-to : Kind → ℕ → Type 0
+  Leads-to k l = Leads t n ok (From t v) (Reaches t v) (from-closed t v) k l
+
+  -- what a line of v leads to, by its kind
+  leading : (k : Kind) (l : ℕ) → IsKind t k l → Own l → Leads-to k l
+  leading k l e o = subst (λ (k : Kind). Leads-to k l) e (leads t n ok (From t v) (Reaches t v) (from-closed t v) l o)
+
+  entered-own : (r : List ℤ) (x : ℕ) {l : ℕ} {g : Arguments} {s d : ℕ} → Enters t r x l g s d → Own l → Own x
+  unfolding Leads
+  entered-own r x itself o = o
+  entered-own r x (argument l e i) o = entered-own r x i (leading kinds.Call l e o .0)
+  entered-own r x (body l e f d i) o = entered-own r x i (leading kinds.Call l e o .1)
+  entered-own r x (first l op e i) o = entered-own r x i (leading (kinds.Operation op) l e o .0)
+  entered-own r x (second l op e f i) o = entered-own r x i (leading (kinds.Operation op) l e o .1)
+  entered-own r x (test l e i) o = entered-own r x i (leading kinds.Choice l e o .0)
+  entered-own r x (branch l e f i) o = entered-own r x i (leading kinds.Choice l e o .1 (firstOutcome t r l _ _ _ .number))
+
+  -- so an R that is entered reads a value that v reaches
+  entered-read : (r : List ℤ) (x : ℕ) → kind t v ≡ 2 → EntersRead t r v x → (kind t (target t x) ≡ 2) × Reaches t v (target t x)
+  unfolding Leads
+  entered-read r x k e =
+      leading kinds.Read x (e .read) (entered-own r x (e .entered) (body-within t n ok (From t v) (Reaches t v) (from-closed t v) v (inl k) (inl refl)))
+
+-- ---- down a proper order
+
+module _ (t : List ℤ) (n : ℕ) (ok : Accepted t n) (o : List ℕ) (p : Proper t o) where
+  -- those of a have been evaluated, and then those of c too
+  settled-down : (c a b : List ℕ) → o ≡ a ++ (c ++ b) → (r : List ℤ) → 3 * n ≤ length r → ((x : ℕ) → x ∈ a → Settled 1 r x)
+      → (x : ℕ) → x ∈ a ++ c → Settled 1 (down (evaluateInto t) c r) x
+  settled-down [] a b e r fit old x m = old x (subst (λ (l : List ℕ). x ∈ l) (append-nil a) m)
+  settled-down (v ∷ c) a b e r fit old x m =
+      settled-down c (a ++ v ∷ []) b (e ∙ sym (append-assoc a (v ∷ []) (c ++ b))) (evaluateInto t r v) (omega (arith, store-length r v (evaluated t r v)))
+      (λ y i. now y (in-append y a (v ∷ []) i)) x (subst (λ (l : List ℕ). x ∈ l) (sym (append-assoc a (v ∷ []) c)) m)
+    where
+      value : kind t v ≡ 2
+      value = listed-value p v (rw e (in-right v a (v ∷ (c ++ b)) (in-here v (c ++ b))))
+
+      room : Room r v
+      room = let l = value-label t n ok v value in record { low = l .0; room = omega (arith, l .1) }
+
+      own : Settled 1 (evaluateInto t r v) v
+      own = settled-own 1 r v (valueOutcome t r v) room (value-settled t r n ok v value (λ y k i. old y (p .after a v (c ++ b) e y k i)))
+
+      at : (y : ℕ) → y ∈ a → Dec (y ≡ v) → Settled 1 (evaluateInto t r v) y
+      at y i (yes q) = subst (λ (z : ℕ). Settled 1 (evaluateInto t r v) z) (sym q) own
+      at y i (no d) = settled-other 1 r v (evaluated t r v) y d (room .low) (old y i)
+
+      now : (y : ℕ) → (y ∈ a) ⊎ (y ∈ v ∷ []) → Settled 1 (evaluateInto t r v) y
+      now y (inl i) = at y i (ℕ-discrete y v)
+      now y (inr i) = subst (λ (z : ℕ). Settled 1 (evaluateInto t r v) z) (sym (in-single y v i)) own
+
+  module _ (m : ℕ) (fit : 3 * n ≤ m) where
+    fits : 3 * n ≤ length (zeros m)
+    fits = omega (arith, length-zeros m)
+
+    -- at v's turn those before it have been evaluated
+    module _ (a : List ℕ) (v : ℕ) (b : List ℕ) (e : o ≡ a ++ v ∷ b) (x : ℕ) (i : EntersRead t (down (evaluateInto t) a (zeros m)) v x) where
+      abbrev now : List ℤ
+      now = down (evaluateInto t) a (zeros m)
+
+      value : kind t v ≡ 2
+      value = listed-value p v (rw e (in-right v a (v ∷ b) (in-here v b)))
+
+      -- and an R that is entered reads one of them
+      before : target t x ∈ a
+      before = let q = entered-read t n ok v now x value i in p .after a v b e (target t x) (q .0) (q .1)
+
+      finds-answer : Settled 1 now (target t x)
+      finds-answer = settled-down a [] (v ∷ b) e (zeros m) fits (λ y j. absurd (omega arith)) (target t x) before
+
+      -- what it finds are its target's figures
+      pub finds-figures : stored (down (evaluateInto t) a (zeros m)) (target t x) ≡ figures t n (target t x)
+      finds-figures =
+          sym (same-stored (down (evaluateInto t) (v ∷ b) now) now (target t x) (run-other t (working t n ok) (v ∷ b) back (target t x) later now here))
+          ∙ ap (λ (r : List ℤ). stored r (target t x)) (sym (ap (λ (l : List ℕ). down (evaluateInto t) l (zeros m)) e ∙ run-append t (working t n ok) a (v ∷ b) (zeros m)) ∙ down-figures t n ok m fit o p)
+          ∙ figures-stored t n ok m fit (target t x)
+        where
+          front : (y : ℕ) → y ∈ a → kind t y ≡ 2
+          front y j = listed-value p y (rw e (in-left y a (v ∷ b) j))
+
+          back : (y : ℕ) → y ∈ v ∷ b → kind t y ≡ 2
+          back y j = listed-value p y (rw e (in-right y a (v ∷ b) j))
+
+          here : 3 * n ≤ length now
+          here = run-fits t (working t n ok) a front (zeros m) fits
+
+          later : target t x ∈ v ∷ b → ⊥
+          later j = omega (arith, before, listed-once p (target t x) (back (target t x) j), count-parts (target t x) a (v ∷ b) e)
+
+    pub never-early : NeverEarly t o (zeros m)
+    never-early = finds-answer
+
+    -- once all have been evaluated, every value has a state from 1 to 5
+    end-settled : (v : ℕ) → kind t v ≡ 2 → Settled 1 (resultCells t n m) v
+    end-settled v k =
+        subst (λ (r : List ℤ). Settled 1 r v) (down-figures t n ok m fit o p)
+        (settled-down o [] [] (sym (append-nil o)) (zeros m) fits (λ y j. absurd (omega arith)) v (omega (arith, listed-once p v k)))
+
+pub figures-settled : (t : List ℤ) (n : ℕ) → Accepted t n → NoCycle t → (m : ℕ) → 3 * n ≤ m → (v : ℕ) → kind t v ≡ 2 → Settled 1 (resultCells t n m) v
+figures-settled t n ok nc m fit v k = end-settled t n ok (mixedPlan t n) (mixed-proper t n ok nc) m fit v k

@@ -1,0 +1,54 @@
+-- "A value read before it has been worked out puts another prism on the block": what it means that none is.
+use mathlib.Core.Path.{_≡_}
+use mathlib.Core.List.{List, _∷_, _++_}
+use Prim.Native.Nat.{ℕ, suc, _+_}
+use lib.IntN.{ℤ}
+use Rattle.cells.specs.Table.{kind, fieldA, fieldB, target}
+use Rattle.numbers.specs.declared.Operation.{Operation}
+use Rattle.order.specs.Evaluating.{down}
+use Rattle.evaluation.specs.States.{hasNumber}
+use Rattle.evaluation.specs.Evaluation.{kindOf, branchOf, depthLimit, stepLimit, one, outcome, nothing}
+use Rattle.evaluation.specs.Ready.{Settled}
+use Rattle.evaluation.specs.declared.Arguments.{Arguments}
+use Rattle.evaluation.specs.declared.Kind.{Kind}
+use Rattle.evaluation.specs.declared.Kind.the-variants as kinds
+use Rattle.evaluation.specs.declared.Outcome.{Outcome}
+use Rattle.figures.specs.Figures.{evaluateInto}
+
+abbrev pub IsKind : List ℤ → Kind → ℕ → Type 0
+IsKind t k l = kindOf (kind t l) ≡ k
+
+-- what field a of line l comes to, the argument, first operand or test; and that it is a number
+abbrev pub firstOutcome : List ℤ → List ℤ → ℕ → Arguments → ℕ → ℕ → Outcome
+firstOutcome t r l g s d = outcome t r (fieldA t l) g s d
+
+abbrev pub FirstNumber : List ℤ → List ℤ → ℕ → Arguments → ℕ → ℕ → Type 0
+FirstNumber t r l g s d = firstOutcome t r l g s d .state ≡ hasNumber
+
+-- Evaluating expression l from results r, with arguments g, some steps left and at depth d, enters expression x: it is l itself, or
+-- entered in evaluating what l's rule evaluates.
+pub data Enters (t r : List ℤ) (x : ℕ) : ℕ → Arguments → ℕ → ℕ → Type 0 where
+  itself : {g : Arguments} {s d : ℕ} → Enters t r x x g (suc s) d
+  -- "C works out its argument; at depth 64 the state is then 5, else the target's body is worked out one deeper"
+  argument : (l : ℕ) {g : Arguments} {s d : ℕ} → IsKind t kinds.Call l → Enters t r x (fieldA t l) g s d → Enters t r x l g (suc s) d
+  body : (l : ℕ) {g : Arguments} {s d : ℕ} → IsKind t kinds.Call l → FirstNumber t r l g s d → (d ≡ depthLimit → ⊥)
+      → Enters t r x (fieldB t (target t l)) (one (firstOutcome t r l g s d .number)) (firstOutcome t r l g s d .left) (d + 1) → Enters t r x l g (suc s) d
+  -- "A, S, M, D work out a, then b"
+  first : (l : ℕ) (op : Operation) {g : Arguments} {s d : ℕ} → IsKind t (kinds.Operation op) l → Enters t r x (fieldA t l) g s d → Enters t r x l g (suc s) d
+  second : (l : ℕ) (op : Operation) {g : Arguments} {s d : ℕ} → IsKind t (kinds.Operation op) l → FirstNumber t r l g s d
+      → Enters t r x (fieldB t l) g (firstOutcome t r l g s d .left) d → Enters t r x l g (suc s) d
+  -- "I works out a, then one branch only"
+  test : (l : ℕ) {g : Arguments} {s d : ℕ} → IsKind t kinds.Choice l → Enters t r x (fieldA t l) g s d → Enters t r x l g (suc s) d
+  branch : (l : ℕ) {g : Arguments} {s d : ℕ} → IsKind t kinds.Choice l → FirstNumber t r l g s d
+      → Enters t r x (branchOf t l (firstOutcome t r l g s d .number)) g (firstOutcome t r l g s d .left) d → Enters t r x l g (suc s) d
+
+-- evaluating value v from results r enters R line x
+pub record EntersRead (t r : List ℤ) (v x : ℕ) : Type 0 where
+  pub read : IsKind t kinds.Read x
+  pub entered : Enters t r x (fieldB t v) nothing stepLimit 0
+
+-- Evaluating the values of an order in turn, from results r: at each value's turn, every R entered finds a stored answer of its target
+-- with a state from 1 to 5.
+abbrev pub NeverEarly : List ℤ → List ℕ → List ℤ → Type 0
+NeverEarly t o r = (a : List ℕ) (v : ℕ) (b : List ℕ) → o ≡ a ++ v ∷ b
+    → (x : ℕ) → EntersRead t (down (evaluateInto t) a r) v x → Settled 1 (down (evaluateInto t) a r) (target t x)

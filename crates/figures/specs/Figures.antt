@@ -1,0 +1,61 @@
+-- Document 01's results per label, "state, number and steps taken; lines other than V have three zeros", free of any order.
+use mathlib.Core.Path.{_≡_}
+use mathlib.Core.Bool.{cond}
+use mathlib.Core.List.{List, [], _∷_, _++_}
+use Prim.Native.Nat.{ℕ, zero, suc, _-_, _*_}
+use lib.IntN.{ℤ, pos}
+use lib.ListN.{length}
+use Rattle.cells.specs.Cells.{zeros}
+use Rattle.cells.specs.Table.{kind}
+use Rattle.order.specs.Order.{isV}
+use Rattle.order.specs.Evaluating.{row}
+use Rattle.evaluation.specs.declared.Value.{Value}
+use Rattle.evaluation.specs.Results.{store}
+use Rattle.evaluation.specs.Evaluation.{evaluated}
+
+-- ---- results in cells
+
+-- those of a line other than V
+abbrev pub blank : Value
+blank = record { number = pos 0; state = 0; steps = 0 }
+
+abbrev pub cellsOf : Value → List ℤ
+cellsOf v = pos (v .state) ∷ v .number ∷ pos (v .steps) ∷ []
+
+-- those of labels 1 to n, three cells a label
+abbrev pub rowsOf : (ℕ → Value) → ℕ → List ℤ
+rowsOf f zero = []
+rowsOf f (suc k) = rowsOf f k ++ cellsOf (f (suc k))
+
+-- the same in a buffer of m cells, whose unused cells are zero
+abbrev pub bufferOf : (ℕ → Value) → ℕ → ℕ → List ℤ
+bufferOf f n m = rowsOf f n ++ zeros (m - 3 * n)
+
+-- ---- the figures
+
+-- label l's results after k rounds, in each of which every value is evaluated from the results of the round before
+unfoldable pub afterRounds : List ℤ → ℕ → ℕ → ℕ → Value
+afterRounds t n zero l = blank
+afterRounds t n (suc k) l = cond (isV t l) (evaluated t (rowsOf (afterRounds t n k) n) l) blank
+
+-- each label's results. Where no value reaches itself, a value is settled one round after those that it reaches; so n rounds are
+-- enough, and another one would change nothing.
+abbrev pub figures : List ℤ → ℕ → ℕ → Value
+figures t n = afterRounds t n n
+
+-- the whole results buffer of m cells
+abbrev pub resultCells : List ℤ → ℕ → ℕ → List ℤ
+resultCells t n m = bufferOf (figures t n) n m
+
+-- ---- what singles them out
+
+-- Results satisfy "Working out": each V has what it comes to from these very results, and all other cells are 0.
+pub record WorkedOut (t r : List ℤ) : Type 0 where
+  pub values : (v : ℕ) → kind t v ≡ 2 → row 3 r v ≡ cellsOf (evaluated t r v)
+  pub others : (l : ℕ) → (kind t l ≡ 2 → ⊥) → row 3 r l ≡ row 3 (zeros (length r)) l
+
+-- ---- down an order
+
+-- results once value v has been evaluated from them and stored
+abbrev pub evaluateInto : List ℤ → List ℤ → ℕ → List ℤ
+evaluateInto t r v = store r v (evaluated t r v)

@@ -1,0 +1,167 @@
+-- One label, case by case, as the code finds it.
+use mathlib.Core.Path.{_≡_, refl, sym}
+use mathlib.Core.Bool.{Bool, true, false, not, cond, _&&_, and-true}
+use mathlib.Core.List.{List, [], _∷_}
+use Prim.Native.Nat.{ℕ, _+_, _-_, _*_, _≤_, _<_}
+use native.Mathlib.Omega.{arith}
+use borrow.Author.Tests.{le-leb, lt-leb, lt-ltb, le-ltb, ne-eqb}
+use lib.Dec.{eqb}
+use lib.IntN.{ℤ, pos}
+use lib.ListN.{set}
+use Rattle.cells.specs.Table.{kind, fieldA, fieldB, fieldC, owner, target}
+use Rattle.lines.specs.Kinds.{kindAt}
+use Rattle.lines.specs.declared.Form.{Form}
+use Rattle.lines.specs.declared.Kind.{Kind}
+use Rattle.tree.specs.Tree.{isGroup, isOperand, isDefinition, isExpression, operandIn, parts, every, partRight, structureBad, one, times, notOnce, argumentIn, tooDeep}
+use Rattle.tree.specs.Treed.{Formed}
+use Rattle.tree.specs.Steps.{partIn, nodeAt, Readable, groupFits, partFits, counted, given, givenAll, handed}
+use Rattle.tree.specs.declared.Node.{Node}
+use Rattle.tree.proofs.Codes.{definition-is, kind-high}
+use Rattle.tree.proofs.Parts.{times-parts, every-parts}
+
+pub readable : (t : List ℤ) (n l : ℕ) → Formed t n → 1 ≤ l → l ≤ n → Readable t l
+readable t n l s h g = record { low = s .kinds l h g .0; high = kind-high t n s; labels = s .labels l h g }
+
+-- ---- what the table of kinds says of the line
+
+module _ (t : List ℤ) (l code : ℕ) (k : Kind) (e : code ≡ kind t l) (q : k ≡ kindAt code) where
+  pub node-is : (g : Bool) (a b c : ℕ) → g ≡ isGroup (k .a) → a ≡ partIn (k .a) (fieldA t l) → b ≡ partIn (k .b) (fieldB t l) → c ≡ partIn (k .c) (fieldC t l)
+      → _≡_ {A = Node} (record { definition = g; a = a; b = b; c = c }) (nodeAt t l)
+  unfolding nodeAt
+  node-is g a b c h i j m = rw (← e, ← q, h, i, j, m)
+
+  pub expression-is : (g : Bool) → (code ≡ 0 → ⊥) → g ≡ isGroup (k .a) → isExpression t l ≡ not g
+  unfolding isExpression
+  expression-is g d h = let p : 1 ≤ code = omega (arith, d) in rw (← e, le-leb 1 code p, ← q, ← h)
+
+pub expression-none : (t : List ℤ) (l code : ℕ) → code ≡ kind t l → code ≡ 0 → isExpression t l ≡ false
+unfolding isExpression
+expression-none t l code e z = rw (← e, z)
+
+-- ---- row 8: the Group
+
+module _ (t : List ℤ) (l : ℕ) (d : Bool) where
+  pub fits-first : l < 2 → groupFits t l d ≡ true
+  fits-first h = rw (lt-leb 2 l h)
+
+  module _ (h : 2 ≤ l) where
+    pub fits-expression : d ≡ false → groupFits t l d ≡ true
+    fits-expression e = rw (le-leb 2 l h, e)
+
+    pub fits-below : d ≡ true → (g k : ℕ) → g ≡ fieldA t l → g < l → k ≡ kind t g → groupFits t l d ≡ eqb k 1
+    fits-below e g k q b j = rw (le-leb 2 l h, e, ← q, lt-ltb g l b, ← j)
+
+    pub fits-above : d ≡ true → (g : ℕ) → g ≡ fieldA t l → l ≤ g → groupFits t l d ≡ false
+    fits-above e g q b = rw (le-leb 2 l h, e, ← q, le-ltb g l b)
+
+-- ---- row 8: the parts
+
+module _ (t : List ℤ) (l x : ℕ) where
+  pub fits-none : x ≡ 0 → partFits t l x ≡ true
+  fits-none e = rw e
+
+  module _ (d : x ≡ 0 → ⊥) where
+    pub fits-part : l < x → partFits t l x ≡ isExpression t x
+    fits-part h = rw (ne-eqb x 0 d, lt-ltb l x h)
+
+    pub fits-low : x ≤ l → partFits t l x ≡ false
+    fits-low h = rw (ne-eqb x 0 d, le-ltb l x h)
+
+-- a field that holds no 0 as a body or operand
+pub field-every : (test : ℕ → Bool) (f : Form) (x : ℕ) → times 0 (operandIn f x) ≡ 0 → every test (operandIn f x) ≡ cond (eqb (partIn f x) 0) true (test (partIn f x))
+field-every test f x z = go (isOperand f) z
+  where
+    zero-free : (b : Bool) → one b + 0 ≡ 0 → b ≡ false
+    zero-free true e = absurd (omega arith)
+    zero-free false e = refl
+
+    go : (b : Bool) → times 0 (cond b (x ∷ []) []) ≡ 0 → every test (cond b (x ∷ []) []) ≡ cond (eqb (cond b x 0) 0) true (test (cond b x 0))
+    go true e = rw (zero-free (eqb x 0) e) (and-true (test x))
+    go false e = refl
+
+-- how often x, which is no 0, is the part in a field
+pub field-count : (f : Form) (x y : ℕ) → 1 ≤ x → times x (operandIn f y) ≡ one (eqb (partIn f y) x)
+field-count f x y h = go (isOperand f)
+  where
+    go : (b : Bool) → times x (cond b (y ∷ []) []) ≡ one (eqb (cond b y 0) x)
+    go true = omega arith
+    go false = rw (ne-eqb 0 x (λ e. omega arith))
+
+module _ (t : List ℤ) (l : ℕ) where
+  pub node-definition : 1 ≤ kind t l → nodeAt t l .definition ≡ isDefinition t l
+  unfolding nodeAt
+  node-definition h = sym (definition-is t l h)
+
+  pub node-count : (x : ℕ) → 1 ≤ x → times x (parts t l) ≡ one (eqb (nodeAt t l .a) x) + one (eqb (nodeAt t l .b) x) + one (eqb (nodeAt t l .c) x)
+  unfolding nodeAt
+  node-count x h =
+      rw (times-parts t l x, field-count (kindAt (kind t l) .a) x (fieldA t l) h, field-count (kindAt (kind t l) .b) x (fieldB t l) h, field-count (kindAt (kind t l) .c) x (fieldC t l) h)
+
+  pub parts-fit : times 0 (parts t l) ≡ 0 → every (partRight t l) (parts t l) ≡ (partFits t l (nodeAt t l .a) && partFits t l (nodeAt t l .b) && partFits t l (nodeAt t l .c))
+  unfolding nodeAt
+  parts-fit z =
+      let a : times 0 (operandIn (kindAt (kind t l) .a) (fieldA t l)) ≡ 0 = omega (arith, times-parts t l 0) in
+      let b : times 0 (operandIn (kindAt (kind t l) .b) (fieldB t l)) ≡ 0 = omega (arith, times-parts t l 0) in
+      let c : times 0 (operandIn (kindAt (kind t l) .c) (fieldC t l)) ≡ 0 = omega (arith, times-parts t l 0) in
+      rw (every-parts t l (partRight t l), field-every (partRight t l) (kindAt (kind t l) .a) (fieldA t l) a, field-every (partRight t l) (kindAt (kind t l) .b) (fieldB t l) b, field-every (partRight t l) (kindAt (kind t l) .c) (fieldC t l) c)
+
+  pub parts-right : times 0 (parts t l) ≡ 0 → (p : Node) → p ≡ nodeAt t l → (x y z : Bool) → x ≡ partFits t l (p .a) → y ≡ partFits t l (p .b) → z ≡ partFits t l (p .c)
+      → every (partRight t l) (parts t l) ≡ (x && y && z)
+  parts-right w p e x y z f g h = rw (f, g, h, e) (parts-fit w)
+
+  -- the row, by its two tests
+  pub structure-is : (d : Bool) (p q : Bool) → d ≡ isDefinition t l → p ≡ groupFits t l d → q ≡ every (partRight t l) (parts t l) → structureBad t l ≡ cond (p && q) 0 8
+  unfolding structureBad
+  structure-is d p q e f g = rw (← e, f, g)
+
+-- ---- rows 9 to 11
+
+module _ (e : Bool) (u : ℕ) where
+  pub uses-once : u ≡ 1 → notOnce e u ≡ 0
+  uses-once h = rw h (go e)
+    where
+      go : (b : Bool) → _≡_ {A = ℕ} (cond (b && false) 9 0) 0
+      go true = refl
+      go false = refl
+
+  pub uses-wrong : e ≡ true → (u ≡ 1 → ⊥) → notOnce e u ≡ 9
+  uses-wrong h d = rw (h, ne-eqb u 1 d)
+
+module _ (k d : ℕ) where
+  pub argument-fine : k ≡ 5 → (d ≡ 2 → ⊥) → argumentIn k d ≡ 0
+  argument-fine h g = rw (h, ne-eqb d 2 g)
+
+  pub argument-wrong : k ≡ 5 → d ≡ 2 → argumentIn k d ≡ 10
+  argument-wrong h g = rw (h, g)
+
+module _ (v : ℕ) where
+  pub level-wrong : 32 < v → tooDeep v ≡ 11
+  level-wrong h = rw (lt-ltb 32 v h)
+
+  pub level-fine : v ≤ 32 → tooDeep v ≡ 0
+  level-fine h = rw (le-ltb 32 v h)
+
+-- ---- what is written
+
+module _ (x : ℕ) (t : List ℤ) where
+  pub counted-none : x ≡ 0 → counted x t ≡ t
+  counted-none e = rw e
+
+  pub counted-some : (x ≡ 0 → ⊥) → counted x t ≡ set t (8 * (x - 1) + 7) (pos (target t x + 1))
+  counted-some d = rw (ne-eqb x 0 d)
+
+  module _ (d v : ℕ) where
+    pub given-none : x ≡ 0 → given x d v t ≡ t
+    given-none e = rw e
+
+    pub given-some : (x ≡ 0 → ⊥) → given x d v t ≡ set (set t (8 * (x - 1) + 6) (pos d)) (8 * (x - 1) + 7) (pos v)
+    given-some e = rw (ne-eqb x 0 e)
+
+module _ (l : ℕ) (t : List ℤ) where
+  pub handed-definition : nodeAt t l .definition ≡ true → handed l t ≡ givenAll (nodeAt t l) l 1 (given l (fieldA t l) 0 t)
+  unfolding handed
+  handed-definition e = rw e
+
+  pub handed-expression : nodeAt t l .definition ≡ false → handed l t ≡ givenAll (nodeAt t l) (owner t l) (target t l + 1) t
+  unfolding handed
+  handed-expression e = rw e

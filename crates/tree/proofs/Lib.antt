@@ -1,0 +1,11 @@
+pub mod Forms
+pub mod Codes
+pub mod Parts
+pub mod Users
+pub mod Labels
+pub mod Owners
+pub mod Writes
+pub mod Passes
+pub mod Stages
+pub mod Treed
+mod Samples

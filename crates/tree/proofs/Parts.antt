@@ -1,0 +1,137 @@
+-- The parts of a line, and what row 8 says of them.
+use mathlib.Core.Path.{_≡_, refl, ap, sym, _∙_}
+use mathlib.Core.Bool.{Bool, true, false, cond, _&&_, and-assoc}
+use mathlib.Core.List.{List, [], _∷_, _++_}
+use Prim.Native.Nat.{ℕ, _+_, _≤_, _<_}
+use native.Mathlib.Omega.{arith}
+use borrow.Author.Tests.{ltb-true, eqb-true, le-leb, eq-eqb, ne-eqb}
+use lib.Dec.{leb, ltb, eqb}
+use lib.IntN.{ℤ}
+use Rattle.cells.specs.Table.{cell, kind, fieldA, fieldB, fieldC}
+use Rattle.lines.specs.Kinds.{kindAt}
+use Rattle.lines.specs.declared.Form.{Form}
+use Rattle.refusals.specs.declared.Verdict.the-variants.{Fine}
+use Rattle.refusals.specs.Refusal.{firstBad}
+use Rattle.refusals.proofs.FirstBad.{first-none}
+use Rattle.tree.specs.Tree.{isOperand, isDefinition, isExpression, operandIn, parts, every, groupRight, partRight, lineRight, structureBad, one, times, IsPart}
+use Rattle.tree.specs.Treed.{Formed}
+use Rattle.tree.specs.Steps.{Structured}
+use Rattle.tree.proofs.Codes.{and-left, and-right, part-line, label-low, label-high}
+
+-- ---- lists of labels
+
+pub times-append : (x : ℕ) (xs ys : List ℕ) → times x (xs ++ ys) ≡ times x xs + times x ys
+times-append x [] ys = omega arith
+times-append x (y ∷ xs) ys = omega (arith, times-append x xs ys)
+
+pub every-append : (test : ℕ → Bool) (xs ys : List ℕ) → every test (xs ++ ys) ≡ (every test xs && every test ys)
+every-append test [] ys = refl
+every-append test (x ∷ xs) ys = rw (every-append test xs ys) (sym (and-assoc (test x) (every test xs) (every test ys)))
+
+pub every-has : (test : ℕ → Bool) (xs : List ℕ) (x : ℕ) → every test xs ≡ true → 1 ≤ times x xs → test x ≡ true
+every-has test [] x e h = absurd (omega arith)
+every-has test (y ∷ ys) x e h = go (eqb y x) refl h (every-has test ys x (and-right (test y) (every test ys) e))
+  where
+    go : (b : Bool) → eqb y x ≡ b → 1 ≤ one b + times x ys → (1 ≤ times x ys → test x ≡ true) → test x ≡ true
+    go true q g rest = rw (eqb-true y x q) at (and-left (test y) (every test ys) e)
+    go false q g rest = rest (omega arith)
+
+-- ---- over the three fields
+
+module _ (t : List ℤ) (l : ℕ) where
+  abbrev listA : List ℕ
+  listA = operandIn (kindAt (kind t l) .a) (fieldA t l)
+
+  abbrev listB : List ℕ
+  listB = operandIn (kindAt (kind t l) .b) (fieldB t l)
+
+  abbrev listC : List ℕ
+  listC = operandIn (kindAt (kind t l) .c) (fieldC t l)
+
+  pub times-parts : (x : ℕ) → times x (parts t l) ≡ times x listA + times x listB + times x listC
+  unfolding parts
+  times-parts x = omega (arith, times-append x (listA ++ listB) listC, times-append x listA listB)
+
+  pub every-parts : (test : ℕ → Bool) → every test (parts t l) ≡ (every test listA && every test listB && every test listC)
+  unfolding parts
+  every-parts test =
+      every-append test (listA ++ listB) listC ∙ ap (λ (b : Bool). b && every test listC) (every-append test listA listB)
+
+one-most : (b : Bool) → one b ≤ 1
+one-most true = omega arith
+one-most false = omega arith
+
+pub field-most : (f : Form) (x y : ℕ) → times x (operandIn f y) ≤ 1
+field-most f x y = go (isOperand f)
+  where
+    go : (b : Bool) → times x (cond b (y ∷ []) []) ≤ 1
+    go true = omega (arith, one-most (eqb y x))
+    go false = omega arith
+
+-- a field that is an operand holds a part
+pub field-part : (f : Form) (y : ℕ) → isOperand f ≡ true → 1 ≤ times y (operandIn f y)
+field-part f y e = rw (e, eq-eqb y y refl) (omega arith)
+
+-- fields that hold no 0 as a body or operand
+field-zero : (f : Form) (x : ℕ) → (isOperand f ≡ true → 1 ≤ x) → times 0 (operandIn f x) ≡ 0
+field-zero f x h = go (isOperand f) h
+  where
+    go : (b : Bool) → (b ≡ true → 1 ≤ x) → times 0 (cond b (x ∷ []) []) ≡ 0
+    go true g = rw (ne-eqb x 0 (λ e. omega (arith, g refl)))
+    go false g = refl
+
+pub parts-zero : (t : List ℤ) (l : ℕ) → (isOperand (kindAt (kind t l) .a) ≡ true → 1 ≤ fieldA t l) → (isOperand (kindAt (kind t l) .b) ≡ true → 1 ≤ fieldB t l) → (isOperand (kindAt (kind t l) .c) ≡ true → 1 ≤ fieldC t l) → times 0 (parts t l) ≡ 0
+parts-zero t l a b c =
+    omega (arith, times-parts t l 0, field-zero (kindAt (kind t l) .a) (fieldA t l) a, field-zero (kindAt (kind t l) .b) (fieldB t l) b, field-zero (kindAt (kind t l) .c) (fieldC t l) c)
+
+-- ---- row 8
+
+module _ (t : List ℤ) (n : ℕ) (s : Formed t n) (fine : firstBad (structureBad t) 1 n ≡ Fine) where
+  right-line : (l : ℕ) → 1 ≤ l → l ≤ n → lineRight t l ≡ true
+  unfolding structureBad
+  right-line l h g = go (lineRight t l) (first-none (structureBad t) n 1 fine l h (omega arith))
+    where
+      go : (b : Bool) → _≡_ {A = ℕ} (cond b 0 8) 0 → b ≡ true
+      go true e = refl
+      go false e = absurd (omega arith)
+
+  right-group : (l : ℕ) → 2 ≤ l → l ≤ n → isDefinition t l ≡ true → groupRight t l (fieldA t l) ≡ true
+  right-group l h g d =
+      let e : (leb 2 l && isDefinition t l) ≡ true = rw (le-leb 2 l h, d) in
+      rw e at (and-left (cond (leb 2 l && isDefinition t l) (groupRight t l (fieldA t l)) true) (every (partRight t l) (parts t l)) (right-line l (omega arith) g))
+
+  right-part : (l x : ℕ) → IsPart t l x → partRight t l x ≡ true
+  right-part l x p =
+      let k : 1 ≤ kind t l = omega (arith, part-line t l x p) in
+      every-has (partRight t l) (parts t l) x
+      (and-right (cond (leb 2 l && isDefinition t l) (groupRight t l (fieldA t l)) true) (every (partRight t l) (parts t l)) (right-line l (label-low t l n s k) (label-high t l n s k))) p
+
+  pub structured : Structured t n
+  structured = record {
+    formed = s;
+    group = λ l h g d.
+        (ltb-true (fieldA t l) l (and-left (ltb (fieldA t l) l) (eqb (kind t (fieldA t l)) 1) (right-group l h g d)), eqb-true (kind t (fieldA t l)) 1 (and-right (ltb (fieldA t l) l) (eqb (kind t (fieldA t l)) 1) (right-group l h g d)));
+    part = λ l x p.
+        (ltb-true l x (and-left (ltb l x) (isExpression t x) (right-part l x p)), and-right (ltb l x) (isExpression t x) (right-part l x p));
+  }
+
+-- ---- the tree reads the cells before the owner only
+
+abbrev pub Alike : List ℤ → List ℤ → Type 0
+Alike t w = (l j : ℕ) → j < 6 → cell w l j ≡ cell t l j
+
+module _ (t w : List ℤ) (same : Alike t w) (l : ℕ) where
+  same-kind : kind w l ≡ kind t l
+  same-kind = same l 0 (omega arith)
+
+  pub alike-expression : isExpression w l ≡ isExpression t l
+  unfolding isExpression
+  alike-expression = rw same-kind
+
+  pub alike-definition : isDefinition w l ≡ isDefinition t l
+  unfolding isDefinition
+  alike-definition = rw same-kind
+
+  pub alike-parts : parts w l ≡ parts t l
+  unfolding parts
+  alike-parts = rw (same-kind, same l 3 (omega arith), same l 4 (omega arith), same l 5 (omega arith))

@@ -1,0 +1,40 @@
+-- Three stores; the second and the third still fit.
+use Rattle.tree.proofs.Writes.{count-first, count-second, count-third}
+use borrow.Author.Needs.{needs}
+use Rattle.tree.proofs.count_parts.Statement.{statement}
+use Rattle.tree.proofs.count_parts.Tie as tie
+
+node-at-requires : tie.Need-node-at-requires
+node-at-requires c κs = search needs
+
+count-part-requires : tie.Need-count-part-requires
+count-part-requires c κs =
+    let s = c .before .before .before in
+    count-first (s .args .table .now) (s .args .label) (s .pre) (c .before .node-at .result) (c .before .node-at .ensures)
+
+count-part-requires-2 : tie.Need-count-part-requires-2
+count-part-requires-2 c κs =
+    let s = c .before .before .before .before .before .before in
+    count-second (s .args .table .now) (s .args .label) (s .pre) (c .before .before .before .before .node-at .result) (c .before .before .before .before .node-at .ensures) (c .before .before .count-part .last .0) (c .before .before .count-part .ensures)
+
+count-part-requires-3 : tie.Need-count-part-requires-3
+count-part-requires-3 c κs =
+    let s = c .before .before .before .before .before .before .before .before .before in
+    count-third (s .args .table .now) (s .args .label) (s .pre) (c .before .before .before .before .before .before .before .node-at .result) (c .before .before .before .before .before .before .before .node-at .ensures) (c .before .before .before .before .before .count-part .last .0) (c .before .before .before .before .before .count-part .ensures) (c .before .before .count-part2 .last .0) (c .before .before .count-part2 .ensures)
+
+same-length : tie.Need-same-length
+same-length c = search needs
+
+returns : tie.Need-returns
+returns c = rw (c .before .count-part3 .ensures, c .before .before .before .before .count-part2 .ensures, c .before .before .before .before .before .before .before .count-part .ensures, c .before .before .before .before .before .before .before .before .before .node-at .ensures)
+
+pub count-parts-spec : {M : Type 1} → statement M
+count-parts-spec =
+    tie.close
+    (tie.spec
+    node-at-requires
+    count-part-requires
+    count-part-requires-2
+    count-part-requires-3
+    same-length
+    returns)

@@ -1,0 +1,58 @@
+-- What the loop keeps is `Counted`, at the labels passed.
+use mathlib.Core.Path.{_≡_}
+use Prim.Native.Nat.{_+_, _-_, _≤_}
+use native.Mathlib.Omega.{arith}
+use Rattle.tree.specs.Steps.{Counted}
+use Rattle.tree.proofs.Passes.{count-start, count-ready, count-turn}
+use Rattle.tree.proofs.count_uses.Statement.{statement}
+use Rattle.tree.proofs.count_uses.Tie as tie
+
+abbrev Inv-loop : tie.InvT-loop
+Inv-loop table₀ n label₀ table label = (1 ≤ label) × (label ≤ n + 1) × Counted table₀ n (label - 1) table
+
+abbrev μ-loop : tie.MeasureT-loop
+μ-loop table₀ n label₀ table label = n + 1 - label
+
+loop-holds : tie.Need-loop-holds Inv-loop μ-loop
+loop-holds c = (omega arith, omega arith, count-start (c .args .table .now) (c .args .n) (c .pre .0))
+
+count-parts-requires : tie.Need-count-parts-requires Inv-loop μ-loop
+count-parts-requires c κs =
+    let s = c .before .before .before in
+    let g = c .before .before .loop in
+    count-ready (s .args .table .now) (s .args .n) (s .pre .1) (g .table) (g .label) (g .inv .0) (omega arith) (g .inv .2)
+
+add-label : tie.Need-add-label Inv-loop μ-loop
+add-label c = omega arith
+
+loop-less : tie.Need-loop-less Inv-loop μ-loop
+loop-less c = omega arith
+
+loop-again : tie.Need-loop-again Inv-loop μ-loop
+loop-again c =
+    let s = c .before .before .before .before .before in
+    let g = c .before .before .before .before .loop in
+    let q : g .label + 1 - 1 ≡ g .label = omega arith in
+    (omega arith, omega arith, rw (q, c .before .count-parts .ensures) (count-turn (s .args .table .now) (s .args .n) (s .pre .1) (g .table) (g .label) (g .inv .0) (omega arith) (g .inv .2)))
+
+same-length : tie.Need-same-length Inv-loop μ-loop
+same-length c = c .before .loop .inv .2 .over .size
+
+returns : tie.Need-returns Inv-loop μ-loop
+returns c =
+    let q : c .before .loop .label - 1 ≡ c .before .before .args .n = omega arith in
+    rw q at (c .before .loop .inv .2)
+
+pub count-uses-spec : {M : Type 1} → statement M
+count-uses-spec =
+    tie.close
+    (tie.spec
+    Inv-loop
+    μ-loop
+    loop-holds
+    count-parts-requires
+    add-label
+    loop-less
+    loop-again
+    same-length
+    returns)

@@ -1,0 +1,64 @@
+-- The four passes are one, for any check of a label.
+use mathlib.Core.Path.{_≡_, _∙_, sym, ap}
+use Prim.Native.Nat.{_+_, _-_, _≤_}
+use native.Mathlib.Omega.{arith}
+use Rattle.refusals.specs.Refusal.{firstBad}
+use Rattle.refusals.specs.declared.Verdict.the-variants.{Refused}
+use Rattle.refusals.proofs.FirstBad.{first-start, first-fine, first-bad, first-end}
+use Rattle.tree.specs.Steps.{cellBad}
+use Rattle.tree.proofs.Labels.{readable}
+use Rattle.tree.proofs.first_bad.Statement.{statement}
+use Rattle.tree.proofs.first_bad.Tie as tie
+
+abbrev Inv-loop : tie.InvT-loop
+Inv-loop table n rule label₀ label = (1 ≤ label) × (label ≤ n + 1) × (firstBad (cellBad rule table) label (n + 1 - label) ≡ firstBad (cellBad rule table) 1 n)
+
+abbrev μ-loop : tie.MeasureT-loop
+μ-loop table n rule label₀ label = n + 1 - label
+
+loop-holds : tie.Need-loop-holds Inv-loop μ-loop
+loop-holds c = (omega arith, omega arith, first-start (cellBad (c .args .rule) (c .args .table .now)) (c .args .n))
+
+check-requires : tie.Need-check-requires Inv-loop μ-loop
+check-requires c κs =
+    let s = c .before .before in
+    readable (s .args .table .now) (s .args .n) (c .before .loop .label) (s .pre) (c .before .loop .inv .0) (omega arith)
+
+returns : tie.Need-returns Inv-loop μ-loop
+returns c =
+    let s = c .before .before .before .before in
+    let k = c .before .before .before .loop .label in
+    let check = cellBad (s .args .rule) (s .args .table .now) in
+    ap (λ r. Refused r k) (c .before .check .ensures) ∙ sym (first-bad check (s .args .n) k (omega arith) (λ z. c .if1 .taken (c .before .check .ensures ∙ z))) ∙ c .before .before .before .loop .inv .2
+
+add-label : tie.Need-add-label Inv-loop μ-loop
+add-label c = omega arith
+
+loop-less : tie.Need-loop-less Inv-loop μ-loop
+loop-less c = omega arith
+
+loop-again : tie.Need-loop-again Inv-loop μ-loop
+loop-again c =
+    let s = c .before .before .before .before in
+    let k = c .before .before .before .loop .label in
+    let check = cellBad (s .args .rule) (s .args .table .now) in
+    (omega arith, omega arith, sym (first-fine check (s .args .n) k (omega arith) (sym (c .before .check .ensures) ∙ c .if1 .left)) ∙ c .before .before .before .loop .inv .2)
+
+returns-2 : tie.Need-returns-2 Inv-loop μ-loop
+returns-2 c =
+    let s = c .before .before in
+    sym (first-end (cellBad (s .args .rule) (s .args .table .now)) (s .args .n) (c .before .loop .label) (omega arith)) ∙ c .before .loop .inv .2
+
+pub first-bad-spec : {M : Type 1} → statement M
+first-bad-spec =
+    tie.close
+    (tie.spec
+    Inv-loop
+    μ-loop
+    loop-holds
+    check-requires
+    returns
+    add-label
+    loop-less
+    loop-again
+    returns-2)

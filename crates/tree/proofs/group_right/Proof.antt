@@ -1,0 +1,32 @@
+-- Row 8 on a Group, case by case.
+use mathlib.Core.Path.{sym}
+use Rattle.tree.proofs.Labels.{fits-first, fits-expression, fits-below, fits-above}
+use borrow.Author.Needs.{needs}
+use Rattle.tree.proofs.group_right.Statement.{statement}
+use Rattle.tree.proofs.group_right.Tie as tie
+
+returns : tie.Need-returns
+returns c = sym (fits-first (c .before .args .table .now) (c .before .args .label) (c .before .args .definition) (c .if1 .taken))
+
+cell-at-requires : tie.Need-cell-at-requires
+cell-at-requires c κs = search needs
+
+cell-at-requires-2 : tie.Need-cell-at-requires-2
+cell-at-requires-2 c κs = search needs
+
+returns-2 : tie.Need-returns-2
+returns-2 c =
+    let s = c .before .before .before .before .before in
+    sym (fits-below (s .args .table .now) (s .args .label) (s .args .definition) (c .before .before .before .before .if1 .left) (c .before .before .before .if2 .taken) (c .before .before .cell-at .result) (c .cell-at2 .result) (c .before .before .cell-at .ensures) (c .before .if3 .taken) (c .cell-at2 .ensures))
+
+returns-3 : tie.Need-returns-3
+returns-3 c =
+    let s = c .before .before .before .before in
+    sym (fits-above (s .args .table .now) (s .args .label) (s .args .definition) (c .before .before .before .if1 .left) (c .before .before .if2 .taken) (c .before .cell-at .result) (c .before .cell-at .ensures) (c .if3 .left))
+
+returns-4 : tie.Need-returns-4
+returns-4 c = sym (fits-expression (c .before .before .args .table .now) (c .before .before .args .label) (c .before .before .args .definition) (c .before .if1 .left) (c .if2 .left))
+
+pub group-right-spec : {M : Type 1} → statement M
+group-right-spec =
+    tie.close (tie.spec returns cell-at-requires cell-at-requires-2 returns-2 returns-3 returns-4)

@@ -1,0 +1,46 @@
+-- Row 8 by its two tests.
+use mathlib.Core.Path.{_∙_, sym, ap, refl}
+use Rattle.tree.specs.declared.Node.{Node}
+use Rattle.tree.specs.Tree.{partRight, parts, every}
+use Rattle.tree.proofs.Labels.{node-definition, structure-is}
+use borrow.Author.Needs.{needs}
+use Rattle.tree.proofs.structure_bad.Statement.{statement}
+use Rattle.tree.proofs.structure_bad.Tie as tie
+
+node-at-requires : tie.Need-node-at-requires
+node-at-requires c κs = (c .pre .low, c .pre .high (c .args .label))
+
+group-right-requires : tie.Need-group-right-requires
+group-right-requires c κs = search needs
+
+parts-right-requires : tie.Need-parts-right-requires
+parts-right-requires c κs = (c .before .before .before .pre, c .before .before .node-at .ensures)
+
+returns : tie.Need-returns
+returns c =
+    let s = c .before .before .before .before .before in
+    sym (structure-is (s .args .table .now) (s .args .label) (c .before .before .before .before .node-at .result .definition) (c .before .before .before .group-right .result) (c .before .parts-right .result) (ap (λ (p : Node). p .definition) (c .before .before .before .before .node-at .ensures) ∙ node-definition (s .args .table .now) (s .args .label) (s .pre .low)) (c .before .before .before .group-right .ensures) (c .before .parts-right .ensures)
+    ∙ rw (c .before .before .if1 .taken, c .if2 .taken))
+
+returns-2 : tie.Need-returns-2
+returns-2 c =
+    let s = c .before .before .before .before .before in
+    sym (structure-is (s .args .table .now) (s .args .label) (c .before .before .before .before .node-at .result .definition) (c .before .before .before .group-right .result) (c .before .parts-right .result) (ap (λ (p : Node). p .definition) (c .before .before .before .before .node-at .ensures) ∙ node-definition (s .args .table .now) (s .args .label) (s .pre .low)) (c .before .before .before .group-right .ensures) (c .before .parts-right .ensures)
+    ∙ rw (c .before .before .if1 .taken, c .if2 .left))
+
+returns-3 : tie.Need-returns-3
+returns-3 c =
+    let s = c .before .before .before in
+    sym (structure-is (s .args .table .now) (s .args .label) (c .before .before .node-at .result .definition) (c .before .group-right .result) (every (partRight (s .args .table .now) (s .args .label)) (parts (s .args .table .now) (s .args .label))) (ap (λ (p : Node). p .definition) (c .before .before .node-at .ensures) ∙ node-definition (s .args .table .now) (s .args .label) (s .pre .low)) (c .before .group-right .ensures) refl
+    ∙ rw (c .if1 .left))
+
+pub structure-bad-spec : {M : Type 1} → statement M
+structure-bad-spec =
+    tie.close
+    (tie.spec
+    node-at-requires
+    group-right-requires
+    parts-right-requires
+    returns
+    returns-2
+    returns-3)

@@ -1,0 +1,148 @@
+-- What the code reads and writes at one label, and what each of its passes has done. Until the last pass has cleared it, the target cell
+-- holds how often a label is used, and then its level.
+use mathlib.Core.Path.{_≡_}
+use mathlib.Core.Bool.{Bool, true, false, cond, _&&_}
+use mathlib.Core.List.{List}
+use Prim.Native.Nat.{ℕ, suc, _+_, _-_, _*_, _%_, _≤_, _<_}
+use lib.Dec.{leb, eqb}
+use lib.IntN.{ℤ, pos}
+use lib.ListN.{length, set}
+use Rattle.cells.specs.Cells.{intAt}
+use Rattle.cells.specs.Table.{cell, kind, fieldA, fieldB, fieldC, owner, target}
+use Rattle.lines.specs.Kinds.{kindAt}
+use Rattle.lines.specs.declared.Form.{Form}
+use Rattle.tree.specs.Tree.{isGroup, isOperand, isDefinition, isExpression, parts, groupRight, partRight, structureBad, times, uses, notOnce, IsPart, userOf, ownerOf, levelOf, argumentIn, tooDeep}
+use Rattle.tree.specs.Treed.{Formed}
+use Rattle.tree.specs.declared.Node.{Node}
+use Rattle.tree.specs.declared.Rule.{Rule}
+use Rattle.tree.specs.declared.Rule.the-variants as rule
+
+-- ---- one label
+
+-- what a field holds as a body or operand, else 0
+abbrev pub partIn : Form → ℕ → ℕ
+partIn f x = cond (isOperand f) x 0
+
+unfoldable pub nodeAt : List ℤ → ℕ → Node
+nodeAt t l = record {
+  definition = isGroup (kindAt (kind t l) .a);
+  a = partIn (kindAt (kind t l) .a) (fieldA t l);
+  b = partIn (kindAt (kind t l) .b) (fieldB t l);
+  c = partIn (kindAt (kind t l) .c) (fieldC t l);
+}
+
+-- a line of known kind in a table of known kinds
+pub record Readable (t : List ℤ) (l : ℕ) : Type 0 where
+  pub low : 1 ≤ kind t l
+  pub high : (x : ℕ) → kind t x ≤ 12
+  pub labels : times 0 (parts t l) ≡ 0
+
+-- row 8 by the node: a definition's Group, from label 2, and what may be a body or operand
+abbrev pub groupFits : List ℤ → ℕ → Bool → Bool
+groupFits t l definition = cond (leb 2 l && definition) (groupRight t l (fieldA t l)) true
+
+abbrev pub partFits : List ℤ → ℕ → ℕ → Bool
+partFits t l x = cond (eqb x 0) true (partRight t l x)
+
+-- the rows by the cells
+abbrev pub cellBad : Rule → List ℤ → ℕ → ℕ
+cellBad rule.Structure t l = structureBad t l
+cellBad rule.Uses t l = notOnce (isExpression t l) (target t l)
+cellBad rule.Argument t l = argumentIn (kind t l) (kind t (owner t l))
+cellBad rule.Level t l = tooDeep (target t l)
+
+-- the table in which x, if it is a label, is used once more
+abbrev pub counted : ℕ → List ℤ → List ℤ
+counted x t = cond (eqb x 0) t (set t (8 * (x - 1) + 7) (pos (target t x + 1)))
+
+abbrev pub countedAll : Node → List ℤ → List ℤ
+countedAll p t = counted (p .c) (counted (p .b) (counted (p .a) t))
+
+-- the table in which x, if it is a label, has this owner and level
+abbrev pub given : ℕ → ℕ → ℕ → List ℤ → List ℤ
+given x d v t = cond (eqb x 0) t (set (set t (8 * (x - 1) + 6) (pos d)) (8 * (x - 1) + 7) (pos v))
+
+abbrev pub givenAll : Node → ℕ → ℕ → List ℤ → List ℤ
+givenAll p d v t = given (p .c) d v (given (p .b) d v (given (p .a) d v t))
+
+-- the table in which line l has handed its owner and level on to its parts
+unfoldable pub handed : ℕ → List ℤ → List ℤ
+handed l t =
+    cond (nodeAt t l .definition)
+    (givenAll (nodeAt t l) l 1 (given l (fieldA t l) 0 t))
+    (givenAll (nodeAt t l) (owner t l) (target t l + 1) t)
+
+-- what these writes ask: the parts have rows in the table, and what is written fits
+pub record Inside (t : List ℤ) (p : Node) : Type 0 where
+  pub a : 8 * p .a ≤ length t
+  pub b : 8 * p .b ≤ length t
+  pub c : 8 * p .c ≤ length t
+
+pub record Countable (t : List ℤ) (l : ℕ) : Type 0 where
+  pub low : 1 ≤ kind t l
+  pub high : kind t l ≤ 12
+  pub inside : Inside t (nodeAt t l)
+  pub a : target t (nodeAt t l .a) ≤ 3072
+  pub b : target t (nodeAt t l .b) ≤ 3072
+  pub c : target t (nodeAt t l .c) ≤ 3072
+
+pub record Handable (t : List ℤ) (l : ℕ) : Type 0 where
+  pub low : 1 ≤ kind t l
+  pub high : kind t l ≤ 12
+  pub inside : Inside t (nodeAt t l)
+  pub room : 8 * l ≤ length t
+  pub few : l ≤ 1024
+  pub group : nodeAt t l .definition ≡ true → fieldA t l ≤ 1024
+  pub owner : nodeAt t l .definition ≡ false → owner t l ≤ 1024
+  pub level : nodeAt t l .definition ≡ false → target t l ≤ 1024
+
+-- ---- tables that passed rows 8 and 9
+
+pub record Structured (t : List ℤ) (n : ℕ) : Type 0 where
+  pub formed : Formed t n
+  pub group : (l : ℕ) → 2 ≤ l → l ≤ n → isDefinition t l ≡ true → (fieldA t l < l) × (kind t (fieldA t l) ≡ 1)
+  pub part : (l x : ℕ) → IsPart t l x → (l < x) × (isExpression t x ≡ true)
+
+pub record UsedOnce (t : List ℤ) (n : ℕ) : Type 0 where
+  pub structure : Structured t n
+  pub once : (x : ℕ) → isExpression t x ≡ true → uses t n x ≡ 1
+
+-- ---- the passes
+
+-- owner and target cells of the labels 1 to n are no negative numbers
+abbrev pub Natural : List ℤ → ℕ → Type 0
+Natural t n = (k j : ℕ) → k < n → 6 ≤ j → j < 8 → intAt t (8 * k + j) ≡ pos (cell t (suc k) j)
+
+-- w is t but for such cells
+pub record Over (t : List ℤ) (n : ℕ) (w : List ℤ) : Type 0 where
+  pub size : length w ≡ length t
+  pub fields : (i : ℕ) → i % 8 < 6 → intAt w i ≡ intAt t i
+  pub beyond : (i : ℕ) → 8 * n ≤ i → intAt w i ≡ intAt t i
+  pub natural : Natural w n
+
+-- the parts of labels 1 to k are counted
+pub record Counted (t : List ℤ) (n k : ℕ) (w : List ℤ) : Type 0 where
+  pub over : Over t n w
+  pub uses : (x : ℕ) → 1 ≤ x → x ≤ n → target w x ≡ uses t k x
+
+-- the label at which the owner of x is written: its own for a definition, its user's for an expression
+abbrev pub turnOf : List ℤ → ℕ → ℕ → ℕ
+turnOf t n x = cond (isExpression t x) (userOf t n x) x
+
+-- the owners and levels that labels 1 to k write are written
+pub record Handed (t : List ℤ) (n k : ℕ) (w : List ℤ) : Type 0 where
+  pub over : Over t n w
+  pub owners : (x : ℕ) → 1 ≤ x → x ≤ n → turnOf t n x ≤ k → owner w x ≡ ownerOf t n x
+  pub levels : (x : ℕ) → 1 ≤ x → x ≤ n → turnOf t n x ≤ k → target w x ≡ levelOf t n x
+
+-- the targets of labels 1 to k are 0
+pub record Cleared (t : List ℤ) (n k : ℕ) (w : List ℤ) : Type 0 where
+  pub over : Over t n w
+  pub owners : (x : ℕ) → owner w x ≡ owner t x
+  pub targets : (x : ℕ) → 1 ≤ x → x ≤ k → target w x ≡ 0
+
+-- owners are written, and targets are 0
+pub record Owning (t : List ℤ) (n : ℕ) (w : List ℤ) : Type 0 where
+  pub over : Over t n w
+  pub owners : (x : ℕ) → 1 ≤ x → x ≤ n → owner w x ≡ ownerOf t n x
+  pub targets : (x : ℕ) → 1 ≤ x → x ≤ n → target w x ≡ 0

@@ -1,0 +1,362 @@
+// The tree of a table: rows 8 to 11 of document 01's table of refusals, and the owner of each label. A user's label is below that of what
+// it uses, so that one pass upward through the labels hands owners and levels on; uses and levels stand in the target cells meanwhile.
+
+ghost use mathlib.Core.Path.{_≡_};
+ghost use Prim.Native.Nat.{_*_, _≤_, _<_};
+ghost use lib.ListN.{length};
+ghost use Rattle.cells.specs.Table.{cell, kind, target};
+ghost use Rattle.refusals.specs.Refusal.{firstBad, orElse};
+ghost use Rattle.tree.specs.Tree.{isGroup, isExpression, every, partRight, parts, structureBad, usesBad, argumentBad, levelBad, treeBad};
+ghost use Rattle.tree.specs.Treed.{Formed, Plain, Written};
+ghost use Rattle.tree.specs.Steps.{partIn, nodeAt, Readable, groupFits, partFits, cellBad, counted, countedAll, given, givenAll, handed, Inside, Countable, Handable, Structured, UsedOnce, Natural, Counted, Handed, Cleared, Owning};
+use lines::Form;
+use refusals::Verdict;
+
+// Codes of the kinds that these rows name.
+const G: usize = 1;
+
+const V: usize = 2;
+
+const P: usize = 5;
+
+// ---- one line
+
+// What a line is in the tree: whether it is a definition, and what its fields a, b and c hold as its body or operands, else 0.
+pub struct Node {
+    pub definition: bool,
+    pub a: usize,
+    pub b: usize,
+    pub c: usize,
+}
+
+fn is_group(form: Form) -> bool
+    ensures { λ r. ⌜ r ≡ isGroup form ⌝ }
+{
+    match form {
+        Form::Group => true,
+        _ => false,
+    }
+}
+
+// What field j of a label holds as a body or operand, else 0.
+fn part_at(table: &[i64], label: usize, j: usize, form: Form) -> usize
+    requires { ⌜ j < 8 ⌝ }
+    ensures { λ r. ⌜ r ≡ partIn form (cell (now (table .entry)) label j) ⌝ }
+{
+    match form {
+        Form::Operand => cells::cell_at(table, label, j),
+        _ => 0,
+    }
+}
+
+fn node_at(table: &[i64], label: usize) -> Node
+    requires { ⌜ (1 ≤ kind (now table) label) × (kind (now table) label ≤ 12) ⌝ }
+    ensures { λ r. ⌜ r ≡ nodeAt (now (table .entry)) label ⌝ }
+{
+    let kind = lines::kind_row(cells::cell_at(table, label, 0));
+    let form_a = kind.a;
+    let form_b = kind.b;
+    let form_c = kind.c;
+    let definition = is_group(form_a);
+    let a = part_at(table, label, 3, form_a);
+    let b = part_at(table, label, 4, form_b);
+    let c = part_at(table, label, 5, form_c);
+    Node {
+        definition,
+        a,
+        b,
+        c,
+    }
+}
+
+fn is_expression(table: &[i64], label: usize) -> bool
+    requires { ⌜ kind (now table) label ≤ 12 ⌝ }
+    ensures { λ r. ⌜ r ≡ isExpression (now (table .entry)) label ⌝ }
+{
+    let code = cells::cell_at(table, label, 0);
+    if code == 0 {
+        return false;
+    }
+    let kind = lines::kind_row(code);
+    let form = kind.a;
+    if is_group(form) {
+        return false;
+    }
+    true
+}
+
+// ---- rows 8 to 11, a label at a time
+
+// Whether the Group of a definition is a G with a smaller label; label 1's is not judged.
+fn group_right(table: &[i64], label: usize, definition: bool) -> bool
+    ensures { λ r. ⌜ r ≡ groupFits (now (table .entry)) label definition ⌝ }
+{
+    if label < 2 {
+        return true;
+    }
+    if definition {
+        let group = cells::cell_at(table, label, 3);
+        if group < label {
+            return cells::cell_at(table, group, 0) == G;
+        }
+        return false;
+    }
+    true
+}
+
+// Whether x, if it is a body or operand of the label, is an expression with a larger label.
+fn part_right(table: &[i64], label: usize, x: usize) -> bool
+    requires { ⌜ kind (now table) x ≤ 12 ⌝ }
+    ensures { λ r. ⌜ r ≡ partFits (now (table .entry)) label x ⌝ }
+{
+    if x == 0 {
+        return true;
+    }
+    if label < x {
+        return is_expression(table, x);
+    }
+    false
+}
+
+fn parts_right(table: &[i64], label: usize, node: Node) -> bool
+    requires { ⌜ Readable (now table) label × (node ≡ nodeAt (now table) label) ⌝ }
+    ensures { λ r. ⌜ r ≡ every (partRight (now (table .entry)) label) (parts (now (table .entry)) label) ⌝ }
+{
+    if part_right(table, label, node.a) {
+        if part_right(table, label, node.b) {
+            return part_right(table, label, node.c);
+        }
+    }
+    false
+}
+
+fn structure_bad(table: &[i64], label: usize) -> u64
+    requires { ⌜ Readable (now table) label ⌝ }
+    ensures { λ r. ⌜ r ≡ structureBad (now (table .entry)) label ⌝ }
+{
+    let node = node_at(table, label);
+    if group_right(table, label, node.definition) {
+        if parts_right(table, label, node) {
+            return 0;
+        }
+    }
+    refusals::STRUCTURE
+}
+
+// The rows of the tree, in the order of their passes.
+pub enum Rule {
+    Structure,
+    Uses,
+    Argument,
+    Level,
+}
+
+fn uses_bad(table: &[i64], label: usize) -> u64
+    requires { ⌜ kind (now table) label ≤ 12 ⌝ }
+    ensures { λ r. ⌜ r ≡ cellBad Rule.Uses (now (table .entry)) label ⌝ }
+{
+    if is_expression(table, label) {
+        if cells::cell_at(table, label, 7) != 1 {
+            return refusals::USES;
+        }
+    }
+    0
+}
+
+// A P is in no V.
+fn argument_bad(table: &[i64], label: usize) -> u64
+    ensures { λ r. ⌜ r ≡ cellBad Rule.Argument (now (table .entry)) label ⌝ }
+{
+    if cells::cell_at(table, label, 0) == P {
+        let owner = cells::cell_at(table, label, 6);
+        if cells::cell_at(table, owner, 0) == V {
+            return refusals::ARGUMENT;
+        }
+    }
+    0
+}
+
+fn level_bad(table: &[i64], label: usize) -> u64
+    ensures { λ r. ⌜ r ≡ cellBad Rule.Level (now (table .entry)) label ⌝ }
+{
+    if 32 < cells::cell_at(table, label, 7) {
+        return refusals::LEVEL;
+    }
+    0
+}
+
+// The number of the row, if it refuses the label, else 0.
+fn check(table: &[i64], label: usize, rule: Rule) -> u64
+    requires { ⌜ Readable (now table) label ⌝ }
+    ensures { λ r. ⌜ r ≡ cellBad rule (now (table .entry)) label ⌝ }
+{
+    match rule {
+        Rule::Structure => structure_bad(table, label),
+        Rule::Uses => uses_bad(table, label),
+        Rule::Argument => argument_bad(table, label),
+        Rule::Level => level_bad(table, label),
+    }
+}
+
+// One row's pass upward through the labels.
+fn first_bad(table: &[i64], n: usize, rule: Rule) -> Verdict
+    requires { ⌜ Formed (now table) n ⌝ }
+    ensures { λ r. ⌜ r ≡ firstBad (cellBad rule (now (table .entry))) 1 n ⌝ }
+{
+    let mut label: usize = 1;
+    while label <= n {
+        let row = check(table, label, rule);
+        if row != 0 {
+            return Verdict::Refused(row, label as u64);
+        }
+        label += 1;
+    }
+    Verdict::Fine
+}
+
+// ---- how often each label is used
+
+fn count_part(table: &mut [i64], x: usize)
+    requires { ⌜ (8 * x ≤ length (now table)) × (target (now table) x < 65536) ⌝ }
+    ensures { λ _. ⌜ now (table .exit) ≡ counted x (now (table .entry)) ⌝ }
+{
+    if x != 0 {
+        let uses = cells::cell_at(table, x, 7);
+        cells::put_cell(table, x, 7, uses + 1);
+    }
+}
+
+fn count_parts(table: &mut [i64], label: usize)
+    requires { ⌜ Countable (now table) label ⌝ }
+    ensures { λ _. ⌜ now (table .exit) ≡ countedAll (nodeAt (now (table .entry)) label) (now (table .entry)) ⌝ }
+{
+    let node = node_at(table, label);
+    count_part(table, node.a);
+    count_part(table, node.b);
+    count_part(table, node.c);
+}
+
+fn count_uses(table: &mut [i64], n: usize)
+    requires { ⌜ Plain (now table) n × Structured (now table) n ⌝ }
+    ensures { λ _. ⌜ Counted (now (table .entry)) n n (now (table .exit)) ⌝ }
+{
+    let mut label: usize = 1;
+    while label <= n {
+        count_parts(table, label);
+        label += 1;
+    }
+}
+
+// ---- owners and levels
+
+// Owner and level of x, if it is a label.
+fn give(table: &mut [i64], x: usize, owner: usize, level: usize)
+    requires { ⌜ (8 * x ≤ length (now table)) × (owner ≤ 1024) × (level ≤ 1025) ⌝ }
+    ensures { λ _. ⌜ now (table .exit) ≡ given x owner level (now (table .entry)) ⌝ }
+{
+    if x != 0 {
+        cells::put_cell(table, x, 6, owner);
+        cells::put_cell(table, x, 7, level);
+    }
+}
+
+fn give_parts(table: &mut [i64], node: Node, owner: usize, level: usize)
+    requires { ⌜ Inside (now table) node × (owner ≤ 1024) × (level ≤ 1025) ⌝ }
+    ensures { λ _. ⌜ now (table .exit) ≡ givenAll node owner level (now (table .entry)) ⌝ }
+{
+    give(table, node.a, owner, level);
+    give(table, node.b, owner, level);
+    give(table, node.c, owner, level);
+}
+
+// A definition owns its body, at level 1, and has its Group as owner; an expression hands its owner on to its operands, one level deeper.
+fn hand_on(table: &mut [i64], label: usize)
+    requires { ⌜ Handable (now table) label ⌝ }
+    ensures { λ _. ⌜ now (table .exit) ≡ handed label (now (table .entry)) ⌝ }
+{
+    let node = node_at(table, label);
+    if node.definition {
+        let group = cells::cell_at(table, label, 3);
+        give(table, label, group, 0);
+        give_parts(table, node, label, 1);
+        return;
+    }
+    let owner = cells::cell_at(table, label, 6);
+    let level = cells::cell_at(table, label, 7);
+    give_parts(table, node, owner, level + 1);
+}
+
+fn hand_all(table: &mut [i64], n: usize)
+    requires { ⌜ UsedOnce (now table) n × Natural (now table) n ⌝ }
+    ensures { λ _. ⌜ Handed (now (table .entry)) n n (now (table .exit)) ⌝ }
+{
+    let mut label: usize = 1;
+    while label <= n {
+        hand_on(table, label);
+        label += 1;
+    }
+}
+
+fn clear_targets(table: &mut [i64], n: usize)
+    requires { ⌜ (8 * n ≤ length (now table)) × Natural (now table) n ⌝ }
+    ensures { λ _. ⌜ Cleared (now (table .entry)) n n (now (table .exit)) ⌝ }
+{
+    let mut label: usize = 1;
+    while label <= n {
+        cells::put_cell(table, label, 7, 0);
+        label += 1;
+    }
+}
+
+// ---- rows 8 to 11
+
+// Rows 10 and 11, by owners and levels in the table.
+fn late_rows(table: &[i64], n: usize) -> Verdict
+    requires { ⌜ Formed (now table) n ⌝ }
+    ensures { λ r. ⌜ r ≡ orElse (firstBad (cellBad Rule.Argument (now (table .entry))) 1 n) (firstBad (cellBad Rule.Level (now (table .entry))) 1 n) ⌝ }
+{
+    let verdict = first_bad(table, n, Rule::Argument);
+    match verdict {
+        Verdict::Fine => first_bad(table, n, Rule::Level),
+        Verdict::Refused(_, _) => verdict,
+    }
+}
+
+// A table that passed rows 8 and 9: its owners are written, and rows 10 and 11 judged.
+fn read_owners(table: &mut [i64], n: usize) -> Verdict
+    requires { ⌜ UsedOnce (now table) n × Natural (now table) n ⌝ }
+    ensures { λ r. ⌜ r ≡ orElse (firstBad (argumentBad (now (table .entry)) n) 1 n) (firstBad (levelBad (now (table .entry)) n) 1 n) ⌝ }
+    ensures { λ _. ⌜ Owning (now (table .entry)) n (now (table .exit)) ⌝ }
+{
+    hand_all(table, n);
+    let verdict = late_rows(table, n);
+    clear_targets(table, n);
+    verdict
+}
+
+// A table that passed row 8.
+fn read_uses(table: &mut [i64], n: usize) -> Verdict
+    requires { ⌜ Plain (now table) n × Structured (now table) n ⌝ }
+    ensures { λ r. ⌜ r ≡ orElse (firstBad (usesBad (now (table .entry)) n) 1 n) (orElse (firstBad (argumentBad (now (table .entry)) n) 1 n) (firstBad (levelBad (now (table .entry)) n) 1 n)) ⌝ }
+    ensures { λ r. ⌜ Written r (now (table .entry)) n (now (table .exit)) ⌝ }
+{
+    count_uses(table, n);
+    let verdict = first_bad(table, n, Rule::Uses);
+    match verdict {
+        Verdict::Fine => read_owners(table, n),
+        Verdict::Refused(_, _) => verdict,
+    }
+}
+
+// Rows 8 to 11, and the owner of each label.
+pub fn read_tree(table: &mut [i64], n: usize) -> Verdict
+    requires { ⌜ Plain (now table) n ⌝ }
+    ensures { λ r. ⌜ r ≡ treeBad (now (table .entry)) n ⌝ }
+    ensures { λ r. ⌜ Written r (now (table .entry)) n (now (table .exit)) ⌝ }
+{
+    let verdict = first_bad(table, n, Rule::Structure);
+    match verdict {
+        Verdict::Fine => read_uses(table, n),
+        Verdict::Refused(_, _) => verdict,
+    }
+}

@@ -4,4 +4,5 @@ pub mod Splits
 pub mod Rows
 pub mod Heads
 pub mod Pass
+pub mod Lined
 mod Samples

@@ -52,7 +52,7 @@ hold-operands Wrong y z a b c e = let q : _≡_ {A = ℕ} 0 1 = cc in absurd (om
 -- ---- the line of label 1
 
 -- the label field `0` is of wrong form, so that label 1's cell a is 0
-zero-label : (n : ℕ) → labelOf n (48 ∷ []) ≡ Not
+pub zero-label : (n : ℕ) → labelOf n (48 ∷ []) ≡ Not
 unfolding labelOf decimalOf digitsOf allDigits value
 zero-label n = rw (leb·zero n)
 

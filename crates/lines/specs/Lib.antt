@@ -2,3 +2,4 @@ pub mod Kinds
 pub mod Fields
 pub mod Lines
 pub mod Steps
+pub mod Lined

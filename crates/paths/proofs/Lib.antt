@@ -7,3 +7,4 @@ pub mod Resolving
 pub mod Alike
 pub mod Passes
 pub mod Joining
+pub mod Leads

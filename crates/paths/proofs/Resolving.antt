@@ -69,9 +69,9 @@ above-zero t zero e = absurd (omega arith)
 above-zero t (suc m) e = omega arith
 
 -- an owner's label is no larger than the label, 0 for 0
-pub owner-small : (s : List ℕ) (t : List ℤ) (n : ℕ) → Rows s t n → (l : ℕ) → l ≤ n → owner t l ≤ n
-owner-small s t n r zero h = omega arith
-owner-small s t n r (suc l) h = omega (arith, r .falls (suc l) (omega arith) h)
+pub owner-small : (t : List ℤ) (n : ℕ) → ((l : ℕ) → 1 ≤ l → l ≤ n → owner t l < l) → (l : ℕ) → l ≤ n → owner t l ≤ n
+owner-small t n falls zero h = omega arith
+owner-small t n falls (suc l) h = omega (arith, falls (suc l) (omega arith) h)
 
 -- ---- lookups
 
@@ -161,7 +161,7 @@ module _ (s : List ℕ) (t : List ℤ) (n : ℕ) where
     target-is head e = rw (e, name-is)
 
   -- row 12: the member found first is the label itself exactly if no smaller one has the name
-  same-self : (w : List ℕ) → sameName w w ≡ true
+  pub same-self : (w : List ℕ) → sameName w w ≡ true
   unfolding sameName
   same-self [] = refl
   same-self (x ∷ w) = rw (eq-eqb x x refl) (same-self w)

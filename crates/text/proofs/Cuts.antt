@@ -11,7 +11,7 @@ use lib.ListN.{length, getD, drop, take}
 use lib.Seq.{slice, getD-drop, drop-drop}
 use borrow.Author.Tests.{eq-eqb, ne-eqb}
 use Rattle.text.specs.Bytes.{one, countBy, run, oneMore, isInk, isNewline}
-use Rattle.text.specs.Pieces.{cut, cutAt, onto, place, firstOf}
+use Rattle.text.specs.Pieces.{cut, cutAt, onto, place, firstOf, fieldsAre}
 use Rattle.text.proofs.Bytes.{true-false}
 
 -- a byte that passes a test is not one that fails it
@@ -156,3 +156,25 @@ module _ (ps : List (List ℕ)) (k : ℕ) (p : List ℕ) (qs : List (List ℕ)) 
 
   pub place-next : place ps (k + 1) ≡ place ps k + length p + 1
   place-next = rw add-one (place-suc ps k p qs e)
+
+-- every piece lies in the list
+inside-go : (x : ℕ) (n : ℕ) (t : Bool) (ps : List (List ℕ)) → 1 ≤ length ps → ((k : ℕ) → k < length ps → place ps k + length (getD ps k []) ≤ n)
+    → (k : ℕ) → k < length (cutAt t x ps) → place (cutAt t x ps) k + length (getD (cutAt t x ps) k []) ≤ suc n
+inside-go x n true ps h rest zero l = omega arith
+inside-go x n true ps h rest (suc k) l = omega (arith, rest k (le-of-suc-le-suc l))
+inside-go x n false [] h rest k l = absurd (not-suc-le-zero h)
+inside-go x n false (p ∷ ps) h rest zero l = omega (arith, rest 0 h)
+inside-go x n false (p ∷ ps) h rest (suc k) l = omega (arith, rest (suc k) l)
+
+pub piece-inside : (b : ℕ) (s : List ℕ) (k : ℕ) → k < length (cut b s) → place (cut b s) k + length (getD (cut b s) k []) ≤ length s
+piece-inside b [] zero l = omega arith
+piece-inside b [] (suc k) l = absurd (not-suc-le-zero (le-of-suc-le-suc l))
+piece-inside b (x ∷ xs) k l = inside-go x (length xs) (eqb x b) (cut b xs) (some b xs) (piece-inside b xs) k l
+
+-- k pieces, none of them empty, are k pieces
+pub fields-count : (k : ℕ) (fs : List (List ℕ)) → fieldsAre k fs ≡ true → length fs ≡ k
+fields-count zero [] e = refl
+fields-count zero (f ∷ fs) e = absurd (true-false (sym e))
+fields-count (suc k) [] e = absurd (true-false (sym e))
+fields-count (suc k) ([] ∷ fs) e = absurd (true-false (sym e))
+fields-count (suc k) ((x ∷ f) ∷ fs) e = ap suc (fields-count k fs e)

@@ -13,6 +13,7 @@ use Rattle.cells.specs.Cells.{intAt}
 use Rattle.cells.specs.Table.{kind, owner, target, withColumn}
 use Rattle.cells.proofs.Columns.{column-length, column-keeps, column-has}
 use Rattle.refusals.specs.Refusal.{firstBad, orElse}
+use Rattle.refusals.proofs.FirstBad.{first-same}
 use Rattle.refusals.specs.declared.Verdict.{Verdict}
 use Rattle.refusals.specs.declared.Verdict.the-variants.{Fine, Refused}
 use Rattle.tree.specs.Tree.{isExpression, usesBad, userOf, argumentBad, levelBad, ownerOf}
@@ -30,11 +31,6 @@ or-next v u r w e f g = rw (sym e ∙ f) g
 
 pub or-stop : {r p : ℕ} (v u w : Verdict) → v ≡ Refused r p → v ≡ u → v ≡ orElse u w
 or-stop v u w f e = rw (sym e) (rw f)
-
--- checks that agree on the labels find the same
-pub first-same : (f g : ℕ → ℕ) (m k : ℕ) → ((j : ℕ) → k ≤ j → j < k + m → f j ≡ g j) → firstBad f k m ≡ firstBad g k m
-first-same f g zero k h = refl
-first-same f g (suc m) k h = rw (h k (omega arith) (omega arith), first-same f g m (suc k) (λ j a b. h j (omega arith) (omega arith)))
 
 -- ---- rows 9, 10 and 11
 

@@ -35,7 +35,7 @@ grouped : (c : tie.After-cell-at4) → c .cell-at4 .result ≤ c .before .before
 grouped c =
     let a = c .before .before .before .before .before .before .before .before .before .before .args in
     let f = c .before .before .before .before .before .before .before .before .before .before .pre .0 .0 .falls (a .label) (omega arith) (omega arith) in
-    omega (arith, c .cell-at4 .ensures, c .before .cell-at3 .ensures, owner-small (a .text .now) (a .table .now) (a .n) (c .before .before .before .before .before .before .before .before .before .before .pre .0 .0) (c .before .cell-at3 .result) (omega (arith, c .before .cell-at3 .ensures)))
+    omega (arith, c .cell-at4 .ensures, c .before .cell-at3 .ensures, owner-small (a .table .now) (a .n) (c .before .before .before .before .before .before .before .before .before .before .pre .0 .0 .falls) (c .before .cell-at3 .result) (omega (arith, c .before .cell-at3 .ensures)))
 
 search-requires : tie.Need-search-requires
 search-requires c κs =

@@ -1,0 +1,352 @@
+-- What rows 1 to 7 give of the table that they leave.
+use mathlib.Core.Path.{_≡_, refl, ap, sym, _∙_}
+use mathlib.Core.Bool.{Bool, true, false, cond, _&&_}
+use mathlib.Core.List.{List, _++_}
+use Prim.Native.Nat.{ℕ, zero, suc, _+_, _-_, _*_, _≤_, _<_}
+use native.Mathlib.Nat.{not-suc-le-zero}
+use native.Mathlib.Omega.{arith}
+use borrow.Author.Tests.{eqb-true, eqb-false, eq-eqb, ltb-true, ltb-false}
+use lib.Dec.{eqb, ltb}
+use lib.IntN.{ℤ, pos, natAbs}
+use lib.ListN.{length, length-append, length-replicate, List·getD-append}
+use lib.Seq.{getD-append-add}
+use Rattle.cells.specs.Cells.{natOf, intAt, zeros}
+use Rattle.cells.specs.Table.{cell, kind, nameStart, nameLength, fieldA}
+use Rattle.cells.specs.Table as table
+use Rattle.cells.proofs.Stores.{intAt-zeros}
+use Rattle.numbers.specs.Decimal.{numberOf}
+use Rattle.numbers.specs.declared.Decimal.{Decimal}
+use Rattle.numbers.specs.declared.Decimal.the-variants as decimal
+use Rattle.numbers.specs.declared.Number.{Number}
+use Rattle.numbers.specs.declared.Number.the-variants as number
+use Rattle.numbers.proofs.Decimals.{number-size}
+use Rattle.refusals.specs.Rows.{fieldsRow, kindRow, formRow}
+use Rattle.refusals.specs.declared.Verdict.the-variants.{Fine}
+use Rattle.refusals.proofs.FirstBad.{first-none}
+use Rattle.text.specs.Bytes.{same}
+use Rattle.text.specs.Pieces.{cut, place, fieldsAre}
+use Rattle.text.specs.Forms.{isName, isPath, labelOf}
+use Rattle.text.proofs.Bytes.{true-false, and-left, and-right, same-eq}
+use Rattle.text.proofs.Cuts.{pieces, piece-inside, fields-count}
+use Rattle.text.proofs.Labels.{label-least}
+use Rattle.lines.specs.Kinds.{kinds, kindAt, codeOf}
+use Rattle.lines.specs.Fields.{dash, blankIf, fromLabel, fromNumber, fieldOf, isRight, held, kindCode}
+use Rattle.lines.specs.Lines.{line, labels, headBad, rootLine, field, formsRight, lineBad, lineCheck, linesBad, rowOf, rows}
+use Rattle.lines.specs.Lined.{linedTable, Lined}
+use Rattle.lines.specs.declared.Kind.{Kind}
+use Rattle.lines.specs.declared.Form.{Form}
+use Rattle.lines.specs.declared.Form.the-variants as form
+use Rattle.lines.proofs.Codes.{kind-bound, isNumber, number-a, number-b, number-c, number-form}
+use Rattle.lines.proofs.Rows.{zero-label}
+use Rattle.lines.proofs.Heads.{headed}
+use Rattle.lines.proofs.Pass.{rows-length}
+
+-- ---- what a field holds, by its form
+
+abbrev Natural : ℤ → Type 0
+Natural z = z ≡ pos (natOf z)
+
+blank-natural : (b : Bool) → Natural (held (blankIf b))
+blank-natural true = refl
+blank-natural false = refl
+
+label-natural : (d : Decimal) → Natural (held (fromLabel d))
+label-natural (decimal.Is v) = refl
+label-natural decimal.Not = refl
+
+held-natural : (f : Form) (n : ℕ) (w : List ℕ) → isNumber f ≡ false → Natural (held (fieldOf f n w))
+unfolding fieldOf
+held-natural form.Missing n w e = blank-natural (same w dash)
+held-natural form.Name n w e = blank-natural (isName w)
+held-natural form.Path n w e = blank-natural (isPath w)
+held-natural form.Group n w e = label-natural (labelOf n w)
+held-natural form.Operand n w e = label-natural (labelOf n w)
+held-natural form.Number n w e = absurd (true-false e)
+
+held-number : (n : ℕ) (w : List ℕ) → natAbs (held (fieldOf form.Number n w)) ≤ 1000000000
+unfolding fieldOf
+held-number n w = go (numberOf w) refl
+  where
+    go : (x : Number) → numberOf w ≡ x → natAbs (held (fromNumber x)) ≤ 1000000000
+    go (number.Is z) e = number-size w z e
+    go number.Not e = omega arith
+
+held-label : (n : ℕ) (w : List ℕ) → isRight (fieldOf form.Operand n w) ≡ true → 1 ≤ natOf (held (fieldOf form.Operand n w))
+unfolding fieldOf
+held-label n w r = go (labelOf n w) refl r
+  where
+    go : (d : Decimal) → labelOf n w ≡ d → isRight (fromLabel d) ≡ true → 1 ≤ natOf (held (fromLabel d))
+    go (decimal.Is v) e f = label-least n w v e
+    go decimal.Not e f = absurd (true-false (sym f))
+
+-- ---- a line that rows 5 to 7 let pass
+
+-- an operand field, where the kind wants one, holds a label
+abbrev Right : Form → ℕ → List ℕ → Type 0
+Right f n w = f ≡ form.Operand → isRight (fieldOf f n w) ≡ true
+
+record Formed (n : ℕ) (k : Kind) (fs : List (List ℕ)) : Type 0 where
+  first : Right (k .a) n (field fs 2)
+  second : Right (k .b) n (field fs 3)
+  third : Right (k .c) n (field fs 4)
+
+group-differs : form.Group ≡ form.Operand → ⊥
+group-differs e = let z : _≡_ {A = ℕ} 0 1 = cc in omega arith
+
+missing-differs : form.Missing ≡ form.Operand → ⊥
+missing-differs e = let z : _≡_ {A = ℕ} 0 1 = cc in omega arith
+
+zero-then : (b : Bool) (x r : ℕ) → (r ≡ 0 → ⊥) → cond b x r ≡ 0 → (b ≡ true) × (x ≡ 0)
+zero-then true x r d e = (refl, e)
+zero-then false x r d e = absurd (d e)
+
+zero-else : (b : Bool) (x r : ℕ) → (r ≡ 0 → ⊥) → cond b r x ≡ 0 → (b ≡ false) × (x ≡ 0)
+zero-else true x r d e = absurd (d e)
+zero-else false x r d e = (refl, e)
+
+root-code : kindCode (field (cut 32 rootLine) 0) ≡ 1
+unfolding rootLine codeOf kinds
+root-code = refl
+
+module _ (n k : ℕ) (l : List ℕ) (e : lineBad n k l ≡ 0) where
+  abbrev fs : List (List ℕ)
+  fs = cut 32 l
+
+  abbrev code : ℕ
+  code = kindCode (field fs 0)
+
+  abbrev formed : Bool
+  formed = cond (eqb k 1) (same l rootLine) (formsRight n (kindAt code) fs)
+
+  -- what row 7 finds, and rows 6 and 7
+  abbrev formBad : ℕ
+  formBad = cond formed 0 formRow
+
+  abbrev kindBad : ℕ
+  kindBad = cond (eqb code 0) kindRow formBad
+
+  fine-fields : (fieldsAre 5 fs ≡ true) × (kindBad ≡ 0)
+  unfolding lineBad
+  fine-fields = zero-then (fieldsAre 5 fs) kindBad fieldsRow (λ z. omega arith) e
+
+  fine-kind : (eqb code 0 ≡ false) × (formBad ≡ 0)
+  fine-kind = zero-else (eqb code 0) formBad kindRow (λ z. omega arith) (fine-fields .1)
+
+  fine-forms : formed ≡ true
+  fine-forms = zero-then formed 0 formRow (λ z. omega arith) (fine-kind .1) .0
+
+  five : length fs ≡ 5
+  five = fields-count 5 fs (fine-fields .0)
+
+  known : 1 ≤ code
+  known = let d = eqb-false code 0 (fine-kind .0) in omega (arith, d)
+
+  root-is : k ≡ 1 → l ≡ rootLine
+  root-is q = let r : formed ≡ true = fine-forms in same-eq l rootLine (rw (eq-eqb k 1 q) at r)
+
+  -- label 1 is of the kind of code 1, which has no operands
+  root-formed : k ≡ 1 → Formed n (kindAt code) fs
+  unfolding kindAt kinds
+  root-formed q =
+      let c : code ≡ 1 = ap (λ (x : List ℕ). kindCode (field (cut 32 x) 0)) (root-is q) ∙ root-code in
+      record {
+        first = λ f. absurd (group-differs (sym (ap (λ (x : ℕ). kindAt x .a) c) ∙ f));
+        second = λ f. absurd (missing-differs (sym (ap (λ (x : ℕ). kindAt x .b) c) ∙ f));
+        third = λ f. absurd (missing-differs (sym (ap (λ (x : ℕ). kindAt x .c) c) ∙ f));
+      }
+
+  row-formed : formsRight n (kindAt code) fs ≡ true → Formed n (kindAt code) fs
+  row-formed r =
+      let name = isRight (fieldOf (kindAt code .name) n (field fs 1)) in
+      let a = isRight (fieldOf (kindAt code .a) n (field fs 2)) in
+      let b = isRight (fieldOf (kindAt code .b) n (field fs 3)) in
+      let c = isRight (fieldOf (kindAt code .c) n (field fs 4)) in
+      let ab : (name && a && b) ≡ true = and-left (name && a && b) c r in
+      record {
+        first = λ f. and-right name a (and-left (name && a) b ab);
+        second = λ f. and-right (name && a) b ab;
+        third = λ f. and-right (name && a && b) c r;
+      }
+
+  all-formed : Formed n (kindAt code) fs
+  all-formed = go (eqb k 1) refl fine-forms
+    where
+      go : (b : Bool) → eqb k 1 ≡ b → cond b (same l rootLine) (formsRight n (kindAt code) fs) ≡ true → Formed n (kindAt code) fs
+      go true q r = root-formed (eqb-true k 1 q)
+      go false q r = row-formed r
+
+-- ---- the eight cells of a line
+
+module _ (n p : ℕ) (fs : List (List ℕ)) where
+  blank-row : (j : ℕ) → 6 ≤ j → intAt (rowOf n p fs) j ≡ pos 0
+  unfolding rowOf
+  blank-row j h = let q : j ≡ suc (suc (suc (suc (suc (suc (j - 6)))))) = omega arith in rw q (intAt-zeros 2 (j - 6))
+
+  natural-row : (j : ℕ) → (kindCode (field fs 0) ≡ 4 → j ≡ 3 → ⊥) → Natural (intAt (rowOf n p fs) j)
+  unfolding rowOf
+  natural-row zero d = refl
+  natural-row (suc zero) d = refl
+  natural-row (suc (suc zero)) d = refl
+  natural-row (suc (suc (suc zero))) d = held-natural (kindAt (kindCode (field fs 0)) .a) n (field fs 2) (number-a (kindCode (field fs 0)) (λ q. d q refl))
+  natural-row (suc (suc (suc (suc zero)))) d = held-natural (kindAt (kindCode (field fs 0)) .b) n (field fs 3) (number-b (kindCode (field fs 0)))
+  natural-row (suc (suc (suc (suc (suc zero))))) d = held-natural (kindAt (kindCode (field fs 0)) .c) n (field fs 4) (number-c (kindCode (field fs 0)))
+  natural-row (suc (suc (suc (suc (suc (suc j)))))) d = rw (intAt-zeros 2 j)
+
+-- ---- the cells of all lines
+
+row-at : (s : List ℕ) (n i k j : ℕ) → k < i → j < 8 → intAt (rows s n i) (8 * k + j) ≡ intAt (rowOf n (place (cut 10 s) (suc k)) (cut 32 (line s (suc k)))) j
+row-at s n zero k j h g = absurd (not-suc-le-zero h)
+row-at s n (suc i) k j h g = go (ltb k i) refl (λ m. row-at s n i k j m g)
+  where
+    own : ℕ → List ℤ
+    own x = rowOf n (place (cut 10 s) (suc x)) (cut 32 (line s (suc x)))
+
+    go : (b : Bool) → ltb k i ≡ b → (k < i → intAt (rows s n i) (8 * k + j) ≡ intAt (own k) j) → intAt (rows s n i ++ own i) (8 * k + j) ≡ intAt (own k) j
+    go true q older =
+        let m : k < i = ltb-true k i q in
+        List·getD-append (rows s n i) (own i) (pos 0) (8 * k + j) (omega (arith, rows-length s n i)) ∙ older m
+    go false q older =
+        let m : k ≡ i = omega (arith, ltb-false k i q) in
+        let x : 8 * k + j ≡ length (rows s n i) + j = omega (arith, rows-length s n i) in
+        ap (intAt (rows s n i ++ own i)) x ∙ getD-append-add (rows s n i) (own i) j (pos 0) ∙ ap (λ (y : ℕ). intAt (own y) j) (sym m)
+
+pub lined-length : (s : List ℕ) (m : ℕ) → 8 * labels s ≤ m → length (linedTable s m) ≡ m
+unfolding linedTable
+lined-length s m h =
+    let n = labels s in
+    omega (arith, length-append (rows s n n) (zeros (m - 8 * n)), rows-length s n n, length-replicate (m - 8 * n) (pos 0))
+
+module _ (s : List ℕ) (m : ℕ) (head : headBad s ≡ Fine) (fine : linesBad s (labels s) ≡ Fine) where
+  abbrev n : ℕ
+  n = labels s
+
+  abbrev t : List ℤ
+  t = linedTable s m
+
+  -- of label k + 1
+  abbrev start : ℕ → ℕ
+  start k = place (cut 10 s) (suc k)
+
+  abbrev fields : ℕ → List (List ℕ)
+  fields k = cut 32 (line s (suc k))
+
+  abbrev kindOf : ℕ → Kind
+  kindOf k = kindAt (kindCode (field (fields k) 0))
+
+  cells-at : (k j : ℕ) → k < n → j < 8 → intAt t (8 * k + j) ≡ intAt (rowOf n (start k) (fields k)) j
+  unfolding linedTable
+  cells-at k j h g =
+      List·getD-append (rows s n n) (zeros (m - 8 * n)) (pos 0) (8 * k + j) (omega (arith, rows-length s n n)) ∙ row-at s n n k j h g
+
+  unused-at : (i : ℕ) → 8 * n ≤ i → intAt t i ≡ pos 0
+  unfolding linedTable
+  unused-at i h =
+      let q : i ≡ length (rows s n n) + (i - 8 * n) = omega (arith, rows-length s n n) in
+      ap (intAt (rows s n n ++ zeros (m - 8 * n))) q ∙ getD-append-add (rows s n n) (zeros (m - 8 * n)) (i - 8 * n) (pos 0) ∙ intAt-zeros (m - 8 * n) (i - 8 * n)
+
+  past : (k j : ℕ) → n ≤ k → cell t (suc k) j ≡ 0
+  past k j h = ap natOf (unused-at (8 * k + j) (omega arith))
+
+  line-fine : (k : ℕ) → k < n → lineBad n (suc k) (line s (suc k)) ≡ 0
+  unfolding linesBad
+  line-fine k h = first-none (lineCheck s n) n 1 fine (suc k) (omega arith) (omega arith)
+
+  line-formed : (k : ℕ) → k < n → Formed n (kindOf k) (fields k)
+  line-formed k h = all-formed n (suc k) (line s (suc k)) (line-fine k h)
+
+  kind-at : (k : ℕ) → k < n → kind t (suc k) ≡ kindCode (field (fields k) 0)
+  unfolding rowOf
+  kind-at k h = ap natOf (cells-at k 0 h (omega arith))
+
+  some : 1 ≤ n
+  some = headed s head .low
+
+  -- label 1
+  root-line : line s 1 ≡ rootLine
+  root-line = root-is n 1 (line s 1) (line-fine 0 some) refl
+
+  root-kind : kind t 1 ≡ 1
+  root-kind = kind-at 0 some ∙ ap (λ (x : List ℕ). kindCode (field (cut 32 x) 0)) root-line ∙ root-code
+
+  root-top : fieldA t 1 ≡ 0
+  unfolding rowOf rootLine codeOf kinds kindAt fieldOf
+  root-top = ap natOf (cells-at 0 3 some (omega arith)) ∙ rw (root-line, zero-label n)
+
+  naturals : (l j : ℕ) → 1 ≤ l → l ≤ n → j < 8 → (kind t l ≡ 4 → j ≡ 3 → ⊥) → intAt t (8 * (l - 1) + j) ≡ pos (cell t l j)
+  naturals zero j h g a d = absurd (not-suc-le-zero h)
+  naturals (suc k) j h g a d =
+      let q : 8 * (suc k - 1) + j ≡ 8 * k + j = omega arith in
+      rw (q, cells-at k j (omega arith) a) (natural-row n (start k) (fields k) j (λ c. d (kind-at k (omega arith) ∙ c)))
+
+  codes : (l : ℕ) → 1 ≤ l → l ≤ n → (1 ≤ kind t l) × (kind t l ≤ 12)
+  codes zero h g = absurd (not-suc-le-zero h)
+  codes (suc k) h g = rw (kind-at k (omega arith)) (known n (suc k) (line s (suc k)) (line-fine k (omega arith)), kind-bound (field (fields k) 0))
+
+  -- a line lies in the text, and a name field in its line
+  line-inside : (k : ℕ) → k < n → start k + length (line s (suc k)) ≤ length s
+  unfolding line labels
+  line-inside k h = piece-inside 10 s (suc k) (omega (arith, pieces s))
+
+  name-inside : (k : ℕ) → k < n → nameStart t (suc k) + nameLength t (suc k) ≤ length s
+  unfolding rowOf
+  name-inside k h = rw (cells-at k 1 h (omega arith), cells-at k 2 h (omega arith)) (go (same (field (fields k) 1) dash))
+    where
+      in-line : place (fields k) 1 + length (field (fields k) 1) ≤ length (line s (suc k))
+      in-line = piece-inside 32 (line s (suc k)) 1 (omega (arith, five n (suc k) (line s (suc k)) (line-fine k h)))
+
+      go : (b : Bool) → cond b 0 (start k + place (fields k) 1) + cond b 0 (length (field (fields k) 1)) ≤ length s
+      go true = omega arith
+      go false = omega (arith, in-line, line-inside k h)
+
+  names-inside : (l : ℕ) → nameStart t l + nameLength t l ≤ length s
+  names-inside zero = omega arith
+  names-inside (suc k) = go (ltb k n) refl
+    where
+      go : (b : Bool) → ltb k n ≡ b → nameStart t (suc k) + nameLength t (suc k) ≤ length s
+      go true e = name-inside k (ltb-true k n e)
+      go false e = let h = ltb-false k n e in omega (arith, past k 1 h, past k 2 h)
+
+  -- cell j of a line holds its field i, of the form that `wanted` says of its kind
+  operand-at : (wanted : Kind → Form) (i j : ℕ) → j < 8
+      → ((k : ℕ) → intAt (rowOf n (start k) (fields k)) j ≡ held (fieldOf (wanted (kindOf k)) n (field (fields k) i)))
+      → ((k : ℕ) → k < n → Right (wanted (kindOf k)) n (field (fields k) i))
+      → (l : ℕ) → 1 ≤ l → l ≤ n → wanted (kindAt (kind t l)) ≡ form.Operand → 1 ≤ cell t l j
+  operand-at wanted i j small holds right zero h g e = absurd (not-suc-le-zero h)
+  operand-at wanted i j small holds right (suc k) h g e =
+      let b : k < n = omega arith in
+      let f : wanted (kindOf k) ≡ form.Operand = sym (ap (λ (c : ℕ). wanted (kindAt c)) (kind-at k b)) ∙ e in
+      let r : isRight (fieldOf form.Operand n (field (fields k) i)) ≡ true = sym (ap (λ (x : Form). isRight (fieldOf x n (field (fields k) i))) f) ∙ right k b f in
+      rw (cells-at k j b small, holds k, f) (held-label n (field (fields k) i) r)
+
+  number-at : (k : ℕ) → k < n → kind t (suc k) ≡ 4 → natAbs (table.numberOf t (suc k)) ≤ 1000000000
+  unfolding rowOf
+  number-at k h e =
+      let f : kindOf k .a ≡ form.Number = ap (λ (c : ℕ). kindAt c .a) (sym (kind-at k h) ∙ e) ∙ number-form in
+      rw (cells-at k 3 h (omega arith), f) (held-number n (field (fields k) 2))
+
+  number-in-range : (l : ℕ) → kind t l ≡ 4 → natAbs (table.numberOf t l) ≤ 1000000000
+  number-in-range zero e = absurd (omega arith)
+  number-in-range (suc k) e = go (ltb k n) refl
+    where
+      go : (b : Bool) → ltb k n ≡ b → natAbs (table.numberOf t (suc k)) ≤ 1000000000
+      go true q = number-at k (ltb-true k n q) e
+      go false q = absurd (omega (arith, past k 0 (ltb-false k n q)))
+
+  pub lined : 8 * labels s ≤ m → Lined s (linedTable s m) (labels s)
+  unfolding rowOf
+  lined room = record {
+    some = some;
+    few = headed s head .high;
+    room = omega (arith, lined-length s m room);
+    unused = unused-at;
+    natural = naturals;
+    kinds = codes;
+    root = root-kind;
+    top = root-top;
+    names = names-inside;
+    a = operand-at (λ (k : Kind). k .a) 2 3 (omega arith) (λ k. refl) (λ k h. line-formed k h .first);
+    b = operand-at (λ (k : Kind). k .b) 3 4 (omega arith) (λ k. refl) (λ k h. line-formed k h .second);
+    c = operand-at (λ (k : Kind). k .c) 4 5 (omega arith) (λ k. refl) (λ k h. line-formed k h .third);
+    blank = λ k j h low high. cells-at k j h high ∙ blank-row n (start k) (fields k) j low;
+    number = number-in-range;
+  }

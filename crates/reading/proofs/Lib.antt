@@ -1,0 +1,3 @@
+pub mod Tied
+pub mod Accepted
+pub mod Stage

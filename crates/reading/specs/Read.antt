@@ -1,0 +1,57 @@
+-- Document 01's Read: the text s, and a table lent with m cells.
+use mathlib.Core.Bool.{cond}
+use mathlib.Core.List.{List}
+use Prim.Native.Nat.{ℕ, _*_}
+use lib.Dec.{leb}
+use lib.IntN.{ℤ}
+use Rattle.cells.specs.Cells.{zeros}
+use Rattle.cells.specs.Table.{withColumn}
+use Rattle.refusals.specs.Rows.{buffersRow}
+use Rattle.refusals.specs.Refusal.{orElse, replyOf}
+use Rattle.refusals.specs.declared.Verdict.{Verdict}
+use Rattle.refusals.specs.declared.Verdict.the-variants.{Fine, Refused}
+use Rattle.refusals.specs.declared.Reply.{Reply}
+use Rattle.lines.specs.Lines.{labels, headBad, linesBad}
+use Rattle.tree.specs.Tree.{ownerOf, treeBad}
+use Rattle.paths.specs.Paths.{targetCell, pathsBad}
+use Rattle.lines.specs.Lined.{linedTable}
+
+-- row 4, place 1: table below 8n cells
+unfoldable pub tableShort : List ℕ → ℕ → Verdict
+tableShort s m = cond (leb (8 * labels s) m) Fine (Refused buffersRow 1)
+
+-- the table t of n lines with the owner of each label; and with the target of each R and C
+unfoldable pub ownedTable : List ℤ → ℕ → List ℤ
+ownedTable t n = withColumn 6 (ownerOf t n) n t
+
+unfoldable pub tiedTable : List ℕ → List ℤ → ℕ → List ℤ
+tiedTable s t n = withColumn 7 (targetCell s (ownedTable t n) n) n (ownedTable t n)
+
+-- rows 8 to 15, of a table t of n lines
+unfoldable pub tiedBad : List ℕ → List ℤ → ℕ → Verdict
+tiedBad s t n = orElse (treeBad t n) (pathsBad s (ownedTable t n) n)
+
+-- rows 5 to 15, and the table of a sheet that they let pass
+unfoldable pub sheetBad : List ℕ → ℕ → Verdict
+sheetBad s m = orElse (linesBad s (labels s)) (tiedBad s (linedTable s m) (labels s))
+
+unfoldable pub sheetTable : List ℕ → ℕ → List ℤ
+sheetTable s m = tiedTable s (linedTable s m) (labels s)
+
+-- rows 1 to 15, in the order of the paper's table
+abbrev pub bodyBad : List ℕ → ℕ → Verdict
+bodyBad s m = orElse (tableShort s m) (sheetBad s m)
+
+unfoldable pub readBad : List ℕ → ℕ → Verdict
+readBad s m = orElse (headBad s) (bodyBad s m)
+
+-- Read answers the number of labels, and leaves the sheet's table; where it refuses, zeros alone
+unfoldable pub readReply : List ℕ → ℕ → Reply
+readReply s m = replyOf (readBad s m) (labels s)
+
+abbrev pub tableOf : Verdict → List ℕ → ℕ → List ℤ
+tableOf Fine s m = sheetTable s m
+tableOf (Refused r p) s m = zeros m
+
+unfoldable pub readTable : List ℕ → ℕ → List ℤ
+readTable s m = tableOf (readBad s m) s m

@@ -1,0 +1,71 @@
+// Read: rows 1 to 15 of document 01's table of refusals in its order, and the table of the sheet.
+
+ghost use mathlib.Core.Path.{_≡_};
+ghost use Prim.Native.Nat.{_*_, _≤_};
+ghost use lib.ListN.{length};
+ghost use Rattle.refusals.specs.Refusal.{replyOf};
+ghost use Rattle.lines.specs.Lines.{labels, headBad};
+ghost use Rattle.lines.specs.Lined.{Lined};
+ghost use Rattle.reading.specs.Read.{tiedBad, tiedTable, sheetBad, sheetTable, bodyBad, tableOf, readReply, readTable};
+use refusals::Reply;
+use refusals::Verdict;
+
+// Rows 8 to 15, and owners and targets in a table of lines.
+fn tie(text: &[u8], table: &mut [i64], n: usize) -> Verdict
+    requires { ⌜ Lined (now text) (now table) n ⌝ }
+    ensures { λ r. ⌜ r ≡ tiedBad (now (text .entry)) (now (table .entry)) n ⌝ }
+    ensures { λ r. ⌜ (r ≡ Verdict.Fine → now (table .exit) ≡ tiedTable (now (text .entry)) (now (table .entry)) n) ⌝ }
+{
+    match tree::read_tree(table, n) {
+        Verdict::Fine => paths::read_paths(text, table, n),
+        Verdict::Refused(row, label) => Verdict::Refused(row, label),
+    }
+}
+
+// Rows 5 to 15 of a text that rows 1 to 4 let pass. Where they refuse, the table is for the caller to clear.
+pub fn read_sheet(text: &[u8], n: usize, table: &mut [i64]) -> Verdict
+    requires { ⌜ (headBad (now text) ≡ Verdict.Fine) × (n ≡ labels (now text)) × (8 * n ≤ length (now table)) ⌝ }
+    ensures { λ r. ⌜ r ≡ sheetBad (now (text .entry)) (length (now (table .entry))) ⌝ }
+    ensures { λ r. ⌜ (r ≡ Verdict.Fine → now (table .exit) ≡ sheetTable (now (text .entry)) (length (now (table .entry)))) ⌝ }
+{
+    match lines::read_lines(text, n, table) {
+        Verdict::Fine => {
+            cells::clear_from(table, 8 * n);
+            tie(text, table, n)
+        }
+        Verdict::Refused(row, label) => Verdict::Refused(row, label),
+    }
+}
+
+// Rows 4 to 15 of a text that rows 1 to 3 let pass.
+fn read_body(text: &[u8], n: usize, table: &mut [i64]) -> Reply
+    requires { ⌜ (headBad (now text) ≡ Verdict.Fine) × (n ≡ labels (now text)) × (n ≤ 1024) ⌝ }
+    ensures { λ r. ⌜ r ≡ replyOf (bodyBad (now (text .entry)) (length (now (table .entry)))) (labels (now (text .entry))) ⌝ }
+    ensures { λ _. ⌜ now (table .exit) ≡ tableOf (bodyBad (now (text .entry)) (length (now (table .entry)))) (now (text .entry)) (length (now (table .entry))) ⌝ }
+{
+    if table.len() < 8 * n {
+        cells::clear(table);
+        return Reply::Refused(refusals::BUFFERS, 1);
+    }
+    match read_sheet(text, n, table) {
+        Verdict::Fine => Reply::Answered(n as u64),
+        Verdict::Refused(row, label) => {
+            cells::clear(table);
+            Reply::Refused(row, label)
+        }
+    }
+}
+
+// Read.
+pub fn read(text: &[u8], table: &mut [i64]) -> Reply
+    ensures { λ r. ⌜ r ≡ readReply (now (text .entry)) (length (now (table .entry))) ⌝ }
+    ensures { λ _. ⌜ now (table .exit) ≡ readTable (now (text .entry)) (length (now (table .entry))) ⌝ }
+{
+    match lines::check_head(text) {
+        Reply::Answered(n) => read_body(text, n as usize, table),
+        Reply::Refused(row, place) => {
+            cells::clear(table);
+            Reply::Refused(row, place)
+        }
+    }
+}

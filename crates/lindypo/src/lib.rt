@@ -1,13 +1,11 @@
 // The C interface: include/lindypo.h declares what is exported here.
 
 ghost use mathlib.Core.Path.{_≡_};
-ghost use Prim.Native.Nat.{_*_, _≤_};
 ghost use lib.ListN.{length};
 ghost use Rattle.refusals.specs.Refusal.{numberOf, placeOf, countOf};
-ghost use Rattle.lines.specs.Lines.{labels, headBad};
-ghost use Rattle.lindypo.specs.Lines.{linesReply, linesTable, bodyReply, tableOf};
+ghost use Rattle.reading.specs.Read.{readReply, readTable};
+ghost use Rattle.reading.specs.Name.{nameBegin, nameSize};
 use refusals::Reply;
-use refusals::Verdict;
 
 // What a call answers, as C sees it. A refused reply has count 0 and order 0.
 #[repr(C)]
@@ -16,6 +14,13 @@ pub struct Answer {
     pub place: u64,
     pub count: u64,
     pub order: u64,
+}
+
+// A part of the text, as C sees it; 0 and 0 where it is empty.
+#[repr(C)]
+pub struct TextPart {
+    pub start: u64,
+    pub length: u64,
 }
 
 fn answer_of(reply: Reply) -> Answer
@@ -37,51 +42,28 @@ fn answer_of(reply: Reply) -> Answer
     }
 }
 
-// Rows 4 to 7 of a text that rows 1 to 3 let pass.
-fn read_body(text: &[u8], n: usize, table: &mut [i64]) -> Reply
-    requires { ⌜ (headBad (now text) ≡ Verdict.Fine) × (n ≡ labels (now text)) × (n ≤ 1024) ⌝ }
-    ensures { λ r. ⌜ r ≡ bodyReply (now (text .entry)) (length (now (table .entry))) ⌝ }
-    ensures { λ r. ⌜ now (table .exit) ≡ tableOf (now (text .entry)) (length (now (table .entry))) r ⌝ }
-{
-    if table.len() < 8 * n {
-        cells::clear(table);
-        return Reply::Refused(refusals::BUFFERS, 1);
-    }
-    match lines::read_lines(text, n, table) {
-        Verdict::Fine => {
-            cells::clear_from(table, 8 * n);
-            Reply::Answered(n as u64)
-        }
-        Verdict::Refused(row, label) => {
-            cells::clear(table);
-            Reply::Refused(row, label)
-        }
-    }
-}
-
-// Rows 1 to 7, and the cells of each line.
-pub fn read_text(text: &[u8], table: &mut [i64]) -> Reply
-    ensures { λ r. ⌜ r ≡ linesReply (now (text .entry)) (length (now (table .entry))) ⌝ }
-    ensures { λ r. ⌜ now (table .exit) ≡ tableOf (now (text .entry)) (length (now (table .entry))) r ⌝ }
-{
-    match lines::check_head(text) {
-        Reply::Answered(n) => read_body(text, n as usize, table),
-        Reply::Refused(row, place) => {
-            cells::clear(table);
-            Reply::Refused(row, place)
-        }
-    }
-}
-
-// Rows 1 to 7 of the table of refusals, row 4 for the table alone, and the cells kind, name start, name length, a, b and c.
-// It stands in for Read until Read is there.
+// Read.
 #[no_mangle]
-pub extern "C" fn lindypo_lines(text: &[u8], table: &mut [i64]) -> Answer
-    ensures { λ r. ⌜ r .refusal ≡ numberOf (linesReply (now (text .entry)) (length (now (table .entry)))) ⌝ }
-    ensures { λ r. ⌜ r .place ≡ placeOf (linesReply (now (text .entry)) (length (now (table .entry)))) ⌝ }
-    ensures { λ r. ⌜ r .count ≡ countOf (linesReply (now (text .entry)) (length (now (table .entry)))) ⌝ }
+pub extern "C" fn lindypo_read(text: &[u8], table: &mut [i64]) -> Answer
+    ensures { λ r. ⌜ r .refusal ≡ numberOf (readReply (now (text .entry)) (length (now (table .entry)))) ⌝ }
+    ensures { λ r. ⌜ r .place ≡ placeOf (readReply (now (text .entry)) (length (now (table .entry)))) ⌝ }
+    ensures { λ r. ⌜ r .count ≡ countOf (readReply (now (text .entry)) (length (now (table .entry)))) ⌝ }
     ensures { λ r. ⌜ r .order ≡ 0 ⌝ }
-    ensures { λ r. ⌜ now (table .exit) ≡ linesTable (now (text .entry)) (length (now (table .entry))) ⌝ }
+    ensures { λ _. ⌜ now (table .exit) ≡ readTable (now (text .entry)) (length (now (table .entry))) ⌝ }
 {
-    answer_of(read_text(text, table))
+    answer_of(reading::read(text, table))
+}
+
+// Name: where the part is that `reading::name` hands back.
+#[no_mangle]
+pub extern "C" fn lindypo_name(text: &[u8], table: &mut [i64], label: i64) -> TextPart
+    ensures { λ r. ⌜ r .start ≡ nameBegin (now (text .entry)) (length (now (table .entry))) label ⌝ }
+    ensures { λ r. ⌜ r .length ≡ nameSize (now (text .entry)) (length (now (table .entry))) label ⌝ }
+    ensures { λ _. ⌜ now (table .exit) ≡ readTable (now (text .entry)) (length (now (table .entry))) ⌝ }
+{
+    let part = reading::name_part(text, table, label);
+    TextPart {
+        start: part.start as u64,
+        length: part.length as u64,
+    }
 }

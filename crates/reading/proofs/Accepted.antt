@@ -11,7 +11,7 @@ use lib.IntN.{ℤ, pos}
 use lib.ListN.{length}
 use borrow.Author.Tests.{eqb-true, ne-eqb, leb-true, leb-false}
 use Rattle.cells.specs.Cells.{natOf, intAt}
-use Rattle.cells.specs.Table.{cell, kind, fieldA, fieldB, fieldC, owner, target, numberOf, withColumn}
+use Rattle.cells.specs.Table.{cell, kind, nameStart, nameLength, fieldA, fieldB, fieldC, owner, target, numberOf, withColumn}
 use Rattle.cells.specs.Accepted.{HasBody, Part, Accepted}
 use Rattle.cells.proofs.Table.{cell-at}
 use Rattle.cells.proofs.Columns.{column-length, column-keeps, column-has, column-own, column-other, column-number}
@@ -177,21 +177,50 @@ module _ (s : List ℕ) (t : List ℤ) (n : ℕ) (is : Lined s t n) (tree : tree
         number = λ l e. rw (number-same l) (is .number l (sym (same-lines l 0 (omega arith)) ∙ e));
       }
 
--- Read's table, where it answers
-pub sheet-accepted : (s : List ℕ) (m : ℕ) → headBad s ≡ Fine → 8 * labels s ≤ m → sheetBad s m ≡ Fine → Accepted (sheetTable s m) (labels s)
-unfolding sheetBad sheetTable tiedBad
-sheet-accepted s m h room e =
-    let a = or-else (linesBad s (labels s)) (tiedBad s (linedTable s m) (labels s)) e in
-    let b = or-else (treeBad (linedTable s m) (labels s)) (pathsBad s (ownedTable (linedTable s m) (labels s)) (labels s)) (a .1) in
-    tied-accepted s (linedTable s m) (labels s) (lined s m h (a .0) room) (b .0) (b .1)
+  pub tied-names : (l : ℕ) → nameStart w l + nameLength w l ≤ length s
+  tied-names l = omega (arith, same-lines l 1 (omega arith), same-lines l 2 (omega arith), is .names l)
 
-pub read-accepted : (s : List ℕ) (m : ℕ) → readBad s m ≡ Fine → Accepted (sheetTable s m) (labels s)
-unfolding readBad tableShort
-read-accepted s m e =
-    let a = or-else (headBad s) _ e in
-    let b = or-else (tableShort s m) (sheetBad s m) (a .1) in
-    sheet-accepted s m (a .0) (go (leb (8 * labels s) m) refl (b .0)) (b .1)
-  where
-    go : (c : Bool) → leb (8 * labels s) m ≡ c → tableShort s m ≡ Fine → 8 * labels s ≤ m
-    go true q z = leb-true (8 * labels s) m q
-    go false q z = let y : Refused 4 1 ≡ Fine = rw q at z in let x : _≡_ {A = ℕ} 0 1 = cc in absurd (omega arith)
+-- ---- Read's table, where it answers
+
+-- what rows 5 to 15 found nothing in
+module _ (s : List ℕ) (m : ℕ) (h : headBad s ≡ Fine) (room : 8 * labels s ≤ m) (e : sheetBad s m ≡ Fine) where
+  lines-fine : (linesBad s (labels s) ≡ Fine) × (tiedBad s (linedTable s m) (labels s) ≡ Fine)
+  unfolding sheetBad
+  lines-fine = or-else (linesBad s (labels s)) (tiedBad s (linedTable s m) (labels s)) e
+
+  tree-fine : (treeBad (linedTable s m) (labels s) ≡ Fine) × (pathsBad s (ownedTable (linedTable s m) (labels s)) (labels s) ≡ Fine)
+  unfolding tiedBad
+  tree-fine = or-else (treeBad (linedTable s m) (labels s)) (pathsBad s (ownedTable (linedTable s m) (labels s)) (labels s)) (lines-fine .1)
+
+  is-lined : Lined s (linedTable s m) (labels s)
+  is-lined = lined s m h (lines-fine .0) room
+
+  pub sheet-accepted : Accepted (sheetTable s m) (labels s)
+  unfolding sheetTable
+  sheet-accepted = tied-accepted s (linedTable s m) (labels s) is-lined (tree-fine .0) (tree-fine .1)
+
+  pub sheet-names : (l : ℕ) → nameStart (sheetTable s m) l + nameLength (sheetTable s m) l ≤ length s
+  unfolding sheetTable
+  sheet-names = tied-names s (linedTable s m) (labels s) is-lined (tree-fine .0) (tree-fine .1)
+
+module _ (s : List ℕ) (m : ℕ) (e : readBad s m ≡ Fine) where
+  head-part : (headBad s ≡ Fine) × (orElse (tableShort s m) (sheetBad s m) ≡ Fine)
+  unfolding readBad
+  head-part = or-else (headBad s) _ e
+
+  sheet-part : (tableShort s m ≡ Fine) × (sheetBad s m ≡ Fine)
+  sheet-part = or-else (tableShort s m) (sheetBad s m) (head-part .1)
+
+  long-enough : 8 * labels s ≤ m
+  unfolding tableShort
+  long-enough = go (leb (8 * labels s) m) refl (sheet-part .0)
+    where
+      go : (c : Bool) → leb (8 * labels s) m ≡ c → tableShort s m ≡ Fine → 8 * labels s ≤ m
+      go true q z = leb-true (8 * labels s) m q
+      go false q z = let y : Refused 4 1 ≡ Fine = rw q at z in let x : _≡_ {A = ℕ} 0 1 = cc in absurd (omega arith)
+
+  pub read-accepted : Accepted (sheetTable s m) (labels s)
+  read-accepted = sheet-accepted s m (head-part .0) long-enough (sheet-part .1)
+
+  pub read-names : (l : ℕ) → nameStart (sheetTable s m) l + nameLength (sheetTable s m) l ≤ length s
+  read-names = sheet-names s m (head-part .0) long-enough (sheet-part .1)

@@ -1,3 +1,4 @@
 pub mod Tied
 pub mod Accepted
 pub mod Stage
+pub mod Named

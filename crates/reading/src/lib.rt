@@ -1,12 +1,14 @@
 // Read: rows 1 to 15 of document 01's table of refusals in its order, and the table of the sheet.
 
 ghost use mathlib.Core.Path.{_≡_};
-ghost use Prim.Native.Nat.{_*_, _≤_};
+ghost use Prim.Native.Nat.{_+_, _*_, _≤_};
 ghost use lib.ListN.{length};
+ghost use Rattle.cells.specs.Cells.{natOf};
 ghost use Rattle.refusals.specs.Refusal.{replyOf};
 ghost use Rattle.lines.specs.Lines.{labels, headBad};
 ghost use Rattle.lines.specs.Lined.{Lined};
 ghost use Rattle.reading.specs.Read.{tiedBad, tiedTable, sheetBad, sheetTable, bodyBad, tableOf, readReply, readTable};
+ghost use Rattle.reading.specs.Name.{labelIn, nameBegin, nameSize, namePart};
 use refusals::Reply;
 use refusals::Verdict;
 
@@ -68,4 +70,53 @@ pub fn read(text: &[u8], table: &mut [i64]) -> Reply
             Reply::Refused(row, place)
         }
     }
+}
+
+// ---- Name
+
+// A part of the text: its start and its length.
+pub struct Part {
+    pub start: usize,
+    pub length: usize,
+}
+
+// The label that an i64 is; 0 where it is outside 1 to n.
+fn label_in(label: i64, n: usize) -> usize
+    ensures { λ r. ⌜ r ≡ labelIn n label ⌝ }
+{
+    let l = cells::nat_of(label);
+    if l <= n { l } else { 0 }
+}
+
+// Where the name field of a label stands in the text, and the table as Read writes it.
+pub fn name_part(text: &[u8], table: &mut [i64], label: i64) -> Part
+    ensures { λ r. ⌜ r .start ≡ nameBegin (now (text .entry)) (length (now (table .entry))) label ⌝ }
+    ensures { λ r. ⌜ r .length ≡ nameSize (now (text .entry)) (length (now (table .entry))) label ⌝ }
+    ensures { λ r. ⌜ r .start + r .length ≤ length (now (text .entry)) ⌝ }
+    ensures { λ _. ⌜ now (table .exit) ≡ readTable (now (text .entry)) (length (now (table .entry))) ⌝ }
+{
+    match read(text, table) {
+        Reply::Answered(n) => {
+            let l = label_in(label, n as usize);
+            Part {
+                start: cells::cell_at(table, l, 1),
+                length: cells::cell_at(table, l, 2),
+            }
+        }
+        Reply::Refused(_, _) => Part {
+            start: 0,
+            length: 0,
+        },
+    }
+}
+
+// Name: that very part of the caller's text.
+pub fn name<'a>(text: &'a [u8], table: &mut [i64], label: i64) -> &'a [u8]
+    ensures { λ r. ⌜ now r ≡ namePart (now (text .entry)) (length (now (table .entry))) label ⌝ }
+    ensures { λ _. ⌜ now (table .exit) ≡ readTable (now (text .entry)) (length (now (table .entry))) ⌝ }
+{
+    let part = name_part(text, table, label);
+    let start = part.start;
+    let end = start + part.length;
+    &text[start..end]
 }

@@ -1,10 +1,10 @@
-//! The lines stage, rows 1 to 7: the proved library's time beside the Rust
-//! reference's. It prints and judges nothing.
+//! Read: the proved library's time beside the Rust reference's.
 //!
 //! Both are release builds and get the same sheets and the same table of 8n
 //! cells, which both clear. Rounds of the library and of the reference take
-//! turns; after some to warm up the median counts. One sheet read again and
-//! again is soon known by heart to the processor; several in turn are not.
+//! turns; after some to warm up the shortest counts, since whatever else the
+//! machine does can only add to a round. One sheet read again and again is
+//! soon known by heart to the processor; several in turn are not.
 
 #![forbid(unsafe_code)]
 
@@ -14,13 +14,16 @@ use std::path::Path;
 use std::time::Instant;
 
 /// Rounds that count, and those before them.
-const ROUNDS: usize = 201;
+const ROUNDS: usize = 400;
 const WARM_UP: usize = 20;
 
 /// About this many seconds for each round.
 const ROUND: f64 = 0.001;
 
-const LINES: [usize; 4] = [15, 60, 250, 1_024];
+/// How much longer than the reference the library may take.
+const BAR: f64 = 1.1;
+
+const LINES: [usize; 3] = [60, 250, 1_024];
 
 /// The sheets that the growth is measured between.
 const GROWTH: [usize; 2] = [256, 1_024];
@@ -31,11 +34,11 @@ const SHEETS: u64 = 16;
 type Call = fn(&[u8], &mut [i64]) -> usize;
 
 fn library(text: &[u8], table: &mut [i64]) -> usize {
-    lindypo::lines(text, table).unwrap_or(0)
+    lindypo::read(text, table).unwrap_or(0)
 }
 
 fn reference(text: &[u8], table: &mut [i64]) -> usize {
-    reference::read_lines(text, table).unwrap_or(0)
+    reference::read(text, table).unwrap_or(0)
 }
 
 /// Sheets of as many lines each, to be read in turn.
@@ -80,18 +83,42 @@ struct Times {
     reference: f64,
 }
 
+impl Times {
+    /// Slower than any, to start from.
+    const MAX: Times = Times {
+        library: f64::INFINITY,
+        reference: f64::INFINITY,
+    };
+
+    fn ratio(&self) -> f64 {
+        self.library / self.reference
+    }
+
+    /// The shorter time of each.
+    fn min(&self, other: &Times) -> Times {
+        Times {
+            library: self.library.min(other.library),
+            reference: self.reference.min(other.reference),
+        }
+    }
+}
+
 fn main() {
-    println!("lines stage, rows 1 to 7, microseconds a call: median of {ROUNDS} rounds");
+    println!("Read, microseconds a call: the shortest of {ROUNDS} rounds");
     println!();
     println!(
         "{:<28} {:>6} {:>7} {:>9} {:>10} {:>6}",
         "sheet", "lines", "bytes", "library", "reference", "ratio"
     );
-    for workload in workloads() {
-        let [times] = measure([&workload]);
-        print(&workload, &times);
+    let workloads = workloads();
+    let mut within = 0;
+    for workload in &workloads {
+        let [times] = measure([workload]);
+        print(workload, &times);
+        within += usize::from(times.ratio() <= BAR);
     }
     println!();
+    println!("{within} of {} within the bar of {BAR}", workloads.len());
     print_growth();
 }
 
@@ -99,8 +126,12 @@ fn workloads() -> Vec<Workload> {
     let mut list = vec![Workload::one("the paper's example", example())];
     list.extend(LINES.map(|lines| Workload::everyday(lines, 1)));
     list.extend(LINES.map(|lines| Workload::everyday(lines, SHEETS)));
-    let late = generator::late_refusal(7);
-    list.push(Workload::one("refusal 7 at the last label", late));
+    list.push(Workload::one("flat Group of 500 values", generator::flat()));
+    list.push(Workload::one("500 nested Groups", generator::nested()));
+    for number in [7, 9, 15] {
+        let name = format!("refusal {number} at the last label");
+        list.push(Workload::one(&name, generator::late_refusal(number)));
+    }
     list
 }
 
@@ -117,7 +148,7 @@ fn print(workload: &Workload, times: &Times) {
         workload.bytes(),
         1e6 * times.library,
         1e6 * times.reference,
-        times.library / times.reference
+        times.ratio()
     );
 }
 
@@ -136,14 +167,12 @@ fn print_growth() {
     );
 }
 
-/// A workload with the table that both are lent, and the times of each round.
+/// A workload with the table that both are lent.
 struct Job<'a> {
     texts: &'a [Vec<u8>],
     table: Vec<i64>,
     /// How often a round goes through the texts.
     turns: usize,
-    library: Vec<f64>,
-    reference: Vec<f64>,
 }
 
 impl<'a> Job<'a> {
@@ -152,8 +181,6 @@ impl<'a> Job<'a> {
             texts: &workload.texts,
             table: vec![0; 8 * workload.lines()],
             turns: 1,
-            library: Vec::new(),
-            reference: Vec::new(),
         };
         let once = job.time(reference) * job.texts.len() as f64;
         job.turns = (ROUND / once).ceil() as usize;
@@ -177,35 +204,19 @@ impl<'a> Job<'a> {
         }
         start.elapsed().as_secs_f64() / (self.turns * self.texts.len()) as f64
     }
-
-    fn keep(&mut self, times: Times) {
-        self.library.push(times.library);
-        self.reference.push(times.reference);
-    }
-
-    fn finish(self) -> Times {
-        Times {
-            library: median(self.library),
-            reference: median(self.reference),
-        }
-    }
 }
 
-/// The median times of each workload, in rounds through all of them.
+/// The shortest times of each workload, in rounds through all of them.
 fn measure<const COUNT: usize>(workloads: [&Workload; COUNT]) -> [Times; COUNT] {
     let mut jobs = workloads.map(Job::new);
+    let mut shortest = [Times::MAX; COUNT];
     for round in 0..WARM_UP + ROUNDS {
-        for job in &mut jobs {
+        for (job, shortest) in jobs.iter_mut().zip(&mut shortest) {
             let times = job.round();
             if round >= WARM_UP {
-                job.keep(times);
+                *shortest = shortest.min(&times);
             }
         }
     }
-    jobs.map(Job::finish)
-}
-
-fn median(mut times: Vec<f64>) -> f64 {
-    times.sort_by(f64::total_cmp);
-    times[times.len() / 2]
+    shortest
 }

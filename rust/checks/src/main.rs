@@ -1,5 +1,6 @@
 //! `cargo run --release -p checks -- SEED COUNT`: as many random trials as
-//! wanted. Status 1 and the seed where the library and the reference differ.
+//! wanted. Status 1 and the seed where the library and the reference differ,
+//! and where many trials have not met every row.
 
 use std::env;
 use std::process::ExitCode;
@@ -24,7 +25,11 @@ fn run() -> Result<checks::Tally, String> {
     let [seed, count] = &words[..] else {
         return Err(USAGE.to_string());
     };
-    checks::check_seeds(number(seed)?, number(count)?)
+    let tally = checks::check_seeds(number(seed)?, number(count)?)?;
+    match tally.is_complete() {
+        true => Ok(tally),
+        false => Err(format!("not every row was met\n{tally}")),
+    }
 }
 
 fn number(word: &str) -> Result<u64, String> {

@@ -2,29 +2,49 @@
 
 use std::fmt;
 
-use lindypo::Reply;
+use crate::Outcome;
 
-/// The rows that the lines stage may refuse with.
-const ROWS: usize = 7;
+/// The rows that Read may refuse with.
+const ROWS: usize = 15;
 
-/// How many trials were answered, and how many refused by each row.
+/// With at least this many random trials every row is met.
+const ENOUGH: u64 = 5_000;
+
+/// How many trials were answered, how many refused by each row, and how many
+/// labels Name was asked for and gave a part to.
 #[derive(Debug, Default, Clone, PartialEq, Eq)]
 pub struct Tally {
     answered: u64,
     refused: [u64; ROWS],
+    asked: u64,
+    named: u64,
 }
 
 impl Tally {
-    pub fn add(&mut self, reply: Reply) {
-        match reply.refusal as usize {
+    pub fn add(&mut self, outcome: Outcome) {
+        match outcome.reply.refusal as usize {
             0 => self.answered += 1,
             row => self.refused[row - 1] += 1,
         }
+        self.asked += outcome.asked;
+        self.named += outcome.named;
     }
 
-    /// Whether there was an answer and a refusal by every row.
+    pub fn merge(&mut self, other: &Tally) {
+        self.answered += other.answered;
+        self.asked += other.asked;
+        self.named += other.named;
+        for (count, more) in self.refused.iter_mut().zip(other.refused) {
+            *count += more;
+        }
+    }
+
+    /// Whether Read answered and refused by every row, and Name gave parts,
+    /// empty ones too; a short run need not have met all of them.
     pub fn is_complete(&self) -> bool {
-        self.answered > 0 && self.refused.iter().all(|&count| count > 0)
+        let all = self.refused.iter().all(|&count| count > 0);
+        let both = self.named > 0 && self.named < self.asked;
+        self.total() < ENOUGH || (self.answered > 0 && all && both)
     }
 
     pub fn total(&self) -> u64 {
@@ -34,15 +54,11 @@ impl Tally {
 
 impl fmt::Display for Tally {
     fn fmt(&self, f: &mut fmt::Formatter) -> fmt::Result {
-        write!(
-            f,
-            "{} trials agree: {} answered",
-            self.total(),
-            self.answered
-        )?;
+        writeln!(f, "{} sheets agree: {} read", self.total(), self.answered)?;
+        write!(f, "refused by row")?;
         for (row, count) in (1..).zip(self.refused) {
-            write!(f, ", {count} refused by row {row}")?;
+            write!(f, " {row}: {count},")?;
         }
-        Ok(())
+        write!(f, "\nnames: {} of {} labels", self.named, self.asked)
     }
 }

@@ -17,7 +17,7 @@ pub use damage::damaged;
 pub use lent::{buffer_length, order};
 pub use random::sheet;
 pub use rng::Rng;
-pub use shapes::{everyday, late_refusal, shapes, Shape};
+pub use shapes::{everyday, flat, late_refusal, nested, shapes, Shape};
 
 /// All that one trial of all the calls needs.
 #[derive(Debug, Clone, PartialEq, Eq)]

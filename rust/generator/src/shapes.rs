@@ -15,8 +15,8 @@ pub struct Shape {
 pub fn shapes() -> Vec<Shape> {
     let shape = |name, text| Shape { name, text };
     vec![
-        shape("flat Group of 500 values", flat_chain()),
-        shape("500 nested Groups", nested_groups()),
+        shape("flat Group of 500 values", flat()),
+        shape("500 nested Groups", nested()),
         shape("dense mentions", dense_mentions()),
         shape("many through one function", hub()),
         shape("deepest calls", deepest_calls()),
@@ -171,7 +171,7 @@ fn long_name(number: usize) -> String {
 }
 
 /// One Group of 500 values, each reading the next, so the last comes first.
-fn flat_chain() -> Vec<u8> {
+pub fn flat() -> Vec<u8> {
     let mut builder = Builder::new();
     for value in 0..499 {
         builder.value(&long_name(value), 1, &format!("R:{}", long_name(value + 1)));
@@ -181,7 +181,7 @@ fn flat_chain() -> Vec<u8> {
 }
 
 /// 500 Groups in each other; the innermost has values that read the outermost.
-fn nested_groups() -> Vec<u8> {
+pub fn nested() -> Vec<u8> {
     let mut builder = Builder::new();
     builder.value("far", 1, "7");
     let mut group = 1;

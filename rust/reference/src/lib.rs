@@ -95,18 +95,6 @@ pub fn read(text: &[u8], table: &mut [i64]) -> Result<usize, Refusal> {
     Ok(sheet.count())
 }
 
-/// The first stage of Read alone: rows 1 to 7. Owner and target stay 0.
-pub fn read_lines(text: &[u8], table: &mut [i64]) -> Result<usize, Refusal> {
-    table.fill(0);
-    let lent = Lent {
-        table: Some(table.len()),
-        ..Lent::default()
-    };
-    let sheet = split_sheet(text, &lent)?;
-    write_table(&sheet, table);
-    Ok(sheet.count())
-}
-
 /// Name: writes the table as Read does and hands back that label's name field
 /// "as that very part of the text".
 pub fn name<'a>(text: &'a [u8], table: &mut [i64], label: i64) -> &'a [u8] {

@@ -31,7 +31,7 @@ fn lengths(cells: usize) -> [(usize, bool); 6] {
 }
 
 #[test]
-fn read_and_read_lines() {
+fn read() {
     for (length, short) in lengths(8 * LINES) {
         let mut table = rubbish(length);
         let answer = reference::read(&text(), &mut table);
@@ -39,36 +39,7 @@ fn read_and_read_lines() {
         assert_eq!(answer.err().map(pair).is_some_and(|r| r == (4, 1)), short);
         assert_eq!(zero(&table), short);
         assert!(short || zero(&table[8 * LINES..]));
-        let mut lines = rubbish(length);
-        assert_eq!(reference::read_lines(&text(), &mut lines), answer);
-        assert_eq!(zero(&lines), short);
-        assert!(short || zero(&lines[8 * LINES..]));
     }
-}
-
-/// The first stage of Read refuses rows 1 to 7 as Read does, and no others.
-#[test]
-fn read_lines_ends_with_row_7() {
-    let mut table = rubbish(16);
-    for (lines, refusal) in [
-        ("G - 0 - -\nX", (5, 2)),
-        ("G - 0 - -\nX - - - -", (6, 2)),
-        ("G - 0 - -\nN - 00 - -", (7, 2)),
-        ("G - 1 - -\nN", (7, 1)),
-    ] {
-        let text = sheet(lines);
-        let answer = reference::read_lines(&text, &mut table);
-        assert_eq!(answer.map_err(pair), Err(refusal));
-        assert_eq!(reference::read(&text, &mut table), answer);
-        assert!(zero(&table));
-    }
-    let text = sheet("G - 0 - -\nV v 2 1 -");
-    assert_eq!(
-        reference::read(&text, &mut table).map_err(pair),
-        Err((8, 2))
-    );
-    assert_eq!(reference::read_lines(&text, &mut table), Ok(2));
-    assert_eq!(table, [1, 0, 0, 0, 0, 0, 0, 0, 2, 28, 1, 2, 1, 0, 0, 0]);
 }
 
 #[test]

@@ -59,14 +59,6 @@ fn sample_1_table() {
     assert_eq!(table[..8 * 14], rows.concat());
     assert_eq!(table[8 * 14..], [0; 5]);
     assert_eq!(reference::name(&text, &mut table, 7), b"right.prism");
-
-    let mut lines = rubbish(8 * 14 + 5);
-    assert_eq!(reference::read_lines(&text, &mut lines), Ok(14));
-    for (line, row) in lines.chunks_exact(8).zip(rows) {
-        assert_eq!(line[..6], row[..6]);
-        assert_eq!(line[6..], [0, 0]);
-    }
-    assert_eq!(lines[8 * 14..], [0; 5]);
 }
 
 #[test]

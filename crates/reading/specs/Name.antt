@@ -1,0 +1,33 @@
+-- Document 01's Name: the text s, a table lent with m cells, and a label z, which is any i64.
+use mathlib.Core.Bool.{cond}
+use mathlib.Core.List.{List}
+use Prim.Native.Nat.{ℕ, _+_}
+use lib.Dec.{leb}
+use lib.IntN.{ℤ}
+use lib.Seq.{slice}
+use Rattle.cells.specs.Cells.{natOf}
+use Rattle.cells.specs.Table.{cell}
+use Rattle.refusals.specs.declared.Verdict.{Verdict}
+use Rattle.refusals.specs.declared.Verdict.the-variants.{Fine, Refused}
+use Rattle.lines.specs.Lines.{labels}
+use Rattle.reading.specs.Read.{sheetTable, readBad}
+
+-- the label that z is; 0, which has no cells, where z is outside 1 to n
+abbrev pub labelIn : ℕ → ℤ → ℕ
+labelIn n z = cond (leb (natOf z) n) (natOf z) 0
+
+-- cell j of that label in Read's table; 0 where Read refuses
+abbrev pub cellAsked : Verdict → List ℕ → ℕ → ℤ → ℕ → ℕ
+cellAsked Fine s m z j = cell (sheetTable s m) (labelIn (labels s) z) j
+cellAsked (Refused r p) s m z j = 0
+
+-- where the name field begins in the text, and its length; both are 0 for `-`, as in the table
+unfoldable pub nameBegin : List ℕ → ℕ → ℤ → ℕ
+nameBegin s m z = cellAsked (readBad s m) s m z 1
+
+unfoldable pub nameSize : List ℕ → ℕ → ℤ → ℕ
+nameSize s m z = cellAsked (readBad s m) s m z 2
+
+-- "that very part of the text": empty if Read would refuse, the label is outside 1 to n, or the field is `-`
+unfoldable pub namePart : List ℕ → ℕ → ℤ → List ℕ
+namePart s m z = slice (nameBegin s m z) (nameBegin s m z + nameSize s m z) s

@@ -125,23 +125,23 @@ module _ (n k : ℕ) (l : List ℕ) (e : lineBad n k l ≡ 0) where
   abbrev kindBad : ℕ
   kindBad = cond (eqb code 0) kindRow formBad
 
-  fine-fields : (fieldsAre 5 fs ≡ true) × (kindBad ≡ 0)
+  pub fine-fields : (fieldsAre 5 fs ≡ true) × (kindBad ≡ 0)
   unfolding lineBad
   fine-fields = zero-then (fieldsAre 5 fs) kindBad fieldsRow (λ z. omega arith) e
 
   fine-kind : (eqb code 0 ≡ false) × (formBad ≡ 0)
   fine-kind = zero-else (eqb code 0) formBad kindRow (λ z. omega arith) (fine-fields .1)
 
-  fine-forms : formed ≡ true
+  pub fine-forms : formed ≡ true
   fine-forms = zero-then formed 0 formRow (λ z. omega arith) (fine-kind .1) .0
 
   five : length fs ≡ 5
   five = fields-count 5 fs (fine-fields .0)
 
-  known : 1 ≤ code
+  pub known : 1 ≤ code
   known = let d = eqb-false code 0 (fine-kind .0) in omega (arith, d)
 
-  root-is : k ≡ 1 → l ≡ rootLine
+  pub root-is : k ≡ 1 → l ≡ rootLine
   root-is q = let r : formed ≡ true = fine-forms in same-eq l rootLine (rw (eq-eqb k 1 q) at r)
 
   -- label 1 is of the kind of code 1, which has no operands

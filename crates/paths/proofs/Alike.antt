@@ -10,7 +10,8 @@ use Rattle.cells.proofs.Columns.{column-other}
 use Rattle.order.specs.Order.{isDefinition, hasPath}
 use Rattle.text.specs.Pieces.{firstOf}
 use Rattle.paths.specs.Names.{nameOf, isNamed, member}
-use Rattle.paths.specs.Paths.{settled, headFrom, below, descended, namesOf, headOf, targetOf, headCell, targetBy, targetCell}
+use Rattle.refusals.proofs.FirstBad.{first-same as same-found}
+use Rattle.paths.specs.Paths.{settled, headFrom, below, descended, namesOf, headOf, targetOf, headCell, targetBy, targetCell, duplicateBad, headBad, laterBad, targetBad, pathsBad}
 use Rattle.paths.specs.Buckets.{bucketAt, inBucket, Rows, LinkedFrom, Linked}
 use Rattle.paths.proofs.FirstLabel.{first-same}
 
@@ -97,3 +98,27 @@ module _ (s : List ℕ) (t u : List ℤ) (a : Alike t u) where
 
   pub linked-alike : (n : ℕ) (first next : List ℕ) → Linked s t n first next → Linked s u n first next
   linked-alike n first next h = record { buckets = h .buckets; room = h .room; chains = chains-alike (length first) n 1 first next (h .chains) }
+
+  -- ---- rows 12 to 15
+
+  duplicate-alike : (l : ℕ) → duplicateBad s u l ≡ duplicateBad s t l
+  unfolding duplicateBad
+  duplicate-alike l =
+      rw (definition-alike l, a .owners l, name-alike l, first-same (isNamed s u (owner t l) (nameOf s t l)) (isNamed s t (owner t l) (nameOf s t l)) (l - 1) 1 (λ x p q. named-alike (owner t l) (nameOf s t l) x))
+
+  head-bad-alike : (n x : ℕ) → headBad s u n x ≡ headBad s t n x
+  unfolding headBad
+  head-bad-alike n x = rw (path-alike x, head-alike n x)
+
+  later-bad-alike : (n x : ℕ) → laterBad s u n x ≡ laterBad s t n x
+  unfolding laterBad
+  later-bad-alike n x = rw (path-alike x, target-alike n x)
+
+  target-bad-alike : (n x : ℕ) → targetBad s u n x ≡ targetBad s t n x
+  unfolding targetBad
+  target-bad-alike n x = rw (path-alike x, target-alike n x, a .kinds (targetOf s t n x), a .kinds x)
+
+  pub paths-alike : (n : ℕ) → pathsBad s u n ≡ pathsBad s t n
+  unfolding pathsBad
+  paths-alike n =
+      rw (same-found (duplicateBad s u) (duplicateBad s t) n 1 (λ x h g. duplicate-alike x), same-found (headBad s u n) (headBad s t n) n 1 (λ x h g. head-bad-alike n x), same-found (laterBad s u n) (laterBad s t n) n 1 (λ x h g. later-bad-alike n x), same-found (targetBad s u n) (targetBad s t n) n 1 (λ x h g. target-bad-alike n x))

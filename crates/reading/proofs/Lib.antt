@@ -2,3 +2,5 @@ pub mod Tied
 pub mod Accepted
 pub mod Stage
 pub mod Named
+pub mod Padding
+pub mod Keeps

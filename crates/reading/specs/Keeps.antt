@@ -1,0 +1,64 @@
+-- "Keeps the rules": what document 01 asks of a sheet, over its text s alone. The sentences are the paper's.
+use mathlib.Core.Path.{_≡_}
+use mathlib.Core.Bool.{true}
+use mathlib.Core.List.{List}
+use Prim.Native.Nat.{ℕ, _≤_, _<_}
+use lib.IntN.{ℤ}
+use lib.ListN.{length}
+use Rattle.cells.specs.Table.{kind, fieldA}
+use Rattle.text.specs.Bytes.{all, isAllowed, endsLines}
+use Rattle.text.specs.Pieces.{cut, fieldsAre}
+use Rattle.lines.specs.Kinds.{kindAt}
+use Rattle.lines.specs.Fields.{kindCode}
+use Rattle.lines.specs.Lines.{line, labels, firstLine, rootLine, field, formsRight, rows}
+use Rattle.tree.specs.Tree.{isDefinition, isExpression, uses, IsPart, Owned, Level}
+use Rattle.paths.specs.Leads.{PathsKept}
+use Rattle.reading.specs.Read.{ownedTable}
+
+-- "The sheet"
+pub record TextKept (s : List ℕ) : Type 0 where
+  -- "A sheet is 1 to 65,536 bytes of lines, each ended by byte 10; all others are 32 to 126"
+  pub some : 1 ≤ length s
+  pub size : length s ≤ 65536
+  pub ends : endsLines s
+  pub allowed : all isAllowed s ≡ true
+  -- "Line one holds the column names, exactly `kind name a b c`"
+  pub first : line s 0 ≡ firstLine
+  -- "Then come 1 to 1,024 lines", which have the labels
+  pub low : 1 ≤ labels s
+  pub high : labels s ≤ 1024
+
+-- the line of label l, in a sheet of n labels
+pub record LineKept (s : List ℕ) (n l : ℕ) : Type 0 where
+  -- "five non-empty fields in that order, one space between fields"
+  pub five : fieldsAre 5 (cut 32 (line s l)) ≡ true
+  -- the first names a kind of the table
+  pub known : 1 ≤ kindCode (field (cut 32 (line s l)) 0)
+  -- "Label 1 is always `G - 0 - -`, the outermost Group"
+  pub root : l ≡ 1 → line s l ≡ rootLine
+  -- "Which fields a kind has is one fixed table of twelve rows; a field not listed is `-`"
+  pub forms : 2 ≤ l → formsRight n (kindAt (kindCode (field (cut 32 (line s l)) 0))) (cut 32 (line s l)) ≡ true
+
+-- the lines as a table t of n labels
+pub record TreeKept (t : List ℤ) (n : ℕ) : Type 0 where
+  -- from label 2, a definition's Group field is a G with a label below its own
+  pub group : (l : ℕ) → 2 ≤ l → l ≤ n → isDefinition t l ≡ true → (fieldA t l < l) × (kind t (fieldA t l) ≡ 1)
+  -- a body or operand is an expression with a label above its own line's
+  pub part : (l x : ℕ) → IsPart t l x → (l < x) × (isExpression t x ≡ true)
+  -- an expression is used by one field, once
+  pub once : (x : ℕ) → isExpression t x ≡ true → uses t n x ≡ 1
+  -- no P (code 5) is owned by a V (code 2): "owned by the definition whose body it is or stands in"
+  pub argument : (d x : ℕ) → Owned t d x → kind t x ≡ 5 → kind t d ≡ 2 → ⊥
+  -- "A body has level 1, its operands level 2, and so on": up to 32
+  pub level : (x k : ℕ) → Level t x k → k ≤ 32
+
+-- what the fields of all lines hold, label by label: kind code, name field, a, b, c
+unfoldable pub sheetRows : List ℕ → List ℤ
+sheetRows s = rows s (labels s) (labels s)
+
+pub record Keeps (s : List ℕ) : Type 0 where
+  pub text : TextKept s
+  pub lines : (l : ℕ) → 1 ≤ l → l ≤ labels s → LineKept s (labels s) l
+  pub tree : TreeKept (sheetRows s) (labels s)
+  -- the names in a Group differ, and each path leads to what its line needs: "R needs a V, C needs an F"
+  pub paths : PathsKept s (ownedTable (sheetRows s) (labels s)) (labels s)

@@ -3,7 +3,8 @@
 //! Both are release builds and get the same sheets and the same table of 8n
 //! cells, which both clear. Rounds of the library and of the reference take
 //! turns; after some to warm up the shortest counts, since whatever else the
-//! machine does can only add to a round. One sheet read again and again is
+//! machine does can only add to a round. Several passes through all sheets
+//! give each its share of quiet moments. One sheet read again and again is
 //! soon known by heart to the processor; several in turn are not.
 
 #![forbid(unsafe_code)]
@@ -13,12 +14,13 @@ use std::hint::black_box;
 use std::path::Path;
 use std::time::Instant;
 
-/// Rounds that count, and those before them.
-const ROUNDS: usize = 400;
-const WARM_UP: usize = 20;
+/// Passes through all sheets, the rounds of each that count, and those before.
+const PASSES: usize = 12;
+const ROUNDS: usize = 50;
+const WARM_UP: usize = 3;
 
 /// About this many seconds for each round.
-const ROUND: f64 = 0.001;
+const ROUND: f64 = 0.0007;
 
 /// How much longer than the reference the library may take.
 const BAR: f64 = 1.1;
@@ -78,6 +80,7 @@ impl Workload {
 }
 
 /// Seconds a call of the library and of the reference.
+#[derive(Clone)]
 struct Times {
     library: f64,
     reference: f64,
@@ -104,19 +107,19 @@ impl Times {
 }
 
 fn main() {
-    println!("Read, microseconds a call: the shortest of {ROUNDS} rounds");
+    let rounds = PASSES * ROUNDS;
+    println!("Read, microseconds a call: the shortest of {rounds} rounds");
     println!();
     println!(
         "{:<28} {:>6} {:>7} {:>9} {:>10} {:>6}",
         "sheet", "lines", "bytes", "library", "reference", "ratio"
     );
     let workloads = workloads();
-    let mut within = 0;
-    for workload in &workloads {
-        let [times] = measure([workload]);
-        print(workload, &times);
-        within += usize::from(times.ratio() <= BAR);
+    let times = measure(&workloads);
+    for (workload, times) in workloads.iter().zip(&times) {
+        print(workload, times);
     }
+    let within = times.iter().filter(|times| times.ratio() <= BAR).count();
     println!();
     println!("{within} of {} within the bar of {BAR}", workloads.len());
     print_growth();
@@ -155,7 +158,8 @@ fn print(workload: &Workload, times: &Times) {
 /// How time grows with the lines: 1 is in proportion, 2 with their square.
 fn print_growth() {
     let [small, large] = GROWTH.map(|lines| Workload::everyday(lines, SHEETS));
-    let [small, large] = measure([&small, &large]);
+    let times = measure(&[small, large]);
+    let (small, large) = (&times[0], &times[1]);
     let more = GROWTH[1] as f64 / GROWTH[0] as f64;
     let exponent = |small: f64, large: f64| (large / small).ln() / more.ln();
     println!(
@@ -206,15 +210,17 @@ impl<'a> Job<'a> {
     }
 }
 
-/// The shortest times of each workload, in rounds through all of them.
-fn measure<const COUNT: usize>(workloads: [&Workload; COUNT]) -> [Times; COUNT] {
-    let mut jobs = workloads.map(Job::new);
-    let mut shortest = [Times::MAX; COUNT];
-    for round in 0..WARM_UP + ROUNDS {
+/// The shortest times of each workload.
+fn measure(workloads: &[Workload]) -> Vec<Times> {
+    let mut jobs: Vec<Job> = workloads.iter().map(Job::new).collect();
+    let mut shortest = vec![Times::MAX; jobs.len()];
+    for _ in 0..PASSES {
         for (job, shortest) in jobs.iter_mut().zip(&mut shortest) {
-            let times = job.round();
-            if round >= WARM_UP {
-                *shortest = shortest.min(&times);
+            for _ in 0..WARM_UP {
+                job.round();
+            }
+            for _ in 0..ROUNDS {
+                *shortest = shortest.min(&job.round());
             }
         }
     }

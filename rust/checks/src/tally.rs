@@ -55,10 +55,9 @@ impl Tally {
 impl fmt::Display for Tally {
     fn fmt(&self, f: &mut fmt::Formatter) -> fmt::Result {
         writeln!(f, "{} sheets agree: {} read", self.total(), self.answered)?;
-        write!(f, "refused by row")?;
         for (row, count) in (1..).zip(self.refused) {
-            write!(f, " {row}: {count},")?;
+            writeln!(f, "{count} refused by row {row}")?;
         }
-        write!(f, "\nnames: {} of {} labels", self.named, self.asked)
+        write!(f, "{} names of {} labels asked for", self.named, self.asked)
     }
 }

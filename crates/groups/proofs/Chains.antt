@@ -1,0 +1,286 @@
+-- Chains of members, and labels gathered in lists.
+use mathlib.Core.Path.{_≡_, refl, sym, ap, _∙_, subst}
+use mathlib.Core.Logic.{_⊎_, inl, inr}
+use mathlib.Core.List.{List, [], _∷_, _++_, append-assoc, append-nil}
+use mathlib.Core.Bool.{Bool, true, false, cond, _&&_, _||_}
+use Prim.Native.Nat.{ℕ, zero, suc, _+_, _-_, _*_, _≤_, _<_}
+use native.Mathlib.Omega.{arith}
+use native.Mathlib.Numerals.{add-one}
+use native.Mathlib.Decide.{ℕ-discrete, decLt}
+use lib.Dec.{eqb}
+use lib.IntN.{ℤ}
+use lib.ListN.{length, getD, set, take, drop, length-set, length-append, drop-of-length-le, take-append-drop}
+use lib.Seq.{getD-set-same, getD-set-other, take-suc-set, length-take-le, drop-cons, getD-take}
+use borrow.Author.Tests.{eq-eqb, ne-eqb}
+use Rattle.cells.specs.Table.{kind, owner}
+use Rattle.cells.specs.Accepted.{Accepted}
+use Rattle.order.specs.Lists.{count, _∈_, upFrom, filter}
+use Rattle.order.specs.Order.{isG, isV, isF, isDefinition, labels, isMember, members}
+use Rattle.order.proofs.Tests.{so-or-not, and-right}
+use Rattle.order.proofs.Lists.{in-here, in-there, in-right, in-filter, count-below, count-here, count-append, count-filter-le, upFrom-once, filter-le, length-upFrom}
+use Rattle.placing.specs.Placing.{Rising}
+use Rattle.reach.specs.Chains.{Empty}
+use Rattle.groups.specs.Members.{Chain, Chained, Gathered, Relinked}
+
+-- ---- labels that pass a test, upward
+
+pub labels-few : (f : ℕ → Bool) (n : ℕ) → length (filter f (labels n)) ≤ n
+labels-few f n = omega (arith, filter-le f (labels n), length-upFrom 1 n)
+
+above : (f : ℕ → Bool) (m k y : ℕ) → y ∈ filter f (upFrom m k) → m ≤ y
+above f m k y h = go (ℕ-lt y m)
+  where
+    ℕ-lt : (a b : ℕ) → (a < b) ⊎ (b ≤ a)
+    ℕ-lt a b = pick (decLt a b)
+      where
+        pick : Dec (a < b) → (a < b) ⊎ (b ≤ a)
+        pick (yes l) = inl l
+        pick (no l) = inr (omega arith)
+
+    go : (y < m) ⊎ (m ≤ y) → m ≤ y
+    go (inr l) = l
+    go (inl l) = absurd (omega (arith, in-filter f y (upFrom m k) h .0, count-below y m k l))
+
+pub rising-filter : (f : ℕ → Bool) (m k : ℕ) → Rising (filter f (upFrom m k))
+rising-filter f m zero = tt
+rising-filter f m (suc k) = go (so-or-not (f m)) (rising-filter f (suc m) k)
+  where
+    go : (f m ≡ true) ⊎ (f m ≡ false) → Rising (filter f (upFrom (suc m) k)) → Rising (filter f (upFrom m (suc k)))
+    go (inl e) r = rw e (λ y h. above f (suc m) k y h, r)
+    go (inr e) r = rw e r
+
+-- ---- chains
+
+pub chain-same : (n : ℕ) (next next′ : List ℕ) (p : ℕ) (l : List ℕ) → ((x : ℕ) → x ∈ l → getD next′ (n + x) 0 ≡ getD next (n + x) 0) → Chain n next p l → Chain n next′ p l
+chain-same n next next′ p [] h c = c
+chain-same n next next′ p (y ∷ l) h c = (
+  c .0,
+  c .1,
+  subst (λ (q : ℕ). Chain n next′ q l) (sym (h y (in-here y l))) (chain-same n next next′ (getD next (n + y) 0) l (λ x m. h x (in-there x y l m)) (c .2)),
+)
+
+pub chain-empty : (n : ℕ) (next : List ℕ) (p : ℕ) (l : List ℕ) → p ≡ 0 → Chain n next p l → l ≡ []
+chain-empty n next p [] e c = refl
+chain-empty n next p (x ∷ l) e c = absurd (omega (arith, c .0, c .1))
+
+-- how many steps there are to the end, of at most k
+abbrev pub steps : ℕ → List ℕ → ℕ → ℕ → ℕ
+steps n next zero p = 0
+steps n next (suc k) p = cond (eqb p 0) 0 (suc (steps n next k (getD next (n + p) 0)))
+
+pub steps-are : (n : ℕ) (next : List ℕ) (k p : ℕ) (l : List ℕ) → length l ≤ k → Chain n next p l → steps n next k p ≡ length l
+steps-are n next zero p [] h c = refl
+steps-are n next zero p (x ∷ l) h c = absurd (omega arith)
+steps-are n next (suc k) p [] h c = rw (eq-eqb p 0 c)
+steps-are n next (suc k) p (x ∷ l) h c =
+    let z : p ≡ 0 → ⊥ = λ e. omega (arith, c .0, c .1) in
+    rw (ne-eqb p 0 z) (ap suc (ap (λ (q : ℕ). steps n next k (getD next (n + q) 0)) (c .0) ∙ steps-are n next k (getD next (n + x) 0) l (omega arith) (c .2)))
+
+-- ---- building them, from the last label down
+
+above-step : (f : ℕ → Bool) (n l : ℕ) → 1 ≤ l → l ≤ n
+    → filter f (upFrom (suc (l - 1)) (n - (l - 1))) ≡ cond (f l) (l ∷ filter f (upFrom (suc l) (n - l))) (filter f (upFrom (suc l) (n - l)))
+above-step f n l h k =
+    let a : suc (l - 1) ≡ l = omega arith in
+    let b : n - (l - 1) ≡ suc (n - l) = omega arith in
+    ap (λ (j : ℕ). filter f (upFrom j (n - (l - 1)))) a ∙ ap (λ (j : ℕ). filter f (upFrom l j)) b
+
+-- the chains of the members above l
+abbrev pub Linked : List ℤ → ℕ → ℕ → List ℕ → Type 0
+Linked t n l next = (g : ℕ) → g ≤ n → Chain n next (getD next g 0) (filter (isMember t g) (upFrom (suc l) (n - l)))
+
+module _ (t : List ℤ) (n : ℕ) where
+  pub linked-none : (next : List ℕ) → Empty n next → Linked t n n next
+  linked-none next e g h =
+      let z : 0 ≡ n - n = omega arith in
+      subst (λ (k : ℕ). Chain n next (getD next g 0) (filter (isMember t g) (upFrom (suc n) k))) z (e g h)
+
+  module _ (l : ℕ) (lo : 1 ≤ l) (hi : l ≤ n) (next : List ℕ) (k : Linked t n l next) where
+    same : (g : ℕ) → isMember t g l ≡ false → filter (isMember t g) (upFrom (suc l) (n - l)) ≡ filter (isMember t g) (upFrom (suc (l - 1)) (n - (l - 1)))
+    same g e = sym (above-step (isMember t g) n l lo hi ∙ rw e)
+
+    pub linked-skip : isDefinition t l ≡ false → Linked t n (l - 1) next
+    linked-skip d g h = subst (λ (m : List ℕ). Chain n next (getD next g 0) m) (same g (rw d)) (k g h)
+
+    module _ (d : isDefinition t l ≡ true) (room : 2 * n < length next) (low : owner t l ≤ n) where
+      far : (x : ℕ) → l < x → getD (set (set next (n + l) (getD next (owner t l) 0)) (owner t l) l) (n + x) 0 ≡ getD next (n + x) 0
+      far x h =
+          getD-set-other (set next (n + l) (getD next (owner t l) 0)) (owner t l) (n + x) l 0 (λ z. omega arith)
+          ∙ getD-set-other next (n + l) (n + x) (getD next (owner t l) 0) 0 (λ z. omega arith)
+
+      kept : (g p : ℕ) → Chain n next p (filter (isMember t g) (upFrom (suc l) (n - l)))
+          → Chain n (set (set next (n + l) (getD next (owner t l) 0)) (owner t l) l) p (filter (isMember t g) (upFrom (suc l) (n - l)))
+      kept g p c = chain-same n next (set (set next (n + l) (getD next (owner t l) 0)) (owner t l) l) p (filter (isMember t g) (upFrom (suc l) (n - l)))
+          (λ x m. far x (above (isMember t g) (suc l) (n - l) x m)) c
+
+      push : Linked t n (l - 1) (set (set next (n + l) (getD next (owner t l) 0)) (owner t l) l)
+      push g h = go (ℕ-discrete g (owner t l))
+        where
+          go : Dec (g ≡ owner t l) → Chain n (set (set next (n + l) (getD next (owner t l) 0)) (owner t l) l) (getD (set (set next (n + l) (getD next (owner t l) 0)) (owner t l) l) g 0)
+              (filter (isMember t g) (upFrom (suc (l - 1)) (n - (l - 1))))
+          go (yes e) =
+              let test : isMember t g l ≡ true = rw d (eq-eqb (owner t l) g (sym e)) in
+              let lists : l ∷ filter (isMember t g) (upFrom (suc l) (n - l)) ≡ filter (isMember t g) (upFrom (suc (l - 1)) (n - (l - 1))) =
+              sym (above-step (isMember t g) n l lo hi ∙ rw test) in
+              let head : getD (set (set next (n + l) (getD next (owner t l) 0)) (owner t l) l) g 0 ≡ l =
+              ap (λ (j : ℕ). getD (set (set next (n + l) (getD next (owner t l) 0)) (owner t l) l) j 0) e
+              ∙ getD-set-same (set next (n + l) (getD next (owner t l) 0)) (owner t l) l 0 (omega (arith, length-set next (n + l) (getD next (owner t l) 0))) in
+              let link : getD next g 0 ≡ getD (set (set next (n + l) (getD next (owner t l) 0)) (owner t l) l) (n + l) 0 =
+              ap (λ (j : ℕ). getD next j 0) e
+              ∙ sym (getD-set-other (set next (n + l) (getD next (owner t l) 0)) (owner t l) (n + l) l 0 (λ z. omega arith)
+              ∙ getD-set-same next (n + l) (getD next (owner t l) 0) 0 (omega arith)) in
+              subst (λ (m : List ℕ). Chain n (set (set next (n + l) (getD next (owner t l) 0)) (owner t l) l) (getD (set (set next (n + l) (getD next (owner t l) 0)) (owner t l) l) g 0) m) lists
+              (head, lo, subst (λ (q : ℕ). Chain n (set (set next (n + l) (getD next (owner t l) 0)) (owner t l) l) q (filter (isMember t g) (upFrom (suc l) (n - l)))) link (kept g (getD next g 0) (k g h)))
+          go (no e) =
+              let test : isMember t g l ≡ false = rw d (ne-eqb (owner t l) g (λ z. e (sym z))) in
+              let head : getD (set (set next (n + l) (getD next (owner t l) 0)) (owner t l) l) g 0 ≡ getD next g 0 =
+              getD-set-other (set next (n + l) (getD next (owner t l) 0)) (owner t l) g l 0 e ∙ getD-set-other next (n + l) g (getD next (owner t l) 0) 0 (λ z. omega arith) in
+              subst (λ (q : ℕ). Chain n (set (set next (n + l) (getD next (owner t l) 0)) (owner t l) l) q (filter (isMember t g) (upFrom (suc (l - 1)) (n - (l - 1))))) (sym head)
+              (subst (λ (m : List ℕ). Chain n (set (set next (n + l) (getD next (owner t l) 0)) (owner t l) l) (getD next g 0) m) (same g test) (kept g (getD next g 0) (k g h)))
+
+      pub linked-push : (o : ℕ) → o ≡ owner t l → Linked t n (l - 1) (set (set next (n + l) (getD next o 0)) o l)
+      linked-push o e = subst (λ (x : ℕ). Linked t n (l - 1) (set (set next (n + l) (getD next x 0)) x l)) (sym e) push
+
+  pub linked-all : (l : ℕ) (next : List ℕ) → l ≤ 0 → Linked t n l next → Chained t n next
+  linked-all l next h k g m =
+      let a : l ≡ 0 = omega arith in
+      let b : n - 0 ≡ n = omega arith in
+      subst (λ (j : ℕ). Chain n next (getD next g 0) (filter (isMember t g) (upFrom 1 j))) b
+      (subst (λ (j : ℕ). Chain n next (getD next g 0) (filter (isMember t g) (upFrom (suc j) (n - j)))) a (k g m))
+
+-- ---- kinds of definitions
+
+pub def-of : (t : List ℤ) (l : ℕ) → 1 ≤ kind t l → kind t l ≤ 3 → isDefinition t l ≡ true
+def-of t l a b = go (ℕ-discrete (kind t l) 1) (ℕ-discrete (kind t l) 2)
+  where
+    go : Dec (kind t l ≡ 1) → Dec (kind t l ≡ 2) → isDefinition t l ≡ true
+    go (yes e) _ = rw (eq-eqb (kind t l) 1 e)
+    go (no e) (yes f) = rw (ne-eqb (kind t l) 1 e, eq-eqb (kind t l) 2 f)
+    go (no e) (no f) =
+        let g : kind t l ≡ 3 = omega arith in
+        rw (ne-eqb (kind t l) 1 e, ne-eqb (kind t l) 2 f, eq-eqb (kind t l) 3 g)
+
+pub not-def : (t : List ℤ) (l : ℕ) → 3 < kind t l → isDefinition t l ≡ false
+not-def t l h = rw (ne-eqb (kind t l) 1 (λ e. omega arith), ne-eqb (kind t l) 2 (λ e. omega arith), ne-eqb (kind t l) 3 (λ e. omega arith))
+
+-- ---- walking a chain
+
+take-one : (l : List ℕ) (m p : ℕ) → m < length l → take (m + 1) (set l m p) ≡ take m l ++ p ∷ []
+take-one l m p h = rw add-one (take-suc-set l m p h)
+
+pub record Walk (n : ℕ) (next whole items : List ℕ) (p m : ℕ) : Type 0 where
+  pub rest : List ℕ
+  pub parts : take m items ++ rest ≡ whole
+  pub chain : Chain n next p rest
+  pub within : m ≤ length items
+
+module _ (n : ℕ) (next whole items : List ℕ) where
+  pub walk-start : (p : ℕ) → Chain n next p whole → Walk n next whole items p 0
+  walk-start p c = record { rest = whole; parts = refl; chain = c; within = omega arith }
+
+  pub walk-room : (p m : ℕ) → Walk n next whole items p m → (p ≡ 0 → ⊥) → m < length whole
+  walk-room p m w z = go (w .rest) (w .parts) (w .chain)
+    where
+      go : (rest : List ℕ) → take m items ++ rest ≡ whole → Chain n next p rest → m < length whole
+      go [] e c = absurd (z c)
+      go (x ∷ l) e c = omega (arith, ap length e, length-append (take m items) (x ∷ l), length-take-le m items (w .within))
+
+  pub walk-in : (p m : ℕ) → Walk n next whole items p m → (p ≡ 0 → ⊥) → p ∈ whole
+  walk-in p m w z = go (w .rest) (w .parts) (w .chain)
+    where
+      go : (rest : List ℕ) → take m items ++ rest ≡ whole → Chain n next p rest → p ∈ whole
+      go [] e c = absurd (z c)
+      go (x ∷ l) e c = subst (λ (y : List ℕ). p ∈ y) e (in-right p (take m items) (x ∷ l) (subst (λ (y : ℕ). p ∈ y ∷ l) (c .0) (in-here p l)))
+
+  pub walk-step : (p m : ℕ) → Walk n next whole items p m → (p ≡ 0 → ⊥) → m < length items → Walk n next whole (set items m p) (getD next (n + p) 0) (m + 1)
+  walk-step p m w z h = go (w .rest) (w .parts) (w .chain)
+    where
+      go : (rest : List ℕ) → take m items ++ rest ≡ whole → Chain n next p rest → Walk n next whole (set items m p) (getD next (n + p) 0) (m + 1)
+      go [] e c = absurd (z c)
+      go (x ∷ l) e c = record {
+        rest = l;
+        parts = ap (λ (y : List ℕ). y ++ l) (take-one items m p h) ∙ append-assoc (take m items) (p ∷ []) l ∙ ap (λ (y : ℕ). take m items ++ y ∷ l) (c .0) ∙ e;
+        chain = subst (λ (y : ℕ). Chain n next (getD next (n + y) 0) l) (sym (c .0)) (c .2);
+        within = omega (arith, length-set items m p);
+      }
+
+  pub walk-end : (p m : ℕ) → Walk n next whole items p m → p ≡ 0 → Gathered whole items m
+  walk-end p m w z = go (w .rest) (w .parts) (w .chain)
+    where
+      go : (rest : List ℕ) → take m items ++ rest ≡ whole → Chain n next p rest → Gathered whole items m
+      go [] e c = record { cells = sym (append-nil (take m items)) ∙ e; within = w .within }
+      go (x ∷ l) e c = absurd (omega (arith, c .0, c .1))
+
+-- ---- filtering the labels upward
+
+module _ (f : ℕ → Bool) (n : ℕ) (items : List ℕ) (l m : ℕ) (lo : l ≤ n) (e : take m items ++ filter f (upFrom l (n + 1 - l)) ≡ filter f (labels n)) where
+  next-label : filter f (upFrom l (n + 1 - l)) ≡ cond (f l) (l ∷ filter f (upFrom (l + 1) (n + 1 - (l + 1)))) (filter f (upFrom (l + 1) (n + 1 - (l + 1))))
+  next-label =
+      let a : n + 1 - l ≡ suc (n + 1 - (l + 1)) = omega arith in
+      let b : suc l ≡ l + 1 = omega arith in
+      ap (λ (j : ℕ). filter f (upFrom l j)) a ∙ ap (λ (j : ℕ). cond (f l) (l ∷ filter f (upFrom j (n + 1 - (l + 1)))) (filter f (upFrom j (n + 1 - (l + 1))))) b
+
+  pub take-label : f l ≡ true → m < length items → take (m + 1) (set items m l) ++ filter f (upFrom (l + 1) (n + 1 - (l + 1))) ≡ filter f (labels n)
+  take-label h g =
+      ap (λ (y : List ℕ). y ++ filter f (upFrom (l + 1) (n + 1 - (l + 1)))) (take-one items m l g)
+      ∙ append-assoc (take m items) (l ∷ []) (filter f (upFrom (l + 1) (n + 1 - (l + 1)))) ∙ ap (λ (y : List ℕ). take m items ++ y) (sym (next-label ∙ rw h)) ∙ e
+
+  pub skip-label : f l ≡ false → take m items ++ filter f (upFrom (l + 1) (n + 1 - (l + 1))) ≡ filter f (labels n)
+  skip-label h = ap (λ (y : List ℕ). take m items ++ y) (sym (next-label ∙ rw h)) ∙ e
+
+pub first-label : (f : ℕ → Bool) (n : ℕ) → filter f (upFrom 1 (n + 1 - 1)) ≡ filter f (labels n)
+first-label f n =
+    let z : n + 1 - 1 ≡ n = omega arith in
+    ap (λ (j : ℕ). filter f (upFrom 1 j)) z
+
+pub no-more : (f : ℕ → Bool) (n : ℕ) (items : List ℕ) (l m : ℕ) → n < l → m ≤ length items → take m items ++ filter f (upFrom l (n + 1 - l)) ≡ filter f (labels n)
+    → Gathered (filter f (labels n)) items m
+no-more f n items l m h g e =
+    let z : 0 ≡ n + 1 - l = omega arith in
+    record { cells = sym (append-nil (take m items)) ∙ ap (λ (j : ℕ). take m items ++ filter f (upFrom l j)) z ∙ e; within = g }
+
+-- ---- a chain put in order, from its end
+
+-- the labels of L from i on are linked, and nothing else changed
+pub record Relinking (n : ℕ) (next₀ L next : List ℕ) (head i : ℕ) : Type 0 where
+  pub chain : Chain n next head (drop i L)
+  pub others : (y : ℕ) → ((x : ℕ) → x ∈ drop i L → y ≡ n + x → ⊥) → getD next y 0 ≡ getD next₀ y 0
+
+module _ (n : ℕ) (next₀ L : List ℕ) where
+  pub relinking-none : (i : ℕ) → length L ≤ i → Relinking n next₀ L next₀ 0 i
+  relinking-none i h =
+      let z : drop i L ≡ [] = drop-of-length-le L h in
+      record { chain = subst (Chain n next₀ 0) (sym z) refl; others = λ y f. refl }
+
+  module _ (next : List ℕ) (head i : ℕ) (r : Relinking n next₀ L next head i) where
+    pub relinking-turn : (x : ℕ) → 0 < i → i ≤ length L → x ≡ getD L (i - 1) 0 → 1 ≤ x → n + x < length next → count x L ≤ 1
+        → Relinking n next₀ L (set next (n + x) head) x (i - 1)
+    relinking-turn x some low is one room once = record {
+      chain = subst (Chain n (set next (n + x) head) x) (sym parts) (refl, one, subst (λ (q : ℕ). Chain n (set next (n + x) head) q (drop i L)) (sym own) kept);
+      others = λ y f. getD-set-other next (n + x) y head 0 (λ z. f x (subst (λ (l : List ℕ). x ∈ l) (sym parts) (in-here x (drop i L))) z)
+          ∙ r .others y (λ v m. f v (subst (λ (l : List ℕ). v ∈ l) (sym parts) (in-there v x (drop i L) m)));
+    }
+      where
+        parts : drop (i - 1) L ≡ x ∷ drop i L
+        parts =
+            let k : suc (i - 1) ≡ i = omega arith in
+            drop-cons L (i - 1) 0 (omega arith) ∙ ap (λ (v : ℕ). v ∷ drop (suc (i - 1)) L) (sym is) ∙ ap (λ (j : ℕ). x ∷ drop j L) k
+
+        own : getD (set next (n + x) head) (n + x) 0 ≡ head
+        own = getD-set-same next (n + x) head 0 room
+
+        -- x stands once, so not after its place
+        fresh : (v : ℕ) → v ∈ drop i L → v ≡ x → ⊥
+        fresh v m e =
+            let m₁ : x ∈ drop i L = subst (λ (w : ℕ). w ∈ drop i L) e m in
+            omega (arith, count-append x (take (i - 1) L) (drop (i - 1) L), ap (count x) (take-append-drop (i - 1) L), ap (count x) parts, count-here x (drop i L))
+
+        kept : Chain n (set next (n + x) head) head (drop i L)
+        kept = chain-same n next (set next (n + x) head) head (drop i L) (λ v m. getD-set-other next (n + x) (n + v) head 0 (λ z. fresh v m (omega arith))) (r .chain)
+
+    pub relinked : (g : ℕ) → i ≡ 0 → g ≤ n → g < length next → ((x : ℕ) → x ∈ L → 1 ≤ x) → Relinked n g L next₀ (set next g head)
+    relinked g z low room some = record {
+      chain = subst (λ (q : ℕ). Chain n (set next g head) q L) (sym (getD-set-same next g head 0 room))
+          (chain-same n next (set next g head) head L (λ x m. getD-set-other next g (n + x) head 0 (λ y. omega (arith, some x m))) (subst (λ (j : ℕ). Chain n next head (drop j L)) z (r .chain)));
+      others = λ y d f. getD-set-other next g y head 0 d ∙ r .others y (λ x m. f x (subst (λ (j : ℕ). x ∈ drop j L) z m));
+    }

@@ -1,0 +1,275 @@
+-- The rule of placing over a Group's members and over the values: what `place` asks, and what it gives.
+use mathlib.Core.Path.{_≡_, refl, sym, ap, _∙_, subst}
+use mathlib.Core.Logic.{_⊎_, inl, inr, _↔_}
+use mathlib.Core.List.{List, [], _∷_, _++_}
+use mathlib.Core.Bool.{Bool, true, false, not, _&&_, _||_}
+use mathlib.Core.Option.{Option, none, some}
+use Prim.Native.Nat.{ℕ, zero, suc, _+_, _-_, _*_, _/_, _≤_, _<_}
+use native.Mathlib.Omega.{arith}
+use native.Mathlib.Decide.{ℕ-discrete}
+use lib.Dec.{eqb}
+use lib.IntN.{ℤ}
+use lib.ListN.{length, getD, take}
+use lib.Seq.{length-take-le}
+use borrow.Author.Tests.{eq-eqb, ne-eqb, eqb-true}
+use Rattle.cells.specs.Table.{kind, owner}
+use Rattle.cells.specs.Accepted.{Accepted}
+use Rattle.order.specs.Lists.{one, count, _∈_, mem, any, first, filter}
+use Rattle.order.specs.Placing.{waits, next, place, rounds, placed, stuck}
+use Rattle.order.specs.Order.{isG, isV, isF, isDefinition, labels, isMember, members, values, reaches, needs, ordered, groupStuck, mixedPlan, place16, NoCycle}
+use Rattle.order.proofs.Tests.{clash, so-or-not, not-so, or-cases}
+use Rattle.order.proofs.Lists.{in-here, in-there, zero-or-in, length-mono, length-upFrom}
+use Rattle.order.proofs.Placing.{placed-sub, placed-all}
+use Rattle.order.proofs.Tables.{v-kind, kind-v, kind-g, g-kind, v-not-g, v-def, def-label, member-of, members-once, value-of, in-labels, reaches-exact}
+use Rattle.order.proofs.Needs.{holds, holds-intro, holds-v, holds-in, needs-intro, needs-elim, only-itself}
+use Rattle.order.proofs.Planned.{place16-exactly}
+use Rattle.marks.specs.Marks.{mark, Added}
+use Rattle.placing.specs.Placing.{needed, Fits, Placed}
+use Rattle.placing.proofs.Lists.{and-on, count-more, in-more, rising-once}
+use Rattle.reach.specs.Rows.{width}
+use Rattle.reach.proofs.Reading.{row-room}
+use Rattle.needs.specs.Needs.{Holder, NeedRows}
+use Rattle.groups.specs.Members.{Gathered, Items, Scratch, Masked}
+use Rattle.groups.proofs.Chains.{rising-filter}
+
+-- ---- the rule asks only about the items
+
+any-ext : (f g : ℕ → Bool) (l : List ℕ) → ((x : ℕ) → x ∈ l → f x ≡ g x) → any f l ≡ any g l
+any-ext f g [] h = refl
+any-ext f g (x ∷ l) h = rw (h x (in-here x l), any-ext f g l (λ y m. h y (in-there y x l m)))
+
+first-ext : (f g : ℕ → Bool) (l : List ℕ) → ((x : ℕ) → x ∈ l → f x ≡ g x) → first f l ≡ first g l
+first-ext f g [] h = refl
+first-ext f g (x ∷ l) h = rw (h x (in-here x l), first-ext f g l (λ y m. h y (in-there y x l m)))
+
+module _ (R Q : ℕ → ℕ → Bool) (items : List ℕ) (same : (p q : ℕ) → p ∈ items → q ∈ items → R p q ≡ Q p q) where
+  next-ext : (done : List ℕ) → next R items done ≡ next Q items done
+  next-ext done =
+      first-ext (λ p. not (mem p done) && not (waits R items done p)) (λ p. not (mem p done) && not (waits Q items done p)) items
+      (λ p m. ap (λ (t : Bool). not (mem p done) && not t) (any-ext (λ q. R p q && not (mem q done)) (λ q. Q p q && not (mem q done)) items
+      (λ q i. ap (λ (t : Bool). t && not (mem q done)) (same p q m i))))
+
+  rounds-ext : (k : ℕ) (done : List ℕ) → rounds R items k done ≡ rounds Q items k done
+  rounds-ext zero done = refl
+  rounds-ext (suc k) done = go (next Q items done) refl (λ p. rounds-ext k (done ++ p ∷ []))
+    where
+      go : (o : Option ℕ) → next Q items done ≡ o → ((p : ℕ) → rounds R items k (done ++ p ∷ []) ≡ rounds Q items k (done ++ p ∷ [])) → rounds R items (suc k) done ≡ rounds Q items (suc k) done
+      go none e r = rw (next-ext done, e)
+      go (some p) e r = rw (next-ext done, e) (r p)
+
+  pub placed-ext : placed R items ≡ placed Q items
+  placed-ext = rounds-ext (length items) []
+
+and-off : (a : Bool) → (a && false) ≡ false
+and-off true = refl
+and-off false = refl
+
+-- ---- the part of a buffer that holds the items
+
+pub items-of : (l items : List ℕ) (m : ℕ) → Gathered l items m → take (m - 0) items ≡ l
+items-of l items m h =
+    let z : m - 0 ≡ m = omega arith in
+    ap (λ (j : ℕ). take j items) z ∙ h .cells
+
+pub items-many : (l items : List ℕ) (m : ℕ) → Gathered l items m → m ≡ length l
+items-many l items m h = sym (length-take-le m items (h .within)) ∙ ap length (h .cells)
+
+module _ (t : List ℤ) (n : ℕ) (ok : Accepted t n) where
+  -- ---- kinds
+
+  pub holder-or : (p : ℕ) → isDefinition t p ≡ true → Holder t p ⊎ (isF t p ≡ true)
+  holder-or p d = go (or-cases (isG t p || isV t p) (isF t p) d)
+    where
+      two : (isG t p ≡ true) ⊎ (isV t p ≡ true) → Holder t p ⊎ (isF t p ≡ true)
+      two (inl e) = inl (inl (g-kind t p e))
+      two (inr e) = inl (inr (v-kind t p e))
+
+      go : ((isG t p || isV t p) ≡ true) ⊎ (isF t p ≡ true) → Holder t p ⊎ (isF t p ≡ true)
+      go (inl e) = two (or-cases (isG t p) (isV t p) e)
+      go (inr e) = inr e
+
+  f-kind : (p : ℕ) → isF t p ≡ true → kind t p ≡ 3
+  f-kind p e = eqb-true (kind t p) 3 e
+
+  f-empty : (p x : ℕ) → isDefinition t p ≡ true → isF t p ≡ true → holds t p x ≡ true → ⊥
+  f-empty p x d e h =
+      let k = f-kind p e in
+      let g : isG t p ≡ false = ne-eqb (kind t p) 1 (λ z. omega arith) in
+      let z : x ≡ p = only-itself t n ok p x d g h in
+      omega (arith, v-kind t p (subst (λ (y : ℕ). isV t y ≡ true) z (holds-v t n ok p x h)))
+
+  f-needs : (p q : ℕ) → isDefinition t p ≡ true → isF t p ≡ true → needs t n p q ≡ false
+  f-needs p q d e = not-so (needs t n p q) (λ h. let w = needs-elim t n ok p q h in f-empty p (w .1 .0) d e (w .1 .2))
+
+  f-needed : (p q : ℕ) → isDefinition t q ≡ true → isF t q ≡ true → needs t n p q ≡ false
+  f-needed p q d e = not-so (needs t n p q) (λ h. let w = needs-elim t n ok p q h in f-empty q (w .1 .1) d e (w .1 .3))
+
+  not-holder : (p : ℕ) → isF t p ≡ true → Holder t p → ⊥
+  not-holder p e (inl k) = omega (arith, f-kind p e)
+  not-holder p e (inr k) = omega (arith, f-kind p e)
+
+  -- ---- what `place` asks, and what it gives
+
+  module _ (items : List ℕ) (h : Items t items) where
+    pub item-label : (p : ℕ) → p ∈ items → (1 ≤ p) × (p ≤ n)
+    item-label p m = def-label t n ok p (h .defs p m)
+
+    pub items-few : length items ≤ n
+    items-few =
+        let m = length-mono items (labels n) (λ x. at x (zero-or-in (count x items))) in
+        omega (arith, length-upFrom 1 n)
+      where
+        at : (x : ℕ) → (count x items ≡ 0) ⊎ (x ∈ items) → count x items ≤ count x (labels n)
+        at x (inl e) = omega arith
+        at x (inr m) = let b = item-label x m in omega (arith, rising-once items (h .rising) x, in-labels t n ok x (b .0) (b .1))
+
+    module _ (mask square : List ℕ) (masked : Masked t n items mask) where
+      pub fits : (unmet : List ℕ) → (n + 1) * width n ≤ length square → n < length unmet → width n ≤ length mask → Fits items square mask unmet (width n)
+      fits unmet room counts wide = record {
+        rising = h .rising;
+        few = omega (arith, items-few, ok .few);
+        narrow = omega (arith, ok .few);
+        below = λ p m. let b = item-label p m in omega (arith, b);
+        counted = λ p m. let b = item-label p m in omega (arith, b);
+        rows = λ p m. row-room n (width n) p (length square) (item-label p m .1) room;
+        masked = λ p m. masked p .0 m .0;
+        mask-room = wide;
+      }
+
+      in-mask : (p : ℕ) → p ∈ items → Holder t p → mark mask (width n) 0 p ≡ true
+      in-mask p i d = masked p .1 (i, d)
+
+      out-mask : (p : ℕ) → isF t p ≡ true → mark mask (width n) 0 p ≡ false
+      out-mask p e = not-so (mark mask (width n) 0 p) (λ m. not-holder p e (masked p .0 m .1))
+
+      needed-is : NeedRows t n square → (p q : ℕ) → p ∈ items → q ∈ items → needed square mask (width n) p q ≡ needs t n p q
+      needed-is rows p q mp mq = go (holder-or p (h .defs p mp)) (holder-or q (h .defs q mq))
+        where
+          go : Holder t p ⊎ (isF t p ≡ true) → Holder t q ⊎ (isF t q ≡ true) → needed square mask (width n) p q ≡ needs t n p q
+          go (inl hp) (inl hq) = rw (in-mask q mq hq, in-mask p mp hp) (and-on (mark square (width n) q p) ∙ rows p q hp hq)
+          go (inl hp) (inr fq) = rw (out-mask q fq) (sym (f-needed p q (h .defs q mq) fq))
+          go (inr fp) (inl hq) = rw (in-mask q mq hq, out-mask p fp) (and-off (mark square (width n) q p) ∙ sym (f-needs p q (h .defs p mp) fp))
+          go (inr fp) (inr fq) = rw (out-mask q fq) (sym (f-needed p q (h .defs q mq) fq))
+
+      pub placed-needs : NeedRows t n square → (order : List ℕ) (r : ℕ) → Placed (needed square mask (width n)) items order r → Placed (needs t n) items order r
+      placed-needs rows order r pl = record { cells = pl .cells ∙ placed-ext (needed square mask (width n)) (needs t n) items (needed-is rows); within = pl .within }
+
+  -- ---- the members of a Group
+
+  module _ (g : ℕ) (items : List ℕ) (m : ℕ) (ga : Gathered (members t n g) items m) where
+    is : take (m - 0) items ≡ members t n g
+    is = items-of (members t n g) items m ga
+
+    pub member-items : Items t (take (m - 0) items)
+    member-items = subst (Items t) (sym is) (record { rising = rising-filter (isMember t g) 1 n; defs = λ p i. member-of t n ok g p i .0 })
+
+    module _ (order : List ℕ) (room : n < length order) (r : ℕ) (pl : Placed (needs t n) (take (m - 0) items) order r) where
+      pub order-is : take r order ≡ ordered t n g
+      order-is = pl .cells ∙ ap (placed (needs t n)) is
+
+      pub order-short : r ≤ n
+      order-short = omega (arith, pl .within, items-few (take (m - 0) items) member-items)
+
+      many : r ≡ length (ordered t n g)
+      many = sym (length-take-le r order (omega (arith, order-short))) ∙ ap length order-is
+
+      pub order-stuck : (r ≡ m → ⊥) → groupStuck t n g ≡ true
+      order-stuck d = ap not (ne-eqb (length (ordered t n g)) (length (members t n g)) (λ z. d (many ∙ z ∙ sym (items-many (members t n g) items m ga))))
+
+      module _ (e : r ≡ m) where
+        pub order-free : groupStuck t n g ≡ false
+        order-free = ap not (eq-eqb (length (ordered t n g)) (length (members t n g)) (sym many ∙ e ∙ items-many (members t n g) items m ga))
+
+        pub order-labels : (x : ℕ) → x ∈ take r order → (1 ≤ x) × (x ≤ n)
+        order-labels x i = def-label t n ok x (member-of t n ok g x (placed-sub (needs t n) (members t n g) x (subst (λ (l : List ℕ). x ∈ l) order-is i)) .0)
+
+        pub order-once : (x : ℕ) → count x (take r order) ≤ 1
+        order-once x = omega (arith, ap (count x) order-is, placed-all (needs t n) (members t n g) x order-free, members-once t n ok g x)
+
+  -- ---- the values, where none reaches itself
+
+  module _ (nc : NoCycle t) (p q : ℕ) (vp : isV t p ≡ true) (vq : isV t q ≡ true) where
+    itself : (v : ℕ) → isV t v ≡ true → holds t v v ≡ true
+    itself v e = holds-intro t n ok v v (def-label t n ok v (v-def t v e) .0) e (0, refl)
+
+    alone : (v x : ℕ) → isV t v ≡ true → holds t v x ≡ true → x ≡ v
+    alone v x e h = only-itself t n ok v x (v-def t v e) (v-not-g t v e) h
+
+    needs-reaches : needs t n p q ≡ reaches t n p q
+    needs-reaches = go (so-or-not (needs t n p q)) (so-or-not (reaches t n p q))
+      where
+        go : (needs t n p q ≡ true) ⊎ (needs t n p q ≡ false) → (reaches t n p q ≡ true) ⊎ (reaches t n p q ≡ false) → needs t n p q ≡ reaches t n p q
+        go (inl a) (inl b) = a ∙ sym b
+        go (inr a) (inr b) = a ∙ sym b
+        go (inl a) (inr b) =
+            let w = needs-elim t n ok p q a in
+            let x : w .1 .0 ≡ p = alone p (w .1 .0) vp (w .1 .2) in
+            let y : w .1 .1 ≡ q = alone q (w .1 .1) vq (w .1 .3) in
+            clash (reaches t n p q) (sym (ap (λ (z : ℕ). reaches t n z q) x) ∙ (sym (ap (λ (z : ℕ). reaches t n (w .1 .0) z) y) ∙ w .1 .4)) b
+        go (inr a) (inl b) =
+            clash (needs t n p q) (needs-intro t n ok p q p q other (itself p vp) (itself q vq) b) a
+          where
+            other : p ≡ q → ⊥
+            other e = nc p (v-kind t p vp) (reaches-exact t n ok p p .0 (subst (λ (z : ℕ). reaches t n p z ≡ true) (sym e) b))
+
+  module _ (items : List ℕ) (m : ℕ) (ga : Gathered (values t n) items m) where
+    values-is : take (m - 0) items ≡ values t n
+    values-is = items-of (values t n) items m ga
+
+    pub value-items : Items t (take (m - 0) items)
+    value-items = subst (Items t) (sym values-is) (record { rising = rising-filter (isV t) 1 n; defs = λ p i. v-def t p (value-of t n ok p i) })
+
+    pub mixed-is : place16 t n ≡ 0 → (order : List ℕ) (r : ℕ) → Placed (needs t n) (take (m - 0) items) order r → take r order ≡ mixedPlan t n
+    mixed-is z order r pl =
+        pl .cells ∙ ap (placed (needs t n)) values-is
+        ∙ placed-ext (needs t n) (reaches t n) (values t n) (λ p q i j. needs-reaches (place16-exactly t n ok 0 .0 z) p q (value-of t n ok p i) (value-of t n ok q j))
+
+-- ---- scratch of the same lengths
+
+pub scratch-as : (n : ℕ) (a b c d e a′ b′ c′ d′ e′ : List ℕ) → length a′ ≡ length a → length b′ ≡ length b → length c′ ≡ length c → length d′ ≡ length d → length e′ ≡ length e
+    → Scratch n a b c d e → Scratch n a′ b′ c′ d′ e′
+scratch-as n a b c d e a′ b′ c′ d′ e′ p q r s u h = record {
+  masks = omega (arith, h .masks);
+  counts = omega (arith, h .counts);
+  readies = omega (arith, h .readies);
+  lists = omega (arith, h .lists);
+  orders = omega (arith, h .orders);
+}
+
+-- ---- the mask, item by item
+
+-- a definition's kind of at most 2, and a greater one
+pub holder-of : (t : List ℤ) (p : ℕ) → 1 ≤ kind t p → kind t p ≤ 2 → Holder t p
+holder-of t p a b = go (ℕ-discrete (kind t p) 1)
+  where
+    go : Dec (kind t p ≡ 1) → Holder t p
+    go (yes e) = inl e
+    go (no e) = inr (omega arith)
+
+pub no-holder : (t : List ℤ) (p : ℕ) → 2 < kind t p → Holder t p → ⊥
+no-holder t p h (inl e) = omega arith
+no-holder t p h (inr e) = omega arith
+
+module _ (t : List ℤ) (n : ℕ) (items mask : List ℕ) (i p : ℕ) (is : p ≡ getD items i 0) (hi : i < length items)
+    (old : (x : ℕ) → (mark mask (width n) 0 x ≡ true) ↔ ((x ∈ take i items) × Holder t x)) where
+  more : (x : ℕ) → x ∈ take i items → x ∈ take (i + 1) items
+  more x m = omega (arith, count-more x items i hi)
+
+  pub mask-put : p < 64 * width n → Holder t p → (mask′ : List ℕ) → Added (λ (b : ℕ). b ≡ p) mask mask′ (width n) 0
+      → (x : ℕ) → (mark mask′ (width n) 0 x ≡ true) ↔ ((x ∈ take (i + 1) items) × Holder t x)
+  mask-put low h mask′ add x = (λ m. there (add .only x m), λ y. back y (in-more x items i hi (y .0)))
+    where
+      there : (mark mask (width n) 0 x ≡ true) ⊎ (x ≡ p) → (x ∈ take (i + 1) items) × Holder t x
+      there (inl m) = let o = old x .0 m in (more x (o .0), o .1)
+      there (inr y) = (omega (arith, count-more x items i hi, ap one (eq-eqb x (getD items i 0) (y ∙ is))), subst (Holder t) (sym y) h)
+
+      back : (x ∈ take (i + 1) items) × Holder t x → (x ∈ take i items) ⊎ (x ≡ getD items i 0) → mark mask′ (width n) 0 x ≡ true
+      back y (inl m) = add .kept x (old x .1 (m, y .1))
+      back y (inr m) = let q : x ≡ p = m ∙ sym is in add .new x (omega arith) q
+
+  pub mask-skip : (Holder t p → ⊥) → (x : ℕ) → (mark mask (width n) 0 x ≡ true) ↔ ((x ∈ take (i + 1) items) × Holder t x)
+  mask-skip f x = (λ m. let o = old x .0 m in (more x (o .0), o .1), λ y. back y (in-more x items i hi (y .0)))
+    where
+      back : (x ∈ take (i + 1) items) × Holder t x → (x ∈ take i items) ⊎ (x ≡ getD items i 0) → mark mask (width n) 0 x ≡ true
+      back y (inl m) = old x .1 (m, y .1)
+      back y (inr m) = absurd (f (subst (Holder t) (m ∙ sym is) (y .1)))

@@ -1,0 +1,102 @@
+use mathlib.Core.Path.{_≡_, refl, sym, ap, _∙_, subst}
+use mathlib.Core.Logic.{_⊎_, inl, inr, ⊎-elim, _↔_}
+use mathlib.Core.List.{List, _++_}
+use mathlib.Core.Bool.{true, false}
+use Prim.Native.Nat.{ℕ, _+_, _-_, _*_, _/_, _≤_, _<_}
+use native.Mathlib.Omega.{arith}
+use borrow.Author.Needs.{needs}
+use lib.ListN.{length, getD, take, drop, set, length-set}
+use Rattle.cells.specs.Table.{kind, owner}
+use Rattle.order.specs.Lists.{count, _∈_, filter, upFrom}
+use Rattle.order.specs.Order.{isMember, members}
+use Rattle.order.proofs.Tables.{member-of, def-label}
+use Rattle.groups.proofs.Chains.{labels-few, Walk, walk-start, walk-room, walk-in, walk-step, walk-end}
+use Rattle.groups.proofs.gather_members.Statement.{statement}
+use Rattle.groups.proofs.gather_members.Tie as tie
+use Rattle.groups.proofs.gather_members.Reads as reads
+use Rattle.groups.proofs.gather_members.Lts as lts
+
+abbrev Inv-loop : tie.InvT-loop
+Inv-loop table n next group items₀ m₀ p₀ items m p = (length items ≡ length items₀) × Walk n next (members table n group) items p m
+
+abbrev μ-loop : tie.MeasureT-loop
+μ-loop table n next group items₀ m₀ p₀ items m p = length items₀ - m
+
+-- in a turn: there is room for the member at hand, which is a label
+module _ (c : tie.In-loop Inv-loop μ-loop) where
+  room : c .before .loop .m < length (c .before .before .before .before .before .args .items .now)
+  room =
+      let a = c .before .before .before .before .before in
+      let h : c .before .loop .m < length (members (a .args .table .now) (a .args .n) (a .args .group)) = walk-room _ _ _ _ _ _ (c .before .loop .inv .1) (c .loop-test .taken) in
+      omega (arith, labels-few (isMember (a .args .table .now) (a .args .group)) (a .args .n), a .pre .1 .0 .2)
+
+  label : (1 ≤ c .before .loop .p) × (c .before .loop .p ≤ c .before .before .before .before .before .args .n)
+  label =
+      let a = c .before .before .before .before .before in
+      let m = walk-in _ _ _ _ _ _ (c .before .loop .inv .1) (c .loop-test .taken) in
+      def-label _ _ (a .pre .0) (c .before .loop .p) (member-of _ _ (a .pre .0) (a .args .group) (c .before .loop .p) m .0)
+
+mul-p : tie.Need-mul-p Inv-loop μ-loop
+mul-p c = search needs
+
+shared-slice-read-p : tie.Need-shared-slice-read-p Inv-loop μ-loop
+shared-slice-read-p c = omega (arith, c .before .before .before .pre .1 .0)
+
+loop-holds : tie.Need-loop-holds Inv-loop μ-loop
+loop-holds c = let a = c .before .before .before in (refl, walk-start _ _ _ _ _ (a .pre .1 .1))
+
+mul-items : tie.Need-mul-items Inv-loop μ-loop
+mul-items c = omega (arith, room c, c .before .before .before .before .before .good)
+
+slice-write-items : tie.Need-slice-write-items Inv-loop μ-loop
+slice-write-items c = omega (arith, room c, c .before .loop .inv .0)
+
+add-m : tie.Need-add-m Inv-loop μ-loop
+add-m c = omega (arith, room c, c .before .before .before .before .before .good)
+
+wide-requires : tie.Need-wide-requires Inv-loop μ-loop
+wide-requires c κs = search needs
+
+add-p : tie.Need-add-p Inv-loop μ-loop
+add-p c = omega (arith, label (c .before), c .wide .ensures, c .before .before .before .before .before .before .pre .0 .few)
+
+mul-p-2 : tie.Need-mul-p-2 Inv-loop μ-loop
+mul-p-2 c = omega (arith, label (c .before), c .wide .ensures, c .before .before .before .before .before .before .pre .0 .few)
+
+shared-slice-read-p-2 : tie.Need-shared-slice-read-p-2 Inv-loop μ-loop
+shared-slice-read-p-2 c = omega (arith, label (c .before .before), c .before .wide .ensures, c .before .before .before .before .before .before .before .pre .1 .0 .1)
+
+loop-less : tie.Need-loop-less Inv-loop μ-loop
+loop-less c = omega (arith, room (c .before .before))
+
+loop-again : tie.Need-loop-again Inv-loop μ-loop
+loop-again c =
+    let l = c .before .before .before in
+    rw (c .before .wide .ensures) (length-set (l .loop .items) _ _ ∙ l .loop .inv .0, walk-step _ _ _ _ _ _ (l .loop .inv .1) (c .before .before .loop-test .taken) (omega (arith, room (c .before .before), l .loop .inv .0)))
+
+same-length : tie.Need-same-length Inv-loop μ-loop
+same-length c = c .before .loop .inv .0
+
+returns : tie.Need-returns Inv-loop μ-loop
+returns c = walk-end _ _ _ _ _ _ (c .before .loop .inv .1) (c .loop-test .left)
+
+pub gather-members-spec : {M : Type 1} → statement M
+gather-members-spec =
+    tie.close
+    (tie.spec
+    Inv-loop
+    μ-loop
+    mul-p
+    shared-slice-read-p
+    loop-holds
+    mul-items
+    slice-write-items
+    add-m
+    wide-requires
+    add-p
+    mul-p-2
+    shared-slice-read-p-2
+    loop-less
+    loop-again
+    same-length
+    returns)

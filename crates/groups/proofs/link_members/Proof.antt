@@ -1,0 +1,113 @@
+use mathlib.Core.Path.{_≡_, refl, sym, ap, _∙_, subst}
+use mathlib.Core.Logic.{_⊎_, inl, inr, ⊎-elim, _↔_}
+use mathlib.Core.List.{List, _++_}
+use mathlib.Core.Bool.{true, false}
+use Prim.Native.Nat.{ℕ, _+_, _-_, _*_, _/_, _≤_, _<_}
+use native.Mathlib.Omega.{arith}
+use borrow.Author.Needs.{needs}
+use lib.ListN.{length, getD, take, drop, set, length-set}
+use Rattle.cells.specs.Table.{kind, owner}
+use Rattle.order.specs.Lists.{count, _∈_, filter, upFrom}
+use Rattle.groups.proofs.Chains.{Linked, linked-none, linked-skip, linked-push, linked-all, def-of, not-def}
+use Rattle.groups.proofs.link_members.Statement.{statement}
+use Rattle.groups.proofs.link_members.Tie as tie
+use Rattle.groups.proofs.link_members.Reads as reads
+use Rattle.groups.proofs.link_members.Lts as lts
+
+abbrev Inv-loop : tie.InvT-loop
+Inv-loop table n next₀ l₀ next l = (length next ≡ length next₀) × (l ≤ n) × Linked table n l next
+
+abbrev μ-loop : tie.MeasureT-loop
+μ-loop table n next₀ l₀ next l = l
+
+low : (c : tie.After-cell-of Inv-loop μ-loop) → c .cell-of .result ≤ c .before .before .before .before .before .before .args .n
+low c =
+    let l = c .before .before .before .before in
+    let h : 1 ≤ l .loop .l = omega (arith, c .before .before .before .loop-test .taken) in
+    omega (arith, c .cell-of .ensures, c .before .before .before .before .before .before .pre .0 .falls (l .loop .l) h (l .loop .inv .1), l .loop .inv .1)
+
+loop-holds : tie.Need-loop-holds Inv-loop μ-loop
+loop-holds c = let p = c .before .pre in (refl, omega arith, linked-none _ _ _ (p .1 .1))
+
+kind-of-requires : tie.Need-kind-of-requires Inv-loop μ-loop
+kind-of-requires c κs = (c .before .before .before .pre .0, (omega (arith, c .loop-test .taken), c .before .loop .inv .1))
+
+cell-of-requires : tie.Need-cell-of-requires Inv-loop μ-loop
+cell-of-requires c κs = (c .before .before .before .before .before .pre .0, (omega (arith, c .before .before .loop-test .taken), c .before .before .before .loop .inv .1, omega arith, omega arith))
+
+mul-next : tie.Need-mul-next Inv-loop μ-loop
+mul-next c = omega (arith, low c, c .before .before .before .before .before .before .pre .0 .few)
+
+slice-read-next : tie.Need-slice-read-next Inv-loop μ-loop
+slice-read-next c = omega (arith, low (c .before), c .before .before .before .before .before .before .before .pre .1 .0, c .before .before .before .before .before .loop .inv .0)
+
+add-next : tie.Need-add-next Inv-loop μ-loop
+add-next c = omega (arith, c .before .before .before .before .before .before .before .pre .0 .few, c .before .before .before .before .before .loop .inv .1)
+
+mul-next-2 : tie.Need-mul-next-2 Inv-loop μ-loop
+mul-next-2 c = omega (arith, c .before .before .before .before .before .before .before .pre .0 .few, c .before .before .before .before .before .loop .inv .1)
+
+slice-write-next : tie.Need-slice-write-next Inv-loop μ-loop
+slice-write-next c = omega (arith, c .before .before .before .before .before .before .before .pre .1 .0, c .before .before .before .before .before .loop .inv .0, c .before .before .before .before .before .loop .inv .1)
+
+cast-next : tie.Need-cast-next Inv-loop μ-loop
+cast-next c = omega (arith, c .before .before .before .before .before .before .before .pre .0 .few, c .before .before .before .before .before .loop .inv .1)
+
+mul-next-3 : tie.Need-mul-next-3 Inv-loop μ-loop
+mul-next-3 c = omega (arith, low (c .before), c .before .before .before .before .before .before .before .pre .0 .few)
+
+slice-write-next-2 : tie.Need-slice-write-next-2 Inv-loop μ-loop
+slice-write-next-2 c = simp length-set (omega (arith, low (c .before), c .before .before .before .before .before .before .before .pre .1 .0, c .before .before .before .before .before .loop .inv .0))
+
+sub-l : tie.Need-sub-l Inv-loop μ-loop
+sub-l c = search needs
+
+loop-less : tie.Need-loop-less Inv-loop μ-loop
+loop-less c = search needs
+
+loop-again : tie.Need-loop-again Inv-loop μ-loop
+loop-again c =
+    let l = c .before .before .before in
+    let a = c .before .before .before .before .before in
+    let t = a .args .table .now in
+    let k = l .loop .l in
+    let some : 1 ≤ k = omega (arith, c .before .before .loop-test .taken) in
+    ⊎-elim (λ w.
+    let p : tie.After-cell-of Inv-loop μ-loop = record { before = record { before = c .before; if1 = w .0 }; cell-of = w .1 } in
+    rw (w .3) (
+      length-set (set (l .loop .next) _ _) _ _ ∙ length-set (l .loop .next) _ _ ∙ l .loop .inv .0,
+      omega arith,
+      linked-push _ _ _ some (l .loop .inv .1) _ (l .loop .inv .2) (def-of t k (a .pre .0 .kinds k some (l .loop .inv .1) .0) (omega (arith, c .before .kind-of .ensures, w .0 .taken)))
+          (omega (arith, a .pre .1 .0, l .loop .inv .0)) (omega (arith, low p, w .1 .ensures)) _ (w .1 .ensures),
+    ))
+    (λ w. rw (w .1) (l .loop .inv .0, omega arith, linked-skip _ _ _ some (l .loop .inv .1) _ (l .loop .inv .2) (not-def t k (omega (arith, c .before .kind-of .ensures, w .0 .left)))))
+    (c .if1 .came)
+
+same-length : tie.Need-same-length Inv-loop μ-loop
+same-length c = c .before .loop .inv .0
+
+returns : tie.Need-returns Inv-loop μ-loop
+returns c = linked-all _ _ _ _ (omega (arith, c .loop-test .left)) (c .before .loop .inv .2)
+
+pub link-members-spec : {M : Type 1} → statement M
+link-members-spec =
+    tie.close
+    (tie.spec
+    Inv-loop
+    μ-loop
+    loop-holds
+    kind-of-requires
+    cell-of-requires
+    mul-next
+    slice-read-next
+    add-next
+    mul-next-2
+    slice-write-next
+    cast-next
+    mul-next-3
+    slice-write-next-2
+    sub-l
+    loop-less
+    loop-again
+    same-length
+    returns)

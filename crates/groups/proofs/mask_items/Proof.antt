@@ -1,0 +1,115 @@
+use mathlib.Core.Path.{_≡_, refl, sym, ap, _∙_, subst}
+use mathlib.Core.Logic.{_⊎_, inl, inr, ⊎-elim, _↔_}
+use mathlib.Core.List.{List, _++_}
+use mathlib.Core.Bool.{true, false}
+use Prim.Native.Nat.{ℕ, _+_, _-_, _*_, _/_, _≤_, _<_}
+use native.Mathlib.Omega.{arith}
+use borrow.Author.Needs.{needs}
+use lib.ListN.{length, getD, take, drop, set, length-set}
+use Rattle.cells.specs.Table.{kind, owner}
+use Rattle.order.specs.Lists.{count, _∈_, filter, upFrom}
+use lib.Seq.{take-all}
+use Rattle.marks.specs.Marks.{mark}
+use Rattle.order.proofs.Tests.{clash}
+use Rattle.needs.specs.Needs.{Holder}
+use Rattle.placing.proofs.Lists.{in-at}
+use Rattle.groups.proofs.Orders.{holder-of, no-holder, item-label, mask-put, mask-skip}
+use Rattle.groups.proofs.mask_items.Statement.{statement}
+use Rattle.groups.proofs.mask_items.Tie as tie
+use Rattle.groups.proofs.mask_items.Reads as reads
+use Rattle.groups.proofs.mask_items.Lts as lts
+
+abbrev Inv-loop : tie.InvT-loop
+Inv-loop table n items mask₀ w i₀ mask i = (length mask ≡ length mask₀) × (i ≤ length items) × ((p : ℕ) → (mark mask w 0 p ≡ true) ↔ ((p ∈ take i items) × Holder table p))
+
+abbrev μ-loop : tie.MeasureT-loop
+μ-loop table n items mask₀ w i₀ mask i = length items - i
+
+module _ (c : tie.After-wide Inv-loop μ-loop) where
+  here : c .wide .result ∈ c .before .before .before .before .before .before .before .before .before .before .args .items .now
+  here = subst (λ (x : ℕ). x ∈ c .before .before .before .before .before .before .before .before .before .before .args .items .now) (sym (c .wide .ensures)) (in-at (c .before .before .before .before .before .before .before .before .before .before .args .items .now) (c .before .before .before .loop .i) (c .before .before .loop-test .taken))
+
+  label : (1 ≤ c .wide .result) × (c .wide .result ≤ c .before .before .before .before .before .before .before .before .before .before .args .n)
+  label = item-label _ _ (c .before .before .before .before .before .before .before .before .before .before .pre .0) _ (c .before .before .before .before .before .before .before .before .before .before .pre .1 .0) (c .wide .result) here
+
+add-w : tie.Need-add-w Inv-loop μ-loop
+add-w c = search needs
+
+clear-marks-requires : tie.Need-clear-marks-requires Inv-loop μ-loop
+clear-marks-requires c κs = c .before .before .before .pre .1 .1
+
+loop-holds : tie.Need-loop-holds Inv-loop μ-loop
+loop-holds c =
+    (refl, omega arith, λ p. (λ m. clash _ m (c .before .before .clear-marks .ensures p), λ y. absurd (omega (arith, y .0))))
+
+mul-wide : tie.Need-mul-wide Inv-loop μ-loop
+mul-wide c = search needs
+
+shared-slice-read-wide : tie.Need-shared-slice-read-wide Inv-loop μ-loop
+shared-slice-read-wide c = search needs
+
+wide-requires : tie.Need-wide-requires Inv-loop μ-loop
+wide-requires c κs = search needs
+
+kind-of-requires : tie.Need-kind-of-requires Inv-loop μ-loop
+kind-of-requires c κs = (c .before .before .before .before .before .before .before .before .before .before .pre .0, label c)
+
+put-mark-requires : tie.Need-put-mark-requires Inv-loop μ-loop
+put-mark-requires c κs = (omega (arith, label (c .before .before .before)), omega (arith, c .before .before .before .before .before .before .before .before .before .before .before .before .before .pre .1 .1, c .before .before .before .before .before .before .loop .inv .0, c .before .before .before .before .before .before .before .before .before .clear-marks .kept .0))
+
+add-i : tie.Need-add-i Inv-loop μ-loop
+add-i c = search needs
+
+loop-less : tie.Need-loop-less Inv-loop μ-loop
+loop-less c = search needs
+
+loop-again : tie.Need-loop-again Inv-loop μ-loop
+loop-again c =
+    let l = c .before .before .before .before .before in
+    let a = c .before .before .before .before .before .before .before .before .before .before .before .before in
+    let q = c .before .before in
+    let t = a .args .table .now in
+    let h = c .before .before .before .before .loop-test .taken in
+    let b = label q in
+    let k = a .pre .0 .kinds (q .wide .result) (b .0) (b .1) .0 in
+    ⊎-elim (λ w. rw (w .5) (
+      w .2 .kept .0 ∙ l .loop .inv .0,
+      omega arith,
+      mask-put t (a .args .n) (a .args .items .now) (l .loop .mask) (l .loop .i) _ (q .wide .ensures) h (l .loop .inv .2) (omega (arith, b)) (holder-of t (q .wide .result) k (omega (arith, c .before .kind-of .ensures, w .0 .taken))) _ (w .2 .ensures),
+    ))
+    (λ w. rw (w .1) (
+      l .loop .inv .0,
+      omega arith,
+      mask-skip t (a .args .n) (a .args .items .now) (l .loop .mask) (l .loop .i) _ (q .wide .ensures) h (l .loop .inv .2) (no-holder t (q .wide .result) (omega (arith, c .before .kind-of .ensures, w .0 .left))),
+    ))
+    (c .if1 .came)
+
+same-length : tie.Need-same-length Inv-loop μ-loop
+same-length c = c .before .loop .inv .0 ∙ c .before .before .before .before .clear-marks .kept .0
+
+returns : tie.Need-returns Inv-loop μ-loop
+returns c =
+    let l = c .before in
+    let a = c .before .before .before .before .before .before .before .before in
+    let e = take-all (l .loop .i) (a .args .items .now) (omega (arith, c .loop-test .left)) in
+    λ p. subst (λ (k : List ℕ). (mark (l .loop .mask) (a .args .n / 64 + 1) 0 p ≡ true) ↔ ((p ∈ k) × Holder (a .args .table .now) p)) e (l .loop .inv .2 p)
+
+pub mask-items-spec : {M : Type 1} → statement M
+mask-items-spec =
+    tie.close
+    (tie.spec
+    Inv-loop
+    μ-loop
+    add-w
+    clear-marks-requires
+    loop-holds
+    mul-wide
+    shared-slice-read-wide
+    wide-requires
+    kind-of-requires
+    put-mark-requires
+    add-i
+    loop-less
+    loop-again
+    same-length
+    returns)

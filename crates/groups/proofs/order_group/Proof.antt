@@ -1,0 +1,137 @@
+use mathlib.Core.Path.{_≡_, refl, sym, ap, _∙_, subst}
+use mathlib.Core.Logic.{⊎-elim}
+use mathlib.Core.List.{List}
+use mathlib.Core.Bool.{true, false}
+use Prim.Native.Nat.{ℕ, _+_, _-_, _*_, _/_, _≤_, _<_}
+use native.Mathlib.Omega.{arith}
+use borrow.Author.Needs.{needs}
+use lib.ListN.{length, getD, take, length-take}
+use Rattle.order.specs.Lists.{_∈_}
+use lib.ListN.{drop}
+use Rattle.groups.specs.Members.{Relinked}
+use Rattle.groups.proofs.Orders.{member-items, order-is, order-short, order-stuck, order-free, order-labels, order-once}
+use Rattle.groups.proofs.order_group.Statement.{statement}
+use Rattle.groups.proofs.order_group.Tie as tie
+use Rattle.groups.proofs.order_group.Reads as reads
+use Rattle.groups.proofs.order_group.Lts as lts
+use Rattle.groups.proofs.gather_members.Reads as gather-members-reads
+use Rattle.groups.proofs.place_items.Reads as place-items-reads
+use Rattle.groups.proofs.relink.Reads as relink-reads
+
+-- what was placed
+module _ (c : tie.After-place-items) where
+  room : c .before .before .before .before .before .before .before .before .before .before .before .before .before .before .before .before .before .before .before .before .before .args .n < length (c .place-items .last .1 .1 .1 .1 .1 .1 .1 .1 .0)
+  room = omega (arith, c .place-items .kept .1 .1 .1 .1 .1 .1 .1 .1 .0, c .before .before .before .before .before .before .before .before .before .before .before .before .before .before .before .before .before .before .before .before .before .pre .1 .0 .1 .orders)
+
+gather-members-requires : tie.Need-gather-members-requires
+gather-members-requires c κs = let p = c .before .before .before .before .before .before .before .before .before .before .pre in (p .0, ((p .1 .0 .0 .1, p .1 .0 .0 .2, p .1 .0 .0 .3), p .1 .1 .1))
+
+sub-place-items : tie.Need-sub-place-items
+sub-place-items c = search needs
+
+part-place-items-start : tie.Need-part-place-items-start
+part-place-items-start c = omega arith
+
+part-place-items-end : tie.Need-part-place-items-end
+part-place-items-end c = c .before .before .before .gather-members .ensures .within
+
+place-items-requires : tie.Need-place-items-requires
+place-items-requires c κs =
+    let p = c .before .before .before .before .before .before .before .before .before .before .before .before .before .before .before .before .before .before .before .before .pre in
+    (p .0, (member-items _ _ (p .0) _ _ _ (c .before .before .before .before .before .before .before .before .before .gather-members .ensures), (p .1 .1 .0, p .1 .0 .1)))
+
+same-length : tie.Need-same-length
+same-length c = refl
+
+same-length-2 : tie.Need-same-length-2
+same-length-2 c = c .before .before .before .before .before .before .before .before .before .before .before .before .before .before .before .before .before .before .before .before .before .gather-members .kept .1 .1 .1 .1 .0
+
+same-length-3 : tie.Need-same-length-3
+same-length-3 c = c .before .before .before .before .before .before .before .before .before .before .before .place-items .kept .1 .1 .1 .1 .0
+
+same-length-4 : tie.Need-same-length-4
+same-length-4 c = c .before .before .before .before .before .before .before .before .before .before .before .place-items .kept .1 .1 .1 .1 .1 .0
+
+same-length-5 : tie.Need-same-length-5
+same-length-5 c = c .before .before .before .before .before .before .before .before .before .before .before .place-items .kept .1 .1 .1 .1 .1 .1 .0
+
+same-length-6 : tie.Need-same-length-6
+same-length-6 c = c .before .before .before .before .before .before .before .before .before .before .before .place-items .kept .1 .1 .1 .1 .1 .1 .1 .0
+
+same-length-7 : tie.Need-same-length-7
+same-length-7 c = c .before .before .before .before .before .before .before .before .before .before .before .place-items .kept .1 .1 .1 .1 .1 .1 .1 .1 .0
+
+returns : tie.Need-returns
+returns c =
+    let p = c .before .before .before .before .before .before .before .before .before .before .before .before .before .before .before .before .before .before .before .before .before .before .before .before .before .before .before .before .before .before .before .before .pre in
+    order-stuck _ _ (p .0) _ _ _ (c .before .before .before .before .before .before .before .before .before .before .before .before .before .before .before .before .before .before .before .before .before .gather-members .ensures) _ (room (c .before .before .before .before .before .before .before .before .before .before .before)) _ (c .before .before .before .before .before .before .before .before .before .before .before .place-items .ensures) (c .if1 .taken)
+
+relink-requires : tie.Need-relink-requires
+relink-requires c κs =
+    let a = c .before .before .before .before .before .before .before .before .before .before .before .before .before .before .before .before .before .before .before .before .before .before .before .before .before .before .before .before .before .before .before .before .before .before in
+    let p = a .pre in
+    let g = c .before .before .before .before .before .before .before .before .before .before .before .before .before .before .before .before .before .before .before .before .before .before .before .gather-members .ensures in
+    let e = c .before .before .before .before .before .before .before .before .before .before .before .before .before .place-items .ensures in
+    let h = room (c .before .before .before .before .before .before .before .before .before .before .before .before .before) in (
+      (p .0 .few, p .1 .0 .0 .1, p .1 .0 .0 .2, omega (arith, order-short _ _ (p .0) _ _ _ g _ h _ e, h)),
+      (order-labels _ _ (p .0) _ _ _ g _ h _ e (c .before .before .if1 .left), order-once _ _ (p .0) _ _ _ g _ h _ e (c .before .before .if1 .left)),
+    )
+
+same-length-8 : tie.Need-same-length-8
+same-length-8 c = c .before .before .relink .kept .1 .0
+
+same-length-9 : tie.Need-same-length-9
+same-length-9 c = c .before .before .before .before .before .before .before .before .before .before .before .before .before .before .before .before .before .before .before .before .before .before .before .before .before .before .gather-members .kept .1 .1 .1 .1 .0
+
+same-length-10 : tie.Need-same-length-10
+same-length-10 c = c .before .before .before .before .before .before .before .before .before .before .before .before .before .before .before .before .place-items .kept .1 .1 .1 .1 .0
+
+same-length-11 : tie.Need-same-length-11
+same-length-11 c = c .before .before .before .before .before .before .before .before .before .before .before .before .before .before .before .before .place-items .kept .1 .1 .1 .1 .1 .0
+
+same-length-12 : tie.Need-same-length-12
+same-length-12 c = c .before .before .before .before .before .before .before .before .before .before .before .before .before .before .before .before .place-items .kept .1 .1 .1 .1 .1 .1 .0
+
+same-length-13 : tie.Need-same-length-13
+same-length-13 c = c .before .before .before .before .before .before .before .before .before .before .before .before .before .before .before .before .place-items .kept .1 .1 .1 .1 .1 .1 .1 .0
+
+same-length-14 : tie.Need-same-length-14
+same-length-14 c = c .before .before .before .before .before .before .before .before .before .before .before .before .before .before .before .before .place-items .kept .1 .1 .1 .1 .1 .1 .1 .1 .0
+
+returns-2 : tie.Need-returns-2
+returns-2 c =
+    let a = c .before .before .before .before .before .before .before .before .before .before .before .before .before .before .before .before .before .before .before .before .before .before .before .before .before .before .before .before .before .before .before .before .before .before .before .before .before in
+    let p = a .pre in
+    let g = c .before .before .before .before .before .before .before .before .before .before .before .before .before .before .before .before .before .before .before .before .before .before .before .before .before .before .gather-members .ensures in
+    let e = c .before .before .before .before .before .before .before .before .before .before .before .before .before .before .before .before .place-items .ensures in
+    let h = room (c .before .before .before .before .before .before .before .before .before .before .before .before .before .before .before .before) in (
+      subst (λ (l : List ℕ). Relinked (a .args .n) (a .args .group) l (a .args .next .now) (c .before .before .relink .last .1 .0)) (order-is _ _ (p .0) _ _ _ g _ h _ e) (c .before .before .relink .ensures),
+      order-free _ _ (p .0) _ _ _ g _ h _ e (c .before .before .before .before .before .if1 .left),
+    )
+
+pub order-group-spec : {M : Type 1} → statement M
+order-group-spec =
+    tie.close
+    (tie.spec
+    gather-members-requires
+    sub-place-items
+    part-place-items-start
+    part-place-items-end
+    place-items-requires
+    same-length
+    same-length-2
+    same-length-3
+    same-length-4
+    same-length-5
+    same-length-6
+    same-length-7
+    returns
+    relink-requires
+    same-length-8
+    same-length-9
+    same-length-10
+    same-length-11
+    same-length-12
+    same-length-13
+    same-length-14
+    returns-2)

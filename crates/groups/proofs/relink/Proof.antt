@@ -1,0 +1,110 @@
+use mathlib.Core.Path.{_≡_, refl, sym, ap, _∙_, subst}
+use mathlib.Core.Logic.{_⊎_, inl, inr, ⊎-elim, _↔_}
+use mathlib.Core.List.{List, _++_}
+use mathlib.Core.Bool.{true, false}
+use Prim.Native.Nat.{ℕ, _+_, _-_, _*_, _/_, _≤_, _<_}
+use native.Mathlib.Omega.{arith}
+use borrow.Author.Needs.{needs}
+use lib.ListN.{length, getD, take, drop, set, length-set}
+use Rattle.cells.specs.Table.{kind, owner}
+use Rattle.order.specs.Lists.{count, _∈_, filter, upFrom}
+use lib.Seq.{length-take-le, getD-take}
+use Rattle.placing.proofs.Lists.{in-take}
+use Rattle.groups.proofs.Chains.{Relinking, relinking-none, relinking-turn, relinked}
+use Rattle.groups.proofs.relink.Statement.{statement}
+use Rattle.groups.proofs.relink.Tie as tie
+use Rattle.groups.proofs.relink.Reads as reads
+use Rattle.groups.proofs.relink.Lts as lts
+
+abbrev Inv-loop : tie.InvT-loop
+Inv-loop n next₀ group order r head₀ i₀ next head i = (length next ≡ length next₀) × (i ≤ r) × Relinking n next₀ (take r order) next head i
+
+abbrev μ-loop : tie.MeasureT-loop
+μ-loop n next₀ group order r head₀ i₀ next head i = i
+
+-- in a turn: the label at hand
+module _ (c : tie.After-wide Inv-loop μ-loop) where
+  before : c .before .before .before .loop .i - 1 < c .before .before .before .before .before .before .args .r
+  before = omega (arith, c .before .before .loop-test .taken, c .before .before .before .loop .inv .1)
+
+  here : c .wide .result ∈ take (c .before .before .before .before .before .before .args .r) (c .before .before .before .before .before .before .args .order .now)
+  here = subst (λ (x : ℕ). x ∈ take (c .before .before .before .before .before .before .args .r) (c .before .before .before .before .before .before .args .order .now)) (sym (c .wide .ensures)) (in-take (c .before .before .before .before .before .before .args .order .now) _ (c .before .before .before .loop .i - 1) before (c .before .before .before .before .before .before .pre .0 .3))
+
+  label : (1 ≤ c .wide .result) × (c .wide .result ≤ c .before .before .before .before .before .before .args .n)
+  label = c .before .before .before .before .before .before .pre .1 .0 (c .wide .result) here
+
+loop-holds : tie.Need-loop-holds Inv-loop μ-loop
+loop-holds c = let p = c .before .before .pre in (refl, omega arith, relinking-none _ _ _ _ (omega (arith, length-take-le (c .before .before .args .r) (c .before .before .args .order .now) (p .0 .3))))
+
+sub-i : tie.Need-sub-i Inv-loop μ-loop
+sub-i c = search needs
+
+mul-x : tie.Need-mul-x Inv-loop μ-loop
+mul-x c = search needs
+
+shared-slice-read-x : tie.Need-shared-slice-read-x Inv-loop μ-loop
+shared-slice-read-x c = omega (arith, c .before .before .loop .inv .1, c .before .before .before .before .before .pre .0 .3, c .before .loop-test .taken)
+
+wide-requires : tie.Need-wide-requires Inv-loop μ-loop
+wide-requires c κs = search needs
+
+add-next : tie.Need-add-next Inv-loop μ-loop
+add-next c = omega (arith, label c, c .before .before .before .before .before .before .pre .0)
+
+mul-next : tie.Need-mul-next Inv-loop μ-loop
+mul-next c = omega (arith, label c, c .before .before .before .before .before .before .pre .0)
+
+slice-write-next : tie.Need-slice-write-next Inv-loop μ-loop
+slice-write-next c = omega (arith, label c, c .before .before .before .before .before .before .pre .0 .2, c .before .before .before .loop .inv .0)
+
+loop-less : tie.Need-loop-less Inv-loop μ-loop
+loop-less c = search needs
+
+loop-again : tie.Need-loop-again Inv-loop μ-loop
+loop-again c =
+    let l = c .before .before .before in
+    let a = c .before .before .before .before .before .before in
+    let b = label c in
+    let w = c .wide .ensures in (
+      length-set (l .loop .next) _ _ ∙ l .loop .inv .0,
+      omega arith,
+      subst (λ (x : ℕ). Relinking (a .args .n) (a .args .next .now) (take (a .args .r) (a .args .order .now)) (set (l .loop .next) (a .args .n + c .wide .result) (l .loop .head)) x (l .loop .i - 1)) w
+          (relinking-turn _ _ _ _ _ _ (l .loop .inv .2) (c .wide .result) (c .before .before .loop-test .taken) (omega (arith, l .loop .inv .1, length-take-le (a .args .r) (a .args .order .now) (a .pre .0 .3)))
+          (w ∙ sym (getD-take (a .args .r) (a .args .order .now) (l .loop .i - 1) 0 (before c))) (b .0) (omega (arith, b, a .pre .0 .2, l .loop .inv .0)) (a .pre .1 .1 (c .wide .result))),
+    )
+
+mul-next-2 : tie.Need-mul-next-2 Inv-loop μ-loop
+mul-next-2 c = search needs
+
+slice-write-next-2 : tie.Need-slice-write-next-2 Inv-loop μ-loop
+slice-write-next-2 c = omega (arith, c .before .before .before .before .pre .0, c .before .loop .inv .0)
+
+same-length : tie.Need-same-length Inv-loop μ-loop
+same-length c = length-set (c .before .loop .next) _ _ ∙ c .before .loop .inv .0
+
+returns : tie.Need-returns Inv-loop μ-loop
+returns c =
+    let l = c .before in
+    let a = c .before .before .before .before in
+    relinked _ _ _ _ _ _ (l .loop .inv .2) _ (omega (arith, c .loop-test .left)) (a .pre .0 .1) (omega (arith, a .pre .0, l .loop .inv .0)) (λ x m. a .pre .1 .0 x m .0)
+
+pub relink-spec : {M : Type 1} → statement M
+relink-spec =
+    tie.close
+    (tie.spec
+    Inv-loop
+    μ-loop
+    loop-holds
+    sub-i
+    mul-x
+    shared-slice-read-x
+    wide-requires
+    add-next
+    mul-next
+    slice-write-next
+    loop-less
+    loop-again
+    mul-next-2
+    slice-write-next-2
+    same-length
+    returns)

@@ -1,0 +1,65 @@
+-- The members of each Group in a chain, in one array: the first of Group g at index g, the one after p at index n + p; 0 ends. At first they
+-- go upward; when a Group is ordered, its chain is put in that order.
+use mathlib.Core.Path.{_≡_}
+use mathlib.Core.Logic.{_↔_}
+use mathlib.Core.List.{List, [], _∷_}
+use mathlib.Core.Bool.{Bool, true, false}
+use Prim.Native.Nat.{ℕ, _+_, _*_, _≤_, _<_}
+use lib.IntN.{ℤ}
+use lib.ListN.{length, getD, take}
+use Rattle.order.specs.Lists.{_∈_}
+use Rattle.order.specs.Order.{isG, isDefinition, members, ordered, groupStuck, someStuck}
+use Rattle.marks.specs.Marks.{mark}
+use Rattle.needs.specs.Needs.{Holder}
+use Rattle.placing.specs.Placing.{Rising}
+use Rattle.reach.specs.Rows.{width}
+
+-- from p on stand the labels of l
+abbrev pub Chain : ℕ → List ℕ → ℕ → List ℕ → Type 0
+Chain n next p [] = p ≡ 0
+Chain n next p (x ∷ l) = (p ≡ x) × (1 ≤ x) × Chain n next (getD next (n + x) 0) l
+
+-- the chain of each Group is its members, upward
+abbrev pub Chained : List ℤ → ℕ → List ℕ → Type 0
+Chained t n next = (g : ℕ) → g ≤ n → Chain n next (getD next g 0) (members t n g)
+
+-- the chain of each Group is its members in order
+abbrev pub Ordered : List ℤ → ℕ → List ℕ → Type 0
+Ordered t n next = (g : ℕ) → 1 ≤ g → g ≤ n → Chain n next (getD next g 0) (ordered t n g)
+
+-- l stands in front of the items
+pub record Gathered (l items : List ℕ) (r : ℕ) : Type 0 where
+  pub cells : take r items ≡ l
+  pub within : r ≤ length items
+
+-- items go upward and are definitions
+pub record Items (t : List ℤ) (items : List ℕ) : Type 0 where
+  pub rising : Rising items
+  pub defs : (p : ℕ) → p ∈ items → isDefinition t p ≡ true
+
+-- room for placing n labels
+pub record Scratch (n : ℕ) (mask unmet ready list order : List ℕ) : Type 0 where
+  pub masks : width n ≤ length mask
+  pub counts : n < length unmet
+  pub readies : width n ≤ length ready
+  pub lists : 64 * width n ≤ length list
+  pub orders : n < length order
+
+-- the mask has the Groups and values among the items
+abbrev pub Masked : List ℤ → ℕ → List ℕ → List ℕ → Type 0
+Masked t n items mask = (p : ℕ) → (mark mask (width n) 0 p ≡ true) ↔ ((p ∈ items) × Holder t p)
+
+-- Group g's chain has become l, and no cell changed but those of the Group and of l
+pub record Relinked (n g : ℕ) (l next next′ : List ℕ) : Type 0 where
+  pub chain : Chain n next′ (getD next′ g 0) l
+  pub others : (y : ℕ) → (y ≡ g → ⊥) → ((x : ℕ) → x ∈ l → y ≡ n + x → ⊥) → getD next′ y 0 ≡ getD next y 0
+
+-- Group g is stuck; or it is in order
+abbrev pub GroupOrder : List ℤ → ℕ → ℕ → List ℕ → List ℕ → Bool → Type 0
+GroupOrder t n g next next′ true = groupStuck t n g ≡ true
+GroupOrder t n g next next′ false = Relinked n g (ordered t n g) next next′ × (groupStuck t n g ≡ false)
+
+-- some Group is stuck; or all are in order
+abbrev pub GroupOrders : List ℤ → ℕ → List ℕ → Bool → Type 0
+GroupOrders t n next′ true = someStuck t n ≡ true
+GroupOrders t n next′ false = Ordered t n next′ × (someStuck t n ≡ false)

@@ -1,0 +1,41 @@
+use Prim.Native.Nat.{_+_, _*_, _/_, _%_}
+use lib.ListN.{getD}
+use mathlib.Core.Path.{sym, _∙_}
+use Rattle.marks.proofs.Squares.{inside}
+use Rattle.marks.proofs.Bits.{bit-shift}
+use borrow.Author.Needs.{needs}
+use Rattle.marks.proofs.has_mark.Statement.{statement}
+use Rattle.marks.proofs.has_mark.Tie as tie
+use Rattle.marks.proofs.has_mark.Reads as reads
+use Rattle.marks.proofs.has_mark.Lts as lts
+
+-- src/lib.rt:14:8
+mul-result : tie.Need-mul-result
+mul-result c = search needs
+
+-- src/lib.rt:14:8
+add-result : tie.Need-add-result
+add-result c = search needs
+
+-- src/lib.rt:14:6
+mul-result-2 : tie.Need-mul-result-2
+mul-result-2 c = search needs
+
+-- src/lib.rt:14:6
+shared-slice-read-result : tie.Need-shared-slice-read-result
+shared-slice-read-result c = search needs
+
+-- src/lib.rt:14:6
+shr-result : tie.Need-shr-result
+shr-result c = search needs
+
+-- src/lib.rt:10:1
+returns : tie.Need-returns
+returns c =
+    let a = c .before .args in
+    bit-shift (getD (a .s .now) (a .p * a .w + a .q / 64) 0) (a .q % 64) ∙ sym (inside (a .s .now) (a .w) (a .p) (a .q) (c .before .pre .0))
+
+pub has-mark-spec : {M : Type 1} → statement M
+has-mark-spec =
+    tie.close
+    (tie.spec mul-result add-result mul-result-2 shared-slice-read-result shr-result returns)

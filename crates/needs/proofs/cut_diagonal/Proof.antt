@@ -1,0 +1,75 @@
+use mathlib.Core.Path.{_≡_, refl, sym, ap, _∙_, subst}
+use mathlib.Core.Logic.{_⊎_, inl, inr, ⊎-elim}
+use Prim.Native.Nat.{ℕ, _+_, _-_, _*_, _/_, _≤_, _<_}
+use native.Mathlib.Omega.{arith}
+use native.Mathlib.Decide.{ℕ-discrete}
+use borrow.Author.Needs.{needs}
+use lib.ListN.{length}
+use Rattle.cells.specs.Table.{kind, owner}
+use Rattle.reach.proofs.Reading.{row-room}
+use Rattle.needs.specs.Needs.{Holder, Lifting, Cut}
+use Rattle.reach.specs.Rows.{width}
+use Rattle.needs.proofs.Lifts.{cut-none, cut-skip, cut-turn}
+use Rattle.needs.proofs.cut_diagonal.Statement.{statement}
+use Rattle.needs.proofs.cut_diagonal.Tie as tie
+use Rattle.needs.proofs.cut_diagonal.Reads as reads
+use Rattle.needs.proofs.cut_diagonal.Lts as lts
+
+abbrev Inv-loop : tie.InvT-loop
+Inv-loop n square₀ w p₀ square p = (length square ≡ length square₀) × (1 ≤ p) × (p ≤ n + 1) × Cut n p square₀ square
+
+abbrev μ-loop : tie.MeasureT-loop
+μ-loop n square₀ w p₀ square p = n + 1 - p
+
+in-square : (c : tie.In-loop Inv-loop μ-loop) → (c .before .loop .p < 64 * (c .before .before .before .args .n / 64 + 1)) × (c .before .loop .p * (c .before .before .before .args .n / 64 + 1) + (c .before .before .before .args .n / 64 + 1) ≤ length (c .before .loop .square))
+in-square c = (omega (arith, c .loop-test .taken), row-room _ _ _ _ (c .loop-test .taken) (omega (arith, c .before .before .before .pre .1, c .before .loop .inv .0)))
+
+add-w : tie.Need-add-w Inv-loop μ-loop
+add-w c = search needs
+
+loop-holds : tie.Need-loop-holds Inv-loop μ-loop
+loop-holds c = (refl, omega arith, omega arith, cut-none _ _)
+
+has-mark-requires : tie.Need-has-mark-requires Inv-loop μ-loop
+has-mark-requires c κs = in-square (c .before)
+
+drop-mark-requires : tie.Need-drop-mark-requires Inv-loop μ-loop
+drop-mark-requires c κs = (in-square (c .before .before .before .before), sym (c .before .before .has-mark .ensures) ∙ c .before .if1 .taken)
+
+add-p : tie.Need-add-p Inv-loop μ-loop
+add-p c = search needs
+
+loop-less : tie.Need-loop-less Inv-loop μ-loop
+loop-less c = search needs
+
+loop-again : tie.Need-loop-again Inv-loop μ-loop
+loop-again c =
+    let l = c .before .before .before .before in
+    ⊎-elim (λ w. rw (w .5) (w .2 .kept .0 ∙ l .loop .inv .0, omega arith, omega arith, cut-turn _ _ _ _ (l .loop .inv .3) _ (w .2 .ensures)))
+    (λ w. rw (w .1) (l .loop .inv .0, omega arith, omega arith, cut-skip _ _ _ _ (l .loop .inv .3) (sym (c .before .has-mark .ensures) ∙ w .0 .left)))
+    (c .if1 .came)
+
+same-length : tie.Need-same-length Inv-loop μ-loop
+same-length c = c .before .loop .inv .0
+
+returns : tie.Need-returns Inv-loop μ-loop
+returns c =
+    let l = c .before in
+    let e : l .loop .p ≡ c .before .before .before .args .n + 1 = omega (arith, l .loop .inv .2, c .loop-test .left) in
+    subst (λ (k : ℕ). Cut (c .before .before .before .args .n) k (c .before .before .before .args .square .now) (l .loop .square)) e (l .loop .inv .3)
+
+pub cut-diagonal-spec : {M : Type 1} → statement M
+cut-diagonal-spec =
+    tie.close
+    (tie.spec
+    Inv-loop
+    μ-loop
+    add-w
+    loop-holds
+    has-mark-requires
+    drop-mark-requires
+    add-p
+    loop-less
+    loop-again
+    same-length
+    returns)

@@ -1,0 +1,23 @@
+use borrow.Author.Needs.{needs}
+use Rattle.needs.proofs.Lifts.{rows-need}
+use Rattle.needs.proofs.needs_of.Statement.{statement}
+use Rattle.needs.proofs.needs_of.Tie as tie
+use Rattle.needs.proofs.needs_of.Reads as reads
+use Rattle.needs.proofs.needs_of.Lts as lts
+use Rattle.needs.proofs.cut_diagonal.Reads as cut-diagonal-reads
+use Rattle.needs.proofs.lift.Reads as lift-reads
+
+lift-requires : tie.Need-lift-requires
+lift-requires c κs = search needs
+
+cut-diagonal-requires : tie.Need-cut-diagonal-requires
+cut-diagonal-requires c κs = search needs
+
+same-length : tie.Need-same-length
+same-length c = search needs
+
+returns : tie.Need-returns
+returns c = rows-need _ _ (c .before .before .before .before .before .before .before .before .before .pre .0) _ (c .before .before .before .before .before .before .lift .ensures) _ (c .before .before .cut-diagonal .ensures)
+
+pub needs-of-spec : {M : Type 1} → statement M
+needs-of-spec = tie.close (tie.spec lift-requires cut-diagonal-requires same-length returns)

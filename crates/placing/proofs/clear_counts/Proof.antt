@@ -1,0 +1,88 @@
+use mathlib.Core.Path.{_≡_, refl, sym, ap, _∙_, subst}
+use mathlib.Core.Logic.{_⊎_, inl, inr, ⊎-elim, _↔_}
+use mathlib.Core.List.{List}
+use mathlib.Core.Bool.{true, false}
+use Prim.Native.Nat.{ℕ, _+_, _-_, _*_, _≤_, _<_}
+use native.Mathlib.Omega.{arith}
+use native.Mathlib.Nat.{le-antisymm}
+use borrow.Author.Needs.{needs}
+use lib.ListN.{length, getD, take, set, length-set}
+use Rattle.order.specs.Lists.{count, _∈_}
+use Rattle.marks.specs.Marks.{mark}
+use lib.Seq.{take-all}
+use Rattle.placing.proofs.Lists.{in-at}
+use Rattle.placing.proofs.Counts.{clear-turn}
+use Rattle.placing.proofs.clear_counts.Statement.{statement}
+use Rattle.placing.proofs.clear_counts.Tie as tie
+use Rattle.placing.proofs.clear_counts.Reads as reads
+use Rattle.placing.proofs.clear_counts.Lts as lts
+use Rattle.marks.proofs.wide.Reads as wide-reads
+
+abbrev Inv-loop : tie.InvT-loop
+Inv-loop items unmet₀ i₀ unmet i = (length unmet ≡ length unmet₀) × (i ≤ length items) × ((p : ℕ) → p ∈ take i items → getD unmet p 0 ≡ 0)
+
+abbrev μ-loop : tie.MeasureT-loop
+μ-loop items unmet₀ i₀ unmet i = length items - i
+
+inside : (c : tie.After-wide Inv-loop μ-loop) → c .wide .result < length (c .before .before .before .loop .unmet)
+inside c =
+    let i = in-at (c .before .before .before .before .before .before .args .items .now) (c .before .before .before .loop .i) (c .before .before .loop-test .taken) in
+    omega (arith, c .wide .ensures, c .before .before .before .before .before .before .pre (getD (c .before .before .before .before .before .before .args .items .now) (c .before .before .before .loop .i) 0) i, c .before .before .before .loop .inv .0)
+
+loop-holds : tie.Need-loop-holds Inv-loop μ-loop
+loop-holds c = (refl, omega arith, λ p m. absurd (omega arith))
+
+mul-wide : tie.Need-mul-wide Inv-loop μ-loop
+mul-wide c = search needs
+
+shared-slice-read-wide : tie.Need-shared-slice-read-wide Inv-loop μ-loop
+shared-slice-read-wide c = search needs
+
+wide-requires : tie.Need-wide-requires Inv-loop μ-loop
+wide-requires c κs = search needs
+
+mul-unmet : tie.Need-mul-unmet Inv-loop μ-loop
+mul-unmet c = omega (arith, c .wide .ensures, c .before .shared-slice-known2 .given (c .before .before .before .loop .i))
+
+slice-write-unmet : tie.Need-slice-write-unmet Inv-loop μ-loop
+slice-write-unmet c = inside c
+
+add-i : tie.Need-add-i Inv-loop μ-loop
+add-i c = search needs
+
+loop-less : tie.Need-loop-less Inv-loop μ-loop
+loop-less c = search needs
+
+loop-again : tie.Need-loop-again Inv-loop μ-loop
+loop-again c =
+    let l = c .before .before .before in (
+      length-set (l .loop .unmet) _ _ ∙ l .loop .inv .0,
+      omega (arith, c .before .before .loop-test .taken),
+      clear-turn (c .before .before .before .before .before .before .args .items .now) (l .loop .unmet) (l .loop .i) _ (c .before .before .loop-test .taken) (c .wide .ensures) (inside c) (l .loop .inv .2),
+    )
+
+same-length : tie.Need-same-length Inv-loop μ-loop
+same-length c = c .before .loop .inv .0
+
+returns : tie.Need-returns Inv-loop μ-loop
+returns c =
+    let l = c .before in
+    λ p m. l .loop .inv .2 p (subst (λ (k : List ℕ). p ∈ k) (sym (take-all (l .loop .i) (c .before .before .before .before .args .items .now) (omega (arith, c .loop-test .left)))) m)
+
+pub clear-counts-spec : {M : Type 1} → statement M
+clear-counts-spec =
+    tie.close
+    (tie.spec
+    Inv-loop
+    μ-loop
+    loop-holds
+    mul-wide
+    shared-slice-read-wide
+    wide-requires
+    mul-unmet
+    slice-write-unmet
+    add-i
+    loop-less
+    loop-again
+    same-length
+    returns)

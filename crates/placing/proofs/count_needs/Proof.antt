@@ -1,0 +1,110 @@
+use mathlib.Core.Path.{_≡_, refl, sym, ap, _∙_, subst}
+use mathlib.Core.List.{List}
+use Prim.Native.Nat.{ℕ, _+_, _-_, _*_, _≤_, _<_}
+use native.Mathlib.Omega.{arith}
+use borrow.Author.Needs.{needs}
+use lib.ListN.{length, getD, take, set, length-set}
+use Rattle.order.specs.Lists.{count, _∈_, filter}
+use Rattle.placing.specs.Placing.{needed, Fits}
+use lib.Seq.{take-all}
+use Rattle.placing.proofs.Lists.{in-at}
+use Rattle.placing.proofs.Counts.{need-item, count-room, count-turn}
+use Rattle.placing.proofs.count_needs.Statement.{statement}
+use Rattle.placing.proofs.count_needs.Tie as tie
+use Rattle.placing.proofs.count_needs.Reads as reads
+use Rattle.placing.proofs.count_needs.Lts as lts
+use Rattle.placing.proofs.needed_by.Reads as needed-by-reads
+use Rattle.placing.proofs.raise.Reads as raise-reads
+use Rattle.marks.proofs.wide.Reads as wide-reads
+
+abbrev Inv-loop : tie.InvT-loop
+Inv-loop items square w mask unmet₀ list₀ i₀ unmet list i =
+    (length unmet ≡ length unmet₀) × (length list ≡ length list₀) × (i ≤ length items)
+    × ((p : ℕ) → p ∈ items → getD unmet p 0 ≡ length (filter (needed square mask w p) (take i items)))
+
+abbrev μ-loop : tie.MeasureT-loop
+μ-loop items square w mask unmet₀ list₀ i₀ unmet list i = length items - i
+
+here : (c : tie.After-wide Inv-loop μ-loop) → c .wide .result ∈ c .before .before .before .before .before .before .before .before .before .args .items .now
+here c = subst (λ (x : ℕ). x ∈ c .before .before .before .before .before .before .before .before .before .args .items .now) (sym (c .wide .ensures)) (in-at (c .before .before .before .before .before .before .before .before .before .args .items .now) (c .before .before .before .loop .i) (c .before .before .loop-test .taken))
+
+-- those that need the item at hand
+item-of : (c : tie.After-needed-by Inv-loop μ-loop) → (p : ℕ) → p ∈ take (c .needed-by .result) (c .needed-by .last .1 .1 .1 .1 .0) → p ∈ c .before .before .before .before .before .before .before .before .before .before .before .args .items .now
+item-of c = need-item _ _ _ _ _ _ (c .before .before .before .before .before .before .before .before .before .before .before .pre .0) (take (c .needed-by .result) (c .needed-by .last .1 .1 .1 .1 .0)) (c .needed-by .ensures .0)
+
+loop-holds : tie.Need-loop-holds Inv-loop μ-loop
+loop-holds c = (refl, refl, omega arith, λ p m. c .before .before .before .before .before .pre .1 .1 p m)
+
+mul-wide : tie.Need-mul-wide Inv-loop μ-loop
+mul-wide c = omega (arith, c .loop-test .taken, c .before .before .before .before .before .before .before .pre .0 .few)
+
+shared-slice-read-wide : tie.Need-shared-slice-read-wide Inv-loop μ-loop
+shared-slice-read-wide c = omega (arith, c .before .loop-test .taken)
+
+wide-requires : tie.Need-wide-requires Inv-loop μ-loop
+wide-requires c κs = search needs
+
+needed-by-requires : tie.Need-needed-by-requires Inv-loop μ-loop
+needed-by-requires c κs =
+    let f = c .before .before .before .before .before .before .before .before .before .before .pre .0 in
+    let h = here (c .before) in
+    (f .below _ h, f .rows _ h, f .mask-room, omega (arith, c .before .before .before .before .before .before .before .before .before .before .pre .1 .0, c .before .before .before .before .loop .inv .1), f .narrow)
+
+raise-requires : tie.Need-raise-requires Inv-loop μ-loop
+raise-requires c κs =
+    let a = c .before .before .before .before .before .before .before .before .before .before .before .before .before .before .before in
+    let l = c .before .before .before .before .before .before .before .before .before in
+    let e = c .before .before .before .before .needed-by in (
+      omega (arith, e .ensures .1, e .kept .1 .1 .1 .1 .0, l .loop .inv .1, a .pre .1 .0),
+      λ p m. omega (arith, l .loop .inv .0, a .pre .0 .counted p (item-of (c .before .before .before .before) p m)),
+      λ p m. count-room _ _ _ _ (l .loop .i) _ (c .before .before .before .before .before .before .wide .ensures) (c .before .before .before .before .before .before .before .before .loop-test .taken) (l .loop .unmet) (e .last .1 .1 .1 .1 .0) (e .result) (e .ensures .0) (l .loop .inv .3) (a .pre .0 .few) p (item-of (c .before .before .before .before) p m),
+    )
+
+add-i : tie.Need-add-i Inv-loop μ-loop
+add-i c = omega (arith, c .before .before .before .before .before .before .before .before .before .before .before .loop-test .taken, c .before .before .before .before .before .before .before .before .before .before .before .before .before .before .before .before .before .before .pre .0 .few)
+
+loop-less : tie.Need-loop-less Inv-loop μ-loop
+loop-less c = omega (arith, c .before .before .before .before .before .before .before .before .before .before .before .loop-test .taken)
+
+loop-again : tie.Need-loop-again Inv-loop μ-loop
+loop-again c =
+    let l = c .before .before .before .before .before .before .before .before .before .before .before .before in
+    let e = c .before .before .before .before .before .before .before .needed-by in
+    let r = c .before .before .raise in (
+      r .kept .1 .1 .0 ∙ l .loop .inv .0,
+      e .kept .1 .1 .1 .1 .0 ∙ l .loop .inv .1,
+      omega (arith, c .before .before .before .before .before .before .before .before .before .before .before .loop-test .taken),
+      count-turn _ _ _ _ (l .loop .i) _ (c .before .before .before .before .before .before .before .before .before .wide .ensures) (c .before .before .before .before .before .before .before .before .before .before .before .loop-test .taken) (l .loop .unmet) (e .last .1 .1 .1 .1 .0) (e .result) (e .ensures .0) (l .loop .inv .3) (r .last .1 .1 .0) (r .ensures),
+    )
+
+same-length : tie.Need-same-length Inv-loop μ-loop
+same-length c = c .before .loop .inv .0
+
+same-length-2 : tie.Need-same-length-2 Inv-loop μ-loop
+same-length-2 c = c .before .loop .inv .1
+
+returns : tie.Need-returns Inv-loop μ-loop
+returns c =
+    let l = c .before in
+    let a = c .before .before .before .before .before .before .before in
+    let e = take-all (l .loop .i) (a .args .items .now) (omega (arith, c .loop-test .left)) in
+    λ p m. l .loop .inv .3 p m ∙ ap (λ (k : List ℕ). length (filter (needed (a .args .square .now) (a .args .mask .now) (a .args .w) p) k)) e
+
+pub count-needs-spec : {M : Type 1} → statement M
+count-needs-spec =
+    tie.close
+    (tie.spec
+    Inv-loop
+    μ-loop
+    loop-holds
+    mul-wide
+    shared-slice-read-wide
+    wide-requires
+    needed-by-requires
+    raise-requires
+    add-i
+    loop-less
+    loop-again
+    same-length
+    same-length-2
+    returns)

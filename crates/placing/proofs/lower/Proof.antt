@@ -1,0 +1,153 @@
+use mathlib.Core.Path.{_≡_, refl, sym, ap, _∙_, subst}
+use mathlib.Core.Logic.{_⊎_, inl, inr, ⊎-elim, _↔_}
+use mathlib.Core.Bool.{true, false}
+use Prim.Native.Nat.{ℕ, _+_, _-_, _*_, _≤_, _<_}
+use native.Mathlib.Omega.{arith}
+use native.Mathlib.Nat.{le-antisymm}
+use borrow.Author.Needs.{needs}
+use lib.Seq.{getD-set-same}
+use lib.ListN.{length, getD, take, set, length-set}
+use Rattle.order.specs.Lists.{count, _∈_}
+use Rattle.marks.specs.Marks.{mark}
+use Rattle.placing.specs.Placing.{Lowered}
+use Rattle.placing.proofs.Lists.{in-take, count-take-le}
+use Rattle.placing.proofs.Counts.{lowered-none, lowered-turn, can-lower}
+use Rattle.placing.proofs.lower.Statement.{statement}
+use Rattle.placing.proofs.lower.Tie as tie
+use Rattle.placing.proofs.lower.Reads as reads
+use Rattle.placing.proofs.lower.Lts as lts
+use Rattle.marks.proofs.wide.Reads as wide-reads
+
+abbrev Inv-loop : tie.InvT-loop
+Inv-loop list m w unmet₀ ready₀ i₀ unmet ready i = (length unmet ≡ length unmet₀) × (length ready ≡ length ready₀) × (i ≤ m) × Lowered list unmet₀ ready₀ unmet ready i w
+
+abbrev μ-loop : tie.MeasureT-loop
+μ-loop list m w unmet₀ ready₀ i₀ unmet ready i = m - i
+
+-- in a turn: the label at hand is in the list, and has a count to lower
+module _ (c : tie.After-wide Inv-loop μ-loop) where
+  in-list : c .before .before .before .loop .i < length (c .before .before .before .before .before .before .before .args .list .now)
+  in-list = omega (arith, c .before .before .loop-test .taken, c .before .before .before .before .before .before .before .pre .0 .0)
+
+  here : c .wide .result ∈ take (c .before .before .before .before .before .before .before .args .m) (c .before .before .before .before .before .before .before .args .list .now)
+  here = subst (λ (x : ℕ). x ∈ take (c .before .before .before .before .before .before .before .args .m) (c .before .before .before .before .before .before .before .args .list .now)) (sym (c .wide .ensures)) (in-take (c .before .before .before .before .before .before .before .args .list .now) _ (c .before .before .before .loop .i) (c .before .before .loop-test .taken) (c .before .before .before .before .before .before .before .pre .0 .0))
+
+  inside : c .wide .result < length (c .before .before .before .loop .unmet)
+  inside = omega (arith, c .before .before .before .before .before .before .before .pre .0 .1 (c .wide .result) here, c .before .before .before .loop .inv .0)
+
+  more : c .before .before .before .loop .i + 1 ≤ c .before .before .before .before .before .before .before .args .m
+  more = omega (arith, c .before .before .loop-test .taken)
+
+  once : count (c .wide .result) (take (c .before .before .before .loop .i + 1) (c .before .before .before .before .before .before .before .args .list .now)) ≤ 1
+  once = omega (arith, c .before .before .before .before .before .before .before .pre .1 .0 (c .wide .result), count-take-le (c .wide .result) (c .before .before .before .before .before .before .before .args .list .now) (c .before .before .before .loop .i + 1) (c .before .before .before .before .before .before .before .args .m) more)
+
+  some : 1 ≤ getD (c .before .before .before .loop .unmet) (c .wide .result) 0
+  some = can-lower _ _ _ _ _ _ _ (c .before .before .before .loop .inv .3) _ (c .wide .ensures) in-list once inside (c .before .before .before .before .before .before .before .args .m) more (c .before .before .before .before .before .before .before .pre .1 .1 (c .wide .result))
+
+  -- the count after it is lowered
+  own : getD (set (c .before .before .before .loop .unmet) (c .wide .result) (getD (c .before .before .before .loop .unmet) (c .wide .result) 0 - 1)) (c .wide .result) 0 ≡ getD (c .before .before .before .loop .unmet) (c .wide .result) 0 - 1
+  own = getD-set-same (c .before .before .before .loop .unmet) (c .wide .result) (getD (c .before .before .before .loop .unmet) (c .wide .result) 0 - 1) 0 inside
+
+  zero-of : getD (set (c .before .before .before .loop .unmet) (c .wide .result) (getD (c .before .before .before .loop .unmet) (c .wide .result) 0 - 1)) (c .wide .result) 0 ≡ 0 → getD (c .before .before .before .loop .unmet) (c .wide .result) 0 - 1 ≡ 0
+  zero-of z = sym own ∙ z
+
+loop-holds : tie.Need-loop-holds Inv-loop μ-loop
+loop-holds c = (refl, refl, omega arith, lowered-none _ _ _ _)
+
+mul-wide : tie.Need-mul-wide Inv-loop μ-loop
+mul-wide c = search needs
+
+shared-slice-read-wide : tie.Need-shared-slice-read-wide Inv-loop μ-loop
+shared-slice-read-wide c = omega (arith, c .before .loop-test .taken, c .before .before .before .before .before .before .pre .0 .0)
+
+wide-requires : tie.Need-wide-requires Inv-loop μ-loop
+wide-requires c κs = search needs
+
+mul-unmet : tie.Need-mul-unmet Inv-loop μ-loop
+mul-unmet c = omega (arith, c .wide .ensures, c .before .shared-slice-known2 .given (c .before .before .before .loop .i))
+
+slice-read-unmet : tie.Need-slice-read-unmet Inv-loop μ-loop
+slice-read-unmet c = inside (c .before)
+
+sub-unmet : tie.Need-sub-unmet Inv-loop μ-loop
+sub-unmet c = some (c .before)
+
+mul-unmet-2 : tie.Need-mul-unmet-2 Inv-loop μ-loop
+mul-unmet-2 c = omega (arith, c .before .wide .ensures, c .before .before .shared-slice-known2 .given (c .before .before .before .before .loop .i))
+
+slice-write-unmet : tie.Need-slice-write-unmet Inv-loop μ-loop
+slice-write-unmet c = inside (c .before)
+
+mul-if1 : tie.Need-mul-if1 Inv-loop μ-loop
+mul-if1 c = omega (arith, c .before .wide .ensures, c .before .before .shared-slice-known2 .given (c .before .before .before .before .loop .i))
+
+slice-read-if1 : tie.Need-slice-read-if1 Inv-loop μ-loop
+slice-read-if1 c = simp length-set (inside (c .before .before))
+
+put-mark-requires : tie.Need-put-mark-requires Inv-loop μ-loop
+put-mark-requires c κs = (c .before .before .before .before .before .before .before .before .before .before .before .pre .0 .2 _ (here (c .before .before .before .before)), omega (arith, c .before .before .before .before .before .before .before .before .before .before .before .pre .1 .2, c .before .before .before .before .before .before .before .loop .inv .1))
+
+add-i : tie.Need-add-i Inv-loop μ-loop
+add-i c = search needs
+
+loop-less : tie.Need-loop-less Inv-loop μ-loop
+loop-less c = search needs
+
+loop-again : tie.Need-loop-again Inv-loop μ-loop
+loop-again c =
+    let l = c .before .before .before .before .before .before in
+    let a = c .before .before .before .before .before .before .before .before .before .before in
+    let q = c .before .before .before in
+    let k : l .loop .i + 1 ≤ a .args .m = omega (arith, c .before .before .before .before .before .loop-test .taken) in
+    ⊎-elim (λ w. rw (w .5) (
+      length-set (l .loop .unmet) _ _ ∙ l .loop .inv .0,
+      w .2 .kept .0 ∙ l .loop .inv .1,
+      k,
+      lowered-turn _ _ _ _ _ _ _ (l .loop .inv .3) _ (q .wide .ensures) (in-list q) (once q) (inside q) (some q) _ (w .2 .ensures .kept) (λ _. w .2 .ensures .new _ (a .pre .0 .2 _ (here q)) refl)
+          (λ x e. ⊎-elim (λ y. inl y) (λ y. inr (y, zero-of q (w .0 .taken))) (w .2 .ensures .only x e)),
+    ))
+    (λ w. rw (w .1) (
+      length-set (l .loop .unmet) _ _ ∙ l .loop .inv .0,
+      l .loop .inv .1,
+      k,
+      lowered-turn _ _ _ _ _ _ _ (l .loop .inv .3) _ (q .wide .ensures) (in-list q) (once q) (inside q) (some q) _ (λ x e. e) (λ z. absurd (w .0 .left (own q ∙ z))) (λ x e. inl e),
+    ))
+    (c .if1 .came)
+
+same-length : tie.Need-same-length Inv-loop μ-loop
+same-length c = c .before .loop .inv .0
+
+same-length-2 : tie.Need-same-length-2 Inv-loop μ-loop
+same-length-2 c = c .before .loop .inv .1
+
+returns : tie.Need-returns Inv-loop μ-loop
+returns c =
+    let l = c .before in
+    let a = c .before .before .before .before .before in
+    let e : l .loop .i ≡ a .args .m = le-antisymm (l .loop .inv .2) (omega (arith, c .loop-test .left)) in
+    subst (λ (k : ℕ). Lowered (a .args .list .now) (a .args .unmet .now) (a .args .ready .now) (l .loop .unmet) (l .loop .ready) k (a .args .w)) e (l .loop .inv .3)
+
+pub lower-spec : {M : Type 1} → statement M
+lower-spec =
+    tie.close
+    (tie.spec
+    Inv-loop
+    μ-loop
+    loop-holds
+    mul-wide
+    shared-slice-read-wide
+    wide-requires
+    mul-unmet
+    slice-read-unmet
+    sub-unmet
+    mul-unmet-2
+    slice-write-unmet
+    mul-if1
+    slice-read-if1
+    put-mark-requires
+    add-i
+    loop-less
+    loop-again
+    same-length
+    same-length-2
+    returns)

@@ -1,0 +1,99 @@
+use mathlib.Core.Path.{_≡_, refl, sym, ap, _∙_, subst}
+use mathlib.Core.Logic.{_⊎_, inl, inr, ⊎-elim, _↔_}
+use mathlib.Core.List.{List}
+use mathlib.Core.Bool.{true, false}
+use Prim.Native.Nat.{ℕ, _+_, _-_, _*_, _≤_, _<_}
+use native.Mathlib.Omega.{arith}
+use native.Mathlib.Nat.{le-antisymm}
+use borrow.Author.Needs.{needs}
+use lib.ListN.{length, getD, take, set, length-set}
+use Rattle.order.specs.Lists.{count, _∈_}
+use Rattle.marks.specs.Marks.{mark}
+use lib.Seq.{take-all}
+use Rattle.order.proofs.Tests.{clash}
+use Rattle.placing.proofs.Lists.{in-at}
+use Rattle.placing.proofs.Counts.{ready-put, ready-skip}
+use Rattle.placing.proofs.mark_ready.Statement.{statement}
+use Rattle.placing.proofs.mark_ready.Tie as tie
+use Rattle.placing.proofs.mark_ready.Reads as reads
+use Rattle.placing.proofs.mark_ready.Lts as lts
+use Rattle.marks.proofs.wide.Reads as wide-reads
+
+abbrev Inv-loop : tie.InvT-loop
+Inv-loop items w unmet ready₀ i₀ ready i =
+    (length ready ≡ length ready₀) × (i ≤ length items) × ((p : ℕ) → (mark ready w 0 p ≡ true) ↔ ((p ∈ take i items) × (getD unmet p 0 ≡ 0)))
+
+abbrev μ-loop : tie.MeasureT-loop
+μ-loop items w unmet ready₀ i₀ ready i = length items - i
+
+module _ (c : tie.After-wide Inv-loop μ-loop) where
+  here : c .wide .result ∈ c .before .before .before .before .before .before .before .args .items .now
+  here = subst (λ (x : ℕ). x ∈ c .before .before .before .before .before .before .before .args .items .now) (sym (c .wide .ensures)) (in-at (c .before .before .before .before .before .before .before .args .items .now) (c .before .before .before .loop .i) (c .before .before .loop-test .taken))
+
+loop-holds : tie.Need-loop-holds Inv-loop μ-loop
+loop-holds c = (refl, omega arith, λ p. (λ m. clash (mark (c .before .before .before .args .ready .now) (c .before .before .before .args .w) 0 p) m (c .before .before .before .pre .1 p), λ y. absurd (omega (arith, y .0))))
+
+mul-wide : tie.Need-mul-wide Inv-loop μ-loop
+mul-wide c = search needs
+
+shared-slice-read-wide : tie.Need-shared-slice-read-wide Inv-loop μ-loop
+shared-slice-read-wide c = search needs
+
+wide-requires : tie.Need-wide-requires Inv-loop μ-loop
+wide-requires c κs = search needs
+
+mul-if1 : tie.Need-mul-if1 Inv-loop μ-loop
+mul-if1 c = omega (arith, c .wide .ensures, c .before .shared-slice-known3 .given (c .before .before .before .loop .i))
+
+shared-slice-read-if1 : tie.Need-shared-slice-read-if1 Inv-loop μ-loop
+shared-slice-read-if1 c = c .before .before .before .before .before .before .before .before .pre .0 .0 _ (here (c .before))
+
+put-mark-requires : tie.Need-put-mark-requires Inv-loop μ-loop
+put-mark-requires c κs = (c .before .before .before .before .before .before .before .before .before .before .pre .0 .1 _ (here (c .before .before .before)), omega (arith, c .before .before .before .before .before .before .before .before .before .before .pre .0 .2, c .before .before .before .before .before .before .loop .inv .0))
+
+add-i : tie.Need-add-i Inv-loop μ-loop
+add-i c = search needs
+
+loop-less : tie.Need-loop-less Inv-loop μ-loop
+loop-less c = search needs
+
+loop-again : tie.Need-loop-again Inv-loop μ-loop
+loop-again c =
+    let l = c .before .before .before .before .before in
+    let a = c .before .before .before .before .before .before .before .before .before in
+    let q = c .before .before in
+    let h = c .before .before .before .before .loop-test .taken in
+    let items = a .args .items .now in
+    let unmet = a .args .unmet .now in
+    ⊎-elim (λ w. rw (w .5) (w .2 .kept .0 ∙ l .loop .inv .0, omega arith, ready-put items unmet (l .loop .ready) (l .loop .i) (a .args .w) _ (q .wide .ensures) h (l .loop .inv .2) (a .pre .0 .1 _ (here q)) (w .0 .taken) _ (w .2 .ensures)))
+    (λ w. rw (w .1) (l .loop .inv .0, omega arith, ready-skip items unmet (l .loop .ready) (l .loop .i) (a .args .w) _ (q .wide .ensures) h (l .loop .inv .2) (w .0 .left)))
+    (c .if1 .came)
+
+same-length : tie.Need-same-length Inv-loop μ-loop
+same-length c = c .before .loop .inv .0
+
+returns : tie.Need-returns Inv-loop μ-loop
+returns c =
+    let l = c .before in
+    let a = c .before .before .before .before .before in
+    let e = take-all (l .loop .i) (a .args .items .now) (omega (arith, c .loop-test .left)) in
+    λ p. subst (λ (k : List ℕ). (mark (l .loop .ready) (a .args .w) 0 p ≡ true) ↔ ((p ∈ k) × (getD (a .args .unmet .now) p 0 ≡ 0))) e (l .loop .inv .2 p)
+
+pub mark-ready-spec : {M : Type 1} → statement M
+mark-ready-spec =
+    tie.close
+    (tie.spec
+    Inv-loop
+    μ-loop
+    loop-holds
+    mul-wide
+    shared-slice-read-wide
+    wide-requires
+    mul-if1
+    shared-slice-read-if1
+    put-mark-requires
+    add-i
+    loop-less
+    loop-again
+    same-length
+    returns)

@@ -1,0 +1,36 @@
+use mathlib.Core.Path.{_≡_, refl, sym, ap, _∙_, subst}
+use mathlib.Core.Logic.{_⊎_, inl, inr, ⊎-elim, _↔_}
+use mathlib.Core.Bool.{true, false}
+use Prim.Native.Nat.{ℕ, _+_, _-_, _*_, _≤_, _<_}
+use native.Mathlib.Omega.{arith}
+use native.Mathlib.Nat.{le-antisymm}
+use borrow.Author.Needs.{needs}
+use lib.ListN.{length, getD, take, set, length-set}
+use Rattle.order.specs.Lists.{count, _∈_}
+use Rattle.marks.specs.Marks.{mark}
+use Rattle.placing.proofs.Counts.{needed-masked, needed-none}
+use Rattle.placing.proofs.needed_by.Statement.{statement}
+use Rattle.placing.proofs.needed_by.Tie as tie
+use Rattle.placing.proofs.needed_by.Reads as reads
+use Rattle.placing.proofs.needed_by.Lts as lts
+
+has-mark-requires : tie.Need-has-mark-requires
+has-mark-requires c κs = (c .before .before .before .pre .0, omega (arith, c .before .before .before .pre .2))
+
+list-marks-requires : tie.Need-list-marks-requires
+list-marks-requires c κs = let p = c .before .before .before .before .before .before .pre in (p .1, p .2, p .3, p .4)
+
+same-length : tie.Need-same-length
+same-length c = c .before .before .list-marks .kept .1 .1 .1 .1 .0
+
+returns : tie.Need-returns
+returns c =
+    let e = c .before .before .list-marks .ensures in
+    (λ p. e .0 p ∙ needed-masked _ _ _ p _ (sym (c .before .before .before .before .before .has-mark .ensures) ∙ c .before .before .before .before .if1 .taken), e .1)
+
+returns-2 : tie.Need-returns-2
+returns-2 c = (λ p. needed-none _ _ _ p _ (sym (c .before .has-mark .ensures) ∙ c .if1 .left), omega arith)
+
+pub needed-by-spec : {M : Type 1} → statement M
+needed-by-spec =
+    tie.close (tie.spec has-mark-requires list-marks-requires same-length returns returns-2)

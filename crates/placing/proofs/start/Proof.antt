@@ -1,0 +1,62 @@
+use mathlib.Core.Path.{_≡_, refl, sym, ap, _∙_, subst}
+use mathlib.Core.List.{List}
+use Prim.Native.Nat.{ℕ, _+_, _-_, _*_, _≤_, _<_}
+use native.Mathlib.Omega.{arith}
+use borrow.Author.Needs.{needs}
+use lib.ListN.{length, getD, take, set, length-set}
+use Rattle.order.specs.Lists.{count, _∈_, filter}
+use Rattle.placing.specs.Placing.{needed, Fits}
+use Rattle.placing.proofs.Counts.{fits-as}
+use Rattle.placing.proofs.Going.{state-none}
+use Rattle.placing.proofs.start.Statement.{statement}
+use Rattle.placing.proofs.start.Tie as tie
+use Rattle.placing.proofs.start.Reads as reads
+use Rattle.placing.proofs.start.Lts as lts
+use Rattle.placing.proofs.clear_counts.Reads as clear-counts-reads
+use Rattle.marks.proofs.clear_marks.Reads as clear-marks-reads
+use Rattle.placing.proofs.count_needs.Reads as count-needs-reads
+use Rattle.placing.proofs.mark_ready.Reads as mark-ready-reads
+
+clear-counts-requires : tie.Need-clear-counts-requires
+clear-counts-requires c κs = c .before .before .before .before .before .before .before .pre .0 .counted
+
+count-needs-requires : tie.Need-count-needs-requires
+count-needs-requires c κs =
+    let a = c .before .before .before .before .before .before .before .before .before .before .before .before in
+    let k = c .before .before .before .before .clear-counts in
+    (fits-as _ _ _ _ _ _ (k .kept .1 .0) (a .pre .0), (a .pre .1 .0, k .ensures))
+
+clear-marks-requires : tie.Need-clear-marks-requires
+clear-marks-requires c κs = c .before .before .before .before .before .before .before .before .before .before .before .before .before .before .before .before .before .before .pre .1 .1
+
+mark-ready-requires : tie.Need-mark-ready-requires
+mark-ready-requires c κs =
+    let a = c .before .before .before .before .before .before .before .before .before .before .before .before .before .before .before .before .before .before .before .before .before .before .before in
+    let f = a .pre .0 in
+    let k = c .before .before .before .before .before .before .before .before .before .before .count-needs .kept .1 .1 .1 .1 .0 ∙ c .before .before .before .before .before .before .before .before .before .before .before .before .before .before .before .clear-counts .kept .1 .0 in
+    ((λ p m. omega (arith, k, f .counted p m), f .below, omega (arith, a .pre .1 .1, c .before .before .before .before .clear-marks .kept .0)), c .before .before .before .before .clear-marks .ensures)
+
+same-length : tie.Need-same-length
+same-length c = c .before .before .before .before .before .before .before .before .before .before .before .before .before .count-needs .kept .1 .1 .1 .1 .0 ∙ c .before .before .before .before .before .before .before .before .before .before .before .before .before .before .before .before .before .before .clear-counts .kept .1 .0
+
+same-length-2 : tie.Need-same-length-2
+same-length-2 c = c .before .before .mark-ready .kept .1 .1 .1 .0 ∙ c .before .before .before .before .before .before .before .clear-marks .kept .0
+
+same-length-3 : tie.Need-same-length-3
+same-length-3 c = c .before .before .before .before .before .before .before .before .before .before .before .before .before .count-needs .kept .1 .1 .1 .1 .1 .0
+
+returns : tie.Need-returns
+returns c = state-none _ _ _ _ _ (c .before .before .before .before .before .before .before .before .before .before .before .before .before .count-needs .ensures) (c .before .before .mark-ready .ensures)
+
+pub start-spec : {M : Type 1} → statement M
+start-spec =
+    tie.close
+    (tie.spec
+    clear-counts-requires
+    count-needs-requires
+    clear-marks-requires
+    mark-ready-requires
+    same-length
+    same-length-2
+    same-length-3
+    returns)

@@ -1,0 +1,52 @@
+-- The rule of placing by counts of unmet needs: the state between two placings.
+use mathlib.Core.Path.{_≡_}
+use mathlib.Core.Logic.{_⊎_, _↔_}
+use mathlib.Core.List.{List, [], _∷_}
+use mathlib.Core.Bool.{Bool, true, false, not, _&&_}
+use Prim.Native.Nat.{ℕ, _+_, _*_, _≤_, _<_}
+use lib.ListN.{length, getD, take}
+use Rattle.order.specs.Lists.{one, count, _∈_, mem, filter}
+use Rattle.order.specs.Placing.{placed}
+use Rattle.marks.specs.Marks.{mark}
+
+-- p needs q: both stand in the mask, and row q of the square has mark p
+abbrev pub needed : List ℕ → List ℕ → ℕ → ℕ → ℕ → Bool
+needed square mask w p q = mark mask w 0 q && (mark square w q p && mark mask w 0 p)
+
+-- upward
+abbrev pub Rising : List ℕ → Type 0
+Rising [] = Unit {0}
+Rising (x ∷ l) = ((y : ℕ) → y ∈ l → x < y) × Rising l
+
+-- the items go upward and have counts, rows and marks; the mask has items alone
+pub record Fits (items square mask unmet : List ℕ) (w : ℕ) : Type 0 where
+  pub rising : Rising items
+  pub few : length items < 65536
+  pub narrow : w ≤ 1000
+  pub below : (p : ℕ) → p ∈ items → p < 64 * w
+  pub counted : (p : ℕ) → p ∈ items → p < length unmet
+  pub rows : (p : ℕ) → p ∈ items → p * w + w ≤ length square
+  pub masked : (p : ℕ) → mark mask w 0 p ≡ true → p ∈ items
+  pub mask-room : w ≤ length mask
+
+-- p needs q, and q is not done
+abbrev pub blocks : (ℕ → ℕ → Bool) → List ℕ → ℕ → ℕ → Bool
+blocks R done p q = R p q && not (mem q done)
+
+-- with `done` placed: each item's count of unmet needs, and the items that may be placed
+pub record State (R : ℕ → ℕ → Bool) (items done unmet ready : List ℕ) (w : ℕ) : Type 0 where
+  pub counts : (p : ℕ) → p ∈ items → getD unmet p 0 ≡ length (filter (blocks R done p) items)
+  pub met : (p : ℕ) → p ∈ done → getD unmet p 0 ≡ 0
+  pub free : (p : ℕ) → (mark ready w 0 p ≡ true) ↔ ((p ∈ items) × (mem p done ≡ false) × (getD unmet p 0 ≡ 0))
+
+-- the counts of those in the first m of a list fall by one, and what comes to 0 is ready
+pub record Lowered (list unmet ready unmet′ ready′ : List ℕ) (m w : ℕ) : Type 0 where
+  pub counts : (p : ℕ) → getD unmet′ p 0 + count p (take m list) ≡ getD unmet p 0
+  pub kept : (p : ℕ) → mark ready w 0 p ≡ true → mark ready′ w 0 p ≡ true
+  pub new : (p : ℕ) → p ∈ take m list → getD unmet′ p 0 ≡ 0 → mark ready′ w 0 p ≡ true
+  pub only : (p : ℕ) → mark ready′ w 0 p ≡ true → (mark ready w 0 p ≡ true) ⊎ ((p ∈ take m list) × (getD unmet′ p 0 ≡ 0))
+
+-- the first r of the order are what the rule places
+pub record Placed (R : ℕ → ℕ → Bool) (items order : List ℕ) (r : ℕ) : Type 0 where
+  pub cells : take r order ≡ placed R items
+  pub within : r ≤ length items

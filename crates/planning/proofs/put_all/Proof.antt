@@ -1,0 +1,95 @@
+use mathlib.Core.Path.{_≡_, refl, sym, ap, _∙_, subst}
+use mathlib.Core.Logic.{_⊎_, inl, inr, ⊎-elim, _↔_}
+use mathlib.Core.List.{List, _++_}
+use mathlib.Core.Bool.{true, false}
+use Prim.Native.Nat.{ℕ, _+_, _-_, _*_, _/_, _≤_, _<_}
+use native.Mathlib.Omega.{arith}
+use borrow.Author.Needs.{needs}
+use lib.ListN.{length, getD, take, drop, set, length-set}
+use Rattle.cells.specs.Table.{kind, owner}
+use Rattle.order.specs.Lists.{count, _∈_, filter, upFrom}
+use lib.IntN.{pos}
+use lib.Seq.{take-all}
+use mir.Syntax.{w64}
+use mir.Facts.{toZ-pos}
+use Rattle.planning.specs.Listing.{Put}
+use Rattle.planning.proofs.Listing.{put-none, put-label}
+use Rattle.planning.proofs.put_all.Statement.{statement}
+use Rattle.planning.proofs.put_all.Tie as tie
+use Rattle.planning.proofs.put_all.Reads as reads
+use Rattle.planning.proofs.put_all.Lts as lts
+
+abbrev Inv-loop : tie.InvT-loop
+Inv-loop order r plan₀ i₀ plan i = (length plan ≡ length plan₀) × (i ≤ r) × Put (take i order) 0 plan₀ plan i
+
+abbrev μ-loop : tie.MeasureT-loop
+μ-loop order r plan₀ i₀ plan i = r - i
+
+small : (c : tie.After-wide Inv-loop μ-loop) → c .wide .result < 65536
+small c = omega (arith, c .wide .ensures, c .before .shared-slice-known2 .given (c .before .before .before .loop .i))
+
+loop-holds : tie.Need-loop-holds Inv-loop μ-loop
+loop-holds c = (refl, omega arith, put-none _ _)
+
+mul-wide : tie.Need-mul-wide Inv-loop μ-loop
+mul-wide c = search needs
+
+shared-slice-read-wide : tie.Need-shared-slice-read-wide Inv-loop μ-loop
+shared-slice-read-wide c = omega (arith, c .before .loop-test .taken, c .before .before .before .before .pre .0)
+
+wide-requires : tie.Need-wide-requires Inv-loop μ-loop
+wide-requires c κs = search needs
+
+cast-plan : tie.Need-cast-plan Inv-loop μ-loop
+cast-plan c = record { sfits = omega (arith, small c) }
+
+mul-t11 : tie.Need-mul-t11 Inv-loop μ-loop
+mul-t11 c = search needs
+
+slice-set-from-plan : tie.Need-slice-set-from-plan Inv-loop μ-loop
+slice-set-from-plan c = omega (arith, c .before .before .loop-test .taken, c .before .before .before .before .before .pre .1, c .before .before .before .loop .inv .0)
+
+add-i : tie.Need-add-i Inv-loop μ-loop
+add-i c = search needs
+
+loop-less : tie.Need-loop-less Inv-loop μ-loop
+loop-less c = search needs
+
+loop-again : tie.Need-loop-again Inv-loop μ-loop
+loop-again c =
+    let l = c .before .before .before in
+    let a = c .before .before .before .before .before in (
+      length-set (l .loop .plan) _ _ ∙ l .loop .inv .0,
+      omega (arith, c .before .before .loop-test .taken),
+      put-label (a .args .order .now) _ (l .loop .plan) (l .loop .i) (l .loop .inv .2) _ (omega (arith, c .before .before .loop-test .taken, a .pre .0)) (omega (arith, c .before .before .loop-test .taken, a .pre .1, l .loop .inv .0))
+          (toZ-pos w64 {n = c .wide .result} (omega (arith, small c)) ∙ ap pos (c .wide .ensures)),
+    )
+
+same-length : tie.Need-same-length Inv-loop μ-loop
+same-length c = c .before .loop .inv .0
+
+returns : tie.Need-returns Inv-loop μ-loop
+returns c =
+    let l = c .before in
+    let a = c .before .before .before in
+    let e : l .loop .i ≡ a .args .r = omega (arith, l .loop .inv .1, c .loop-test .left) in
+    subst (λ (k : ℕ). Put (take k (a .args .order .now)) 0 (a .args .plan .now) (l .loop .plan) k) e (l .loop .inv .2)
+
+pub put-all-spec : {M : Type 1} → statement M
+put-all-spec =
+    tie.close
+    (tie.spec
+    Inv-loop
+    μ-loop
+    loop-holds
+    mul-wide
+    shared-slice-read-wide
+    wide-requires
+    cast-plan
+    mul-t11
+    slice-set-from-plan
+    add-i
+    loop-less
+    loop-again
+    same-length
+    returns)

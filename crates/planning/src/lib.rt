@@ -1,0 +1,360 @@
+// The plan of an accepted table: the members of every Group in order, listed Group by Group; or the mixed list, if some Group is stuck.
+// Both orders are made by the one rule of placing.
+
+ghost use mathlib.Core.Path.{_≡_};
+ghost use Prim.Native.Nat.{ℕ, _+_, _*_, _≤_, _<_};
+ghost use lib.ListN.{length, getD, take};
+ghost use Rattle.cells.specs.Table.{kind};
+ghost use Rattle.cells.specs.Accepted.{Accepted};
+ghost use Rattle.order.specs.Order.{mixedPlan, place16};
+ghost use Rattle.order.specs.Order as Order;
+ghost use Rattle.reach.specs.Rows.{width, Blank, AllRows, Room};
+ghost use Rattle.reach.specs.Chains.{Empty};
+ghost use Rattle.needs.specs.Needs.{NeedRows};
+ghost use Rattle.groups.specs.Members.{Ordered, Scratch};
+ghost use Rattle.planning.specs.Listing.{listOf, Put};
+ghost use Rattle.planning.specs.Plans.{PlanIs};
+
+pub enum Planned {
+    Cycle(u64),
+    Whole(u64),
+    Mixed(u64),
+}
+
+// Lists a Group: its members in order, each member Group by this same rule in its place.
+fn list_group(
+    table: &[i64],
+    n: usize,
+    next: &[u16],
+    plan: &mut [i64],
+    at: usize,
+    group: usize,
+) -> usize
+    requires { ⌜ Accepted (now table) n ⌝ }
+    requires { ⌜ (2 * n < length (now next)) × Ordered (now table) n (now next) ⌝ }
+    requires { ⌜ (1 ≤ group) × (group ≤ n) × (kind (now table) group ≡ 1) ⌝ }
+    requires { ⌜ at + length (listOf (now table) n group) ≤ length (now plan) ⌝ }
+    ensures { λ r. ⌜ Put (listOf (now (table .entry)) n group) at (now (plan .entry)) (now (plan .exit)) r ⌝ }
+{
+    let mut to = at;
+    let mut x = next[group];
+    while x != 0 {
+        let p = marks::wide(x);
+        x = next[n + p];
+        let k = reach::kind_of(table, n, p);
+        if k == 2 {
+            plan[to] = p as i64;
+            to += 1;
+        } else if k == 1 {
+            to = list_group(table, n, next, plan, to, p);
+        }
+    }
+    to
+}
+
+// The first r labels of the order.
+fn put_all(order: &[u16], r: usize, plan: &mut [i64])
+    requires { ⌜ (r ≤ length (now order)) × (r ≤ length (now plan)) ⌝ }
+    ensures { λ _. ⌜ Put (take r (now (order .entry))) 0 (now (plan .entry)) (now (plan .exit)) r ⌝ }
+{
+    let mut i = 0;
+    while i < r {
+        plan[i] = marks::wide(order[i]) as i64;
+        i += 1;
+    }
+}
+
+// The mixed list.
+fn list_mixed(
+    table: &[i64],
+    n: usize,
+    square: &[u64],
+    plan: &mut [i64],
+    items: &mut [u16],
+    mask: &mut [u64],
+    unmet: &mut [u16],
+    ready: &mut [u64],
+    list: &mut [u16],
+    order: &mut [u16],
+) -> usize
+    requires { ⌜ Accepted (now table) n ⌝ }
+    requires { ⌜ ((n ≤ length (now plan)) × (n < length (now items))) × Scratch n (now mask) (now unmet) (now ready) (now list) (now order) ⌝ }
+    requires { ⌜ ((n + 1) * width n ≤ length (now square)) × NeedRows (now table) n (now square) ⌝ }
+    requires { ⌜ place16 (now table) n ≡ 0 ⌝ }
+    ensures { λ r. ⌜ Put (mixedPlan (now (table .entry)) n) 0 (now (plan .entry)) (now (plan .exit)) r ⌝ }
+{
+    let m = groups::gather_values(table, n, items);
+    let r = groups::place_items(
+        table,
+        n,
+        square,
+        &items[0..m],
+        mask,
+        unmet,
+        ready,
+        list,
+        order,
+    );
+    put_all(order, r, plan);
+    r
+}
+
+// ---- the plan
+
+// Row 16, and the rows of what reaches each value.
+fn find_cycle(
+    table: &[i64],
+    n: usize,
+    square: &mut [u64],
+    chains: &mut [u16],
+    state: &mut [u8],
+    stack: &mut [u16],
+) -> usize
+    requires { ⌜ Accepted (now table) n ⌝ }
+    requires { ⌜ (2 * n < length (now chains)) × Room n (now state) (now square) (now stack) ⌝ }
+    requires { ⌜ Empty n (now chains) × ((d : ℕ) → getD (now state) d 0 ≡ 0) × ((d : ℕ) → Blank n (now square) d) ⌝ }
+    ensures { λ r. ⌜ (r ≡ place16 (now (table .entry)) n) × AllRows (now (table .entry)) n 6 (now (square .exit)) ⌝ }
+{
+    reach::link(table, n, 6, chains);
+    reach::reach_rows(table, n, 6, chains, state, square, stack);
+    reach::first_cycle(table, n, 6, square)
+}
+
+// The plan where there is no cycle: whole, or mixed if some Group is stuck.
+fn list_plan(
+    table: &[i64],
+    n: usize,
+    plan: &mut [i64],
+    square: &[u64],
+    next: &mut [u16],
+    items: &mut [u16],
+    mask: &mut [u64],
+    unmet: &mut [u16],
+    ready: &mut [u64],
+    list: &mut [u16],
+    order: &mut [u16],
+) -> Planned
+    requires { ⌜ Accepted (now table) n ⌝ }
+    requires { ⌜ ((n ≤ length (now plan)) × (2 * n < length (now next)) × (n < length (now items))) × Scratch n (now mask) (now unmet) (now ready) (now list) (now order) ⌝ }
+    requires { ⌜ ((n + 1) * width n ≤ length (now square)) × NeedRows (now table) n (now square) ⌝ }
+    requires { ⌜ Empty n (now next) × (place16 (now table) n ≡ 0) ⌝ }
+    ensures { λ r. ⌜ PlanIs (Order.plan (now (table .entry)) n) (now (plan .entry)) (now (plan .exit)) r ⌝ }
+{
+    groups::link_members(table, n, next);
+    if groups::order_groups(
+        table,
+        n,
+        square,
+        next,
+        items,
+        mask,
+        unmet,
+        ready,
+        list,
+        order,
+    ) {
+        return Planned::Mixed(
+            list_mixed(
+                table,
+                n,
+                square,
+                plan,
+                items,
+                mask,
+                unmet,
+                ready,
+                list,
+                order,
+            ) as u64,
+        );
+    }
+    Planned::Whole(list_group(table, n, next, plan, 0, 1) as u64)
+}
+
+// In scratch that is all 0.
+fn plan_with(
+    table: &[i64],
+    n: usize,
+    plan: &mut [i64],
+    square: &mut [u64],
+    chains: &mut [u16],
+    state: &mut [u8],
+    next: &mut [u16],
+    items: &mut [u16],
+    mask: &mut [u64],
+    unmet: &mut [u16],
+    ready: &mut [u64],
+    list: &mut [u16],
+    order: &mut [u16],
+) -> Planned
+    requires { ⌜ Accepted (now table) n ⌝ }
+    requires { ⌜ (n ≤ length (now plan)) × (2 * n < length (now chains)) × (2 * n < length (now next)) × Room n (now state) (now square) (now items) × Scratch n (now mask) (now unmet) (now ready) (now list) (now order) ⌝ }
+    requires { ⌜ Empty n (now chains) × Empty n (now next) × ((d : ℕ) → getD (now state) d 0 ≡ 0) × ((d : ℕ) → Blank n (now square) d) ⌝ }
+    ensures { λ r. ⌜ PlanIs (Order.plan (now (table .entry)) n) (now (plan .entry)) (now (plan .exit)) r ⌝ }
+{
+    let v = find_cycle(table, n, square, chains, state, items);
+    if v != 0 {
+        return Planned::Cycle(v as u64);
+    }
+    needs::needs_of(table, n, square);
+    list_plan(
+        table,
+        n,
+        plan,
+        square,
+        next,
+        items,
+        mask,
+        unmet,
+        ready,
+        list,
+        order,
+    )
+}
+
+// ---- scratch by the size of the sheet, since it is zeroed at each call
+
+fn plan_small(table: &[i64], n: usize, plan: &mut [i64]) -> Planned
+    requires { ⌜ Accepted (now table) n ⌝ }
+    requires { ⌜ (n ≤ 63) × (n ≤ length (now plan)) ⌝ }
+    ensures { λ r. ⌜ PlanIs (Order.plan (now (table .entry)) n) (now (plan .entry)) (now (plan .exit)) r ⌝ }
+{
+    let mut square = [0u64; 64];
+    let mut chains = [0u16; 127];
+    let mut state = [0u8; 64];
+    let mut next = [0u16; 127];
+    let mut items = [0u16; 64];
+    let mut mask = [0u64; 1];
+    let mut unmet = [0u16; 64];
+    let mut ready = [0u64; 1];
+    let mut list = [0u16; 64];
+    let mut order = [0u16; 64];
+    plan_with(
+        table,
+        n,
+        plan,
+        &mut square,
+        &mut chains,
+        &mut state,
+        &mut next,
+        &mut items,
+        &mut mask,
+        &mut unmet,
+        &mut ready,
+        &mut list,
+        &mut order,
+    )
+}
+
+fn plan_medium(table: &[i64], n: usize, plan: &mut [i64]) -> Planned
+    requires { ⌜ Accepted (now table) n ⌝ }
+    requires { ⌜ (n ≤ 255) × (n ≤ length (now plan)) ⌝ }
+    ensures { λ r. ⌜ PlanIs (Order.plan (now (table .entry)) n) (now (plan .entry)) (now (plan .exit)) r ⌝ }
+{
+    let mut square = [0u64; 1024];
+    let mut chains = [0u16; 511];
+    let mut state = [0u8; 256];
+    let mut next = [0u16; 511];
+    let mut items = [0u16; 256];
+    let mut mask = [0u64; 4];
+    let mut unmet = [0u16; 256];
+    let mut ready = [0u64; 4];
+    let mut list = [0u16; 256];
+    let mut order = [0u16; 256];
+    plan_with(
+        table,
+        n,
+        plan,
+        &mut square,
+        &mut chains,
+        &mut state,
+        &mut next,
+        &mut items,
+        &mut mask,
+        &mut unmet,
+        &mut ready,
+        &mut list,
+        &mut order,
+    )
+}
+
+fn plan_large(table: &[i64], n: usize, plan: &mut [i64]) -> Planned
+    requires { ⌜ Accepted (now table) n ⌝ }
+    requires { ⌜ (n ≤ 511) × (n ≤ length (now plan)) ⌝ }
+    ensures { λ r. ⌜ PlanIs (Order.plan (now (table .entry)) n) (now (plan .entry)) (now (plan .exit)) r ⌝ }
+{
+    let mut square = [0u64; 4096];
+    let mut chains = [0u16; 1023];
+    let mut state = [0u8; 512];
+    let mut next = [0u16; 1023];
+    let mut items = [0u16; 512];
+    let mut mask = [0u64; 8];
+    let mut unmet = [0u16; 512];
+    let mut ready = [0u64; 8];
+    let mut list = [0u16; 512];
+    let mut order = [0u16; 512];
+    plan_with(
+        table,
+        n,
+        plan,
+        &mut square,
+        &mut chains,
+        &mut state,
+        &mut next,
+        &mut items,
+        &mut mask,
+        &mut unmet,
+        &mut ready,
+        &mut list,
+        &mut order,
+    )
+}
+
+fn plan_largest(table: &[i64], n: usize, plan: &mut [i64]) -> Planned
+    requires { ⌜ Accepted (now table) n ⌝ }
+    requires { ⌜ n ≤ length (now plan) ⌝ }
+    ensures { λ r. ⌜ PlanIs (Order.plan (now (table .entry)) n) (now (plan .entry)) (now (plan .exit)) r ⌝ }
+{
+    let mut square = [0u64; 17425];
+    let mut chains = [0u16; 2049];
+    let mut state = [0u8; 1025];
+    let mut next = [0u16; 2049];
+    let mut items = [0u16; 1025];
+    let mut mask = [0u64; 17];
+    let mut unmet = [0u16; 1025];
+    let mut ready = [0u64; 17];
+    let mut list = [0u16; 1088];
+    let mut order = [0u16; 1025];
+    plan_with(
+        table,
+        n,
+        plan,
+        &mut square,
+        &mut chains,
+        &mut state,
+        &mut next,
+        &mut items,
+        &mut mask,
+        &mut unmet,
+        &mut ready,
+        &mut list,
+        &mut order,
+    )
+}
+
+pub fn plan_of(table: &[i64], n: usize, plan: &mut [i64]) -> Planned
+    requires { ⌜ Accepted (now table) n ⌝ }
+    requires { ⌜ n ≤ length (now plan) ⌝ }
+    ensures { λ r. ⌜ PlanIs (Order.plan (now (table .entry)) n) (now (plan .entry)) (now (plan .exit)) r ⌝ }
+{
+    if n <= 63 {
+        return plan_small(table, n, plan);
+    }
+    if n <= 255 {
+        return plan_medium(table, n, plan);
+    }
+    if n <= 511 {
+        return plan_large(table, n, plan);
+    }
+    plan_largest(table, n, plan)
+}

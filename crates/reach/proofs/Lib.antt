@@ -1,0 +1,7 @@
+pub mod Links
+pub mod Reading
+mod Chains
+mod Raise
+mod Spread
+mod Visits
+mod Cycle

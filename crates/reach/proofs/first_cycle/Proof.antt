@@ -1,0 +1,81 @@
+use mathlib.Core.Path.{_≡_, refl, sym, ap, _∙_, subst}
+use mathlib.Core.Logic.{_⊎_, inl, ⊎-elim}
+use Prim.Native.Nat.{ℕ, _+_, _-_, _≤_, _<_}
+use native.Mathlib.Omega.{arith}
+use borrow.Author.Needs.{needs}
+use borrow.Author.Count.{below-more}
+use Rattle.cells.specs.Table.{kind}
+use Rattle.cells.specs.Reaches.{Reaches}
+use Rattle.order.proofs.Tables.{kind-label}
+use Rattle.reach.proofs.Reading.{row-room}
+use Rattle.reach.proofs.Cycle.{smallest-is, none-is, cycle-marked, cycle-unmarked}
+use Rattle.reach.proofs.first_cycle.Statement.{statement}
+use Rattle.reach.proofs.first_cycle.Tie as tie
+use Rattle.reach.proofs.first_cycle.Reads as reads
+use Rattle.reach.proofs.first_cycle.Lts as lts
+use Rattle.reach.proofs.kind_of.Reads as kind-of-reads
+
+abbrev Inv-loop : tie.InvT-loop
+Inv-loop table n j square v₀ v = (1 ≤ v) × (v ≤ n + 1) × ((u : ℕ) → u < v → kind table u ≡ 2 → Reaches table u u → ⊥)
+
+abbrev μ-loop : tie.MeasureT-loop
+μ-loop table n j square v₀ v = n + 1 - v
+
+loop-holds : tie.Need-loop-holds Inv-loop μ-loop
+loop-holds c =
+    let p = c .before .pre in
+    (omega arith, omega arith, λ u h k. absurd (omega (arith, kind-label _ _ (p .0) u (omega arith))))
+
+kind-of-requires : tie.Need-kind-of-requires Inv-loop μ-loop
+kind-of-requires c κs = search needs
+
+add-has-mark : tie.Need-add-has-mark Inv-loop μ-loop
+add-has-mark c = search needs
+
+has-mark-requires : tie.Need-has-mark-requires Inv-loop μ-loop
+has-mark-requires c κs = (omega arith, row-room _ _ _ _ (omega (arith, c .before .before .loop-test .taken)) (c .before .before .before .before .before .pre .1 .1 .0))
+
+returns : tie.Need-returns Inv-loop μ-loop
+returns c =
+    let p = c .before .before .before .before .before .before .before .pre in
+    let k = sym (c .before .before .before .kind-of .ensures) ∙ c .before .before .if1 .taken in
+    smallest-is _ _ (p .0) _ (c .before .before .before .before .before .loop .inv .0) k (cycle-marked _ _ (p .0) _ (p .1 .0) _ (p .1 .1 .1) _ k (sym (c .before .has-mark .ensures) ∙ c .if2 .taken)) (c .before .before .before .before .before .loop .inv .2)
+
+add-v : tie.Need-add-v Inv-loop μ-loop
+add-v c = search needs
+
+loop-less : tie.Need-loop-less Inv-loop μ-loop
+loop-less c = search needs
+
+loop-again : tie.Need-loop-again Inv-loop μ-loop
+loop-again c =
+    let l = c .before .before .before in
+    let a = c .before .before .before .before .before in
+    let t = a .args .table .now in (
+      omega arith,
+      omega arith,
+      below-more (λ (u : ℕ). kind t u ≡ 2 → Reaches t u u → ⊥) (l .loop .v) (l .loop .inv .2)
+          (λ k. ⊎-elim (λ w. cycle-unmarked _ _ (a .pre .0) _ (a .pre .1 .0) _ (a .pre .1 .1 .1) _ k (sym (w .1 .ensures) ∙ w .2 .left))
+          (λ w. absurd (w .left (c .before .kind-of .ensures ∙ k))) (c .if1 .came)),
+    )
+
+returns-2 : tie.Need-returns-2 Inv-loop μ-loop
+returns-2 c =
+    let p = c .before .before .before .pre in
+    none-is _ _ (p .0) (λ v k. c .before .loop .inv .2 v (omega (arith, c .loop-test .left, kind-label _ _ (p .0) v (omega arith))) k)
+
+pub first-cycle-spec : {M : Type 1} → statement M
+first-cycle-spec =
+    tie.close
+    (tie.spec
+    Inv-loop
+    μ-loop
+    loop-holds
+    kind-of-requires
+    add-has-mark
+    has-mark-requires
+    returns
+    add-v
+    loop-less
+    loop-again
+    returns-2)

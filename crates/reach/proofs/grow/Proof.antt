@@ -1,0 +1,160 @@
+use mathlib.Core.Path.{_≡_, refl, sym, ap, _∙_, subst}
+use mathlib.Core.Logic.{_⊎_, inl, inr}
+use Prim.Native.Nat.{ℕ, _+_, _-_, _*_, _≤_, _<_}
+use native.Mathlib.Omega.{arith}
+use borrow.Author.Needs.{needs}
+use lib.ListN.{length, getD, take}
+use lib.Seq.{length-take-le}
+use Rattle.cells.specs.Table.{cell}
+use Rattle.cells.specs.Accepted.{HasBody}
+use Rattle.reach.specs.Links.{Link, Links, once, then}
+use Rattle.reach.specs.Chains.{Hangs, Last}
+use Rattle.reach.specs.Rows.{Room}
+use Rattle.reach.proofs.Links.{column-range, body-label, end-body}
+use Rattle.reach.proofs.Spread.{Growing, growing-start, growing-turn, growing-end, rows-kept}
+use Rattle.reach.proofs.grow.Statement.{statement}
+use Rattle.reach.proofs.grow.Tie as tie
+use Rattle.reach.proofs.grow.Reads as reads
+use Rattle.reach.proofs.grow.Lts as lts
+use Rattle.reach.proofs.cell_of.Reads as cell-of-reads
+use Rattle.reach.proofs.meet.Reads as meet-reads
+use Rattle.marks.proofs.wide.Reads as wide-reads
+
+abbrev Inv-loop : tie.InvT-loop
+Inv-loop table n j chains state square₀ stack₀ d e top height₀ x₀ square stack height x =
+    (length square ≡ length square₀) × (length stack ≡ length stack₀) × (x ≤ n) × ((x ≡ 0 → ⊥) → Hangs table j e x) × (height ≤ n)
+    × Growing table n j d e square₀ top square (take height stack) x
+
+abbrev μ-loop : tie.MeasureT-loop
+μ-loop table n j chains state square₀ stack₀ d e top height₀ x₀ square stack height x = x
+
+-- in a turn: the line at hand, and where its link leads
+module _ (c : tie.In-loop Inv-loop μ-loop) where
+  hangs : Hangs (c .before .before .before .before .before .before .before .before .args .table .now) (c .before .before .before .before .before .before .before .before .args .j) (c .before .before .before .before .before .before .before .before .args .e) (c .before .loop .x)
+  hangs = c .before .loop .inv .3 (c .loop-test .taken)
+
+  line : (1 ≤ c .before .loop .x) × (c .before .loop .x ≤ c .before .before .before .before .before .before .before .before .args .n)
+  line = let z : c .before .loop .x ≡ 0 → ⊥ = c .loop-test .taken in (omega arith, c .before .loop .inv .2)
+
+  last : Last (c .before .before .before .before .before .before .before .before .args .table .now) (c .before .before .before .before .before .before .before .before .args .j) (c .before .before .before .before .before .before .before .before .args .e) (c .before .loop .x - 1) (getD (c .before .before .before .before .before .before .before .before .args .chains .now) (c .before .before .before .before .before .before .before .before .args .n + c .before .loop .x) 0)
+  last = c .before .before .before .before .before .before .before .before .pre .1 .1 .0 .1 .links (c .before .loop .x) (c .before .before .before .before .before .before .before .before .args .e) (line .1) hangs
+
+  end : HasBody (c .before .before .before .before .before .before .before .before .args .table .now) (cell (c .before .before .before .before .before .before .before .before .args .table .now) (c .before .loop .x) (c .before .before .before .before .before .before .before .before .args .j))
+  end = end-body _ _ (c .before .before .before .before .before .before .before .before .pre .0) _ (c .before .loop .x) (c .before .before .before .before .before .before .before .before .pre .1 .0) (hangs .path)
+
+  way : Links (c .before .before .before .before .before .before .before .before .args .table .now) (c .before .before .before .before .before .before .before .before .args .j) (c .before .before .before .before .before .before .before .before .args .d) (cell (c .before .before .before .before .before .before .before .before .args .table .now) (c .before .loop .x) (c .before .before .before .before .before .before .before .before .args .j))
+  way = go (c .before .before .before .before .before .before .before .before .pre .1 .1 .1 .1 .0 .3)
+    where
+      link : Link (c .before .before .before .before .before .before .before .before .args .table .now) (c .before .before .before .before .before .before .before .before .args .j) (c .before .before .before .before .before .before .before .before .args .e) (cell (c .before .before .before .before .before .before .before .before .args .table .now) (c .before .loop .x) (c .before .before .before .before .before .before .before .before .args .j))
+      link = record { line = c .before .loop .x; path = hangs .path; from = hangs .from; to = refl }
+
+      go : (c .before .before .before .before .before .before .before .before .args .e ≡ c .before .before .before .before .before .before .before .before .args .d) ⊎ Links (c .before .before .before .before .before .before .before .before .args .table .now) (c .before .before .before .before .before .before .before .before .args .j) (c .before .before .before .before .before .before .before .before .args .d) (c .before .before .before .before .before .before .before .before .args .e)
+          → Links (c .before .before .before .before .before .before .before .before .args .table .now) (c .before .before .before .before .before .before .before .before .args .j) (c .before .before .before .before .before .before .before .before .args .d) (cell (c .before .before .before .before .before .before .before .before .args .table .now) (c .before .loop .x) (c .before .before .before .before .before .before .before .before .args .j))
+      go (inl z) = once (subst (λ (y : ℕ). Link (c .before .before .before .before .before .before .before .before .args .table .now) (c .before .before .before .before .before .before .before .before .args .j) y (cell (c .before .before .before .before .before .before .before .before .args .table .now) (c .before .loop .x) (c .before .before .before .before .before .before .before .before .args .j))) z link)
+      go (inr r) = then r link
+
+mul-wide : tie.Need-mul-wide Inv-loop μ-loop
+mul-wide c = let p = c .before .before .before .before .pre in omega (arith, p .0 .few, body-label _ _ (p .0) (c .before .before .before .before .args .e) (p .1 .1 .1 .1 .0 .2))
+
+shared-slice-read-wide : tie.Need-shared-slice-read-wide Inv-loop μ-loop
+shared-slice-read-wide c = let p = c .before .before .before .before .before .pre in omega (arith, p .1 .1 .0 .0, body-label _ _ (p .0) (c .before .before .before .before .before .args .e) (p .1 .1 .1 .1 .0 .2))
+
+wide-requires : tie.Need-wide-requires Inv-loop μ-loop
+wide-requires c κs = search needs
+
+loop-holds : tie.Need-loop-holds Inv-loop μ-loop
+loop-holds c =
+    let a = c .before .before .before .before .before .before in
+    let p = a .pre in
+    let s = p .1 .1 .1 .1 .1 .1 in
+    let l = p .1 .1 .0 .1 .heads (a .args .e) (body-label _ _ (p .0) _ (p .1 .1 .1 .1 .0 .2) .1) in
+    rw (c .wide .ensures) (
+      refl,
+      refl,
+      l .within,
+      l .hangs,
+      s .1,
+      growing-start _ _ (p .0) _ (p .1 .0) _ _ _ _ (take (a .args .top) (a .args .stack .now)) _ (length-take-le (a .args .top) (a .args .stack .now) (omega (arith, s .1, p .1 .1 .1 .0 .heights))) (s .0) l,
+    )
+
+cell-of-requires : tie.Need-cell-of-requires Inv-loop μ-loop
+cell-of-requires c κs =
+    let r = column-range _ (c .before .before .before .before .before .before .before .before .pre .1 .0) in
+    (c .before .before .before .before .before .before .before .before .pre .0, (line c .0, line c .1, omega (arith, r), omega (arith, r)))
+
+meet-requires : tie.Need-meet-requires Inv-loop μ-loop
+meet-requires c κs =
+    let p = c .before .before .before .before .before .before .before .before .before .before .before .pre in
+    let l = c .before .before .before .before in
+    let room : Room (c .before .before .before .before .before .before .before .before .before .before .before .args .n) (c .before .before .before .before .before .before .before .before .before .before .before .args .state .now) (l .loop .square) (l .loop .stack) = record { states = p .1 .1 .1 .0 .states; rows = omega (arith, p .1 .1 .1 .0 .rows, l .loop .inv .0); heights = omega (arith, p .1 .1 .1 .0 .heights, l .loop .inv .1) } in
+    (p .0, (room, ((p .1 .1 .1 .1 .0 .0, l .loop .inv .4), (subst (HasBody (c .before .before .before .before .before .before .before .before .before .before .before .args .table .now)) (sym (c .before .before .cell-of .ensures)) (end (c .before .before .before)), (p .1 .1 .1 .1 .0 .1, l .loop .inv .5 .spread .raised)))))
+
+add-wide : tie.Need-add-wide Inv-loop μ-loop
+add-wide c = omega (arith, c .before .before .before .before .before .before .before .before .before .before .before .before .before .before .before .before .pre .0 .few, line (c .before .before .before .before .before .before .before .before))
+
+mul-wide-2 : tie.Need-mul-wide-2 Inv-loop μ-loop
+mul-wide-2 c = omega (arith, c .before .before .before .before .before .before .before .before .before .before .before .before .before .before .before .before .pre .0 .few, line (c .before .before .before .before .before .before .before .before))
+
+shared-slice-read-wide-2 : tie.Need-shared-slice-read-wide-2 Inv-loop μ-loop
+shared-slice-read-wide-2 c = omega (arith, c .before .before .before .before .before .before .before .before .before .before .before .before .before .before .before .before .before .pre .1 .1 .0 .0, line (c .before .before .before .before .before .before .before .before .before))
+
+wide-requires-2 : tie.Need-wide-requires-2 Inv-loop μ-loop
+wide-requires-2 c κs = search needs
+
+loop-less : tie.Need-loop-less Inv-loop μ-loop
+loop-less c = omega (arith, c .wide2 .ensures, last (c .before .before .before .before .before .before .before .before .before .before) .within, line (c .before .before .before .before .before .before .before .before .before .before))
+
+loop-again : tie.Need-loop-again Inv-loop μ-loop
+loop-again c =
+    let l = c .before .before .before .before .before .before .before .before .before .before .before in
+    let q = c .before .before .before .before .before .before .before .before .before .before in
+    let a = c .before .before .before .before .before .before .before .before .before .before .before .before .before .before .before .before .before .before in
+    let p = a .pre in
+    let m = c .before .before .before .before .before .before .meet in
+    let k = m .kept .1 .1 .1 .1 .0 in
+    let f = cell (a .args .table .now) (l .loop .x) (a .args .j) in
+    let g = growing-turn _ _ (p .0) _ (p .1 .0) _ _ _ _ _ (take (l .loop .height) (l .loop .stack)) _ (l .loop .inv .5) _ (last q) (a .args .state .now) (l .loop .stack) (l .loop .height) refl
+    (omega (arith, l .loop .inv .4, l .loop .inv .1, p .1 .1 .1 .0 .heights)) (way q)
+    (rows-kept _ _ (p .0) _ (p .1 .0) (a .args .d) (a .args .state .now) (a .args .square .now) (l .loop .square) (p .1 .1 .1 .1 .0 .1) (p .1 .1 .1 .1 .1 .0) (l .loop .inv .5 .others) f) _ _ (m .result) k _ (c .before .before .before .before .before .before .before .before .before .cell-of .ensures) (m .ensures) in
+    rw (c .wide2 .ensures) (
+      m .kept .1 .1 .1 .0 ∙ l .loop .inv .0,
+      k ∙ l .loop .inv .1,
+      omega (arith, last q .within, line q),
+      last q .hangs,
+      g .1,
+      g .0,
+    )
+
+same-length : tie.Need-same-length Inv-loop μ-loop
+same-length c = c .before .loop .inv .0
+
+same-length-2 : tie.Need-same-length-2 Inv-loop μ-loop
+same-length-2 c = c .before .loop .inv .1
+
+returns : tie.Need-returns Inv-loop μ-loop
+returns c =
+    let l = c .before in
+    let p = c .before .before .before .before .before .before .before .before .pre in
+    (growing-end _ _ (p .0) _ (p .1 .0) _ _ _ _ _ (take (l .loop .height) (l .loop .stack)) _ (c .loop-test .left) (l .loop .inv .5) _ _ refl (omega (arith, l .loop .inv .4, l .loop .inv .1, p .1 .1 .1 .0 .heights)), l .loop .inv .4)
+
+pub grow-spec : {M : Type 1} → statement M
+grow-spec =
+    tie.close
+    (tie.spec
+    Inv-loop
+    μ-loop
+    mul-wide
+    shared-slice-read-wide
+    wide-requires
+    loop-holds
+    cell-of-requires
+    meet-requires
+    add-wide
+    mul-wide-2
+    shared-slice-read-wide-2
+    wide-requires-2
+    loop-less
+    loop-again
+    same-length
+    same-length-2
+    returns)

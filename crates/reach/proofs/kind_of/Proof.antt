@@ -1,0 +1,33 @@
+use borrow.Author.Needs.{needs}
+use Rattle.reach.proofs.Reading.{cast-natural, is-natural, kind-is}
+use Rattle.reach.proofs.kind_of.Statement.{statement}
+use Rattle.reach.proofs.kind_of.Tie as tie
+use Rattle.reach.proofs.kind_of.Reads as reads
+use Rattle.reach.proofs.kind_of.Lts as lts
+
+sub-result : tie.Need-sub-result
+sub-result c = search needs
+
+mul-result : tie.Need-mul-result
+mul-result c = search needs
+
+mul-result-2 : tie.Need-mul-result-2
+mul-result-2 c = search needs
+
+shared-slice-copy-out-result : tie.Need-shared-slice-copy-out-result
+shared-slice-copy-out-result c = search needs
+
+cast-result : tie.Need-cast-result
+cast-result c =
+    let a = c .before .pre in
+    cast-natural _ _ (kind-is _ _ (a .0) _ (a .1 .0) (a .1 .1)) (c .result .given)
+
+returns : tie.Need-returns
+returns c =
+    let a = c .before .pre in
+    is-natural _ _ (kind-is _ _ (a .0) _ (a .1 .0) (a .1 .1)) (c .result .given)
+
+pub kind-of-spec : {M : Type 1} → statement M
+kind-of-spec =
+    tie.close
+    (tie.spec sub-result mul-result mul-result-2 shared-slice-copy-out-result cast-result returns)

@@ -1,0 +1,4 @@
+pub mod Links
+pub mod Rows
+pub mod Chains
+pub mod Turns

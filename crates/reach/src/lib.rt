@@ -1,0 +1,273 @@
+// What each value reaches, or is reached from: a row of marks for each, made from the rows of those that it links to, so that no definition is
+// looked at twice for one value. With a V its row has the Groups around it, since Groups need what their values do.
+
+ghost use mathlib.Core.Path.{_≡_};
+ghost use mathlib.Core.Bool.{false};
+ghost use mathlib.Core.Logic.{_⊎_};
+ghost use Prim.Native.Nat.{ℕ, _+_, _*_, _/_, _≤_, _<_};
+ghost use lib.ListN.{length, getD, set, take};
+ghost use Rattle.cells.specs.Table.{cell, kind, owner};
+ghost use Rattle.cells.specs.Accepted.{Accepted, HasBody};
+ghost use Rattle.order.specs.Order.{Within, hasPath, place16};
+ghost use Rattle.marks.specs.Marks.{mark, Added};
+ghost use Rattle.reach.specs.Links.{Column, Links, Around};
+ghost use Rattle.reach.specs.Rows.{width, Row, Blank, AllRows, Rows, Room};
+ghost use Rattle.reach.specs.Chains.{Linked, Empty};
+ghost use Rattle.reach.specs.Turns.{Raised, Met, Spread, Grown, Filled, Visited};
+
+// ---- cells of an accepted table
+
+pub fn kind_of(table: &[i64], n: usize, label: usize) -> usize
+    requires { ⌜ Accepted (now table) n ⌝ }
+    requires { ⌜ (1 ≤ label) × (label ≤ n) ⌝ }
+    ensures { λ r. ⌜ r ≡ kind (now (table .entry)) label ⌝ }
+{
+    table[8 * (label - 1)] as usize
+}
+
+// A cell from field b on.
+pub fn cell_of(table: &[i64], n: usize, label: usize, j: usize) -> usize
+    requires { ⌜ Accepted (now table) n ⌝ }
+    requires { ⌜ (1 ≤ label) × (label ≤ n) × (4 ≤ j) × (j < 8) ⌝ }
+    ensures { λ r. ⌜ r ≡ cell (now (table .entry)) label j ⌝ }
+{
+    table[8 * (label - 1) + j] as usize
+}
+
+fn has_path(table: &[i64], n: usize, label: usize) -> bool
+    requires { ⌜ Accepted (now table) n ⌝ }
+    requires { ⌜ (1 ≤ label) × (label ≤ n) ⌝ }
+    ensures { λ r. ⌜ r ≡ hasPath (now (table .entry)) label ⌝ }
+{
+    let k = kind_of(table, n, label);
+    if k == 6 {
+        return true;
+    }
+    k == 7
+}
+
+// ---- chains of lines
+
+// The chains by which links by column j are followed.
+pub fn link(table: &[i64], n: usize, j: usize, chains: &mut [u16])
+    requires { ⌜ Accepted (now table) n ⌝ }
+    requires { ⌜ Column j ⌝ }
+    requires { ⌜ 2 * n < length (now chains) ⌝ }
+    requires { ⌜ Empty n (now chains) ⌝ }
+    ensures { λ _. ⌜ Linked (now (table .entry)) n j n (now (chains .exit)) ⌝ }
+{
+    let mut l = 1;
+    while l <= n {
+        if has_path(table, n, l) {
+            let d = cell_of(table, n, l, 13 - j);
+            chains[n + l] = chains[d];
+            chains[d] = l as u16;
+        }
+        l += 1;
+    }
+}
+
+// ---- a row
+
+// Marks the Groups around v in row d. Above one that is marked, all are.
+fn mark_groups(table: &[i64], n: usize, square: &mut [u64], d: usize, v: usize)
+    requires { ⌜ Accepted (now table) n ⌝ }
+    requires { ⌜ (d ≤ n) × (1 ≤ v) × (v ≤ n) × ((n + 1) * width n ≤ length (now square)) ⌝ }
+    requires { ⌜ kind (now table) v ≡ 2 ⌝ }
+    requires { ⌜ Raised (now table) (mark (now square) (width n) d) ⌝ }
+    ensures { λ _. ⌜ Added (λ (q : ℕ). (1 ≤ q) × Within (now (table .entry)) q (owner (now (table .entry)) v)) (now (square .entry)) (now (square .exit)) (width n) d ⌝ }
+{
+    let w = n / 64 + 1;
+    let mut g = cell_of(table, n, v, 6);
+    while g != 0 {
+        if marks::has_mark(square, w, d, g) {
+            return;
+        }
+        marks::put_mark(square, w, d, g);
+        g = cell_of(table, n, g, 6);
+    }
+}
+
+// Marks e in row d and, if it is a V, the Groups around it.
+fn mark_around(table: &[i64], n: usize, square: &mut [u64], d: usize, e: usize)
+    requires { ⌜ Accepted (now table) n ⌝ }
+    requires { ⌜ (d ≤ n) × ((n + 1) * width n ≤ length (now square)) ⌝ }
+    requires { ⌜ HasBody (now table) e ⌝ }
+    requires { ⌜ Raised (now table) (mark (now square) (width n) d) ⌝ }
+    ensures { λ _. ⌜ Added (λ (q : ℕ). Around (now (table .entry)) e q) (now (square .entry)) (now (square .exit)) (width n) d ⌝ }
+{
+    marks::put_mark(square, n / 64 + 1, d, e);
+    if kind_of(table, n, e) == 2 {
+        mark_groups(table, n, square, d, e);
+    }
+}
+
+// A link leads to f: if f is not in row d yet, it is marked, and its row is added if that is made, or else it waits on the stack.
+fn meet(
+    table: &[i64],
+    n: usize,
+    state: &[u8],
+    square: &mut [u64],
+    stack: &mut [u16],
+    d: usize,
+    f: usize,
+    top: usize,
+) -> usize
+    requires { ⌜ Accepted (now table) n ⌝ }
+    requires { ⌜ Room n (now state) (now square) (now stack) ⌝ }
+    requires { ⌜ (d ≤ n) × (top ≤ n) ⌝ }
+    requires { ⌜ HasBody (now table) f ⌝ }
+    requires { ⌜ (getD (now state) d 0 ≡ 2 → ⊥) ⌝ }
+    requires { ⌜ Raised (now table) (mark (now square) (width n) d) ⌝ }
+    ensures { λ r. ⌜ Met (now (table .entry)) n (now (state .entry)) d f (now (square .entry)) (now (stack .entry)) top (now (square .exit)) (now (stack .exit)) r ⌝ }
+{
+    let w = n / 64 + 1;
+    if marks::has_mark(square, w, d, f) {
+        return top;
+    }
+    mark_around(table, n, square, d, f);
+    if state[f] == 2 {
+        marks::merge_row(square, w, f, d);
+        return top;
+    }
+    stack[top] = f as u16;
+    top + 1
+}
+
+// Row d meets all that e links to. Answers the stack's height.
+fn grow(
+    table: &[i64],
+    n: usize,
+    j: usize,
+    chains: &[u16],
+    state: &[u8],
+    square: &mut [u64],
+    stack: &mut [u16],
+    d: usize,
+    e: usize,
+    top: usize,
+) -> usize
+    requires { ⌜ Accepted (now table) n ⌝ }
+    requires { ⌜ Column j ⌝ }
+    requires { ⌜ (2 * n < length (now chains)) × Linked (now table) n j n (now chains) ⌝ }
+    requires { ⌜ Room n (now state) (now square) (now stack) ⌝ }
+    requires { ⌜ (d ≤ n) × (getD (now state) d 0 ≡ 2 → ⊥) × HasBody (now table) e × ((e ≡ d) ⊎ Links (now table) j d e) ⌝ }
+    requires { ⌜ ((f : ℕ) → getD (now state) f 0 ≡ 2 → Row (now table) n j (now square) f) ⌝ }
+    requires { ⌜ Spread (now table) j d e (mark (now square) (width n) d) (take top (now stack)) × (top ≤ n) ⌝ }
+    ensures { λ r. ⌜ Grown (now (table .entry)) n j d e (now (square .entry)) top (now (square .exit)) (now (stack .exit)) r × (r ≤ n) ⌝ }
+{
+    let mut height = top;
+    let mut x = marks::wide(chains[e]);
+    while x != 0 {
+        let f = cell_of(table, n, x, j);
+        height = meet(table, n, state, square, stack, d, f, height);
+        x = marks::wide(chains[n + x]);
+    }
+    height
+}
+
+// Makes row d, which is blank. Only those whose own rows are not made are looked at, each once.
+fn fill(
+    table: &[i64],
+    n: usize,
+    j: usize,
+    chains: &[u16],
+    state: &[u8],
+    square: &mut [u64],
+    stack: &mut [u16],
+    d: usize,
+)
+    requires { ⌜ Accepted (now table) n ⌝ }
+    requires { ⌜ Column j ⌝ }
+    requires { ⌜ (2 * n < length (now chains)) × Linked (now table) n j n (now chains) ⌝ }
+    requires { ⌜ Room n (now state) (now square) (now stack) ⌝ }
+    requires { ⌜ (getD (now state) d 0 ≡ 2 → ⊥) × HasBody (now table) d ⌝ }
+    requires { ⌜ ((f : ℕ) → getD (now state) f 0 ≡ 2 → Row (now table) n j (now square) f) × Blank n (now square) d ⌝ }
+    ensures { λ _. ⌜ Filled (now (table .entry)) n j d (now (square .entry)) (now (square .exit)) ⌝ }
+{
+    let mut top = grow(table, n, j, chains, state, square, stack, d, d, 0);
+    while 0 < top {
+        let e = marks::wide(stack[top - 1]);
+        top = grow(table, n, j, chains, state, square, stack, d, e, top - 1);
+    }
+}
+
+// Makes row d after the rows of what d links to, unless d is begun.
+fn visit(
+    table: &[i64],
+    n: usize,
+    j: usize,
+    chains: &[u16],
+    state: &mut [u8],
+    square: &mut [u64],
+    stack: &mut [u16],
+    d: usize,
+)
+    requires { ⌜ Accepted (now table) n ⌝ }
+    requires { ⌜ Column j ⌝ }
+    requires { ⌜ (2 * n < length (now chains)) × Linked (now table) n j n (now chains) ⌝ }
+    requires { ⌜ Room n (now state) (now square) (now stack) ⌝ }
+    requires { ⌜ Rows (now table) n j (now state) (now square) × HasBody (now table) d ⌝ }
+    ensures { λ _. ⌜ Visited (now (table .entry)) n j d (now (state .entry)) (now (state .exit)) (now (square .exit)) ⌝ }
+{
+    if state[d] != 0 {
+        return;
+    }
+    state[d] = 1;
+    let mut x = marks::wide(chains[d]);
+    while x != 0 {
+        let e = cell_of(table, n, x, j);
+        visit(table, n, j, chains, state, square, stack, e);
+        x = marks::wide(chains[n + x]);
+    }
+    fill(table, n, j, chains, state, square, stack, d);
+    state[d] = 2;
+}
+
+// ---- all rows
+
+// The row of every V, in a blank square.
+pub fn reach_rows(
+    table: &[i64],
+    n: usize,
+    j: usize,
+    chains: &[u16],
+    state: &mut [u8],
+    square: &mut [u64],
+    stack: &mut [u16],
+)
+    requires { ⌜ Accepted (now table) n ⌝ }
+    requires { ⌜ Column j ⌝ }
+    requires { ⌜ (2 * n < length (now chains)) × Linked (now table) n j n (now chains) ⌝ }
+    requires { ⌜ Room n (now state) (now square) (now stack) ⌝ }
+    requires { ⌜ ((d : ℕ) → getD (now state) d 0 ≡ 0) × ((d : ℕ) → Blank n (now square) d) ⌝ }
+    ensures { λ _. ⌜ AllRows (now (table .entry)) n j (now (square .exit)) ⌝ }
+{
+    let mut v = 1;
+    while v <= n {
+        if kind_of(table, n, v) == 2 {
+            visit(table, n, j, chains, state, square, stack, v);
+        }
+        v += 1;
+    }
+}
+
+// Row 16: the smallest V that reaches itself, or 0.
+pub fn first_cycle(table: &[i64], n: usize, j: usize, square: &[u64]) -> usize
+    requires { ⌜ Accepted (now table) n ⌝ }
+    requires { ⌜ Column j ⌝ }
+    requires { ⌜ (n + 1) * width n ≤ length (now square) ⌝ }
+    requires { ⌜ AllRows (now table) n j (now square) ⌝ }
+    ensures { λ r. ⌜ r ≡ place16 (now (table .entry)) n ⌝ }
+{
+    let mut v = 1;
+    while v <= n {
+        if kind_of(table, n, v) == 2 {
+            if marks::has_mark(square, n / 64 + 1, v, v) {
+                return v;
+            }
+        }
+        v += 1;
+    }
+    0
+}

@@ -10,25 +10,11 @@ use lib.ListN.{length, getD, replicate}
 use Rattle.cells.specs.Table.{kind, target, withColumn}
 use Rattle.cells.proofs.Columns.{column-own, column-same, column-over, column-length}
 use Rattle.order.specs.Order.{hasPath}
-use Rattle.refusals.specs.Refusal.{firstBad, orElse}
-use Rattle.refusals.specs.declared.Verdict.{Verdict}
-use Rattle.refusals.specs.declared.Verdict.the-variants.{Fine, Refused}
+use Rattle.refusals.specs.Refusal.{firstBad}
 use Rattle.refusals.proofs.FirstBad.{first-same}
 use Rattle.paths.specs.Paths.{targetOf, headCell, targetCell, wanted, laterBad, targetBad, wrongTarget, laterRows}
 use Rattle.paths.specs.Buckets.{LinkedFrom}
 use Rattle.paths.proofs.Alike.{Alike, column-alike, path-alike, head-cell-alike, target-alike, target-cell-alike}
-
--- ---- verdicts in turn
-
-pub refused-first : (v w : Verdict) (r p : ℕ) → v ≡ Refused r p → Refused r p ≡ orElse v w
-refused-first v w r p e = rw e
-
-pub fine-then : (v w : Verdict) → v ≡ Fine → w ≡ orElse v w
-fine-then v w e = rw e
-
-pub both-fine : (v w : Verdict) → orElse v w ≡ Fine → (v ≡ Fine) × (w ≡ Fine)
-both-fine Fine w e = (refl, e)
-both-fine (Refused r p) w e = let z : _≡_ {A = ℕ} 0 1 = cc in absurd (omega arith)
 
 -- ---- row 15, once the targets stand in their cells
 

@@ -13,6 +13,7 @@ use Rattle.order.specs.Order.{isDefinition, isMember, hasPath}
 use Rattle.refusals.specs.Rows.{duplicateRow, headRow, laterRow, targetRow}
 use Rattle.refusals.specs.Refusal.{firstBad}
 use Rattle.refusals.specs.declared.Verdict.the-variants.{Fine}
+use Rattle.refusals.proofs.OrElse.{both-fine}
 use Rattle.refusals.proofs.FirstBad.{first-none, none-first}
 use Rattle.text.specs.Pieces.{firstOf}
 use Rattle.text.proofs.Bytes.{true-false, and-left, and-right, same-eq}
@@ -21,7 +22,6 @@ use Rattle.paths.specs.Paths.{labelOr, settled, headFrom, descended, nam
 use Rattle.paths.specs.Leads.{IsMember, Heads, here, outward, Descends, ended, inward, HeadSettles, Leads, NamesApart, PathsKept}
 use Rattle.paths.proofs.FirstLabel.{Passing, first-found, none-passes}
 use Rattle.paths.proofs.Resolving.{above-zero, owner-small, same-self, down-none, down-stop, down-on}
-use Rattle.paths.proofs.Joining.{both-fine}
 
 -- ---- a row's check of one label
 

@@ -1,7 +1,7 @@
 -- The table of a sheet in which rows 1 to 15 find nothing has all that planning and evaluation lean on.
 use mathlib.Core.Path.{_≡_, refl, ap, sym, _∙_}
 use mathlib.Core.Logic.{⊎-elim}
-use mathlib.Core.Bool.{Bool, true, false, cond, not, _&&_, _||_}
+use mathlib.Core.Bool.{Bool, true, false, _||_}
 use mathlib.Core.List.{List}
 use Prim.Native.Nat.{ℕ, zero, suc, _+_, _-_, _*_, _≤_, _<_}
 use native.Mathlib.Omega.{arith}
@@ -11,13 +11,13 @@ use lib.IntN.{ℤ, pos}
 use lib.ListN.{length}
 use borrow.Author.Tests.{eqb-true, ne-eqb, leb-true, leb-false}
 use Rattle.cells.specs.Cells.{natOf, intAt}
-use Rattle.cells.specs.Table.{cell, kind, nameStart, nameLength, fieldA, fieldB, fieldC, owner, target, numberOf, withColumn}
-use Rattle.cells.specs.Accepted.{HasBody, Part, Accepted}
+use Rattle.cells.specs.Table.{cell, kind, nameStart, nameLength, fieldA, fieldB, fieldC, owner, target, numberOf}
+use Rattle.cells.specs.Accepted.{Part, Accepted}
 use Rattle.cells.proofs.Table.{cell-at}
 use Rattle.cells.proofs.Columns.{column-length, column-keeps, column-has, column-own, column-other, column-number}
 use Rattle.refusals.specs.Refusal.{firstBad, orElse}
-use Rattle.refusals.specs.declared.Verdict.{Verdict}
 use Rattle.refusals.specs.declared.Verdict.the-variants.{Fine, Refused}
+use Rattle.refusals.proofs.OrElse.{both-fine}
 use Rattle.refusals.proofs.FirstBad.{first-none}
 use Rattle.order.specs.Order.{hasPath}
 use Rattle.lines.specs.Lines.{labels, headBad, linesBad}
@@ -28,10 +28,6 @@ use Rattle.lines.specs.Lined.{Lined, linedTable}
 use Rattle.reading.specs.Read.{tableShort, ownedTable, tiedTable, tiedBad, sheetBad, sheetTable, readBad}
 use Rattle.lines.proofs.Lined.{lined}
 use Rattle.reading.proofs.Tied.{formed, accepted}
-
-pub or-else : (v w : Verdict) → orElse v w ≡ Fine → (v ≡ Fine) × (w ≡ Fine)
-or-else Fine w e = (refl, e)
-or-else (Refused r p) w e = let z : _≡_ {A = ℕ} 0 1 = cc in absurd (omega arith)
 
 -- a cell that is some natural number is its own natural number
 natural-cell : (w : List ℤ) (i x : ℕ) → intAt w i ≡ pos x → intAt w i ≡ pos (natOf (intAt w i))
@@ -114,7 +110,7 @@ module _ (s : List ℕ) (t : List ℤ) (n : ℕ) (is : Lined s t n) (tree : tree
 
   found : (firstBad (targetBad s u n) 1 n ≡ Fine)
   unfolding pathsBad
-  found = or-else (firstBad (laterBad s u n) 1 n) (firstBad (targetBad s u n) 1 n) (or-else (firstBad (noHead s u n) 1 n) _ (or-else (firstBad (duplicateBad s u) 1 n) _ paths .1) .1) .1
+  found = both-fine (firstBad (laterBad s u n) 1 n) (firstBad (targetBad s u n) 1 n) (both-fine (firstBad (noHead s u n) 1 n) _ (both-fine (firstBad (duplicateBad s u) 1 n) _ paths .1) .1) .1
 
   aimed : (l : ℕ) → 1 ≤ l → l ≤ n → hasPath u l ≡ true → kind u (targetOf s u n l) ≡ wanted (kind u l)
   unfolding targetBad
@@ -186,11 +182,11 @@ module _ (s : List ℕ) (t : List ℤ) (n : ℕ) (is : Lined s t n) (tree : tree
 module _ (s : List ℕ) (m : ℕ) (h : headBad s ≡ Fine) (room : 8 * labels s ≤ m) (e : sheetBad s m ≡ Fine) where
   lines-fine : (linesBad s (labels s) ≡ Fine) × (tiedBad s (linedTable s m) (labels s) ≡ Fine)
   unfolding sheetBad
-  lines-fine = or-else (linesBad s (labels s)) (tiedBad s (linedTable s m) (labels s)) e
+  lines-fine = both-fine (linesBad s (labels s)) (tiedBad s (linedTable s m) (labels s)) e
 
   tree-fine : (treeBad (linedTable s m) (labels s) ≡ Fine) × (pathsBad s (ownedTable (linedTable s m) (labels s)) (labels s) ≡ Fine)
   unfolding tiedBad
-  tree-fine = or-else (treeBad (linedTable s m) (labels s)) (pathsBad s (ownedTable (linedTable s m) (labels s)) (labels s)) (lines-fine .1)
+  tree-fine = both-fine (treeBad (linedTable s m) (labels s)) (pathsBad s (ownedTable (linedTable s m) (labels s)) (labels s)) (lines-fine .1)
 
   is-lined : Lined s (linedTable s m) (labels s)
   is-lined = lined s m h (lines-fine .0) room
@@ -206,10 +202,10 @@ module _ (s : List ℕ) (m : ℕ) (h : headBad s ≡ Fine) (room : 8 * labels s 
 module _ (s : List ℕ) (m : ℕ) (e : readBad s m ≡ Fine) where
   head-part : (headBad s ≡ Fine) × (orElse (tableShort s m) (sheetBad s m) ≡ Fine)
   unfolding readBad
-  head-part = or-else (headBad s) _ e
+  head-part = both-fine (headBad s) _ e
 
   sheet-part : (tableShort s m ≡ Fine) × (sheetBad s m ≡ Fine)
-  sheet-part = or-else (tableShort s m) (sheetBad s m) (head-part .1)
+  sheet-part = both-fine (tableShort s m) (sheetBad s m) (head-part .1)
 
   long-enough : 8 * labels s ≤ m
   unfolding tableShort

@@ -32,7 +32,7 @@ use Rattle.paths.proofs.Leads.{paths-kept, kept-paths}
 use Rattle.reading.specs.Read.{ownedTable, tableShort, tiedBad, sheetBad, bodyBad, readBad}
 use Rattle.reading.specs.Keeps.{TextKept, LineKept, TreeKept, sheetRows, Keeps}
 use Rattle.reading.proofs.Tied.{formed, accepted}
-use Rattle.reading.proofs.Accepted.{or-else}
+use Rattle.refusals.proofs.OrElse.{both-fine}
 use Rattle.reading.proofs.Padding.{rows-lined, tied-padded, table-long}
 
 -- ---- the text
@@ -151,7 +151,7 @@ module _ (s : List ℕ) (t : List ℤ) (n : ℕ) (is : Lined s t n) where
   tied-kept : tiedBad s t n ≡ Fine → TreeKept t n × PathsKept s (ownedTable t n) n
   unfolding tiedBad
   tied-kept e =
-      let a = or-else (treeBad t n) (pathsBad s (ownedTable t n) n) e in
+      let a = both-fine (treeBad t n) (pathsBad s (ownedTable t n) n) e in
       (tree-kept t n (formed s t n is) (a .0), paths-kept s (ownedTable t n) n (a .1))
 
   kept-tied : TreeKept t n → PathsKept s (ownedTable t n) n → tiedBad s t n ≡ Fine
@@ -186,8 +186,8 @@ module _ (s : List ℕ) where
   pub read-keeps : (m : ℕ) → 8 * labels s ≤ m → readBad s m ≡ Fine → Keeps s
   unfolding readBad sheetBad
   read-keeps m room e =
-      let a = or-else (headBad s) (bodyBad s m) e in
-      let b = or-else (tableShort s m) (sheetBad s m) (a .1) in
-      let c = or-else (linesBad s (labels s)) (tiedBad s (linedTable s m) (labels s)) (b .1) in
+      let a = both-fine (headBad s) (bodyBad s m) e in
+      let b = both-fine (tableShort s m) (sheetBad s m) (a .1) in
+      let c = both-fine (linesBad s (labels s)) (tiedBad s (linedTable s m) (labels s)) (b .1) in
       let d = tied-kept s (sheetRows s) (labels s) (rows-are (a .0) (c .0)) (sym (tied-padded s m room) ∙ c .1) in
       record { text = text-kept s (a .0); lines = lines-kept (c .0); tree = d .0; paths = d .1 }

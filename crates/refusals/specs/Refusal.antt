@@ -42,3 +42,8 @@ firstBad check k (suc m) = let v = firstBad check (suc k) m in hit (check k) k v
 abbrev pub passed : Verdict → ℕ → ℕ
 passed Fine n = n
 passed (Refused r k) n = k - 1
+
+-- the verdict of a row that is told by its place, 0 where it finds nothing
+abbrev pub foundAt : ℕ → ℕ → Verdict
+foundAt r zero = Fine
+foundAt r (suc p) = Refused r (suc p)

@@ -2,7 +2,7 @@
 use mathlib.Core.Path.{_≡_, refl, ap, sym, _∙_}
 use mathlib.Core.Bool.{Bool, true, false, cond}
 use mathlib.Core.List.{List}
-use Prim.Native.Nat.{ℕ, zero, suc, _+_, _*_, _/_, _%_, _≤_, _<_}
+use Prim.Native.Nat.{ℕ, suc, _+_, _*_, _/_, _%_, _≤_, _<_}
 use native.Mathlib.Omega.{arith}
 use borrow.Author.Tests.{ltb-true, ltb-false, eqb-true, eqb-false}
 use lib.Dec.{ltb, eqb}
@@ -23,14 +23,6 @@ use Rattle.tree.specs.declared.Rule.the-variants as rule
 use Rattle.tree.proofs.Parts.{Alike, alike-expression}
 use Rattle.tree.proofs.Owners as own
 use Rattle.tree.proofs.Writes.{over-then, over-alike, alike-formed, alike-used}
-
--- ---- passes joined
-
-pub or-next : (v u r w : Verdict) → v ≡ u → v ≡ Fine → r ≡ w → r ≡ orElse u w
-or-next v u r w e f g = rw (sym e ∙ f) g
-
-pub or-stop : {r p : ℕ} (v u w : Verdict) → v ≡ Refused r p → v ≡ u → v ≡ orElse u w
-or-stop v u w f e = rw (sym e) (rw f)
 
 -- ---- rows 9, 10 and 11
 

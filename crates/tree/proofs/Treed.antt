@@ -14,9 +14,9 @@ use Rattle.cells.specs.Table.{kind, fieldA, fieldB, fieldC, owner, withColumn}
 use Rattle.cells.specs.Accepted.{HasBody, Part}
 use Rattle.cells.proofs.Columns.{column-own, column-other}
 use Rattle.lines.specs.Kinds.{kindAt}
-use Rattle.refusals.specs.declared.Verdict.{Verdict}
-use Rattle.refusals.specs.declared.Verdict.the-variants.{Fine, Refused}
-use Rattle.refusals.specs.Refusal.{firstBad, orElse}
+use Rattle.refusals.specs.declared.Verdict.the-variants.{Fine}
+use Rattle.refusals.proofs.OrElse.{both-fine}
+use Rattle.refusals.specs.Refusal.{firstBad}
 use Rattle.refusals.proofs.FirstBad.{first-none}
 use Rattle.tree.specs.Tree.{isOperand, isDefinition, isExpression, IsPart, usesBad, definitionOf, ownerOf, levelOf, argumentIn, argumentBad, levelBad, structureBad, treeBad}
 use Rattle.tree.specs.Treed.{Formed, PartOf, Treed}
@@ -26,17 +26,13 @@ use Rattle.tree.proofs.Parts.{Alike, structured, times-parts, field-par
 use Rattle.tree.proofs.Users.{tree}
 use Rattle.tree.proofs.Owners as own
 
-or-else : (v w : Verdict) → orElse v w ≡ Fine → (v ≡ Fine) × (w ≡ Fine)
-or-else Fine w e = (refl, e)
-or-else (Refused r p) w e = let z : _≡_ {A = ℕ} 0 1 = cc in absurd (omega arith)
-
 module _ (t : List ℤ) (n : ℕ) (s : Formed t n) (fine : treeBad t n ≡ Fine) where
   rows : (firstBad (structureBad t) 1 n ≡ Fine) × (firstBad (usesBad t n) 1 n ≡ Fine) × (firstBad (argumentBad t n) 1 n ≡ Fine) × (firstBad (levelBad t n) 1 n ≡ Fine)
   unfolding treeBad
   rows =
-      let a = or-else (firstBad (structureBad t) 1 n) _ fine in
-      let b = or-else (firstBad (usesBad t n) 1 n) _ (a .1) in
-      let c = or-else (firstBad (argumentBad t n) 1 n) (firstBad (levelBad t n) 1 n) (b .1) in
+      let a = both-fine (firstBad (structureBad t) 1 n) _ fine in
+      let b = both-fine (firstBad (usesBad t n) 1 n) _ (a .1) in
+      let c = both-fine (firstBad (argumentBad t n) 1 n) (firstBad (levelBad t n) 1 n) (b .1) in
       (a .0, b .0, c .0, c .1)
 
   is : UsedOnce t n

@@ -1,7 +1,8 @@
 use mathlib.Core.Path.{_∙_, sym}
 use Rattle.refusals.specs.Refusal.{firstBad}
 use Rattle.paths.specs.Paths.{headBad, laterRows}
-use Rattle.paths.proofs.Joining.{refused-first, fine-then, heads-alike, heads-size, heads-held, heads-rows, heads-targets}
+use Rattle.refusals.proofs.OrElse.{refused-first, fine-then}
+use Rattle.paths.proofs.Joining.{heads-alike, heads-size, heads-held, heads-rows, heads-targets}
 use Rattle.paths.proofs.Alike.{rows-alike, linked-alike}
 use Rattle.paths.proofs.Passes.{not-fine}
 use borrow.Author.Needs.{needs}

@@ -1,7 +1,8 @@
 use mathlib.Core.Path.{_∙_, sym}
 use Rattle.refusals.specs.Refusal.{firstBad}
 use Rattle.paths.specs.Paths.{laterBad}
-use Rattle.paths.proofs.Joining.{refused-first, fine-then, targets-checked}
+use Rattle.refusals.proofs.OrElse.{refused-first, fine-then}
+use Rattle.paths.proofs.Joining.{targets-checked}
 use Rattle.paths.proofs.Passes.{not-fine}
 use borrow.Author.Needs.{needs}
 use Rattle.paths.proofs.resolve_later.Statement.{statement}

@@ -1,5 +1,5 @@
 -- One pass and, where it found nothing, the next.
-use Rattle.tree.proofs.Stages.{or-next, or-stop}
+use Rattle.refusals.proofs.OrElse.{or-next, or-stop}
 use borrow.Author.Needs.{needs}
 use Rattle.tree.proofs.late_rows.Statement.{statement}
 use Rattle.tree.proofs.late_rows.Tie as tie

@@ -2,7 +2,8 @@
 use mathlib.Core.Path.{_∙_, sym, refl}
 use Rattle.tree.specs.Tree.{treeBad}
 use Rattle.tree.proofs.Parts.{structured}
-use Rattle.tree.proofs.Stages.{or-next, or-stop, not-written}
+use Rattle.refusals.proofs.OrElse.{or-next, or-stop}
+use Rattle.tree.proofs.Stages.{not-written}
 use borrow.Author.Needs.{needs}
 use Rattle.tree.proofs.read_tree.Statement.{statement}
 use Rattle.tree.proofs.read_tree.Tie as tie

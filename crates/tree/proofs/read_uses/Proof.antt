@@ -2,7 +2,8 @@
 use mathlib.Core.Path.{_∙_, sym}
 use Rattle.tree.proofs.Users.{tree}
 use Rattle.tree.proofs.Writes.{over-alike}
-use Rattle.tree.proofs.Stages.{or-next, or-stop, uses-rows, alike-rows, over-formed, over-used, owners-written, written, not-written}
+use Rattle.refusals.proofs.OrElse.{or-next, or-stop}
+use Rattle.tree.proofs.Stages.{uses-rows, alike-rows, over-formed, over-used, owners-written, written, not-written}
 use borrow.Author.Needs.{needs}
 use Rattle.tree.proofs.read_uses.Statement.{statement}
 use Rattle.tree.proofs.read_uses.Tie as tie

@@ -239,7 +239,7 @@ pub enum Split {
 
 // The five fields of the line that begins at `from`, if it has five and none is empty.
 pub fn split_line(text: &[u8], from: usize) -> Split
-    requires { ⌜ (from < length (now text)) × endsLines (now text) × (all isAllowed (now text) ≡ true) ⌝ }
+    requires { ⌜ (from < length (now text)) × endsLines (now text) × (all isAllowed (now text) ≡ true) × (length (now text) ≤ 65536) ⌝ }
     ensures { λ r. ⌜ SplitOf (now (text .entry)) from r ⌝ }
 {
     let kind = text::field_end(text, from, 32);

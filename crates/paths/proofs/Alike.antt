@@ -72,11 +72,11 @@ module _ (s : List ℕ) (t u : List ℤ) (a : Alike t u) where
   pub target-cell-alike : (n x : ℕ) → targetCell s u n x ≡ targetCell s t n x
   target-cell-alike n x = rw (path-alike x, target-alike n x)
 
-  bucket-alike : (buckets l : ℕ) → bucketAt s u buckets l ≡ bucketAt s t buckets l
-  bucket-alike buckets l = rw (name-alike l, a .owners l)
+  bucket-alike : (l : ℕ) → bucketAt s u l ≡ bucketAt s t l
+  bucket-alike l = rw (name-alike l, a .owners l)
 
-  in-bucket-alike : (buckets b l : ℕ) → inBucket s u buckets b l ≡ inBucket s t buckets b l
-  in-bucket-alike buckets b l = rw (definition-alike l, bucket-alike buckets l)
+  in-bucket-alike : (b l : ℕ) → inBucket s u b l ≡ inBucket s t b l
+  in-bucket-alike b l = rw (definition-alike l, bucket-alike l)
 
   pub rows-alike : (n : ℕ) → length u ≡ length t → Rows s t n → Rows s u n
   rows-alike n e r = record {
@@ -88,16 +88,16 @@ module _ (s : List ℕ) (t u : List ℤ) (a : Alike t u) where
     rooted = λ l d o. r .rooted l (sym (definition-alike l) ∙ d) (sym (a .owners l) ∙ o);
   }
 
-  chains-alike : (buckets n k : ℕ) (first next : List ℕ) → LinkedFrom s t buckets n k first next → LinkedFrom s u buckets n k first next
-  chains-alike buckets n k first next h = record {
-    heads = λ b l. h .heads b l ∙ sym (first-same (inBucket s u buckets b) (inBucket s t buckets b) (n + 1 - k) k (λ x p q. in-bucket-alike buckets b x));
+  chains-alike : (n k : ℕ) (first next : List ℕ) → LinkedFrom s t n k first next → LinkedFrom s u n k first next
+  chains-alike n k first next h = record {
+    heads = λ b l. h .heads b l ∙ sym (first-same (inBucket s u b) (inBucket s t b) (n + 1 - k) k (λ x p q. in-bucket-alike b x));
     nexts = λ l p q d.
         h .nexts l p q (sym (definition-alike l) ∙ d)
-        ∙ rw (bucket-alike buckets l) (sym (first-same (inBucket s u buckets (bucketAt s t buckets l)) (inBucket s t buckets (bucketAt s t buckets l)) (n - l) (l + 1) (λ x v w. in-bucket-alike buckets (bucketAt s t buckets l) x)));
+        ∙ rw (bucket-alike l) (sym (first-same (inBucket s u (bucketAt s t l)) (inBucket s t (bucketAt s t l)) (n - l) (l + 1) (λ x v w. in-bucket-alike (bucketAt s t l) x)));
   }
 
   pub linked-alike : (n : ℕ) (first next : List ℕ) → Linked s t n first next → Linked s u n first next
-  linked-alike n first next h = record { buckets = h .buckets; room = h .room; chains = chains-alike (length first) n 1 first next (h .chains) }
+  linked-alike n first next h = record { buckets = h .buckets; room = h .room; chains = chains-alike n 1 first next (h .chains) }
 
   -- ---- rows 12 to 15
 

@@ -74,7 +74,7 @@ zeros-at (suc n) (suc b) = zeros-at n b
 
 -- ---- chains before any label is linked
 
-pub unlinked : (s : List ℕ) (t : List ℤ) (buckets n : ℕ) (first next : List ℕ) → ((b : ℕ) → getD first b 0 ≡ 0) → LinkedFrom s t buckets n (n + 1) first next
-unlinked s t buckets n first next h =
+pub unlinked : (s : List ℕ) (t : List ℤ) (n : ℕ) (first next : List ℕ) → ((b : ℕ) → getD first b 0 ≡ 0) → LinkedFrom s t n (n + 1) first next
+unlinked s t n first next h =
     let z : n + 1 - (n + 1) ≡ 0 = omega arith in
     record { heads = λ b l. h b ∙ rw z; nexts = λ l a m d. absurd (omega arith) }

@@ -21,7 +21,8 @@ use Rattle.paths.specs.Names.{nameOf, sameName, firstLabel, isNamed, mem
 use Rattle.paths.specs.Paths.{labelOr, settled, headFrom, descended, namesOf, headOf, targetOf, wanted, duplicateBad, headBad, laterBad, targetBad, laterRows, headRows, pathsBad}
 use Rattle.paths.specs.Leads.{IsMember, Heads, here, outward, Descends, ended, inward, HeadSettles, Leads, NamesApart, PathsKept}
 use Rattle.paths.proofs.FirstLabel.{Passing, first-found, none-passes}
-use Rattle.paths.proofs.Resolving.{above-zero, owner-small, same-self, down-none, down-stop, down-on}
+use Rattle.paths.proofs.Members.{same-self}
+use Rattle.paths.proofs.Resolving.{above-zero, owner-small, down-none, down-stop, down-on}
 
 -- ---- a row's check of one label
 
@@ -45,7 +46,7 @@ module _ (s : List ℕ) (t : List ℤ) (n : ℕ) where
   same-text x y e = same-eq x y e
 
   same-both : (x y w : List ℕ) → sameName x w ≡ true → sameName y w ≡ true → sameName x y ≡ true
-  same-both x y w e f = rw (same-text x w e, same-text y w f) (same-self s t n w)
+  same-both x y w e f = rw (same-text x w e, same-text y w f) (same-self w)
 
   named-of : (g m : ℕ) (w : List ℕ) → isDefinition t m ≡ true → owner t m ≡ g → sameName (nameOf s t m) w ≡ true → isNamed s t g w m ≡ true
   named-of g m w d o e = rw (d, eq-eqb (owner t m) g o) e

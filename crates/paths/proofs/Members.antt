@@ -1,7 +1,7 @@
 -- Whether a definition is a member of a Group with a name, test by test.
 use mathlib.Core.Path.{_≡_, refl, sym, _∙_}
 use mathlib.Core.Bool.{Bool, true, false}
-use mathlib.Core.List.{List}
+use mathlib.Core.List.{List, [], _∷_}
 use Prim.Native.Nat.{ℕ, _+_, _-_, _≤_}
 use native.Mathlib.Omega.{arith}
 use lib.IntN.{ℤ}
@@ -17,6 +17,11 @@ use Rattle.paths.specs.Buckets.{Placed}
 different : (x y : List ℕ) → (length x ≡ length y → ⊥) → sameName x y ≡ false
 unfolding sameName
 different x y e = same-lengths x y e
+
+pub same-self : (w : List ℕ) → sameName w w ≡ true
+unfolding sameName
+same-self [] = refl
+same-self (x ∷ w) = rw (eq-eqb x x refl) (same-self w)
 
 module _ (s : List ℕ) (t : List ℤ) (m g from to : ℕ) where
   abbrev w : List ℕ

@@ -20,6 +20,7 @@ use Rattle.text.proofs.Cuts.{cut-more, cut-last}
 use Rattle.paths.specs.Names.{nameOf, sameName, firstLabel, isNamed, member}
 use Rattle.paths.specs.Paths.{labelOr, settled, headFrom, descended, namesOf, headOf, headCell, targetBy, duplicateBad, wrongTarget}
 use Rattle.paths.specs.Buckets.{notDot, Rows, outward}
+use Rattle.paths.proofs.Members.{same-self}
 use Rattle.paths.proofs.FirstLabel.{first-hit, first-split, first-high}
 
 -- ---- the names of a path by positions
@@ -161,11 +162,6 @@ module _ (s : List ℕ) (t : List ℤ) (n : ℕ) where
     target-is head e = rw (e, name-is)
 
   -- row 12: the member found first is the label itself exactly if no smaller one has the name
-  pub same-self : (w : List ℕ) → sameName w w ≡ true
-  unfolding sameName
-  same-self [] = refl
-  same-self (x ∷ w) = rw (eq-eqb x x refl) (same-self w)
-
   module _ (l : ℕ) (d : isDefinition t l ≡ true) (low : 1 ≤ l) (high : l ≤ n) where
     abbrev named : ℕ → Bool
     named = isNamed s t (owner t l) (nameOf s t l)

@@ -23,16 +23,17 @@ hashFrom h (x ∷ xs) = hashFrom ((h * 31 + x) % 4294967296) xs
 unfoldable pub hashOf : List ℕ → ℕ
 hashOf w = hashFrom 0 w
 
-abbrev pub bucketOf : ℕ → ℕ → ℕ → ℕ
-bucketOf hash group buckets = (hash + group * 61) % buckets
+-- of 1,024 buckets
+abbrev pub bucketOf : ℕ → ℕ → ℕ
+bucketOf hash group = (hash + group * 61) % 1024
 
--- the bucket of definition l, of so many buckets
-abbrev pub bucketAt : List ℕ → List ℤ → ℕ → ℕ → ℕ
-bucketAt s t buckets l = bucketOf (hashOf (nameOf s t l)) (owner t l) buckets
+-- the bucket of definition l
+abbrev pub bucketAt : List ℕ → List ℤ → ℕ → ℕ
+bucketAt s t l = bucketOf (hashOf (nameOf s t l)) (owner t l)
 
 -- definition l is chained in bucket b
-abbrev pub inBucket : List ℕ → List ℤ → ℕ → ℕ → ℕ → Bool
-inBucket s t buckets b l = isDefinition t l && eqb (bucketAt s t buckets l) b
+abbrev pub inBucket : List ℕ → List ℤ → ℕ → ℕ → Bool
+inBucket s t b l = isDefinition t l && eqb (bucketAt s t l) b
 
 -- the name field of label l lies in the text
 abbrev pub Placed : List ℕ → List ℤ → ℕ → Type 0
@@ -48,14 +49,14 @@ pub record Rows (s : List ℕ) (t : List ℤ) (n : ℕ) : Type 0 where
   pub rooted : (l : ℕ) → isDefinition t l ≡ true → owner t l ≡ 0 → l ≡ 1
 
 -- the labels from k on are chained: the first of each bucket, and behind each definition the next of its bucket
-pub record LinkedFrom (s : List ℕ) (t : List ℤ) (buckets n k : ℕ) (first next : List ℕ) : Type 0 where
-  pub heads : (b : ℕ) → b < buckets → getD first b 0 ≡ firstLabel (inBucket s t buckets b) k (n + 1 - k)
-  pub nexts : (l : ℕ) → k ≤ l → l ≤ n → isDefinition t l ≡ true → getD next l 0 ≡ firstLabel (inBucket s t buckets (bucketAt s t buckets l)) (l + 1) (n - l)
+pub record LinkedFrom (s : List ℕ) (t : List ℤ) (n k : ℕ) (first next : List ℕ) : Type 0 where
+  pub heads : (b : ℕ) → b < 1024 → getD first b 0 ≡ firstLabel (inBucket s t b) k (n + 1 - k)
+  pub nexts : (l : ℕ) → k ≤ l → l ≤ n → isDefinition t l ≡ true → getD next l 0 ≡ firstLabel (inBucket s t (bucketAt s t l)) (l + 1) (n - l)
 
 pub record Linked (s : List ℕ) (t : List ℤ) (n : ℕ) (first next : List ℕ) : Type 0 where
-  pub buckets : 1 ≤ length first
+  pub buckets : length first ≡ 1024
   pub room : n < length next
-  pub chains : LinkedFrom s t (length first) n 1 first next
+  pub chains : LinkedFrom s t n 1 first next
 
 -- the first member named w, from Group g outward, above `stop`, through at most k Groups
 abbrev pub outward : List ℕ → List ℤ → ℕ → List ℕ → ℕ → ℕ → ℕ → ℕ

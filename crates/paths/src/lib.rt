@@ -86,37 +86,42 @@ fn is_named(text: &[u8], table: &[i64], m: usize, group: usize, from: usize, to:
     if size != to - from {
         return false;
     }
-    same_name(text, cells::cell_at(table, m, 1), from, size)
+    let start = cells::cell_at(table, m, 1);
+    // the very same bytes, as in row 12 where no other member is met
+    if start == from {
+        return true;
+    }
+    same_name(text, start, from, size)
 }
 
 // ---- buckets
 
-fn bucket(hash: usize, group: usize, buckets: usize) -> usize
-    requires { ⌜ (1 ≤ buckets) × (hash < 4294967296) × (group ≤ 1024) ⌝ }
-    ensures { λ r. ⌜ r ≡ bucketOf hash group buckets ⌝ }
+fn bucket(hash: usize, group: usize) -> usize
+    requires { ⌜ (hash < 4294967296) × (group ≤ 1024) ⌝ }
+    ensures { λ r. ⌜ r ≡ bucketOf hash group ⌝ }
 {
-    (hash + group * 61) % buckets
+    (hash + group * 61) % 1024
 }
 
 // The bucket of a definition.
-fn bucket_at(text: &[u8], table: &[i64], label: usize, buckets: usize) -> usize
-    requires { ⌜ Placed (now text) (now table) label × (owner (now table) label ≤ 1024) × (1 ≤ buckets) ⌝ }
-    ensures { λ r. ⌜ r ≡ bucketAt (now (text .entry)) (now (table .entry)) buckets label ⌝ }
+fn bucket_at(text: &[u8], table: &[i64], label: usize) -> usize
+    requires { ⌜ Placed (now text) (now table) label × (owner (now table) label ≤ 1024) ⌝ }
+    ensures { λ r. ⌜ r ≡ bucketAt (now (text .entry)) (now (table .entry)) label ⌝ }
 {
     let start = cells::cell_at(table, label, 1);
     let hash = hash_name(text, start, start + cells::cell_at(table, label, 2));
-    bucket(hash, cells::cell_at(table, label, 6), buckets)
+    bucket(hash, cells::cell_at(table, label, 6))
 }
 
 // A label goes to the front of its bucket's chain, if it is a definition.
 fn link_label(text: &[u8], table: &[i64], label: usize, first: &mut [u16], next: &mut [u16])
     requires { ⌜ Placed (now text) (now table) label × (owner (now table) label ≤ 1024) × (1 ≤ label) × (label ≤ 1024) ⌝ }
-    requires { ⌜ (1 ≤ length (now first)) × (label < length (now next)) ⌝ }
-    ensures { λ _. ⌜ now (first .exit) ≡ cond (isDefinition (now (table .entry)) label) (set (now (first .entry)) (bucketAt (now (text .entry)) (now (table .entry)) (length (now (first .entry))) label) label) (now (first .entry)) ⌝ }
-    ensures { λ _. ⌜ now (next .exit) ≡ cond (isDefinition (now (table .entry)) label) (set (now (next .entry)) label (getD (now (first .entry)) (bucketAt (now (text .entry)) (now (table .entry)) (length (now (first .entry))) label) 0)) (now (next .entry)) ⌝ }
+    requires { ⌜ (length (now first) ≡ 1024) × (label < length (now next)) ⌝ }
+    ensures { λ _. ⌜ now (first .exit) ≡ cond (isDefinition (now (table .entry)) label) (set (now (first .entry)) (bucketAt (now (text .entry)) (now (table .entry)) label) label) (now (first .entry)) ⌝ }
+    ensures { λ _. ⌜ now (next .exit) ≡ cond (isDefinition (now (table .entry)) label) (set (now (next .entry)) label (getD (now (first .entry)) (bucketAt (now (text .entry)) (now (table .entry)) label) 0)) (now (next .entry)) ⌝ }
 {
     if is_definition(table, label) {
-        let b = bucket_at(text, table, label, first.len());
+        let b = bucket_at(text, table, label);
         next[label] = first[b];
         first[b] = label as u16;
     }
@@ -124,8 +129,8 @@ fn link_label(text: &[u8], table: &[i64], label: usize, first: &mut [u16], next:
 
 // Every definition is chained in its bucket, smaller labels first.
 fn link(text: &[u8], table: &[i64], n: usize, first: &mut [u16], next: &mut [u16])
-    requires { ⌜ Rows (now text) (now table) n × (1 ≤ length (now first)) × (n < length (now next)) ⌝ }
-    requires { ⌜ LinkedFrom (now text) (now table) (length (now first)) n (n + 1) (now first) (now next) ⌝ }
+    requires { ⌜ Rows (now text) (now table) n × (length (now first) ≡ 1024) × (n < length (now next)) ⌝ }
+    requires { ⌜ LinkedFrom (now text) (now table) n (n + 1) (now first) (now next) ⌝ }
     ensures { λ _. ⌜ Linked (now (text .entry)) (now (table .entry)) n (now (first .exit)) (now (next .exit)) ⌝ }
 {
     let mut label = n;
@@ -157,7 +162,7 @@ fn search(
     let mut g = group;
     let mut found: usize = 0;
     'groups: while stop < g {
-        let mut m = first[bucket(hash, g, first.len())] as usize;
+        let mut m = first[bucket(hash, g)] as usize;
         while m != 0 {
             if is_named(text, table, m, g, from, to) {
                 found = m;
@@ -480,29 +485,6 @@ fn resolve(text: &[u8], table: &mut [i64], n: usize, first: &[u16], next: &[u16]
     }
 }
 
-// The same with chains of its own: an array is zeroed at each call, so a small sheet has small ones.
-fn read_small(text: &[u8], table: &mut [i64], n: usize) -> Verdict
-    requires { ⌜ Rows (now text) (now table) n × (n < 128) ⌝ }
-    ensures { λ r. ⌜ r ≡ pathsBad (now (text .entry)) (now (table .entry)) n ⌝ }
-    ensures { λ r. ⌜ (r ≡ Verdict.Fine → now (table .exit) ≡ withColumn 7 (targetCell (now (text .entry)) (now (table .entry)) n) n (now (table .entry))) ⌝ }
-{
-    let mut first = [0u16; 128];
-    let mut next = [0u16; 128];
-    link(text, table, n, &mut first, &mut next);
-    resolve(text, table, n, &first, &next)
-}
-
-fn read_large(text: &[u8], table: &mut [i64], n: usize) -> Verdict
-    requires { ⌜ Rows (now text) (now table) n ⌝ }
-    ensures { λ r. ⌜ r ≡ pathsBad (now (text .entry)) (now (table .entry)) n ⌝ }
-    ensures { λ r. ⌜ (r ≡ Verdict.Fine → now (table .exit) ≡ withColumn 7 (targetCell (now (text .entry)) (now (table .entry)) n) n (now (table .entry))) ⌝ }
-{
-    let mut first = [0u16; 1025];
-    let mut next = [0u16; 1025];
-    link(text, table, n, &mut first, &mut next);
-    resolve(text, table, n, &first, &next)
-}
-
 // Rows 12 to 15. Where they find nothing, the target of each R and C stands in its cell; where they refuse, the table is for the
 // caller to clear.
 pub fn read_paths(text: &[u8], table: &mut [i64], n: usize) -> Verdict
@@ -510,8 +492,8 @@ pub fn read_paths(text: &[u8], table: &mut [i64], n: usize) -> Verdict
     ensures { λ r. ⌜ r ≡ pathsBad (now (text .entry)) (now (table .entry)) n ⌝ }
     ensures { λ r. ⌜ (r ≡ Verdict.Fine → now (table .exit) ≡ withColumn 7 (targetCell (now (text .entry)) (now (table .entry)) n) n (now (table .entry))) ⌝ }
 {
-    if n < 128 {
-        return read_small(text, table, n);
-    }
-    read_large(text, table, n)
+    let mut first = [0u16; 1024];
+    let mut next = [0u16; 1025];
+    link(text, table, n, &mut first, &mut next);
+    resolve(text, table, n, &first, &next)
 }

@@ -80,19 +80,20 @@ pub fn same_bytes(text: &[u8], from: usize, to: usize, want: &[u8]) -> bool
 
 // Where the bytes above 32 end that begin at `from`. After row 1 that is at a byte 32 or 10.
 fn ink_end(text: &[u8], from: usize) -> usize
-    requires { ⌜ (from < length (now text)) × endsLines (now text) ⌝ }
+    requires { ⌜ (from < length (now text)) × endsLines (now text) × (length (now text) ≤ 65536) ⌝ }
     ensures { λ r. ⌜ r ≡ runEnd isInk (now (text .entry)) from (length (now (text .entry))) ⌝ }
 {
     let mut i = from;
     while 32 < text[i] {
         i += 1;
     }
-    i
+    // narrowed, so that the loop counts in one register and not once for each later use of its end
+    (i as u32) as usize
 }
 
 // Where the field that begins at `from` ends, if it is not empty and the byte `stop` ends it; else 0.
 pub fn field_end(text: &[u8], from: usize, stop: u8) -> usize
-    requires { ⌜ (from < length (now text)) × endsLines (now text) ⌝ }
+    requires { ⌜ (from < length (now text)) × endsLines (now text) × (length (now text) ≤ 65536) ⌝ }
     ensures { λ r. ⌜ r ≡ fieldEnd (now (text .entry)) from stop ⌝ }
 {
     let end = ink_end(text, from);

@@ -36,7 +36,7 @@ add-field-end : tie.Need-add-field-end
 add-field-end c = omega (arith, left1 c .here)
 
 field-end-requires-2 : tie.Need-field-end-requires-2
-field-end-requires-2 c κs = (left1 c .here, c .before .before .before .pre .1)
+field-end-requires-2 c κs = (left1 c .here, c .before .before .before .pre .1, c .before .before .before .pre .3)
 
 returns-2 : tie.Need-returns-2
 returns-2 c = left-none (c .before .before .before .before .before .args .text .now) (c .before .before .before .before .before .pre .1) (c .before .before .before .before .before .pre .2) (c .before .before .before .before .before .args .from) 2 (c .before .before .before .field-end .result + 1) (c .before .field-end2 .result) (left1 (c .before .before)) (c .before .field-end2 .ensures) (c .if2 .taken)
@@ -45,7 +45,7 @@ add-field-end-2 : tie.Need-add-field-end-2
 add-field-end-2 c = omega (arith, left2 c .here)
 
 field-end-requires-3 : tie.Need-field-end-requires-3
-field-end-requires-3 c κs = (left2 c .here, c .before .before .before .before .before .pre .1)
+field-end-requires-3 c κs = (left2 c .here, c .before .before .before .before .before .pre .1, c .before .before .before .before .before .pre .3)
 
 returns-3 : tie.Need-returns-3
 returns-3 c = left-none (c .before .before .before .before .before .before .before .args .text .now) (c .before .before .before .before .before .before .before .pre .1) (c .before .before .before .before .before .before .before .pre .2) (c .before .before .before .before .before .before .before .args .from) 1 (c .before .before .before .field-end2 .result + 1) (c .before .field-end3 .result) (left2 (c .before .before)) (c .before .field-end3 .ensures) (c .if3 .taken)
@@ -54,7 +54,7 @@ add-field-end-3 : tie.Need-add-field-end-3
 add-field-end-3 c = omega (arith, left3 c .here)
 
 field-end-requires-4 : tie.Need-field-end-requires-4
-field-end-requires-4 c κs = (left3 c .here, c .before .before .before .before .before .before .before .pre .1)
+field-end-requires-4 c κs = (left3 c .here, c .before .before .before .before .before .before .before .pre .1, c .before .before .before .before .before .before .before .pre .3)
 
 returns-4 : tie.Need-returns-4
 returns-4 c = left-none (c .before .before .before .before .before .before .before .before .before .args .text .now) (c .before .before .before .before .before .before .before .before .before .pre .1) (c .before .before .before .before .before .before .before .before .before .pre .2) (c .before .before .before .before .before .before .before .before .before .args .from) 0 (c .before .before .before .field-end3 .result + 1) (c .before .field-end4 .result) (left3 (c .before .before)) (c .before .field-end4 .ensures) (c .if4 .taken)
@@ -63,7 +63,7 @@ add-field-end-4 : tie.Need-add-field-end-4
 add-field-end-4 c = omega (arith, left4 c .here)
 
 field-end-requires-5 : tie.Need-field-end-requires-5
-field-end-requires-5 c κs = (left4 c .here, c .before .before .before .before .before .before .before .before .before .pre .1)
+field-end-requires-5 c κs = (left4 c .here, c .before .before .before .before .before .before .before .before .before .pre .1, c .before .before .before .before .before .before .before .before .before .pre .3)
 
 returns-5 : tie.Need-returns-5
 returns-5 c = left-last (c .before .before .before .before .before .before .before .before .before .before .before .args .text .now) (c .before .before .before .before .before .before .before .before .before .before .before .pre .1) (c .before .before .before .before .before .before .before .before .before .before .before .pre .2) (c .before .before .before .before .before .before .before .before .before .before .before .args .from) (c .before .before .before .field-end4 .result + 1) (c .before .field-end5 .result) (left4 (c .before .before)) (c .before .field-end5 .ensures) (c .if5 .taken)

@@ -25,7 +25,7 @@ bucket-requires : tie.Need-bucket-requires
 bucket-requires c κs =
     let s = c .before .before .before .before .before .args .text .now in
     let a = c .before .before .before .cell-at .result in
-    (omega arith, omega (arith, c .before .hash-name .ensures, hashed-small (slice a (a + c .before .before .cell-at2 .result) s)), omega (arith, c .cell-at3 .ensures))
+    (omega (arith, c .before .hash-name .ensures, hashed-small (slice a (a + c .before .before .cell-at2 .result) s)), omega (arith, c .cell-at3 .ensures))
 
 returns : tie.Need-returns
 returns c =

@@ -9,7 +9,7 @@ use Rattle.paths.proofs.link.Statement.{statement}
 use Rattle.paths.proofs.link.Tie as tie
 
 abbrev Inv-loop : tie.InvT-loop
-Inv-loop text table n first₀ next₀ label₀ first next label = (label ≤ n) × (length first ≡ length first₀) × (length next ≡ length next₀) × LinkedFrom text table (length first₀) n (label + 1) first next
+Inv-loop text table n first₀ next₀ label₀ first next label = (label ≤ n) × (length first ≡ length first₀) × (length next ≡ length next₀) × LinkedFrom text table n (label + 1) first next
 
 abbrev μ-loop : tie.MeasureT-loop
 μ-loop text table n first₀ next₀ label₀ first next label = label
@@ -33,7 +33,7 @@ loop-again : tie.Need-loop-again Inv-loop μ-loop
 loop-again c =
     let l = c .before .before .before .before .before .before .before .before .loop in
     let back : l .label - 1 + 1 ≡ l .label = omega arith in
-    (omega arith, c .before .before .before .before .link-label .kept .1 .1 .1 .0 ∙ l .inv .1, c .before .before .before .before .link-label .kept .1 .1 .1 .1 .0 ∙ l .inv .2, rw back (link-one (c .before .before .before .before .before .before .before .before .before .before .before .before .args .text .now) (c .before .before .before .before .before .before .before .before .before .before .before .before .args .table .now) (length (c .before .before .before .before .before .before .before .before .before .before .before .before .args .first .now)) (c .before .before .before .before .before .before .before .before .before .before .before .before .args .n) (l .label) (l .first) (l .next) (c .before .before .before .before .link-label .last .1 .1 .1 .0) (c .before .before .before .before .link-label .last .1 .1 .1 .1 .0) (l .inv .3) (omega arith) (omega arith) (omega arith) (l .inv .1) (omega arith) (c .before .before .before .before .link-label .ensures .0) (c .before .before .before .before .link-label .ensures .1)))
+    (omega arith, c .before .before .before .before .link-label .kept .1 .1 .1 .0 ∙ l .inv .1, c .before .before .before .before .link-label .kept .1 .1 .1 .1 .0 ∙ l .inv .2, rw back (link-one (c .before .before .before .before .before .before .before .before .before .before .before .before .args .text .now) (c .before .before .before .before .before .before .before .before .before .before .before .before .args .table .now) (c .before .before .before .before .before .before .before .before .before .before .before .before .args .n) (l .label) (l .first) (l .next) (c .before .before .before .before .link-label .last .1 .1 .1 .0) (c .before .before .before .before .link-label .last .1 .1 .1 .1 .0) (l .inv .3) (omega arith) (omega arith) (omega (arith, l .inv .1)) (omega arith) (c .before .before .before .before .link-label .ensures .0) (c .before .before .before .before .link-label .ensures .1)))
 
 same-length : tie.Need-same-length Inv-loop μ-loop
 same-length c = c .before .loop .inv .1
@@ -45,7 +45,7 @@ returns : tie.Need-returns Inv-loop μ-loop
 returns c =
     let l = c .before .loop in
     let z : l .label ≡ 0 = omega arith in
-    record { buckets = omega arith; room = omega arith; chains = relinked _ _ _ (sym (l .inv .1)) z (l .inv .3) }
+    record { buckets = omega arith; room = omega arith; chains = relinked _ z (l .inv .3) }
 
 pub link-spec : {M : Type 1} → statement M
 link-spec =

@@ -13,10 +13,10 @@ bucket-at-requires : tie.Need-bucket-at-requires
 bucket-at-requires c κs = search needs
 
 mul-next : tie.Need-mul-next
-mul-next c = omega (arith, c .bucket-at .ensures, bucket-inside (c .before .before .before .before .before .before .args .text .now) (c .before .before .before .before .before .before .args .table .now) (length (c .before .before .before .before .before .before .args .first .now)) (c .before .before .before .before .before .before .args .label) (c .before .before .before .before .before .before .pre .1 .0))
+mul-next c = omega (arith, c .bucket-at .ensures, bucket-inside (c .before .before .before .before .before .before .args .text .now) (c .before .before .before .before .before .before .args .table .now) (c .before .before .before .before .before .before .args .label))
 
 slice-read-next : tie.Need-slice-read-next
-slice-read-next c = omega (arith, c .before .bucket-at .ensures, bucket-inside (c .before .before .before .before .before .before .before .args .text .now) (c .before .before .before .before .before .before .before .args .table .now) (length (c .before .before .before .before .before .before .before .args .first .now)) (c .before .before .before .before .before .before .before .args .label) (c .before .before .before .before .before .before .before .pre .1 .0))
+slice-read-next c = omega (arith, c .before .bucket-at .ensures, bucket-inside (c .before .before .before .before .before .before .before .args .text .now) (c .before .before .before .before .before .before .before .args .table .now) (c .before .before .before .before .before .before .before .args .label))
 
 mul-next-2 : tie.Need-mul-next-2
 mul-next-2 c = search needs
@@ -28,10 +28,10 @@ cast-first : tie.Need-cast-first
 cast-first c = search needs
 
 mul-first : tie.Need-mul-first
-mul-first c = omega (arith, c .before .bucket-at .ensures, bucket-inside (c .before .before .before .before .before .before .before .args .text .now) (c .before .before .before .before .before .before .before .args .table .now) (length (c .before .before .before .before .before .before .before .args .first .now)) (c .before .before .before .before .before .before .before .args .label) (c .before .before .before .before .before .before .before .pre .1 .0))
+mul-first c = omega (arith, c .before .bucket-at .ensures, bucket-inside (c .before .before .before .before .before .before .before .args .text .now) (c .before .before .before .before .before .before .before .args .table .now) (c .before .before .before .before .before .before .before .args .label))
 
 slice-write-first : tie.Need-slice-write-first
-slice-write-first c = omega (arith, c .before .bucket-at .ensures, bucket-inside (c .before .before .before .before .before .before .before .args .text .now) (c .before .before .before .before .before .before .before .args .table .now) (length (c .before .before .before .before .before .before .before .args .first .now)) (c .before .before .before .before .before .before .before .args .label) (c .before .before .before .before .before .before .before .pre .1 .0))
+slice-write-first c = omega (arith, c .before .bucket-at .ensures, bucket-inside (c .before .before .before .before .before .before .before .args .text .now) (c .before .before .before .before .before .before .before .args .table .now) (c .before .before .before .before .before .before .before .args .label))
 
 same-length : tie.Need-same-length
 same-length c = search needs

@@ -41,6 +41,12 @@ loop-again c =
       run-more isInk s i (length s) h (le-refl (length s)) (lt-ltb _ _ (c .if1 .taken)) ∙ c .before .before .loop .inv .2,
     )
 
+cast-result : tie.Need-cast-result Inv-loop μ-loop
+cast-result c = omega arith
+
+cast-result-2 : tie.Need-cast-result-2 Inv-loop μ-loop
+cast-result-2 c = omega arith
+
 returns : tie.Need-returns Inv-loop μ-loop
 returns c =
     let s = c .before .before .before .args .text .now in
@@ -50,4 +56,4 @@ returns c =
 pub ink-end-spec : {M : Type 1} → statement M
 ink-end-spec =
     tie.close
-    (tie.spec Inv-loop μ-loop loop-holds shared-slice-read-if1 add-i loop-less loop-again returns)
+    (tie.spec Inv-loop μ-loop loop-holds shared-slice-read-if1 add-i loop-less loop-again cast-result cast-result-2 returns)

@@ -2,8 +2,8 @@ use native.Mathlib.Omega.{arith}
 use lib.ListN.{replicate}
 use Rattle.paths.proofs.Joining.{unlinked, zeros-at}
 use borrow.Author.Needs.{needs}
-use Rattle.paths.proofs.read_small.Statement.{statement}
-use Rattle.paths.proofs.read_small.Tie as tie
+use Rattle.paths.proofs.read_paths.Statement.{statement}
+use Rattle.paths.proofs.read_paths.Tie as tie
 
 slice-aggregate-link : tie.Need-slice-aggregate-link
 slice-aggregate-link c = search needs
@@ -12,7 +12,7 @@ slice-aggregate-link-2 : tie.Need-slice-aggregate-link-2
 slice-aggregate-link-2 c = search needs
 
 link-requires : tie.Need-link-requires
-link-requires c κs = ((c .before .before .before .before .pre .0, omega arith, omega arith), unlinked (c .before .before .before .before .args .text .now) (c .before .before .before .before .args .table .now) 128 (c .before .before .before .before .args .n) (replicate 128 0) (replicate 128 0) (zeros-at 128))
+link-requires c κs = ((c .before .before .before .before .pre, omega arith, omega arith), unlinked (c .before .before .before .before .args .text .now) (c .before .before .before .before .args .table .now) (c .before .before .before .before .args .n) (replicate 1024 0) (replicate 1025 0) (zeros-at 1024))
 
 slice-aggregate-resolve : tie.Need-slice-aggregate-resolve
 slice-aggregate-resolve c = search needs
@@ -29,8 +29,8 @@ same-length c = search needs
 returns : tie.Need-returns
 returns c = search needs
 
-pub read-small-spec : {M : Type 1} → statement M
-read-small-spec =
+pub read-paths-spec : {M : Type 1} → statement M
+read-paths-spec =
     tie.close
     (tie.spec
     slice-aggregate-link

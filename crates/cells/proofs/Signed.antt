@@ -111,3 +111,11 @@ nonzero-size (negsuc n) e = omega arith
 pub bits-pos : (b : ℤ) → SFits w64 b → 0 < natAbs b → 0 < ofZ w64 b
 bits-pos (pos n) f h = h
 bits-pos (negsuc n) f h = let g : n < 2 ^ 63 = f .sfits in omega arith
+
+-- a cell that is read as it stands, where it is known to be a natural number
+module _ (z : ℤ) (m : ℕ) (e : z ≡ pos m) (h : mag z < 2 ^ 63) where
+  pub cast-natural : T (nonNeg (toZ w64 (ofZ w64 z))) × Fits w64 (natAbs (toZ w64 (ofZ w64 z)))
+  cast-natural = cast-ok z (sfits-of h) (ap isNegative e)
+
+  pub is-natural : natAbs (toZ w64 (ofZ w64 z)) ≡ m
+  is-natural = cast-is z (sfits-of h) (ap isNegative e) ∙ ap natOf e

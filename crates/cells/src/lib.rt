@@ -102,6 +102,14 @@ pub fn cell_at(t: &[i64], label: usize, j: usize) -> usize
     nat_at(t, 8 * (label - 1) + j)
 }
 
+// The same where the cell is known to hold a natural number: read as it stands.
+pub fn natural_cell(t: &[i64], label: usize, j: usize) -> usize
+    requires { ⌜ (1 ≤ label) × (8 * label ≤ length (now t)) × (j < 8) × (intAt (now t) (8 * (label - 1) + j) ≡ pos (cell (now t) label j)) ⌝ }
+    ensures { λ r. ⌜ r ≡ cell (now (t .entry)) label j ⌝ }
+{
+    t[8 * (label - 1) + j] as usize
+}
+
 pub fn put_cell(t: &mut [i64], label: usize, j: usize, v: usize)
     requires { ⌜ (1 ≤ label) × (8 * label ≤ length (now t)) × (j < 8) × (v ≤ 65536) ⌝ }
     ensures { λ _. ⌜ now (t .exit) ≡ set (now (t .entry)) (8 * (label - 1) + j) (pos v) ⌝ }

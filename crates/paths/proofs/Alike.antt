@@ -1,12 +1,13 @@
 -- Rows 12 to 15 read every cell of a table but the targets: two tables that are alike but for those give the same.
-use mathlib.Core.Path.{_≡_, refl, sym, _∙_}
+use mathlib.Core.Path.{_≡_, refl, ap, sym, _∙_}
 use mathlib.Core.List.{List, [], _∷_}
-use Prim.Native.Nat.{ℕ, zero, suc, _+_, _-_}
+use Prim.Native.Nat.{ℕ, zero, suc, _+_, _-_, _*_, _≤_}
 use native.Mathlib.Omega.{arith}
-use lib.IntN.{ℤ}
+use lib.IntN.{ℤ, pos}
 use lib.ListN.{length, drop}
 use Rattle.cells.specs.Table.{kind, nameStart, nameLength, owner, withColumn}
-use Rattle.cells.proofs.Columns.{column-other}
+use Rattle.cells.specs.Cells.{intAt}
+use Rattle.cells.proofs.Columns.{column-keeps, column-other}
 use Rattle.order.specs.Order.{isDefinition, hasPath}
 use Rattle.text.specs.Pieces.{firstOf}
 use Rattle.paths.specs.Names.{nameOf, isNamed, member}
@@ -20,6 +21,7 @@ pub record Alike (t u : List ℤ) : Type 0 where
   pub starts : (l : ℕ) → nameStart u l ≡ nameStart t l
   pub lengths : (l : ℕ) → nameLength u l ≡ nameLength t l
   pub owners : (l : ℕ) → owner u l ≡ owner t l
+  pub owned : (l : ℕ) → 1 ≤ l → intAt u (8 * (l - 1) + 6) ≡ intAt t (8 * (l - 1) + 6)
 
 pub column-alike : (f : ℕ → ℕ) (n : ℕ) (t : List ℤ) → Alike t (withColumn 7 f n t)
 column-alike f n t = record {
@@ -27,6 +29,7 @@ column-alike f n t = record {
   starts = λ l. column-other 7 f (omega arith) n t l 1 (omega arith) (λ e. omega arith);
   lengths = λ l. column-other 7 f (omega arith) n t l 2 (omega arith) (λ e. omega arith);
   owners = λ l. column-other 7 f (omega arith) n t l 6 (omega arith) (λ e. omega arith);
+  owned = λ l h. column-keeps 7 f (omega arith) n t (8 * (l - 1) + 6) (λ k g e. omega arith);
 }
 
 module _ (s : List ℕ) (t u : List ℤ) (a : Alike t u) where
@@ -83,6 +86,7 @@ module _ (s : List ℕ) (t u : List ℤ) (a : Alike t u) where
     few = r .few;
     room = omega (arith, r .room);
     names = λ l. rw (a .starts l, a .lengths l) (r .names l);
+    owners = λ l h g. a .owned l h ∙ r .owners l h g ∙ ap pos (sym (a .owners l));
     falls = λ l h g. rw (a .owners l) (r .falls l h g);
     beyond = λ l h. a .kinds l ∙ r .beyond l h;
     rooted = λ l d o. r .rooted l (sym (definition-alike l) ∙ d) (sym (a .owners l) ∙ o);

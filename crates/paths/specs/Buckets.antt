@@ -4,8 +4,9 @@ use mathlib.Core.Bool.{Bool, true, cond, not, _&&_}
 use mathlib.Core.List.{List, [], _∷_}
 use Prim.Native.Nat.{ℕ, zero, suc, _+_, _*_, _%_, _-_, _≤_, _<_}
 use lib.Dec.{eqb, ltb}
-use lib.IntN.{ℤ}
+use lib.IntN.{ℤ, pos}
 use lib.ListN.{length, getD}
+use Rattle.cells.specs.Cells.{intAt}
 use Rattle.cells.specs.Table.{kind, nameStart, nameLength, owner}
 use Rattle.order.specs.Order.{isDefinition}
 use Rattle.paths.specs.Names.{nameOf, firstLabel, member}
@@ -39,11 +40,12 @@ inBucket s t b l = isDefinition t l && eqb (bucketAt s t l) b
 abbrev pub Placed : List ℕ → List ℤ → ℕ → Type 0
 Placed s t l = nameStart t l + nameLength t l ≤ length s
 
--- of the table's n labels: their name fields lie in the text, and owners' labels fall
+-- of the table's n labels: their name fields lie in the text, owners are natural numbers, and owners' labels fall
 pub record Rows (s : List ℕ) (t : List ℤ) (n : ℕ) : Type 0 where
   pub few : n ≤ 1024
   pub room : 8 * n ≤ length t
   pub names : (l : ℕ) → Placed s t l
+  pub owners : (l : ℕ) → 1 ≤ l → l ≤ n → intAt t (8 * (l - 1) + 6) ≡ pos (owner t l)
   pub falls : (l : ℕ) → 1 ≤ l → l ≤ n → owner t l < l
   pub beyond : (l : ℕ) → n < l → kind t l ≡ 0
   pub rooted : (l : ℕ) → isDefinition t l ≡ true → owner t l ≡ 0 → l ≡ 1

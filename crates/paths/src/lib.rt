@@ -170,7 +170,7 @@ fn search(
             }
             m = next[m] as usize;
         }
-        g = cells::cell_at(table, g, 6);
+        g = cells::natural_cell(table, g, 6);
     }
     found
 }

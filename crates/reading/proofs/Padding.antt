@@ -5,13 +5,13 @@ use mathlib.Core.List.{List, [], _∷_, _++_, append-nil}
 use Prim.Native.Nat.{ℕ, zero, suc, _+_, _-_, _*_, _≤_, _<_}
 use native.Mathlib.Omega.{arith}
 use lib.Dec.{leb}
-use lib.IntN.{ℤ}
+use lib.IntN.{ℤ, pos}
 use lib.ListN.{length}
 use borrow.Author.Tests.{leb-true, leb-false, le-leb}
 use Rattle.cells.specs.Cells.{natOf, intAt, zeros}
 use Rattle.cells.specs.Table.{cell, fieldA, owner}
 use Rattle.cells.proofs.Stores.{intAt-zeros}
-use Rattle.cells.proofs.Columns.{column-keeps, column-own, column-other}
+use Rattle.cells.proofs.Columns.{column-has, column-keeps, column-other}
 use Rattle.refusals.specs.declared.Verdict.the-variants.{Fine}
 use Rattle.refusals.proofs.FirstBad.{first-same}
 use Rattle.lines.specs.Lines.{labels, rows}
@@ -68,22 +68,25 @@ module _ (t w : List ℤ) (same : (i : ℕ) → intAt w i ≡ intAt t i) (n : �
         ∙ cell-same l j
         ∙ sym (column-other 6 (ownerOf t n) (omega arith) n t l j (omega arith) (λ e. omega arith))
 
-    owner-same : (l : ℕ) → owner (ownedTable w n) l ≡ owner (ownedTable t n) l
+    owned-same : (k : ℕ) → intAt (ownedTable w n) (8 * k + 6) ≡ intAt (ownedTable t n) (8 * k + 6)
     unfolding ownedTable
-    owner-same zero = refl
-    owner-same (suc k) = go (leb (suc k) n) refl
+    owned-same k = go (leb (suc k) n) refl
       where
-        go : (b : Bool) → leb (suc k) n ≡ b → owner (ownedTable w n) (suc k) ≡ owner (ownedTable t n) (suc k)
+        go : (b : Bool) → leb (suc k) n ≡ b → intAt (ownedTable w n) (8 * k + 6) ≡ intAt (ownedTable t n) (8 * k + 6)
         go true e =
             let h = leb-true (suc k) n e in
-            column-own 6 (ownerOf w n) (omega arith) n w (suc k) (omega arith) h roomier
-            ∙ alike-owner t w n alike (suc k)
-            ∙ sym (column-own 6 (ownerOf t n) (omega arith) n t (suc k) (omega arith) h room)
+            column-has 6 (ownerOf w n) (omega arith) n w k h roomier
+            ∙ ap pos (alike-owner t w n alike (suc k))
+            ∙ sym (column-has 6 (ownerOf t n) (omega arith) n t k h room)
         go false e =
             let h = leb-false (suc k) n e in
-            ap natOf (column-keeps 6 (ownerOf w n) (omega arith) n w (8 * k + 6) (λ x g q. omega arith)
+            column-keeps 6 (ownerOf w n) (omega arith) n w (8 * k + 6) (λ x g q. omega arith)
             ∙ same (8 * k + 6)
-            ∙ sym (column-keeps 6 (ownerOf t n) (omega arith) n t (8 * k + 6) (λ x g q. omega arith)))
+            ∙ sym (column-keeps 6 (ownerOf t n) (omega arith) n t (8 * k + 6) (λ x g q. omega arith))
+
+    owner-same : (l : ℕ) → owner (ownedTable w n) l ≡ owner (ownedTable t n) l
+    owner-same zero = refl
+    owner-same (suc k) = ap natOf (owned-same k)
 
     owned-alike : paths.Alike (ownedTable t n) (ownedTable w n)
     owned-alike = record {
@@ -91,6 +94,7 @@ module _ (t w : List ℤ) (same : (i : ℕ) → intAt w i ≡ intAt t i) (n : �
       starts = λ l. other-same l 1 (omega arith);
       lengths = λ l. other-same l 2 (omega arith);
       owners = owner-same;
+      owned = λ l h. owned-same (l - 1);
     }
 
     tied-same : (s : List ℕ) → tiedBad s w n ≡ tiedBad s t n

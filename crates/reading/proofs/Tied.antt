@@ -10,9 +10,9 @@ use lib.Dec.{eqb}
 use lib.IntN.{ℤ, pos}
 use lib.ListN.{length}
 use borrow.Author.Tests.{eqb-true, ne-eqb}
-use Rattle.cells.specs.Cells.{natOf}
+use Rattle.cells.specs.Cells.{natOf, intAt}
 use Rattle.cells.specs.Table.{cell, kind, owner, withColumn}
-use Rattle.cells.proofs.Columns.{column-length, column-other}
+use Rattle.cells.proofs.Columns.{column-length, column-has, column-other}
 use Rattle.lines.specs.declared.Form.{Form}
 use Rattle.lines.specs.declared.Form.the-variants.{Missing, Name, Path, Group, Operand, Number}
 use Rattle.refusals.specs.declared.Verdict.{Verdict}
@@ -79,6 +79,17 @@ module _ (s : List ℕ) (t : List ℤ) (n : ℕ) (is : Lined s t n) where
     unfolding ownedTable
     owned-length = column-length 6 (ownerOf t n) n t
 
+    owner-cell : (k : ℕ) → k < n → intAt (ownedTable t n) (8 * k + 6) ≡ pos (ownerOf t n (suc k))
+    unfolding ownedTable
+    owner-cell k h = column-has 6 (ownerOf t n) (omega arith) n t k h (is .room)
+
+    owners : (l : ℕ) → 1 ≤ l → l ≤ n → intAt (ownedTable t n) (8 * (l - 1) + 6) ≡ pos (owner (ownedTable t n) l)
+    owners zero h g = absurd (omega arith)
+    owners (suc k) h g =
+        let e = owner-cell k g in
+        let q : suc k - 1 ≡ k = omega arith in
+        rw q (e ∙ ap pos (sym (ap natOf e)))
+
     beyond : (l : ℕ) → n < l → kind (ownedTable t n) l ≡ 0
     beyond l h = kept l 0 (omega arith) ∙ no-kind l h
 
@@ -97,6 +108,7 @@ module _ (s : List ℕ) (t : List ℤ) (n : ℕ) (is : Lined s t n) where
       few = is .few;
       room = omega (arith, owned-length, is .room);
       names = λ l. omega (arith, kept l 1 (omega arith), kept l 2 (omega arith), is .names l);
+      owners = owners;
       falls = accepted .falls;
       beyond = beyond;
       rooted = root-only;

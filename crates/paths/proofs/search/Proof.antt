@@ -77,16 +77,18 @@ loop-less c = walk-less (c .before .before .before .before .before .before .befo
 loop-again : tie.Need-loop-again Inv-loop μ-loop Inv-groups μ-groups
 loop-again c = (c .before .before .before .before .loop .inv .0, walk-turn (c .before .before .before .before .before .before .before .before .before .before .before .before .before .args .text .now) (c .before .before .before .before .before .before .before .before .before .before .before .before .before .args .table .now) (c .before .before .before .before .before .before .before .before .before .before .before .before .before .args .n) (slice (c .before .before .before .before .before .before .before .before .before .before .before .before .before .args .from) (c .before .before .before .before .before .before .before .before .before .before .before .before .before .args .to) (c .before .before .before .before .before .before .before .before .before .before .before .before .before .args .text .now)) (c .before .before .before .before .before .before .before .before .groups .g) (c .before .before .before .before .loop .m) (c .before .before .before .before .loop .inv .1) (c .before .before .before .loop-test .taken) (sym (c .before .before .is-named .ensures) ∙ c .before .if1 .left) _ (follows c))
 
-cell-at-requires : tie.Need-cell-at-requires Inv-loop μ-loop Inv-groups μ-groups
-cell-at-requires c κs = search needs
+natural-cell-requires : tie.Need-natural-cell-requires Inv-loop μ-loop Inv-groups μ-groups
+natural-cell-requires c κs =
+    let r = c .before .before .before .before .before .before .before .before .before .before .pre .0 .0 in
+    (omega arith, omega (arith, r .room), omega arith, r .owners (c .before .before .before .before .before .groups .g) (omega arith) (omega arith))
 
 groups-less : tie.Need-groups-less Inv-loop μ-loop Inv-groups μ-groups
-groups-less c = omega (arith, c .cell-at .ensures, c .before .before .before .before .before .before .before .before .before .before .before .pre .0 .0 .falls (c .before .before .before .before .before .before .groups .g) (omega arith) (omega arith))
+groups-less c = omega (arith, c .natural-cell .ensures, c .before .before .before .before .before .before .before .before .before .before .before .pre .0 .0 .falls (c .before .before .before .before .before .before .groups .g) (omega arith) (omega arith))
 
 groups-again : tie.Need-groups-again Inv-loop μ-loop Inv-groups μ-groups
 groups-again c =
     let f = c .before .before .before .before .before .before .before .before .before .before .before .pre .0 .0 .falls (c .before .before .before .before .before .before .groups .g) (omega arith) (omega arith) in
-    (omega (arith, c .cell-at .ensures), c .before .before .loop .inv .0, rw (c .cell-at .ensures) (sym (out-next (c .before .before .before .before .before .before .before .before .before .before .before .args .text .now) (c .before .before .before .before .before .before .before .before .before .before .before .args .table .now) (c .before .before .before .before .before .before .before .before .before .before .before .args .n) (slice (c .before .before .before .before .before .before .before .before .before .before .before .args .from) (c .before .before .before .before .before .before .before .before .before .before .before .args .to) (c .before .before .before .before .before .before .before .before .before .before .before .args .text .now)) (c .before .before .before .before .before .before .before .before .before .before .before .args .stop) (c .before .before .before .before .before .before .before .before .before .before .before .pre .0 .0 .falls) (c .before .before .before .before .before .before .groups .g) (omega arith) (omega arith) (walk-none (c .before .before .before .before .before .before .before .before .before .before .before .args .text .now) (c .before .before .before .before .before .before .before .before .before .before .before .args .table .now) (c .before .before .before .before .before .before .before .before .before .before .before .args .n) (slice (c .before .before .before .before .before .before .before .before .before .before .before .args .from) (c .before .before .before .before .before .before .before .before .before .before .before .args .to) (c .before .before .before .before .before .before .before .before .before .before .before .args .text .now)) (c .before .before .before .before .before .before .groups .g) (c .before .before .loop .m) (c .before .before .loop .inv .1) (c .before .loop-test .left))) ∙ c .before .before .before .before .before .before .groups .inv .2))
+    (omega (arith, c .natural-cell .ensures), c .before .before .loop .inv .0, rw (c .natural-cell .ensures) (sym (out-next (c .before .before .before .before .before .before .before .before .before .before .before .args .text .now) (c .before .before .before .before .before .before .before .before .before .before .before .args .table .now) (c .before .before .before .before .before .before .before .before .before .before .before .args .n) (slice (c .before .before .before .before .before .before .before .before .before .before .before .args .from) (c .before .before .before .before .before .before .before .before .before .before .before .args .to) (c .before .before .before .before .before .before .before .before .before .before .before .args .text .now)) (c .before .before .before .before .before .before .before .before .before .before .before .args .stop) (c .before .before .before .before .before .before .before .before .before .before .before .pre .0 .0 .falls) (c .before .before .before .before .before .before .groups .g) (omega arith) (omega arith) (walk-none (c .before .before .before .before .before .before .before .before .before .before .before .args .text .now) (c .before .before .before .before .before .before .before .before .before .before .before .args .table .now) (c .before .before .before .before .before .before .before .before .before .before .before .args .n) (slice (c .before .before .before .before .before .before .before .before .before .before .before .args .from) (c .before .before .before .before .before .before .before .before .before .before .before .args .to) (c .before .before .before .before .before .before .before .before .before .before .before .args .text .now)) (c .before .before .before .before .before .before .groups .g) (c .before .before .loop .m) (c .before .before .loop .inv .1) (c .before .loop-test .left))) ∙ c .before .before .before .before .before .before .groups .inv .2))
 
 returns : tie.Need-returns Inv-loop μ-loop Inv-groups μ-groups
 returns c = c .before .groups .inv .1 ∙ sym (out-end (c .before .before .before .before .before .before .args .text .now) (c .before .before .before .before .before .before .args .table .now) (c .before .before .before .before .before .before .args .n) (slice (c .before .before .before .before .before .before .args .from) (c .before .before .before .before .before .before .args .to) (c .before .before .before .before .before .before .args .text .now)) (c .before .before .before .before .before .before .args .stop) (c .before .before .before .before .before .before .pre .0 .0 .falls) (c .before .groups .g) (omega arith)) ∙ c .before .groups .inv .2
@@ -115,7 +117,7 @@ search-spec =
     cast-m-2
     loop-less
     loop-again
-    cell-at-requires
+    natural-cell-requires
     groups-less
     groups-again
     returns

@@ -1,0 +1,65 @@
+-- Rows 1 to 4, then the others and the results.
+use lib.ListN.{length}
+use borrow.Author.Needs.{needs}
+use Rattle.calls.proofs.Lists.{follow-ready, follow-answered, follow-refused}
+use Rattle.calls.proofs.follow.Statement.{statement}
+use Rattle.calls.proofs.follow.Tie as tie
+
+head-follow-requires : tie.Need-head-follow-requires
+head-follow-requires c κs = search needs
+
+enum-known-n : tie.Need-enum-known-n
+enum-known-n c = search needs
+
+follow-sheet-requires : tie.Need-follow-sheet-requires
+follow-sheet-requires c κs =
+    let a = c .before .before .before .before .before .before .before .args in
+    follow-ready (a .text .now) (a .order .now) (length (a .table .now)) (length (a .results .now)) _ (c .before .before .before .before .before .head-follow .ensures) _ (c .before .before .before .n .given .1)
+
+enum-known-row : tie.Need-enum-known-row
+enum-known-row c = search needs
+
+clear-requires : tie.Need-clear-requires
+clear-requires c κs = search needs
+
+clear-requires-2 : tie.Need-clear-requires-2
+clear-requires-2 c κs = search needs
+
+same-length : tie.Need-same-length
+same-length c = search needs
+
+same-length-2 : tie.Need-same-length-2
+same-length-2 c = search needs
+
+returns : tie.Need-returns
+returns c =
+    let a = c .before .before .before .before .before .before .before .before .before .before .args in
+    follow-answered (a .text .now) (a .order .now) (length (a .table .now)) (length (a .results .now)) _ (c .before .before .before .before .before .before .before .before .head-follow .ensures) _ _ _ _ (c .before .before .before .before .before .before .n .given .1) (c .before .before .follow-sheet .ensures)
+
+same-length-3 : tie.Need-same-length-3
+same-length-3 c = search needs
+
+same-length-4 : tie.Need-same-length-4
+same-length-4 c = search needs
+
+returns-2 : tie.Need-returns-2
+returns-2 c =
+    let a = c .before .before .before .before .before .before .before .before .before .before .before .args in
+    follow-refused (a .text .now) (a .order .now) (length (a .table .now)) (length (a .results .now)) _ (c .before .before .before .before .before .before .before .before .before .head-follow .ensures) _ _ _ _ (c .before .before .before .before .before .before .before .row .given .1) (c .before .before .before .before .clear .ensures) (c .before .clear2 .ensures)
+
+pub follow-spec : {M : Type 1} → statement M
+follow-spec =
+    tie.close
+    (tie.spec
+    head-follow-requires
+    enum-known-n
+    follow-sheet-requires
+    enum-known-row
+    clear-requires
+    clear-requires-2
+    same-length
+    same-length-2
+    returns
+    same-length-3
+    same-length-4
+    returns-2)

@@ -1,0 +1,53 @@
+-- Rows 5 to 15, then rows 16 to 18.
+use lib.ListN.{length}
+use borrow.Author.Needs.{needs}
+use Rattle.calls.proofs.Sheets.{sheet-ready}
+use Rattle.calls.proofs.Lists.{list-checked, list-unread}
+use Rattle.calls.proofs.follow_rows.Statement.{statement}
+use Rattle.calls.proofs.follow_rows.Tie as tie
+
+read-sheet-requires : tie.Need-read-sheet-requires
+read-sheet-requires c κs = search needs
+
+enum-told : tie.Need-enum-told
+enum-told c = search needs
+
+check-order-requires : tie.Need-check-order-requires
+check-order-requires c κs =
+    let p = c .before .before .before .before .before .before .before .pre in
+    let k = c .before .before .before .before .read-sheet .ensures in
+    sheet-ready (c .before .before .before .before .before .before .before .args .text .now) (length (c .before .before .before .before .before .before .before .args .table .now)) _ (p .1) _ _ (k .0) (k .1) (p .0) (p .2) (c .before .enum-told .given .1)
+
+enum-known-row : tie.Need-enum-known-row
+enum-known-row c = search needs
+
+same-length : tie.Need-same-length
+same-length c = search needs
+
+returns : tie.Need-returns
+returns c =
+    let a = c .before .before .before .before .before .before .before .before .args in
+    let k = c .before .before .before .before .before .read-sheet .ensures in
+    list-checked (a .text .now) (a .order .now) (length (a .table .now)) _ (c .before .before .before .before .before .before .before .before .pre .1) _ _ (k .0) (k .1) _ (c .before .before .enum-told .given .1) (c .check-order .ensures)
+
+same-length-2 : tie.Need-same-length-2
+same-length-2 c = search needs
+
+returns-2 : tie.Need-returns-2
+returns-2 c =
+    let a = c .before .before .before .before .before .before .before .args in
+    let k = c .before .before .before .before .read-sheet .ensures in
+    list-unread (a .text .now) (a .order .now) (length (a .table .now)) _ (c .before .before .before .before .before .before .before .pre .1) _ _ (k .0) (k .1) _ _ _ (c .before .row .given .1)
+
+pub follow-rows-spec : {M : Type 1} → statement M
+follow-rows-spec =
+    tie.close
+    (tie.spec
+    read-sheet-requires
+    enum-told
+    check-order-requires
+    enum-known-row
+    same-length
+    returns
+    same-length-2
+    returns-2)

@@ -1,0 +1,73 @@
+-- The list accepted, and the results down it; or a refusal.
+use mathlib.Core.Path.{_∙_, ap}
+use native.Mathlib.Omega.{arith}
+use lib.ListN.{length}
+use borrow.Author.Needs.{needs}
+use Rattle.cells.specs.Cells.{zeros}
+use Rattle.calls.proofs.Lists.{list-ready, list-ends, list-refused}
+use Rattle.calls.proofs.follow_sheet.Statement.{statement}
+use Rattle.calls.proofs.follow_sheet.Tie as tie
+
+follow-rows-requires : tie.Need-follow-rows-requires
+follow-rows-requires c κs = search needs
+
+enum-told : tie.Need-enum-told
+enum-told c = search needs
+
+run-down-requires : tie.Need-run-down-requires
+run-down-requires c κs =
+    let a = c .before .before .before .before .before .before .before .before .args in
+    let p = c .before .before .before .before .before .before .before .before .pre in
+    let k = c .before .before .before .before .before .follow-rows .ensures in
+    let w = list-ready (a .text .now) (a .order .now) (length (a .table .now)) _ (p .1) _ _ (k .0) (k .1) (p .0) (p .2) (c .before .before .enum-told .given .1) in
+    (w .0, omega arith, p .3, w .1)
+
+enum-known-row : tie.Need-enum-known-row
+enum-known-row c = search needs
+
+clear-requires : tie.Need-clear-requires
+clear-requires c κs = search needs
+
+clear-requires-2 : tie.Need-clear-requires-2
+clear-requires-2 c κs = search needs
+
+same-length : tie.Need-same-length
+same-length c = search needs
+
+same-length-2 : tie.Need-same-length-2
+same-length-2 c = search needs
+
+returns : tie.Need-returns
+returns c =
+    let a = c .before .before .before .before .before .before .before .before .before .before .args in
+    let k = c .before .before .before .before .before .before .before .follow-rows .ensures in
+    list-ends (a .text .now) (a .order .now) (length (a .table .now)) _ (c .before .before .before .before .before .before .before .before .before .before .pre .1) _ _ (k .0) (k .1) _ _ (c .before .before .before .before .enum-told .given .1) (c .before .run-down .ensures)
+
+same-length-3 : tie.Need-same-length-3
+same-length-3 c = search needs
+
+same-length-4 : tie.Need-same-length-4
+same-length-4 c = search needs
+
+returns-2 : tie.Need-returns-2
+returns-2 c =
+    let a = c .before .before .before .before .before .before .before .before .before .before .before .before .before .args in
+    let k = c .before .before .before .before .before .before .before .before .before .before .follow-rows .ensures in
+    list-refused (a .text .now) (a .order .now) (length (a .table .now)) _ (c .before .before .before .before .before .before .before .before .before .before .before .before .before .pre .1) _ _ (k .0) (k .1) _ _ _ _ _ (c .before .before .before .before .before .before .before .row .given .1) (c .before .before .before .before .clear .ensures ∙ ap zeros (c .before .before .before .before .before .before .before .before .before .before .follow-rows .kept .1 .1 .1 .0)) (c .before .clear2 .ensures)
+
+pub follow-sheet-spec : {M : Type 1} → statement M
+follow-sheet-spec =
+    tie.close
+    (tie.spec
+    follow-rows-requires
+    enum-told
+    run-down-requires
+    enum-known-row
+    clear-requires
+    clear-requires-2
+    same-length
+    same-length-2
+    returns
+    same-length-3
+    same-length-4
+    returns-2)

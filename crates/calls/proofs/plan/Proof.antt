@@ -1,0 +1,65 @@
+-- Rows 1 to 4, then the others.
+use lib.ListN.{length}
+use borrow.Author.Needs.{needs}
+use Rattle.calls.proofs.Calls.{plan-ready, plan-answered, plan-refused}
+use Rattle.calls.proofs.plan.Statement.{statement}
+use Rattle.calls.proofs.plan.Tie as tie
+
+head-plan-requires : tie.Need-head-plan-requires
+head-plan-requires c κs = search needs
+
+enum-known-n : tie.Need-enum-known-n
+enum-known-n c = search needs
+
+plan-sheet-requires : tie.Need-plan-sheet-requires
+plan-sheet-requires c κs =
+    let a = c .before .before .before .before .before .before .before .args in
+    plan-ready (a .text .now) (length (a .table .now)) (length (a .plan .now)) _ (c .before .before .before .before .before .head-plan .ensures) _ (c .before .before .before .n .given .1)
+
+enum-known-row : tie.Need-enum-known-row
+enum-known-row c = search needs
+
+clear-requires : tie.Need-clear-requires
+clear-requires c κs = search needs
+
+clear-requires-2 : tie.Need-clear-requires-2
+clear-requires-2 c κs = search needs
+
+same-length : tie.Need-same-length
+same-length c = search needs
+
+same-length-2 : tie.Need-same-length-2
+same-length-2 c = search needs
+
+returns : tie.Need-returns
+returns c =
+    let a = c .before .before .before .before .before .before .before .before .before .before .args in
+    plan-answered (a .text .now) (length (a .table .now)) (length (a .plan .now)) _ (c .before .before .before .before .before .before .before .before .head-plan .ensures) _ _ _ _ (c .before .before .before .before .before .before .n .given .1) (c .before .before .plan-sheet .ensures)
+
+same-length-3 : tie.Need-same-length-3
+same-length-3 c = search needs
+
+same-length-4 : tie.Need-same-length-4
+same-length-4 c = search needs
+
+returns-2 : tie.Need-returns-2
+returns-2 c =
+    let a = c .before .before .before .before .before .before .before .before .before .before .before .args in
+    plan-refused (a .text .now) (length (a .table .now)) (length (a .plan .now)) _ (c .before .before .before .before .before .before .before .before .before .head-plan .ensures) _ _ _ _ (c .before .before .before .before .before .before .before .row .given .1) (c .before .before .before .before .clear .ensures) (c .before .clear2 .ensures)
+
+pub plan-spec : {M : Type 1} → statement M
+plan-spec =
+    tie.close
+    (tie.spec
+    head-plan-requires
+    enum-known-n
+    plan-sheet-requires
+    enum-known-row
+    clear-requires
+    clear-requires-2
+    same-length
+    same-length-2
+    returns
+    same-length-3
+    same-length-4
+    returns-2)

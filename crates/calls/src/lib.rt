@@ -1,0 +1,242 @@
+// Plan, Run and Follow: document 01's rows of refusals in their order, and what each call writes. A refused call leaves zeros alone.
+
+ghost use mathlib.Core.Path.{_≡_};
+ghost use mathlib.Core.Logic.{_↔_};
+ghost use Prim.Native.Nat.{_*_, _≤_};
+ghost use lib.ListN.{length};
+ghost use Rattle.cells.specs.Accepted.{Accepted};
+ghost use Rattle.refusals.specs.Refusal.{orElse, replyOf, numberOf};
+ghost use Rattle.lines.specs.Lines.{labels, headBad};
+ghost use Rattle.order.specs.Order as Order;
+ghost use Rattle.order.specs.Following.{ProperList};
+ghost use Rattle.order.specs.Rows.{cycleBad};
+ghost use Rattle.reading.specs.Read.{tableShort, sheetTable, tableOf};
+ghost use Rattle.calls.specs.Buffers.{planBuffers, runBuffers, followBuffers};
+ghost use Rattle.calls.specs.Plan.{openBad, planOf, answerBy, listedBy, planReply, planTable, planCells};
+ghost use Rattle.calls.specs.Run.{resultsBy, runReply, runTable, runPlan, runResults};
+ghost use Rattle.calls.specs.Follow.{followReply, followTable, followResults};
+ghost use Rattle.calls.specs.Stages.{shortBy, sheetPlanned, sheetFollowed, keptBy};
+ghost use Rattle.calls.specs.Demand.{PlanKept};
+use planning::Planned;
+use refusals::Reply;
+use refusals::Verdict;
+
+// What Plan and Run answer: the length of a whole or a mixed plan, or a refusal.
+pub enum PlanReply {
+    Whole(u64),
+    Mixed(u64),
+    Refused(u64, u64),
+}
+
+// ---- rows 1 to 4: the number of labels where they find nothing. A call looks at the buffers that it is lent, lowest place first.
+
+// Row 4 of one buffer, which is to have at least so many cells.
+fn with_room(n: u64, cells: usize, least: usize, place: u64) -> Reply
+    ensures { λ r. ⌜ r ≡ replyOf (shortBy least cells place) n ⌝ }
+{
+    if cells < least {
+        return Reply::Refused(refusals::BUFFERS, place);
+    }
+    Reply::Answered(n)
+}
+
+fn head_table(text: &[u8], table: usize) -> Reply
+    ensures { λ r. ⌜ r ≡ replyOf (orElse (headBad (now (text .entry))) (tableShort (now (text .entry)) table)) (labels (now (text .entry))) ⌝ }
+{
+    match lines::check_head(text) {
+        Reply::Answered(n) => with_room(n, table, 8 * n as usize, 1),
+        Reply::Refused(row, place) => Reply::Refused(row, place),
+    }
+}
+
+fn head_plan(text: &[u8], table: usize, plan: usize) -> Reply
+    ensures { λ r. ⌜ r ≡ replyOf (orElse (headBad (now (text .entry))) (planBuffers (now (text .entry)) table plan)) (labels (now (text .entry))) ⌝ }
+{
+    match head_table(text, table) {
+        Reply::Answered(n) => with_room(n, plan, n as usize, 2),
+        Reply::Refused(row, place) => Reply::Refused(row, place),
+    }
+}
+
+fn head_run(text: &[u8], table: usize, plan: usize, results: usize) -> Reply
+    ensures { λ r. ⌜ r ≡ replyOf (orElse (headBad (now (text .entry))) (runBuffers (now (text .entry)) table plan results)) (labels (now (text .entry))) ⌝ }
+{
+    match head_plan(text, table, plan) {
+        Reply::Answered(n) => with_room(n, results, 3 * n as usize, 3),
+        Reply::Refused(row, place) => Reply::Refused(row, place),
+    }
+}
+
+fn head_follow(text: &[u8], table: usize, results: usize) -> Reply
+    ensures { λ r. ⌜ r ≡ replyOf (orElse (headBad (now (text .entry))) (followBuffers (now (text .entry)) table results)) (labels (now (text .entry))) ⌝ }
+{
+    match head_table(text, table) {
+        Reply::Answered(n) => with_room(n, results, 3 * n as usize, 3),
+        Reply::Refused(row, place) => Reply::Refused(row, place),
+    }
+}
+
+// ---- Plan
+
+// Row 16, and the plan of an accepted table. Planning leaves the cells behind the order as they were, so they are cleared here.
+fn plan_table(n: usize, table: &mut [i64], plan: &mut [i64]) -> PlanReply
+    requires { ⌜ Accepted (now table) n × (n ≤ length (now plan)) ⌝ }
+    ensures { λ r. ⌜ r ≡ answerBy (cycleBad (now (table .entry)) n) (Order.plan (now (table .entry)) n) ⌝ }
+    ensures { λ _. ⌜ now (table .exit) ≡ keptBy (cycleBad (now (table .entry)) n) (now (table .entry)) ⌝ }
+    ensures { λ _. ⌜ now (plan .exit) ≡ listedBy (cycleBad (now (table .entry)) n) (Order.plan (now (table .entry)) n) (length (now (plan .entry))) ⌝ }
+{
+    match planning::plan_of(table, n, plan) {
+        Planned::Whole(count) => {
+            cells::clear_from(plan, count as usize);
+            PlanReply::Whole(count)
+        }
+        Planned::Mixed(count) => {
+            cells::clear_from(plan, count as usize);
+            PlanReply::Mixed(count)
+        }
+        Planned::Cycle(label) => {
+            cells::clear(table);
+            cells::clear(plan);
+            PlanReply::Refused(refusals::CYCLE, label)
+        }
+    }
+}
+
+// Rows 5 to 16 of a text that rows 1 to 4 let pass, with its table and plan: Run plans by it too.
+fn plan_sheet(text: &[u8], n: usize, table: &mut [i64], plan: &mut [i64]) -> PlanReply
+    requires { ⌜ (headBad (now text) ≡ Verdict.Fine) × (n ≡ labels (now text)) × (8 * n ≤ length (now table)) × (n ≤ length (now plan)) ⌝ }
+    ensures { λ r. ⌜ r ≡ answerBy (sheetPlanned (now (text .entry)) (length (now (table .entry)))) (planOf (now (text .entry)) (length (now (table .entry)))) ⌝ }
+    ensures { λ _. ⌜ now (table .exit) ≡ tableOf (sheetPlanned (now (text .entry)) (length (now (table .entry)))) (now (text .entry)) (length (now (table .entry))) ⌝ }
+    ensures { λ _. ⌜ now (plan .exit) ≡ listedBy (sheetPlanned (now (text .entry)) (length (now (table .entry)))) (planOf (now (text .entry)) (length (now (table .entry)))) (length (now (plan .entry))) ⌝ }
+{
+    match reading::read_sheet(text, n, table) {
+        Verdict::Fine => plan_table(n, table, plan),
+        Verdict::Refused(row, label) => {
+            cells::clear(table);
+            cells::clear(plan);
+            PlanReply::Refused(row, label)
+        }
+    }
+}
+
+pub fn plan(text: &[u8], table: &mut [i64], plan: &mut [i64]) -> PlanReply
+    ensures { λ r. ⌜ r ≡ planReply (now (text .entry)) (length (now (table .entry))) (length (now (plan .entry))) ⌝ }
+    ensures { λ _. ⌜ now (table .exit) ≡ planTable (now (text .entry)) (length (now (table .entry))) (length (now (plan .entry))) ⌝ }
+    ensures { λ _. ⌜ now (plan .exit) ≡ planCells (now (text .entry)) (length (now (table .entry))) (length (now (plan .entry))) ⌝ }
+    ensures { λ r. ⌜ (openBad (now (text .entry)) (length (now (table .entry))) (planBuffers (now (text .entry)) (length (now (table .entry))) (length (now (plan .entry)))) ≡ Verdict.Fine → PlanKept (sheetTable (now (text .entry)) (length (now (table .entry)))) r (now (plan .exit))) ⌝ }
+{
+    match head_plan(text, table.len(), plan.len()) {
+        Reply::Answered(n) => plan_sheet(text, n as usize, table, plan),
+        Reply::Refused(row, place) => {
+            cells::clear(table);
+            cells::clear(plan);
+            PlanReply::Refused(row, place)
+        }
+    }
+}
+
+// ---- Run
+
+// The plan of a text that rows 1 to 4 let pass, and the results down it.
+fn run_sheet(
+    text: &[u8],
+    n: usize,
+    table: &mut [i64],
+    plan: &mut [i64],
+    results: &mut [i64],
+) -> PlanReply
+    requires { ⌜ (headBad (now text) ≡ Verdict.Fine) × (n ≡ labels (now text)) × (8 * n ≤ length (now table)) × (n ≤ length (now plan)) × (3 * n ≤ length (now results)) ⌝ }
+    ensures { λ r. ⌜ r ≡ answerBy (sheetPlanned (now (text .entry)) (length (now (table .entry)))) (planOf (now (text .entry)) (length (now (table .entry)))) ⌝ }
+    ensures { λ _. ⌜ now (table .exit) ≡ tableOf (sheetPlanned (now (text .entry)) (length (now (table .entry)))) (now (text .entry)) (length (now (table .entry))) ⌝ }
+    ensures { λ _. ⌜ now (plan .exit) ≡ listedBy (sheetPlanned (now (text .entry)) (length (now (table .entry)))) (planOf (now (text .entry)) (length (now (table .entry)))) (length (now (plan .entry))) ⌝ }
+    ensures { λ _. ⌜ now (results .exit) ≡ resultsBy (sheetPlanned (now (text .entry)) (length (now (table .entry)))) (now (text .entry)) (length (now (table .entry))) (length (now (results .entry))) ⌝ }
+{
+    match plan_sheet(text, n, table, plan) {
+        PlanReply::Whole(count) => {
+            figures::run_down(table, n, plan, count as usize, results);
+            PlanReply::Whole(count)
+        }
+        PlanReply::Mixed(count) => {
+            figures::run_down(table, n, plan, count as usize, results);
+            PlanReply::Mixed(count)
+        }
+        PlanReply::Refused(row, label) => {
+            cells::clear(results);
+            PlanReply::Refused(row, label)
+        }
+    }
+}
+
+pub fn run(text: &[u8], table: &mut [i64], plan: &mut [i64], results: &mut [i64]) -> PlanReply
+    ensures { λ r. ⌜ r ≡ runReply (now (text .entry)) (length (now (table .entry))) (length (now (plan .entry))) (length (now (results .entry))) ⌝ }
+    ensures { λ _. ⌜ now (table .exit) ≡ runTable (now (text .entry)) (length (now (table .entry))) (length (now (plan .entry))) (length (now (results .entry))) ⌝ }
+    ensures { λ _. ⌜ now (plan .exit) ≡ runPlan (now (text .entry)) (length (now (table .entry))) (length (now (plan .entry))) (length (now (results .entry))) ⌝ }
+    ensures { λ _. ⌜ now (results .exit) ≡ runResults (now (text .entry)) (length (now (table .entry))) (length (now (plan .entry))) (length (now (results .entry))) ⌝ }
+    ensures { λ r. ⌜ (openBad (now (text .entry)) (length (now (table .entry))) (runBuffers (now (text .entry)) (length (now (table .entry))) (length (now (plan .entry))) (length (now (results .entry)))) ≡ Verdict.Fine → PlanKept (sheetTable (now (text .entry)) (length (now (table .entry)))) r (now (plan .exit))) ⌝ }
+{
+    match head_run(text, table.len(), plan.len(), results.len()) {
+        Reply::Answered(n) => run_sheet(text, n as usize, table, plan, results),
+        Reply::Refused(row, place) => {
+            cells::clear(table);
+            cells::clear(plan);
+            cells::clear(results);
+            PlanReply::Refused(row, place)
+        }
+    }
+}
+
+// ---- Follow
+
+// Rows 5 to 18 of a text that rows 1 to 4 let pass, and its table. Where they refuse, the table is for the caller to clear.
+fn follow_rows(text: &[u8], n: usize, order: &[i64], table: &mut [i64]) -> Verdict
+    requires { ⌜ (headBad (now text) ≡ Verdict.Fine) × (n ≡ labels (now text)) × (8 * n ≤ length (now table)) ⌝ }
+    ensures { λ r. ⌜ r ≡ sheetFollowed (now (text .entry)) (now (order .entry)) (length (now (table .entry))) ⌝ }
+    ensures { λ r. ⌜ (r ≡ Verdict.Fine → now (table .exit) ≡ sheetTable (now (text .entry)) (length (now (table .entry)))) ⌝ }
+{
+    match reading::read_sheet(text, n, table) {
+        Verdict::Fine => following::check_order(table, n, order),
+        Verdict::Refused(row, label) => Verdict::Refused(row, label),
+    }
+}
+
+// The results down an order list that those rows let pass.
+fn follow_sheet(
+    text: &[u8],
+    n: usize,
+    order: &[i64],
+    table: &mut [i64],
+    results: &mut [i64],
+) -> Reply
+    requires { ⌜ (headBad (now text) ≡ Verdict.Fine) × (n ≡ labels (now text)) × (8 * n ≤ length (now table)) × (3 * n ≤ length (now results)) ⌝ }
+    ensures { λ r. ⌜ r ≡ replyOf (sheetFollowed (now (text .entry)) (now (order .entry)) (length (now (table .entry)))) (length (now (order .entry))) ⌝ }
+    ensures { λ _. ⌜ now (table .exit) ≡ tableOf (sheetFollowed (now (text .entry)) (now (order .entry)) (length (now (table .entry)))) (now (text .entry)) (length (now (table .entry))) ⌝ }
+    ensures { λ _. ⌜ now (results .exit) ≡ resultsBy (sheetFollowed (now (text .entry)) (now (order .entry)) (length (now (table .entry)))) (now (text .entry)) (length (now (table .entry))) (length (now (results .entry))) ⌝ }
+{
+    match follow_rows(text, n, order, table) {
+        Verdict::Fine => {
+            figures::run_down(table, n, order, order.len(), results);
+            Reply::Answered(order.len() as u64)
+        }
+        Verdict::Refused(row, place) => {
+            cells::clear(table);
+            cells::clear(results);
+            Reply::Refused(row, place)
+        }
+    }
+}
+
+pub fn follow(text: &[u8], order: &[i64], table: &mut [i64], results: &mut [i64]) -> Reply
+    ensures { λ r. ⌜ r ≡ followReply (now (text .entry)) (now (order .entry)) (length (now (table .entry))) (length (now (results .entry))) ⌝ }
+    ensures { λ _. ⌜ now (table .exit) ≡ followTable (now (text .entry)) (now (order .entry)) (length (now (table .entry))) (length (now (results .entry))) ⌝ }
+    ensures { λ _. ⌜ now (results .exit) ≡ followResults (now (text .entry)) (now (order .entry)) (length (now (table .entry))) (length (now (results .entry))) ⌝ }
+    ensures { λ r. ⌜ (openBad (now (text .entry)) (length (now (table .entry))) (followBuffers (now (text .entry)) (length (now (table .entry))) (length (now (results .entry)))) ≡ Verdict.Fine → (numberOf r ≡ 0) ↔ ProperList (sheetTable (now (text .entry)) (length (now (table .entry)))) (now (order .entry))) ⌝ }
+{
+    match head_follow(text, table.len(), results.len()) {
+        Reply::Answered(n) => follow_sheet(text, n as usize, order, table, results),
+        Reply::Refused(row, place) => {
+            cells::clear(table);
+            cells::clear(results);
+            Reply::Refused(row, place)
+        }
+    }
+}

@@ -1,0 +1,5 @@
+mod Words
+mod Steps
+mod Taken
+mod Places
+mod Scratch

@@ -1,0 +1,46 @@
+use mathlib.Core.Path.{sym, _∙_}
+use native.Mathlib.Omega.{arith}
+use Rattle.following.proofs.Places.{listed-stop, listed-on}
+use borrow.Author.Needs.{needs}
+use Rattle.following.proofs.check_list.Statement.{statement}
+use Rattle.following.proofs.check_list.Tie as tie
+
+listed-place-requires : tie.Need-listed-place-requires
+listed-place-requires c κs = search needs
+
+found-at-requires : tie.Need-found-at-requires
+found-at-requires c κs = search needs
+
+same-length : tie.Need-same-length
+same-length c = search needs
+
+returns : tie.Need-returns
+returns c = listed-stop _ _ _ _ _ (c .before .before .before .before .listed-place .ensures) (c .before .if1 .taken) (c .found-at .ensures)
+
+early-place-requires : tie.Need-early-place-requires
+early-place-requires c κs =
+    let p = c .before .before .before .before .before .before .before .before .pre in
+    let k = c .before .before .before .before .listed-place in
+    (p .0, (p .1 .0, (omega (arith, p .1 .1, k .kept .1 .1 .1 .0), sym (k .ensures) ∙ c .before .if1 .left)))
+
+found-at-requires-2 : tie.Need-found-at-requires-2
+found-at-requires-2 c κs = search needs
+
+same-length-2 : tie.Need-same-length-2
+same-length-2 c = search needs
+
+returns-2 : tie.Need-returns-2
+returns-2 c = listed-on _ _ _ _ _ (c .before .before .before .before .before .before .before .before .listed-place .ensures) (c .before .before .before .before .before .if1 .left) _ (c .before .before .before .early-place .ensures) (c .found-at2 .ensures)
+
+pub check-list-spec : {M : Type 1} → statement M
+check-list-spec =
+    tie.close
+    (tie.spec
+    listed-place-requires
+    found-at-requires
+    same-length
+    returns
+    early-place-requires
+    found-at-requires-2
+    same-length-2
+    returns-2)

@@ -1,0 +1,48 @@
+use mathlib.Core.Logic.{inl, inr}
+use native.Mathlib.Omega.{arith}
+use borrow.Author.Needs.{needs}
+use Rattle.following.proofs.find_cycle.Statement.{statement}
+use Rattle.following.proofs.find_cycle.Tie as tie
+
+link-requires : tie.Need-link-requires
+link-requires c κs = let p = c .before .before .before .before .before .pre in (p .0, (search (inl, inr), (p .1 .0 .0, p .1 .1 .0)))
+
+reach-rows-requires : tie.Need-reach-rows-requires
+reach-rows-requires c κs =
+    let p = c .before .before .before .before .before .before .before .before .before .before .before .before .pre in
+    let k = c .before .before .before .before .before .before .link in
+    (p .0, (search (inl, inr), ((omega (arith, p .1 .0 .0, k .kept .1 .1 .1 .0), k .ensures), (p .1 .0 .1, (p .1 .1 .1, p .1 .1 .2)))))
+
+first-cycle-requires : tie.Need-first-cycle-requires
+first-cycle-requires c κs =
+    let p = c .before .before .before .before .before .before .before .before .before .before .before .before .before .before .before .before .before .before .before .before .pre in
+    let k = c .before .before .before .before .before .before .before .reach-rows in
+    (p .0, (search (inl, inr), (omega (arith, p .1 .0 .1 .rows, k .kept .1 .1 .1 .1 .1 .0), k .ensures)))
+
+same-length : tie.Need-same-length
+same-length c = search needs
+
+same-length-2 : tie.Need-same-length-2
+same-length-2 c = search needs
+
+same-length-3 : tie.Need-same-length-3
+same-length-3 c = search needs
+
+same-length-4 : tie.Need-same-length-4
+same-length-4 c = search needs
+
+returns : tie.Need-returns
+returns c = search needs
+
+pub find-cycle-spec : {M : Type 1} → statement M
+find-cycle-spec =
+    tie.close
+    (tie.spec
+    link-requires
+    reach-rows-requires
+    first-cycle-requires
+    same-length
+    same-length-2
+    same-length-3
+    same-length-4
+    returns)

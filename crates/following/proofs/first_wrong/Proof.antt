@@ -1,0 +1,96 @@
+use mathlib.Core.Path.{_≡_, refl, sym, _∙_}
+use mathlib.Core.List.{[]}
+use Prim.Native.Nat.{_-_, _≤_}
+use native.Mathlib.Omega.{arith}
+use borrow.Author.Needs.{needs}
+use lib.ListN.{length, take}
+use Rattle.order.specs.Following.{labelsOf, firstPosition}
+use Rattle.marks.proofs.Squares.{mark-in}
+use Rattle.following.specs.Left.{Left, lacks}
+use Rattle.following.proofs.Steps.{onward}
+use Rattle.following.proofs.Taken.{left-all, left-turn, left-end, wrong-here, wrong-turn, onward-none}
+use Rattle.following.proofs.first_wrong.Statement.{statement}
+use Rattle.following.proofs.first_wrong.Tie as tie
+
+abbrev Inv-loop : tie.InvT-loop
+Inv-loop order left₀ w i₀ left i =
+    (length left ≡ length left₀) × (i ≤ length order) × Left left₀ w (take i (labelsOf order)) left × (onward (lacks left₀ w) (labelsOf order) i ≡ firstPosition (lacks left₀ w) [] 1 (labelsOf order))
+
+abbrev μ-loop : tie.MeasureT-loop
+μ-loop order left₀ w i₀ left i = length order - i
+
+loop-holds : tie.Need-loop-holds Inv-loop μ-loop
+loop-holds c = (refl, omega arith, left-all _ _, refl)
+
+nat-at-requires : tie.Need-nat-at-requires Inv-loop μ-loop
+nat-at-requires c κs = search needs
+
+holds-requires : tie.Need-holds-requires Inv-loop μ-loop
+holds-requires c κs = search needs
+
+drop-mark-requires : tie.Need-drop-mark-requires Inv-loop μ-loop
+drop-mark-requires c κs =
+    let m = sym (c .before .before .holds .ensures) ∙ c .before .if1 .taken in
+    ((mark-in _ _ _ _ m, omega (arith, c .before .before .before .before .before .before .loop .inv .0, c .before .before .before .before .before .before .before .before .pre .0)), m)
+
+add-result : tie.Need-add-result Inv-loop μ-loop
+add-result c = search needs
+
+same-length : tie.Need-same-length Inv-loop μ-loop
+same-length c = c .before .before .before .before .before .loop .inv .0
+
+returns : tie.Need-returns Inv-loop μ-loop
+returns c =
+    let l = c .before .before .before .before .before in
+    let o = l .before .before .args .order .now in (
+      sym (wrong-here o _ _ _ _ (l .loop .inv .2) (c .before .before .before .before .loop-test .taken) _ (c .before .before .before .nat-at .ensures) (sym (c .before .holds .ensures) ∙ c .if1 .left)) ∙ l .loop .inv .3,
+      λ z. absurd (omega arith),
+    )
+
+add-i : tie.Need-add-i Inv-loop μ-loop
+add-i c = search needs
+
+loop-less : tie.Need-loop-less Inv-loop μ-loop
+loop-less c = search needs
+
+loop-again : tie.Need-loop-again Inv-loop μ-loop
+loop-again c =
+    let l = c .before .before .before .before .before .before .before .before .before in
+    let o = l .before .before .args .order .now in
+    let h = c .before .before .before .before .before .before .before .before .loop-test .taken in
+    let v = c .before .before .before .before .before .before .before .nat-at .ensures in
+    let d = c .before .before .drop-mark in (
+      d .kept .0 ∙ l .loop .inv .0,
+      omega (arith, h),
+      left-turn o _ _ _ _ (l .loop .inv .2) h _ v _ (d .ensures),
+      wrong-turn o _ _ _ _ (l .loop .inv .2) h _ v (sym (c .before .before .before .before .before .holds .ensures) ∙ c .before .before .before .before .if1 .taken) ∙ l .loop .inv .3,
+    )
+
+same-length-2 : tie.Need-same-length-2 Inv-loop μ-loop
+same-length-2 c = c .before .loop .inv .0
+
+returns-2 : tie.Need-returns-2 Inv-loop μ-loop
+returns-2 c =
+    let l = c .before .loop in
+    let o = c .before .before .before .args .order .now in
+    let h : length o ≤ l .i = omega (arith, c .loop-test .left) in
+    (sym (onward-none _ o _ h) ∙ l .inv .3, λ _. left-end o _ _ _ _ h (l .inv .2))
+
+pub first-wrong-spec : {M : Type 1} → statement M
+first-wrong-spec =
+    tie.close
+    (tie.spec
+    Inv-loop
+    μ-loop
+    loop-holds
+    nat-at-requires
+    holds-requires
+    drop-mark-requires
+    add-result
+    same-length
+    returns
+    add-i
+    loop-less
+    loop-again
+    same-length-2
+    returns-2)

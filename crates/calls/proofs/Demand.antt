@@ -6,14 +6,18 @@ use Prim.Native.Nat.{ℕ, _*_, _≤_}
 use lib.IntN.{ℤ}
 use lib.ListN.{length}
 use native.Mathlib.Omega.{arith}
+use borrow.Author.Tests.{le-leb}
 use Rattle.cells.specs.Accepted.{Accepted}
 use Rattle.refusals.specs.Refusal.{orElse, numberOf}
 use Rattle.refusals.specs.declared.Verdict.the-variants.{Fine}
-use Rattle.lines.specs.Lines.{labels}
+use Rattle.refusals.proofs.OrElse.{both-fine}
+use Rattle.lines.specs.Lines.{labels, headBad}
 use Rattle.order.specs.Order.{NoCycle}
 use Rattle.order.specs.Following.{ProperList}
 use Rattle.order.proofs.Mixed.{proper-no-cycle}
-use Rattle.reading.specs.Read.{tableShort, sheetTable}
+use Rattle.reading.specs.Read.{tableShort, sheetBad, sheetTable, readBad}
+use Rattle.reading.specs.Keeps.{Keeps}
+use Rattle.reading.proofs.Keeps.{keeps-read}
 use Rattle.figures.specs.Figures.{resultCells, WorkedOut}
 use Rattle.figures.proofs.Working.{figures-solve, figures-only}
 use Rattle.calls.specs.Buffers.{planShort, resultsShort, planBuffers, runBuffers, followBuffers}
@@ -91,3 +95,15 @@ module _ (s : List ℕ) (m p q : ℕ) (e : openBad s m (runBuffers s m p q) ≡ 
     worked = worked;
     only = only;
   }
+
+-- ---- of a sheet that keeps document 01's rules, said of its text alone
+
+long-open : (s : List ℕ) (m p q : ℕ) → readBad s m ≡ Fine → labels s ≤ p → 3 * labels s ≤ q → openBad s m (runBuffers s m p q) ≡ Fine
+unfolding openBad readBad planShort resultsShort
+long-open s m p q e a b =
+    let h = both-fine (headBad s) (orElse (tableShort s m) (sheetBad s m)) e in
+    let r = both-fine (tableShort s m) (sheetBad s m) (h .1) in
+    rw (h .0, r .0, le-leb (labels s) p a, le-leb (3 * labels s) q b) (r .1)
+
+pub keeps-demand : (s : List ℕ) → Keeps s → (m p q : ℕ) → 8 * labels s ≤ m → labels s ≤ p → 3 * labels s ≤ q → Demand3 s m p q
+keeps-demand s k m p q a b c = demand-3 s m p q (long-open s m p q (keeps-read s m a k) b c)

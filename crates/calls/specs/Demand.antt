@@ -41,7 +41,8 @@ pub record Demand3 (s : List ℕ) (m p q : ℕ) : Type 0 where
   pub same : (o : List ℤ) → ProperList (sheetTable s m) o → followResults s o m q ≡ runResults s m p q
   -- "and they are those of document 01's Working out": they satisfy its rules, and no others do
   pub worked : (o : List ℤ) → ProperList (sheetTable s m) o → WorkedOut (sheetTable s m) (followResults s o m q)
-  pub only : (o : List ℤ) → ProperList (sheetTable s m) o → (r : List ℤ) → length r ≡ q → WorkedOut (sheetTable s m) r → r ≡ followResults s o m q
+  pub only : (o : List ℤ) → ProperList (sheetTable s m) o → (r : List ℤ) → length r ≡ q → WorkedOut (sheetTable s m) r
+      → r ≡ followResults s o m q
 
 -- "A value read before it has been worked out puts another prism on the block": results in q cells are what one comes to by evaluating
 -- the values of the order o in turn, from zeros, and at each one's turn it reads only those that have been evaluated

@@ -4,6 +4,7 @@ ghost use mathlib.Core.Path.{_≡_};
 ghost use mathlib.Core.Logic.{_↔_};
 ghost use Prim.Native.Nat.{_*_, _≤_};
 ghost use lib.ListN.{length};
+ghost use Rattle.cells.specs.Cells.{zeros};
 ghost use Rattle.cells.specs.Accepted.{Accepted};
 ghost use Rattle.refusals.specs.Refusal.{orElse, replyOf, numberOf};
 ghost use Rattle.lines.specs.Lines.{labels, headBad};
@@ -76,6 +77,16 @@ fn head_follow(text: &[u8], table: usize, results: usize) -> Reply
     }
 }
 
+// ---- a refusal leaves zeros
+
+fn clear_both(first: &mut [i64], second: &mut [i64])
+    ensures { λ _. ⌜ now (first .exit) ≡ zeros (length (now (first .entry))) ⌝ }
+    ensures { λ _. ⌜ now (second .exit) ≡ zeros (length (now (second .entry))) ⌝ }
+{
+    cells::clear(first);
+    cells::clear(second);
+}
+
 // ---- Plan
 
 // Row 16, and the plan of an accepted table. Planning leaves the cells behind the order as they were, so they are cleared here.
@@ -86,17 +97,16 @@ fn plan_table(n: usize, table: &mut [i64], plan: &mut [i64]) -> PlanReply
     ensures { λ _. ⌜ now (plan .exit) ≡ listedBy (cycleBad (now (table .entry)) n) (Order.plan (now (table .entry)) n) (length (now (plan .entry))) ⌝ }
 {
     match planning::plan_of(table, n, plan) {
-        Planned::Whole(count) => {
-            cells::clear_from(plan, count as usize);
-            PlanReply::Whole(count)
+        Planned::Whole(whole) => {
+            cells::clear_from(plan, whole as usize);
+            PlanReply::Whole(whole)
         }
-        Planned::Mixed(count) => {
-            cells::clear_from(plan, count as usize);
-            PlanReply::Mixed(count)
+        Planned::Mixed(mixed) => {
+            cells::clear_from(plan, mixed as usize);
+            PlanReply::Mixed(mixed)
         }
         Planned::Cycle(label) => {
-            cells::clear(table);
-            cells::clear(plan);
+            clear_both(table, plan);
             PlanReply::Refused(refusals::CYCLE, label)
         }
     }
@@ -112,8 +122,7 @@ fn plan_sheet(text: &[u8], n: usize, table: &mut [i64], plan: &mut [i64]) -> Pla
     match reading::read_sheet(text, n, table) {
         Verdict::Fine => plan_table(n, table, plan),
         Verdict::Refused(row, label) => {
-            cells::clear(table);
-            cells::clear(plan);
+            clear_both(table, plan);
             PlanReply::Refused(row, label)
         }
     }
@@ -128,8 +137,7 @@ pub fn plan(text: &[u8], table: &mut [i64], plan: &mut [i64]) -> PlanReply
     match head_plan(text, table.len(), plan.len()) {
         Reply::Answered(n) => plan_sheet(text, n as usize, table, plan),
         Reply::Refused(row, place) => {
-            cells::clear(table);
-            cells::clear(plan);
+            clear_both(table, plan);
             PlanReply::Refused(row, place)
         }
     }
@@ -177,8 +185,7 @@ pub fn run(text: &[u8], table: &mut [i64], plan: &mut [i64], results: &mut [i64]
     match head_run(text, table.len(), plan.len(), results.len()) {
         Reply::Answered(n) => run_sheet(text, n as usize, table, plan, results),
         Reply::Refused(row, place) => {
-            cells::clear(table);
-            cells::clear(plan);
+            clear_both(table, plan);
             cells::clear(results);
             PlanReply::Refused(row, place)
         }
@@ -218,8 +225,7 @@ fn follow_sheet(
             Reply::Answered(order.len() as u64)
         }
         Verdict::Refused(row, place) => {
-            cells::clear(table);
-            cells::clear(results);
+            clear_both(table, results);
             Reply::Refused(row, place)
         }
     }
@@ -234,8 +240,7 @@ pub fn follow(text: &[u8], order: &[i64], table: &mut [i64], results: &mut [i64]
     match head_follow(text, table.len(), results.len()) {
         Reply::Answered(n) => follow_sheet(text, n as usize, order, table, results),
         Reply::Refused(row, place) => {
-            cells::clear(table);
-            cells::clear(results);
+            clear_both(table, results);
             Reply::Refused(row, place)
         }
     }

@@ -19,11 +19,8 @@ plan-sheet-requires c κs =
 enum-known-row : tie.Need-enum-known-row
 enum-known-row c = search needs
 
-clear-requires : tie.Need-clear-requires
-clear-requires c κs = search needs
-
-clear-requires-2 : tie.Need-clear-requires-2
-clear-requires-2 c κs = search needs
+clear-both-requires : tie.Need-clear-both-requires
+clear-both-requires c κs = search needs
 
 same-length : tie.Need-same-length
 same-length c = search needs
@@ -44,8 +41,9 @@ same-length-4 c = search needs
 
 returns-2 : tie.Need-returns-2
 returns-2 c =
-    let a = c .before .before .before .before .before .before .before .before .before .before .before .args in
-    plan-refused (a .text .now) (length (a .table .now)) (length (a .plan .now)) _ (c .before .before .before .before .before .before .before .before .before .head-plan .ensures) _ _ _ _ (c .before .before .before .before .before .before .before .row .given .1) (c .before .before .before .before .clear .ensures) (c .before .clear2 .ensures)
+    let a = c .before .before .before .before .before .before .before .before .before .before .args in
+    let k = c .before .before .clear-both .ensures in
+    plan-refused (a .text .now) (length (a .table .now)) (length (a .plan .now)) _ (c .before .before .before .before .before .before .before .before .head-plan .ensures) _ _ _ _ (c .before .before .before .before .before .before .row .given .1) (k .0) (k .1)
 
 pub plan-spec : {M : Type 1} → statement M
 plan-spec =
@@ -55,8 +53,7 @@ plan-spec =
     enum-known-n
     plan-sheet-requires
     enum-known-row
-    clear-requires
-    clear-requires-2
+    clear-both-requires
     same-length
     same-length-2
     returns

@@ -22,11 +22,8 @@ plan-table-requires c κs =
 enum-known-row : tie.Need-enum-known-row
 enum-known-row c = search needs
 
-clear-requires : tie.Need-clear-requires
-clear-requires c κs = search needs
-
-clear-requires-2 : tie.Need-clear-requires-2
-clear-requires-2 c κs = search needs
+clear-both-requires : tie.Need-clear-both-requires
+clear-both-requires c κs = search needs
 
 same-length : tie.Need-same-length
 same-length c = search needs
@@ -49,9 +46,10 @@ same-length-4 c = search needs
 
 returns-2 : tie.Need-returns-2
 returns-2 c =
-    let a = c .before .before .before .before .before .before .before .before .before .before .before .before .before .args in
-    let k = c .before .before .before .before .before .before .before .before .before .before .read-sheet .ensures in
-    refused-stands (a .text .now) (length (a .table .now)) _ _ _ _ _ _ (sheet-refused (a .text .now) (length (a .table .now)) _ (c .before .before .before .before .before .before .before .before .before .before .before .before .before .pre .1) _ _ (k .0) (k .1) _ _ (c .before .before .before .before .before .before .before .row .given .1)) (c .before .before .before .before .clear .ensures ∙ ap zeros (c .before .before .before .before .before .before .before .before .before .before .read-sheet .kept .1 .1 .0)) (c .before .clear2 .ensures)
+    let a = c .before .before .before .before .before .before .before .before .before .before .before .before .args in
+    let k = c .before .before .before .before .before .before .before .before .before .read-sheet .ensures in
+    let l = c .before .before .clear-both .ensures in
+    refused-stands (a .text .now) (length (a .table .now)) _ _ _ _ _ _ (sheet-refused (a .text .now) (length (a .table .now)) _ (c .before .before .before .before .before .before .before .before .before .before .before .before .pre .1) _ _ (k .0) (k .1) _ _ (c .before .before .before .before .before .before .row .given .1)) (l .0 ∙ ap zeros (c .before .before .before .before .before .before .before .before .before .read-sheet .kept .1 .1 .0)) (l .1)
 
 pub plan-sheet-spec : {M : Type 1} → statement M
 plan-sheet-spec =
@@ -61,8 +59,7 @@ plan-sheet-spec =
     enum-told
     plan-table-requires
     enum-known-row
-    clear-requires
-    clear-requires-2
+    clear-both-requires
     same-length
     same-length-2
     returns

@@ -9,14 +9,14 @@ use Rattle.calls.proofs.plan_table.Tie as tie
 plan-of-requires : tie.Need-plan-of-requires
 plan-of-requires c κs = search needs
 
-enum-known-count : tie.Need-enum-known-count
-enum-known-count c = search needs
+enum-known-whole : tie.Need-enum-known-whole
+enum-known-whole c = search needs
 
 clear-from-requires : tie.Need-clear-from-requires
 clear-from-requires c κs = search needs
 
-enum-known-count-2 : tie.Need-enum-known-count-2
-enum-known-count-2 c = search needs
+enum-known-mixed : tie.Need-enum-known-mixed
+enum-known-mixed c = search needs
 
 clear-from-requires-2 : tie.Need-clear-from-requires-2
 clear-from-requires-2 c κs = search needs
@@ -24,11 +24,8 @@ clear-from-requires-2 c κs = search needs
 enum-known-label : tie.Need-enum-known-label
 enum-known-label c = search needs
 
-clear-requires : tie.Need-clear-requires
-clear-requires c κs = search needs
-
-clear-requires-2 : tie.Need-clear-requires-2
-clear-requires-2 c κs = search needs
+clear-both-requires : tie.Need-clear-both-requires
+clear-both-requires c κs = search needs
 
 same-length : tie.Need-same-length
 same-length c = search needs
@@ -37,7 +34,7 @@ same-length-2 : tie.Need-same-length-2
 same-length-2 c = search needs
 
 returns : tie.Need-returns
-returns c = planned-left _ _ (c .before .before .before .before .before .before .before .before .before .before .pre .0) _ _ _ (c .before .before .before .before .before .before .before .plan-of .ensures) (made.Whole _) _ _ (c .before .before .before .before .count .given .1) refl (c .before .clear-from .ensures)
+returns c = planned-left _ _ (c .before .before .before .before .before .before .before .before .before .before .pre .0) _ _ _ (c .before .before .before .before .before .before .before .plan-of .ensures) (made.Whole _) _ _ (c .before .before .before .before .whole .given .1) refl (c .before .clear-from .ensures)
 
 same-length-3 : tie.Need-same-length-3
 same-length-3 c = search needs
@@ -46,7 +43,7 @@ same-length-4 : tie.Need-same-length-4
 same-length-4 c = search needs
 
 returns-2 : tie.Need-returns-2
-returns-2 c = planned-left _ _ (c .before .before .before .before .before .before .before .before .before .before .pre .0) _ _ _ (c .before .before .before .before .before .before .before .plan-of .ensures) (made.Mixed _) _ _ (c .before .before .before .before .count2 .given .1) refl (c .before .clear-from2 .ensures)
+returns-2 c = planned-left _ _ (c .before .before .before .before .before .before .before .before .before .before .pre .0) _ _ _ (c .before .before .before .before .before .before .before .plan-of .ensures) (made.Mixed _) _ _ (c .before .before .before .before .mixed .given .1) refl (c .before .clear-from2 .ensures)
 
 same-length-5 : tie.Need-same-length-5
 same-length-5 c = search needs
@@ -55,20 +52,21 @@ same-length-6 : tie.Need-same-length-6
 same-length-6 c = search needs
 
 returns-3 : tie.Need-returns-3
-returns-3 c = planned-left _ _ (c .before .before .before .before .before .before .before .before .before .before .before .before .before .pre .0) _ _ _ (c .before .before .before .before .before .before .before .before .before .before .plan-of .ensures) (made.Cycle _) _ _ (c .before .before .before .before .before .before .before .label .given .1) (c .before .before .before .before .clear .ensures) (c .before .clear2 .ensures)
+returns-3 c =
+    let k = c .before .before .clear-both .ensures in
+    planned-left _ _ (c .before .before .before .before .before .before .before .before .before .before .before .before .pre .0) _ _ _ (c .before .before .before .before .before .before .before .before .before .plan-of .ensures) (made.Cycle _) _ _ (c .before .before .before .before .before .before .label .given .1) (k .0) (k .1)
 
 pub plan-table-spec : {M : Type 1} → statement M
 plan-table-spec =
     tie.close
     (tie.spec
     plan-of-requires
-    enum-known-count
+    enum-known-whole
     clear-from-requires
-    enum-known-count-2
+    enum-known-mixed
     clear-from-requires-2
     enum-known-label
-    clear-requires
-    clear-requires-2
+    clear-both-requires
     same-length
     same-length-2
     returns

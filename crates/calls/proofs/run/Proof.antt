@@ -19,14 +19,11 @@ run-sheet-requires c κs =
 enum-known-row : tie.Need-enum-known-row
 enum-known-row c = search needs
 
+clear-both-requires : tie.Need-clear-both-requires
+clear-both-requires c κs = search needs
+
 clear-requires : tie.Need-clear-requires
 clear-requires c κs = search needs
-
-clear-requires-2 : tie.Need-clear-requires-2
-clear-requires-2 c κs = search needs
-
-clear-requires-3 : tie.Need-clear-requires-3
-clear-requires-3 c κs = search needs
 
 same-length : tie.Need-same-length
 same-length c = search needs
@@ -54,8 +51,9 @@ same-length-6 c = search needs
 
 returns-2 : tie.Need-returns-2
 returns-2 c =
-    let a = c .before .before .before .before .before .before .before .before .before .before .before .before .before .before .args in
-    run-refused (a .text .now) (length (a .table .now)) (length (a .plan .now)) (length (a .results .now)) _ (c .before .before .before .before .before .before .before .before .before .before .before .before .head-run .ensures) _ _ _ _ _ (c .before .before .before .before .before .before .before .before .before .before .row .given .1) (c .before .before .before .before .before .before .before .clear .ensures) (c .before .before .before .before .clear2 .ensures) (c .before .clear3 .ensures)
+    let a = c .before .before .before .before .before .before .before .before .before .before .before .before .before .args in
+    let k = c .before .before .before .before .before .clear-both .ensures in
+    run-refused (a .text .now) (length (a .table .now)) (length (a .plan .now)) (length (a .results .now)) _ (c .before .before .before .before .before .before .before .before .before .before .before .head-run .ensures) _ _ _ _ _ (c .before .before .before .before .before .before .before .before .before .row .given .1) (k .0) (k .1) (c .before .clear .ensures)
 
 pub run-spec : {M : Type 1} → statement M
 run-spec =
@@ -65,9 +63,8 @@ run-spec =
     enum-known-n
     run-sheet-requires
     enum-known-row
+    clear-both-requires
     clear-requires
-    clear-requires-2
-    clear-requires-3
     same-length
     same-length-2
     same-length-3

@@ -75,33 +75,32 @@ module _ (t : List ℤ) (n : ℕ) (ok : Accepted t n) where
 
 -- ---- scratch that is all 0
 
-zero-at : (k i : ℕ) → getD (replicate {0} {A = ℕ} k 0) i 0 ≡ 0
+pub zero-at : (k i : ℕ) → getD (replicate {0} {A = ℕ} k 0) i 0 ≡ 0
 zero-at zero i = refl
 zero-at (suc k) zero = refl
 zero-at (suc k) (suc i) = zero-at k i
 
-long : (k : ℕ) → length (replicate {0} {A = ℕ} k 0) ≡ k
+pub long : (k : ℕ) → length (replicate {0} {A = ℕ} k 0) ≡ k
 long k = length-replicate {0} {A = ℕ} k 0
 
-pub square-room : (n a b : ℕ) → n + 1 ≤ a → width n ≤ b → (n + 1) * width n ≤ a * b
-square-room n a b h g = mul-le-mul h g
+-- a rows of b words
+pub zero-square : (n a b : ℕ) → n + 1 ≤ a → width n ≤ b → ((n + 1) * width n ≤ length (replicate {0} {A = ℕ} (a * b) 0)) × ((d : ℕ) → Blank n (replicate (a * b) 0) d)
+zero-square n a b h g =
+    let m : (n + 1) * width n ≤ a * b = mul-le-mul h g in
+    (omega (arith, long (a * b)), λ d q. marks-none (replicate (a * b) 0) (zero-at (a * b)) (width n) d q)
 
--- of these sizes: square, chains, states, members, items, mask, counts, ready, list and order
-module _ (n s c t x i m u r l o : ℕ) where
-  pub zero-room : (n + 1) * width n ≤ s → n < t → n < i → Room n (replicate t 0) (replicate s 0) (replicate i 0)
-  zero-room a b d = record { states = omega (arith, long t); rows = omega (arith, long s); heights = omega (arith, long i) }
+module _ (n k : ℕ) where
+  pub zero-chain : 2 * n < k → (2 * n < length (replicate {0} {A = ℕ} k 0)) × Empty n (replicate k 0)
+  zero-chain h = (omega (arith, long k), λ d g. zero-at k d)
 
-  pub zero-scratch : width n ≤ m → n < u → width n ≤ r → 64 * width n ≤ l → n < o → Scratch n (replicate m 0) (replicate u 0) (replicate r 0) (replicate l 0) (replicate o 0)
-  zero-scratch a b d e f = record {
-    masks = omega (arith, long m);
-    counts = omega (arith, long u);
-    readies = omega (arith, long r);
+  pub zero-room : (square : List ℕ) → n < k → (n + 1) * width n ≤ length square → Room n (replicate k 0) square (replicate k 0)
+  zero-room square h g = record { states = omega (arith, long k); rows = g; heights = omega (arith, long k) }
+
+  pub zero-scratch : (w l : ℕ) → n < k → width n ≤ w → 64 * width n ≤ l → Scratch n (replicate w 0) (replicate k 0) (replicate w 0) (replicate l 0) (replicate k 0)
+  zero-scratch w l a b d = record {
+    masks = omega (arith, long w);
+    counts = omega (arith, long k);
+    readies = omega (arith, long w);
     lists = omega (arith, long l);
-    orders = omega (arith, long o);
+    orders = omega (arith, long k);
   }
-
-  pub zero-chains : 2 * n < c → 2 * n < x → (2 * n < length (replicate {0} {A = ℕ} c 0)) × (2 * n < length (replicate {0} {A = ℕ} x 0))
-  zero-chains a b = (omega (arith, long c), omega (arith, long x))
-
-  pub zero-blank : Empty n (replicate c 0) × Empty n (replicate x 0) × ((d : ℕ) → getD (replicate {0} {A = ℕ} t 0) d 0 ≡ 0) × ((d : ℕ) → Blank n (replicate s 0) d)
-  zero-blank = (λ d h. zero-at c d, λ d h. zero-at x d, zero-at t, λ d q. marks-none (replicate s 0) (zero-at s) (width n) d q)

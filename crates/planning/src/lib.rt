@@ -101,27 +101,22 @@ fn list_mixed(
 
 // ---- the plan
 
-// Row 16, and the rows of what reaches each value.
-fn find_cycle(
-    table: &[i64],
-    n: usize,
-    square: &mut [u64],
-    chains: &mut [u16],
-    state: &mut [u8],
-    stack: &mut [u16],
-) -> usize
+// Row 16, and the rows of what reaches each value, in a blank square.
+fn find_cycle(table: &[i64], n: usize, square: &mut [u64]) -> usize
     requires { ⌜ Accepted (now table) n ⌝ }
-    requires { ⌜ (2 * n < length (now chains)) × Room n (now state) (now square) (now stack) ⌝ }
-    requires { ⌜ Empty n (now chains) × ((d : ℕ) → getD (now state) d 0 ≡ 0) × ((d : ℕ) → Blank n (now square) d) ⌝ }
+    requires { ⌜ ((n + 1) * width n ≤ length (now square)) × ((d : ℕ) → Blank n (now square) d) ⌝ }
     ensures { λ r. ⌜ (r ≡ place16 (now (table .entry)) n) × AllRows (now (table .entry)) n 6 (now (square .exit)) ⌝ }
 {
-    reach::link(table, n, 6, chains);
-    reach::reach_rows(table, n, 6, chains, state, square, stack);
+    let mut chains = [0u16; 2049];
+    let mut state = [0u8; 1025];
+    let mut stack = [0u16; 1025];
+    reach::link(table, n, 6, &mut chains);
+    reach::reach_rows(table, n, 6, &chains, &mut state, square, &mut stack);
     reach::first_cycle(table, n, 6, square)
 }
 
 // The plan where there is no cycle: whole, or mixed if some Group is stuck.
-fn list_plan(
+fn list_in(
     table: &[i64],
     n: usize,
     plan: &mut [i64],
@@ -171,153 +166,12 @@ fn list_plan(
     Planned::Whole(list_group(table, n, next, plan, 0, 1) as u64)
 }
 
-// In scratch that is all 0.
-fn plan_with(
-    table: &[i64],
-    n: usize,
-    plan: &mut [i64],
-    square: &mut [u64],
-    chains: &mut [u16],
-    state: &mut [u8],
-    next: &mut [u16],
-    items: &mut [u16],
-    mask: &mut [u64],
-    unmet: &mut [u16],
-    ready: &mut [u64],
-    list: &mut [u16],
-    order: &mut [u16],
-) -> Planned
+fn list_plan(table: &[i64], n: usize, plan: &mut [i64], square: &[u64]) -> Planned
     requires { ⌜ Accepted (now table) n ⌝ }
-    requires { ⌜ (n ≤ length (now plan)) × (2 * n < length (now chains)) × (2 * n < length (now next)) × Room n (now state) (now square) (now items) × Scratch n (now mask) (now unmet) (now ready) (now list) (now order) ⌝ }
-    requires { ⌜ Empty n (now chains) × Empty n (now next) × ((d : ℕ) → getD (now state) d 0 ≡ 0) × ((d : ℕ) → Blank n (now square) d) ⌝ }
+    requires { ⌜ (n ≤ length (now plan)) × (place16 (now table) n ≡ 0) ⌝ }
+    requires { ⌜ ((n + 1) * width n ≤ length (now square)) × NeedRows (now table) n (now square) ⌝ }
     ensures { λ r. ⌜ PlanIs (Order.plan (now (table .entry)) n) (now (plan .entry)) (now (plan .exit)) r ⌝ }
 {
-    let v = find_cycle(table, n, square, chains, state, items);
-    if v != 0 {
-        return Planned::Cycle(v as u64);
-    }
-    needs::needs_of(table, n, square);
-    list_plan(
-        table,
-        n,
-        plan,
-        square,
-        next,
-        items,
-        mask,
-        unmet,
-        ready,
-        list,
-        order,
-    )
-}
-
-// ---- scratch by the size of the sheet, since it is zeroed at each call
-
-fn plan_small(table: &[i64], n: usize, plan: &mut [i64]) -> Planned
-    requires { ⌜ Accepted (now table) n ⌝ }
-    requires { ⌜ (n ≤ 63) × (n ≤ length (now plan)) ⌝ }
-    ensures { λ r. ⌜ PlanIs (Order.plan (now (table .entry)) n) (now (plan .entry)) (now (plan .exit)) r ⌝ }
-{
-    let mut square = [0u64; 64];
-    let mut chains = [0u16; 127];
-    let mut state = [0u8; 64];
-    let mut next = [0u16; 127];
-    let mut items = [0u16; 64];
-    let mut mask = [0u64; 1];
-    let mut unmet = [0u16; 64];
-    let mut ready = [0u64; 1];
-    let mut list = [0u16; 64];
-    let mut order = [0u16; 64];
-    plan_with(
-        table,
-        n,
-        plan,
-        &mut square,
-        &mut chains,
-        &mut state,
-        &mut next,
-        &mut items,
-        &mut mask,
-        &mut unmet,
-        &mut ready,
-        &mut list,
-        &mut order,
-    )
-}
-
-fn plan_medium(table: &[i64], n: usize, plan: &mut [i64]) -> Planned
-    requires { ⌜ Accepted (now table) n ⌝ }
-    requires { ⌜ (n ≤ 255) × (n ≤ length (now plan)) ⌝ }
-    ensures { λ r. ⌜ PlanIs (Order.plan (now (table .entry)) n) (now (plan .entry)) (now (plan .exit)) r ⌝ }
-{
-    let mut square = [0u64; 1024];
-    let mut chains = [0u16; 511];
-    let mut state = [0u8; 256];
-    let mut next = [0u16; 511];
-    let mut items = [0u16; 256];
-    let mut mask = [0u64; 4];
-    let mut unmet = [0u16; 256];
-    let mut ready = [0u64; 4];
-    let mut list = [0u16; 256];
-    let mut order = [0u16; 256];
-    plan_with(
-        table,
-        n,
-        plan,
-        &mut square,
-        &mut chains,
-        &mut state,
-        &mut next,
-        &mut items,
-        &mut mask,
-        &mut unmet,
-        &mut ready,
-        &mut list,
-        &mut order,
-    )
-}
-
-fn plan_large(table: &[i64], n: usize, plan: &mut [i64]) -> Planned
-    requires { ⌜ Accepted (now table) n ⌝ }
-    requires { ⌜ (n ≤ 511) × (n ≤ length (now plan)) ⌝ }
-    ensures { λ r. ⌜ PlanIs (Order.plan (now (table .entry)) n) (now (plan .entry)) (now (plan .exit)) r ⌝ }
-{
-    let mut square = [0u64; 4096];
-    let mut chains = [0u16; 1023];
-    let mut state = [0u8; 512];
-    let mut next = [0u16; 1023];
-    let mut items = [0u16; 512];
-    let mut mask = [0u64; 8];
-    let mut unmet = [0u16; 512];
-    let mut ready = [0u64; 8];
-    let mut list = [0u16; 512];
-    let mut order = [0u16; 512];
-    plan_with(
-        table,
-        n,
-        plan,
-        &mut square,
-        &mut chains,
-        &mut state,
-        &mut next,
-        &mut items,
-        &mut mask,
-        &mut unmet,
-        &mut ready,
-        &mut list,
-        &mut order,
-    )
-}
-
-fn plan_largest(table: &[i64], n: usize, plan: &mut [i64]) -> Planned
-    requires { ⌜ Accepted (now table) n ⌝ }
-    requires { ⌜ n ≤ length (now plan) ⌝ }
-    ensures { λ r. ⌜ PlanIs (Order.plan (now (table .entry)) n) (now (plan .entry)) (now (plan .exit)) r ⌝ }
-{
-    let mut square = [0u64; 17425];
-    let mut chains = [0u16; 2049];
-    let mut state = [0u8; 1025];
     let mut next = [0u16; 2049];
     let mut items = [0u16; 1025];
     let mut mask = [0u64; 17];
@@ -325,13 +179,11 @@ fn plan_largest(table: &[i64], n: usize, plan: &mut [i64]) -> Planned
     let mut ready = [0u64; 17];
     let mut list = [0u16; 1088];
     let mut order = [0u16; 1025];
-    plan_with(
+    list_in(
         table,
         n,
         plan,
-        &mut square,
-        &mut chains,
-        &mut state,
+        square,
         &mut next,
         &mut items,
         &mut mask,
@@ -342,19 +194,59 @@ fn plan_largest(table: &[i64], n: usize, plan: &mut [i64]) -> Planned
     )
 }
 
+fn plan_in(table: &[i64], n: usize, plan: &mut [i64], square: &mut [u64]) -> Planned
+    requires { ⌜ Accepted (now table) n ⌝ }
+    requires { ⌜ n ≤ length (now plan) ⌝ }
+    requires { ⌜ ((n + 1) * width n ≤ length (now square)) × ((d : ℕ) → Blank n (now square) d) ⌝ }
+    ensures { λ r. ⌜ PlanIs (Order.plan (now (table .entry)) n) (now (plan .entry)) (now (plan .exit)) r ⌝ }
+{
+    let v = find_cycle(table, n, square);
+    if v != 0 {
+        return Planned::Cycle(v as u64);
+    }
+    needs::needs_of(table, n, square);
+    list_plan(table, n, plan, square)
+}
+
+// ---- a square by the size of the sheet, since it is zeroed at each call; what else is needed is small
+
+fn plan_small(table: &[i64], n: usize, plan: &mut [i64]) -> Planned
+    requires { ⌜ Accepted (now table) n ⌝ }
+    requires { ⌜ (n ≤ 255) × (n ≤ length (now plan)) ⌝ }
+    ensures { λ r. ⌜ PlanIs (Order.plan (now (table .entry)) n) (now (plan .entry)) (now (plan .exit)) r ⌝ }
+{
+    let mut square = [0u64; 1024];
+    plan_in(table, n, plan, &mut square)
+}
+
+fn plan_medium(table: &[i64], n: usize, plan: &mut [i64]) -> Planned
+    requires { ⌜ Accepted (now table) n ⌝ }
+    requires { ⌜ (n ≤ 511) × (n ≤ length (now plan)) ⌝ }
+    ensures { λ r. ⌜ PlanIs (Order.plan (now (table .entry)) n) (now (plan .entry)) (now (plan .exit)) r ⌝ }
+{
+    let mut square = [0u64; 4096];
+    plan_in(table, n, plan, &mut square)
+}
+
+fn plan_large(table: &[i64], n: usize, plan: &mut [i64]) -> Planned
+    requires { ⌜ Accepted (now table) n ⌝ }
+    requires { ⌜ n ≤ length (now plan) ⌝ }
+    ensures { λ r. ⌜ PlanIs (Order.plan (now (table .entry)) n) (now (plan .entry)) (now (plan .exit)) r ⌝ }
+{
+    let mut square = [0u64; 17425];
+    plan_in(table, n, plan, &mut square)
+}
+
 pub fn plan_of(table: &[i64], n: usize, plan: &mut [i64]) -> Planned
     requires { ⌜ Accepted (now table) n ⌝ }
     requires { ⌜ n ≤ length (now plan) ⌝ }
     ensures { λ r. ⌜ PlanIs (Order.plan (now (table .entry)) n) (now (plan .entry)) (now (plan .exit)) r ⌝ }
 {
-    if n <= 63 {
+    if n <= 255 {
         return plan_small(table, n, plan);
     }
-    if n <= 255 {
+    if n <= 511 {
         return plan_medium(table, n, plan);
     }
-    if n <= 511 {
-        return plan_large(table, n, plan);
-    }
-    plan_largest(table, n, plan)
+    plan_large(table, n, plan)
 }

@@ -49,7 +49,7 @@ module _ (t : List ℤ) (n : ℕ) (ok : Accepted t n) where
   pub in-row : (q : ℕ) → q ≤ n → q < 64 * width n
   in-row q h = omega arith
 
-  path-low : (l : ℕ) → HasPath t l → 4 ≤ kind t l
+  pub path-low : (l : ℕ) → HasPath t l → 4 ≤ kind t l
   path-low l (inl e) = omega arith
   path-low l (inr e) = omega arith
 

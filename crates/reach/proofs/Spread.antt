@@ -2,7 +2,7 @@
 use mathlib.Core.Path.{_≡_, refl, sym, ap, _∙_, subst}
 use mathlib.Core.Logic.{_⊎_, inl, inr, _↔_}
 use mathlib.Core.List.{List, [], _∷_, _++_}
-use mathlib.Core.Bool.{Bool, true, false, not}
+use mathlib.Core.Bool.{Bool, true, false}
 use Prim.Native.Nat.{ℕ, zero, suc, _+_, _-_, _*_, _/_, _≤_, _<_}
 use native.Mathlib.Omega.{arith}
 use native.Mathlib.Numerals.{add-one}
@@ -10,28 +10,25 @@ use native.Mathlib.Decide.{ℕ-discrete, decLt}
 use lib.IntN.{ℤ}
 use lib.ListN.{length, getD, set, take, length-append}
 use lib.Seq.{take-suc, take-suc-set, length-take-le}
-use borrow.Author.Tests.{not-true}
 use Rattle.cells.specs.Table.{cell, kind, owner}
 use Rattle.cells.specs.Accepted.{Accepted, HasBody}
-use Rattle.order.specs.Lists.{one, count, _∈_, filter}
+use Rattle.order.specs.Lists.{one, count, _∈_}
 use Rattle.order.specs.Order.{labels}
 use Rattle.order.proofs.Tests.{clash, one-in}
-use Rattle.order.proofs.Lists.{count-append, count-here, count-there, in-append, in-single, in-left, in-right, in-here, length-mono, length-upFrom, zero-or-in, tally-le, tally-lt}
+use Rattle.order.proofs.Lists.{count-append, count-here, count-there, in-append, in-single, in-left, in-right, in-here, length-mono, length-upFrom, zero-or-in}
 use Rattle.order.proofs.Tables.{in-labels}
 use Rattle.marks.specs.Marks.{mark, Added}
 use Rattle.reach.specs.Links.{Column, Link, Links, once, then, Around, Touches}
 use Rattle.reach.specs.Rows.{width, Row, Blank}
 use Rattle.reach.specs.Chains.{Hangs, Last}
-use Rattle.reach.specs.Turns.{Raised, Met, marked, added, pushed, Spread, unmarked, Grown, Filled}
+use Rattle.reach.specs.Visits.{fan, found}
+use Rattle.reach.specs.Turns.{Raised, Met, marked, added, pushed, Spread, Grown, Filled}
 use Rattle.reach.proofs.Links.{body-label, links-body, in-row, path-label, end-body, link-body, around-body, around-owner, around-label, touch-label, touch-body, touch-on, touch-around, touch-owner}
+use Rattle.reach.proofs.Totals.{found-few, found-lt, found-fan}
 
 one-le : (t : Bool) → one t ≤ 1
 one-le true = omega arith
 one-le false = omega arith
-
-not-flip : (a b : Bool) → (b ≡ true → a ≡ true) → not a ≡ true → not b ≡ true
-not-flip a true f e = clash a (f refl) (not-true a e)
-not-flip a false f e = refl
 
 one-mono : (a b : Bool) → (a ≡ true → b ≡ true) → one a ≤ one b
 one-mono true b f = rw (f refl) (omega arith)
@@ -43,7 +40,7 @@ pub record Growing (t : List ℤ) (n j d e : ℕ) (s₀ : List ℕ) (top₀ : �
   pub met : (l : ℕ) → x < l → Hangs t j e l → mark s (width n) d (cell t l j) ≡ true
   pub kept : (q : ℕ) → mark s₀ (width n) d q ≡ true → mark s (width n) d q ≡ true
   pub others : (a q : ℕ) → (a ≡ d → ⊥) → mark s (width n) a q ≡ mark s₀ (width n) a q
-  pub less : length S + unmarked n (mark s (width n) d) ≤ top₀ + unmarked n (mark s₀ (width n) d)
+  pub less : length S + found t n j d (mark s₀ (width n) d) ≤ top₀ + found t n j d (mark s (width n) d)
 
 module _ (t : List ℤ) (n : ℕ) (ok : Accepted t n) (j : ℕ) (col : Column j) where
   -- ---- the stack is no higher than there are labels
@@ -56,16 +53,6 @@ module _ (t : List ℤ) (n : ℕ) (ok : Accepted t n) (j : ℕ) (col : Column j)
       at x (inr m) =
           let b = body-label t n ok x (h .bodies x m) in
           omega (arith, h .held x, one-le (M x), in-labels t n ok x (b .0) (b .1))
-
-  -- ---- marks that only grow
-
-  module _ (M M′ : ℕ → Bool) (up : (q : ℕ) → M q ≡ true → M′ q ≡ true) where
-    pub unmarked-le : unmarked n M′ ≤ unmarked n M
-    unmarked-le = tally-le (λ q. not (M′ q)) (λ q. not (M q)) (labels n) (λ x i. not-flip (M′ x) (M x) (up x))
-
-    pub unmarked-lt : (f : ℕ) → 1 ≤ f → f ≤ n → M f ≡ false → M′ f ≡ true → unmarked n M′ < unmarked n M
-    unmarked-lt f a b p q =
-        tally-lt (λ q. not (M′ q)) (λ q. not (M q)) (labels n) (λ x i. not-flip (M′ x) (M x) (up x)) f (in-labels t n ok f a b) (rw q) (rw p)
 
   -- ---- what a row meets
 
@@ -254,7 +241,7 @@ module _ (t : List ℤ) (n : ℕ) (ok : Accepted t n) (j : ℕ) (col : Column j)
       on : (s′ S′ : List ℕ) → Spread t j d e (mark s′ (width n) d) S′ → mark s′ (width n) d (cell t x j) ≡ true
           → ((q : ℕ) → mark s (width n) d q ≡ true → mark s′ (width n) d q ≡ true)
           → ((a q : ℕ) → (a ≡ d → ⊥) → mark s′ (width n) a q ≡ mark s (width n) a q)
-          → length S′ + unmarked n (mark s′ (width n) d) ≤ length S + unmarked n (mark s (width n) d) → Growing t n j d e s₀ top₀ s′ S′ y
+          → length S′ + found t n j d (mark s (width n) d) ≤ length S + found t n j d (mark s′ (width n) d) → Growing t n j d e s₀ top₀ s′ S′ y
       on s′ S′ h here up same fewer = record {
         spread = h;
         met = λ l a p. met l a p (ℕ-discrete l x) (decLt x l);
@@ -285,7 +272,7 @@ module _ (t : List ℤ) (n : ℕ) (ok : Accepted t n) (j : ℕ) (col : Column j)
         turn (added m two q z add) =
             let up = add .kept in
             let here = add .new (cell t x j) (in-row t n ok (cell t x j) (f-label .1)) (inl (inl refl)) in
-            let fewer = unmarked-lt (mark s (width n) d) (mark s′ (width n) d) up (cell t x j) (f-label .0) (f-label .1) m here in (
+            let more = found-lt t n ok j d (mark s (width n) d) (mark s′ (width n) d) up col (cell t x j) way m here in (
               subst (λ (w : List ℕ). Growing t n j d e s₀ top₀ s′ w y) (is ∙ sym same)
                   (on s′ S (meet-made d e (cell t x j) way s s′ S (g .spread) (rows two) add) here up (add .others) (omega arith)),
               omega arith,
@@ -296,7 +283,7 @@ module _ (t : List ℤ) (n : ℕ) (ok : Accepted t n) (j : ℕ) (col : Column j)
         turn (pushed m q z add) =
             let up = add .kept in
             let here = add .new (cell t x j) (in-row t n ok (cell t x j) (f-label .1)) (inl refl) in
-            let fewer = unmarked-lt (mark s (width n) d) (mark s′ (width n) d) up (cell t x j) (f-label .0) (f-label .1) m here in (
+            let more = found-lt t n ok j d (mark s (width n) d) (mark s′ (width n) d) up col (cell t x j) way m here in (
               subst (λ (w : List ℕ). Growing t n j d e s₀ top₀ s′ w y) (ap (λ (w : List ℕ). w ++ cell t x j ∷ []) is ∙ sym same)
                   (on s′ (S ++ cell t x j ∷ []) (meet-push d e (cell t x j) way s s′ S (g .spread) m add) here up (add .others) (omega (arith, length-append S (cell t x j ∷ [])))),
               omega arith,
@@ -325,6 +312,11 @@ module _ (t : List ℤ) (n : ℕ) (ok : Accepted t n) (j : ℕ) (col : Column j)
             let b = path-label t n ok (l .line) (l .path) in
             subst (λ (w : ℕ). mark s (width n) d w ≡ true) (l .to) (g .met (l .line) (omega (arith, b .0)) (record { path = l .path; from = l .from }))
 
+  -- each turn of `fill` leaves less to do
+  pub grown-less : (d e : ℕ) (s : List ℕ) (top : ℕ) (s′ stack′ : List ℕ) (r : ℕ) → Grown t n j d e s top s′ stack′ r
+      → r + (n - found t n j d (mark s′ (width n) d)) ≤ top + (n - found t n j d (mark s (width n) d))
+  grown-less d e s top s′ stack′ r g = omega (arith, g .less, found-few t n ok j d (mark s′ (width n) d), found-few t n ok j d (mark s (width n) d))
+
   -- ---- at the end
 
   -- rows that are made stay so while row d grows
@@ -334,9 +326,14 @@ module _ (t : List ℤ) (n : ℕ) (ok : Accepted t n) (j : ℕ) (col : Column j)
       let e = same f q (λ z. not-made (subst (λ (x : ℕ). getD state x 0 ≡ 2) z two)) in
       (λ m. rows f two q .0 (sym e ∙ m), λ h. e ∙ rows f two q .1 h)
 
-  pub filled : (d : ℕ) (s₀ s : List ℕ) → Spread t j d 0 (mark s (width n) d) [] → ((z : ℕ) → Link t j d z → mark s (width n) d z ≡ true)
-      → ((a q : ℕ) → (a ≡ d → ⊥) → mark s (width n) a q ≡ mark s₀ (width n) a q) → Filled t n j d s₀ s
-  filled d s₀ s h first same = record { row = h .sound; all = λ q x. h .around (x .end) q (all (x .links)) (links-body t n ok j col (x .links)) (x .around); others = same }
+  pub filled : (d : ℕ) (s₀ s : List ℕ) (r : ℕ) → Spread t j d 0 (mark s (width n) d) [] → ((z : ℕ) → Link t j d z → mark s (width n) d z ≡ true)
+      → ((a q : ℕ) → (a ≡ d → ⊥) → mark s (width n) a q ≡ mark s₀ (width n) a q) → r ≤ 1 + found t n j d (mark s (width n) d) → Filled t n j d s₀ s r
+  filled d s₀ s r h first same few = record {
+    row = h .sound;
+    all = λ q x. h .around (x .end) q (all (x .links)) (links-body t n ok j col (x .links)) (x .around);
+    others = same;
+    few = omega (arith, few, found-fan t n ok j d (mark s (width n) d));
+  }
     where
       all : {y : ℕ} → Links t j d y → mark s (width n) d y ≡ true
       all {y} (once l) = first y l

@@ -20,8 +20,10 @@ use Rattle.order.proofs.Lists.{tally-lt}
 use Rattle.order.proofs.Tables.{in-labels}
 use Rattle.marks.specs.Marks.{mark}
 use Rattle.reach.specs.Rows.{width, Row, Blank, AllRows, Rows}
+use Rattle.reach.specs.Visits.{fan, spent}
 use Rattle.reach.specs.Turns.{Filled, Since, Visited}
 use Rattle.reach.proofs.Links.{body-label, body-group}
+use Rattle.reach.proofs.Totals.{spent-few, spent-begin, spent-made}
 
 pub since-same : (state : List ℕ) → Since state state
 since-same state = record { kept = λ e f. f; held = λ e h. h; unmade = λ e h. h }
@@ -84,9 +86,9 @@ module _ (t : List ℤ) (n : ℕ) (ok : Accepted t n) (j : ℕ) where
             go (no y) = absurd (s .kept e (λ x. y (sym (other state d 1 room e z) ∙ x)) h)
 
     -- and made
-    pub finish : (state₁ square₁ square₂ : List ℕ) → d < length state₁ → Since (set state d 1) state₁ → Rows t n j state₁ square₁ → Filled t n j d square₁ square₂
-        → Visited t n j d state (set state₁ d 2) square₂
-    finish state₁ square₁ square₂ room₁ s r₁ f = record {
+    pub finish : (state₁ square₁ square₂ : List ℕ) (k r : ℕ) → d < length state₁ → Since (set state d 1) state₁ → Rows t n j state₁ square₁ → Filled t n j d square₁ square₂ r
+        → k + spent t n j (set state d 1) ≤ spent t n j state₁ → Visited t n j d state (set state₁ d 2) square₂ (k + r)
+    finish state₁ square₁ square₂ k r room₁ s r₁ f few = record {
       rows = record {
         small = λ e. small e (ℕ-discrete e d);
         begun = λ e y. begun e y (ℕ-discrete e d);
@@ -95,6 +97,15 @@ module _ (t : List ℤ) (n : ℕ) (ok : Accepted t n) (j : ℕ) where
       };
       here = λ z. omega (arith, own state₁ d 2 room₁);
       since = record { kept = λ e y. kept e y (ℕ-discrete e d); held = λ e y. held e y (ℕ-discrete e d); unmade = λ e y. unmade e y (ℕ-discrete e d) };
+      few =
+          let b = body-label t n ok d body in
+          omega (
+            arith,
+            few,
+            f .few,
+            spent-begin t n ok j state d room 1 (λ z. omega arith) new,
+            spent-made t n ok j state₁ d room₁ (λ z. omega (arith, s .held d (own state d 1 room))) (in-labels t n ok d (b .0) (b .1)),
+          );
     }
       where
         small : (e : ℕ) → Dec (e ≡ d) → getD (set state₁ d 2) e 0 ≤ 2
@@ -129,14 +140,17 @@ module _ (t : List ℤ) (n : ℕ) (ok : Accepted t n) (j : ℕ) where
         unmade e y (no z) = sym (other state d 1 room e z) ∙ s .unmade e (sym (other state₁ d 2 room₁ e z) ∙ y)
 
   -- d was begun already
-  pub stay : (state square : List ℕ) (d : ℕ) → (getD state d 0 ≡ 0 → ⊥) → Rows t n j state square → Visited t n j d state state square
-  stay state square d f r = record { rows = r; here = f; since = since-same state }
+  pub stay : (state square : List ℕ) (d : ℕ) → (getD state d 0 ≡ 0 → ⊥) → Rows t n j state square → Visited t n j d state state square 0
+  stay state square d f r = record { rows = r; here = f; since = since-same state; few = omega arith }
+
+  pub visited-few : (state state′ square′ : List ℕ) (d r : ℕ) → Visited t n j d state state′ square′ r → r + spent t n j state ≤ 1025 * n
+  visited-few state state′ square′ d r h = omega (arith, h .few, spent-few t n ok j state′)
 
   -- ---- all rows
 
-  pub begun-more : (v : ℕ) (state state′ square′ : List ℕ) → ((u : ℕ) → u < v → 1 ≤ u → kind t u ≡ 2 → getD state u 0 ≡ 0 → ⊥) → Visited t n j v state state′ square′
+  pub begun-more : (v : ℕ) (state state′ square′ : List ℕ) (r : ℕ) → ((u : ℕ) → u < v → 1 ≤ u → kind t u ≡ 2 → getD state u 0 ≡ 0 → ⊥) → Visited t n j v state state′ square′ r
       → (u : ℕ) → u < v + 1 → 1 ≤ u → kind t u ≡ 2 → getD state′ u 0 ≡ 0 → ⊥
-  begun-more v state state′ square′ old h =
+  begun-more v state state′ square′ r old h =
       below-more (λ (u : ℕ). 1 ≤ u → kind t u ≡ 2 → getD state′ u 0 ≡ 0 → ⊥) v (λ u l i k. h .since .kept u (old u l i k)) (λ i k. h .here)
 
   pub rows-none : (state square : List ℕ) → ((d : ℕ) → getD state d 0 ≡ 0) → ((d : ℕ) → Blank n square d) → Rows t n j state square

@@ -1,4 +1,5 @@
 pub mod Links
 pub mod Rows
 pub mod Chains
+pub mod Visits
 pub mod Turns

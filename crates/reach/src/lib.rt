@@ -13,6 +13,7 @@ ghost use Rattle.marks.specs.Marks.{mark, Added};
 ghost use Rattle.reach.specs.Links.{Column, Links, Around};
 ghost use Rattle.reach.specs.Rows.{width, Row, Blank, AllRows, Rows, Room};
 ghost use Rattle.reach.specs.Chains.{Linked, Empty};
+ghost use Rattle.reach.specs.Visits.{visits};
 ghost use Rattle.reach.specs.Turns.{Raised, Met, Spread, Grown, Filled, Visited};
 
 // ---- cells of an accepted table
@@ -166,7 +167,7 @@ fn grow(
     height
 }
 
-// Makes row d, which is blank. Only those whose own rows are not made are looked at, each once.
+// Makes row d, which is blank. Only those whose own rows are not made are visited, each once. Answers how many visits that took.
 fn fill(
     table: &[i64],
     n: usize,
@@ -176,23 +177,26 @@ fn fill(
     square: &mut [u64],
     stack: &mut [u16],
     d: usize,
-)
+) -> usize
     requires { ⌜ Accepted (now table) n ⌝ }
     requires { ⌜ Column j ⌝ }
     requires { ⌜ (2 * n < length (now chains)) × Linked (now table) n j n (now chains) ⌝ }
     requires { ⌜ Room n (now state) (now square) (now stack) ⌝ }
     requires { ⌜ (getD (now state) d 0 ≡ 2 → ⊥) × HasBody (now table) d ⌝ }
     requires { ⌜ ((f : ℕ) → getD (now state) f 0 ≡ 2 → Row (now table) n j (now square) f) × Blank n (now square) d ⌝ }
-    ensures { λ _. ⌜ Filled (now (table .entry)) n j d (now (square .entry)) (now (square .exit)) ⌝ }
+    ensures { λ r. ⌜ Filled (now (table .entry)) n j d (now (square .entry)) (now (square .exit)) r ⌝ }
 {
+    let mut visits = 1;
     let mut top = grow(table, n, j, chains, state, square, stack, d, d, 0);
     while 0 < top {
         let e = marks::wide(stack[top - 1]);
         top = grow(table, n, j, chains, state, square, stack, d, e, top - 1);
+        visits += 1;
     }
+    visits
 }
 
-// Makes row d after the rows of what d links to, unless d is begun.
+// Makes row d after the rows of what d links to, unless d is begun. Answers how many visits that took.
 fn visit(
     table: &[i64],
     n: usize,
@@ -202,31 +206,33 @@ fn visit(
     square: &mut [u64],
     stack: &mut [u16],
     d: usize,
-)
+) -> usize
     requires { ⌜ Accepted (now table) n ⌝ }
     requires { ⌜ Column j ⌝ }
     requires { ⌜ (2 * n < length (now chains)) × Linked (now table) n j n (now chains) ⌝ }
     requires { ⌜ Room n (now state) (now square) (now stack) ⌝ }
     requires { ⌜ Rows (now table) n j (now state) (now square) × HasBody (now table) d ⌝ }
-    ensures { λ _. ⌜ Visited (now (table .entry)) n j d (now (state .entry)) (now (state .exit)) (now (square .exit)) ⌝ }
+    ensures { λ r. ⌜ Visited (now (table .entry)) n j d (now (state .entry)) (now (state .exit)) (now (square .exit)) r ⌝ }
 {
     if state[d] != 0 {
-        return;
+        return 0;
     }
     state[d] = 1;
+    let mut visits = 0;
     let mut x = marks::wide(chains[d]);
     while x != 0 {
         let e = cell_of(table, n, x, j);
-        visit(table, n, j, chains, state, square, stack, e);
+        visits += visit(table, n, j, chains, state, square, stack, e);
         x = marks::wide(chains[n + x]);
     }
-    fill(table, n, j, chains, state, square, stack, d);
+    visits += fill(table, n, j, chains, state, square, stack, d);
     state[d] = 2;
+    visits
 }
 
 // ---- all rows
 
-// The row of every V, in a blank square.
+// The row of every V, in a blank square. Answers how many visits of definitions that took.
 pub fn reach_rows(
     table: &[i64],
     n: usize,
@@ -235,21 +241,23 @@ pub fn reach_rows(
     state: &mut [u8],
     square: &mut [u64],
     stack: &mut [u16],
-)
+) -> usize
     requires { ⌜ Accepted (now table) n ⌝ }
     requires { ⌜ Column j ⌝ }
     requires { ⌜ (2 * n < length (now chains)) × Linked (now table) n j n (now chains) ⌝ }
     requires { ⌜ Room n (now state) (now square) (now stack) ⌝ }
     requires { ⌜ ((d : ℕ) → getD (now state) d 0 ≡ 0) × ((d : ℕ) → Blank n (now square) d) ⌝ }
-    ensures { λ _. ⌜ AllRows (now (table .entry)) n j (now (square .exit)) ⌝ }
+    ensures { λ r. ⌜ AllRows (now (table .entry)) n j (now (square .exit)) × (r ≤ visits (now (table .entry)) n) ⌝ }
 {
+    let mut visits = 0;
     let mut v = 1;
     while v <= n {
         if kind_of(table, n, v) == 2 {
-            visit(table, n, j, chains, state, square, stack, v);
+            visits += visit(table, n, j, chains, state, square, stack, v);
         }
         v += 1;
     }
+    visits
 }
 
 // Row 16: the smallest V that reaches itself, or 0.
@@ -262,7 +270,7 @@ pub fn first_cycle(table: &[i64], n: usize, j: usize, square: &[u64]) -> usize
 {
     let mut v = 1;
     while v <= n {
-        if kind_of(table, n, v) == 2 {
+        if kind_of(table, n, v) == 2 { // functions may reach themselves
             if marks::has_mark(square, n / 64 + 1, v, v) {
                 return v;
             }

@@ -17,7 +17,7 @@ first-cycle-requires : tie.Need-first-cycle-requires
 first-cycle-requires c κs =
     let p = c .before .before .before .before .before .before .before .before .before .before .before .before .before .before .before .before .before .before .before .before .pre in
     let k = c .before .before .before .before .before .before .before .reach-rows in
-    (p .0, (search (inl, inr), (omega (arith, p .1 .0 .1 .rows, k .kept .1 .1 .1 .1 .1 .0), k .ensures)))
+    (p .0, (search (inl, inr), (omega (arith, p .1 .0 .1 .rows, k .kept .1 .1 .1 .1 .1 .0), k .ensures .0)))
 
 same-length : tie.Need-same-length
 same-length c = search needs

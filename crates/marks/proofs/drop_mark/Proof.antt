@@ -7,39 +7,30 @@ use Rattle.marks.proofs.drop_mark.Tie as tie
 use Rattle.marks.proofs.drop_mark.Reads as reads
 use Rattle.marks.proofs.drop_mark.Lts as lts
 
--- src/lib.rt:30:13
 mul-i : tie.Need-mul-i
 mul-i c = search needs
 
--- src/lib.rt:30:13
 add-i : tie.Need-add-i
 add-i c = search needs
 
--- src/lib.rt:31:12
 mul-s : tie.Need-mul-s
 mul-s c = search needs
 
--- src/lib.rt:31:12
 slice-read-s : tie.Need-slice-read-s
 slice-read-s c = search needs
 
--- src/lib.rt:31:20
 shl-s : tie.Need-shl-s
 shl-s c = search needs
 
--- src/lib.rt:31:5
 mul-s-2 : tie.Need-mul-s-2
 mul-s-2 c = search needs
 
--- src/lib.rt:31:5
 slice-write-s : tie.Need-slice-write-s
 slice-write-s c = search needs
 
--- src/lib.rt:25:1
 same-length : tie.Need-same-length
 same-length c = search needs
 
--- src/lib.rt:25:1
 returns : tie.Need-returns
 returns c = rw (shift-one (c .before .args .q % 64) (omega arith)) (drop-dropped _ _ _ _ (c .before .pre .0) (c .before .pre .1))
 

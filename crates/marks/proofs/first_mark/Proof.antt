@@ -18,53 +18,41 @@ Inv-loop s w j₀ j = (j ≤ w) × ((q : ℕ) → q < 64 * j → mark s w 0 q �
 abbrev μ-loop : tie.MeasureT-loop
 μ-loop s w j₀ j = w - j
 
--- src/lib.rt:84:5
 loop-holds : tie.Need-loop-holds Inv-loop μ-loop
 loop-holds c = (omega arith, λ q h. absurd (omega arith))
 
--- src/lib.rt:85:17
 mul-x : tie.Need-mul-x Inv-loop μ-loop
 mul-x c = search needs
 
--- src/lib.rt:85:17
 shared-slice-read-x : tie.Need-shared-slice-read-x Inv-loop μ-loop
 shared-slice-read-x c = search needs
 
--- src/lib.rt:87:20
 mul-result : tie.Need-mul-result Inv-loop μ-loop
 mul-result c = search needs
 
--- src/lib.rt:87:29
 cast-result : tie.Need-cast-result Inv-loop μ-loop
 cast-result c = omega (arith, trailing-le 64 (getD (c .before .before .before .before .args .s .now) (c .before .before .before .loop .j) 0))
 
--- src/lib.rt:87:20
 add-result : tie.Need-add-result Inv-loop μ-loop
 add-result c = omega (arith, trailing-le 64 (getD (c .before .before .before .before .args .s .now) (c .before .before .before .loop .j) 0))
 
--- src/lib.rt:87:13
 returns : tie.Need-returns Inv-loop μ-loop
 returns c =
     let l = c .before .before .before in
     first-found _ _ _ (l .loop .inv .1) (c .before .before .loop-test .taken) (omega (arith, c .if1 .taken)) (omega (arith, c .before .shared-slice-known .given (l .loop .j)))
 
--- src/lib.rt:89:9
 add-j : tie.Need-add-j Inv-loop μ-loop
 add-j c = search needs
 
--- src/lib.rt:84:5
 loop-less : tie.Need-loop-less Inv-loop μ-loop
 loop-less c = search needs
 
--- src/lib.rt:84:5
 loop-again : tie.Need-loop-again Inv-loop μ-loop
 loop-again c = (omega arith, first-turn _ _ _ (c .before .before .before .loop .inv .1) (c .before .before .loop-test .taken) (omega (arith, c .if1 .left)))
 
--- src/lib.rt:91:5
 mul-result-2 : tie.Need-mul-result-2 Inv-loop μ-loop
 mul-result-2 c = search needs
 
--- src/lib.rt:79:1
 returns-2 : tie.Need-returns-2 Inv-loop μ-loop
 returns-2 c = record {
   within = omega arith;

@@ -9,27 +9,21 @@ use Rattle.marks.proofs.has_mark.Tie as tie
 use Rattle.marks.proofs.has_mark.Reads as reads
 use Rattle.marks.proofs.has_mark.Lts as lts
 
--- src/lib.rt:14:8
 mul-result : tie.Need-mul-result
 mul-result c = search needs
 
--- src/lib.rt:14:8
 add-result : tie.Need-add-result
 add-result c = search needs
 
--- src/lib.rt:14:6
 mul-result-2 : tie.Need-mul-result-2
 mul-result-2 c = search needs
 
--- src/lib.rt:14:6
 shared-slice-read-result : tie.Need-shared-slice-read-result
 shared-slice-read-result c = search needs
 
--- src/lib.rt:14:6
 shr-result : tie.Need-shr-result
 shr-result c = search needs
 
--- src/lib.rt:10:1
 returns : tie.Need-returns
 returns c =
     let a = c .before .args in

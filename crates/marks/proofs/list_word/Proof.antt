@@ -35,43 +35,33 @@ room c =
 listed : (l : List ℕ) (m v : ℕ) (r : List ℕ) → m < length l → take (m + 1) (set l m v) ++ r ≡ take m l ++ v ∷ r
 listed l m v r h = rw (add-one, take-suc-set l m v) (append-assoc (take m l) (v ∷ []) r)
 
--- src/lib.rt:55:5
 loop-holds : tie.Need-loop-holds Inv-loop μ-loop
 loop-holds c = (refl, omega arith, refl, refl)
 
--- src/lib.rt:56:27
 cast-list : tie.Need-cast-list Inv-loop μ-loop
 cast-list c = omega (arith, trailing-le 64 (c .before .loop .x))
 
--- src/lib.rt:56:20
 add-list : tie.Need-add-list Inv-loop μ-loop
 add-list c = omega (arith, trailing-le 64 (c .before .loop .x))
 
--- src/lib.rt:56:19
 cast-list-2 : tie.Need-cast-list-2 Inv-loop μ-loop
 cast-list-2 c = omega (arith, trailing-le 64 (c .before .loop .x))
 
--- src/lib.rt:56:9
 mul-list : tie.Need-mul-list Inv-loop μ-loop
 mul-list c = omega (arith, room c)
 
--- src/lib.rt:56:9
 slice-write-list : tie.Need-slice-write-list Inv-loop μ-loop
 slice-write-list c = room c
 
--- src/lib.rt:57:9
 add-m : tie.Need-add-m Inv-loop μ-loop
 add-m c = omega (arith, room c)
 
--- src/lib.rt:58:18
 sub-x : tie.Need-sub-x Inv-loop μ-loop
 sub-x c = omega arith
 
--- src/lib.rt:55:5
 loop-less : tie.Need-loop-less Inv-loop μ-loop
 loop-less c = omega (arith, and-le-r (c .before .loop .x) (c .before .loop .x - 1))
 
--- src/lib.rt:55:5
 loop-again : tie.Need-loop-again Inv-loop μ-loop
 loop-again c =
     let l = c .before in
@@ -86,11 +76,9 @@ loop-again c =
           ∙ ap (λ (r : List ℕ). take (l .loop .m) (l .loop .list) ++ r) (sym e) ∙ l .loop .inv .3,
     )
 
--- src/lib.rt:49:1
 same-length : tie.Need-same-length Inv-loop μ-loop
 same-length c = c .before .loop .inv .0
 
--- src/lib.rt:49:1
 returns : tie.Need-returns Inv-loop μ-loop
 returns c =
     let l = c .before in

@@ -15,63 +15,48 @@ Inv-loop s₀ w from into a b j₀ s j = (length s ≡ length s₀) × (j ≤ w)
 abbrev μ-loop : tie.MeasureT-loop
 μ-loop s₀ w from into a b j₀ s j = w - j
 
--- src/lib.rt:39:13
 mul-a : tie.Need-mul-a Inv-loop μ-loop
 mul-a c = search needs
 
--- src/lib.rt:40:13
 mul-b : tie.Need-mul-b Inv-loop μ-loop
 mul-b c = search needs
 
--- src/lib.rt:42:5
 loop-holds : tie.Need-loop-holds Inv-loop μ-loop
 loop-holds c = (refl, omega arith, merging-none _ _ _ _)
 
--- src/lib.rt:43:22
 add-s : tie.Need-add-s Inv-loop μ-loop
 add-s c = search needs
 
--- src/lib.rt:43:20
 mul-s : tie.Need-mul-s Inv-loop μ-loop
 mul-s c = search needs
 
--- src/lib.rt:43:20
 slice-read-s : tie.Need-slice-read-s Inv-loop μ-loop
 slice-read-s c = search needs
 
--- src/lib.rt:43:33
 add-s-2 : tie.Need-add-s-2 Inv-loop μ-loop
 add-s-2 c = search needs
 
--- src/lib.rt:43:31
 mul-s-2 : tie.Need-mul-s-2 Inv-loop μ-loop
 mul-s-2 c = search needs
 
--- src/lib.rt:43:31
 slice-read-s-2 : tie.Need-slice-read-s-2 Inv-loop μ-loop
 slice-read-s-2 c = search needs
 
--- src/lib.rt:43:11
 add-s-3 : tie.Need-add-s-3 Inv-loop μ-loop
 add-s-3 c = search needs
 
--- src/lib.rt:43:9
 mul-s-3 : tie.Need-mul-s-3 Inv-loop μ-loop
 mul-s-3 c = search needs
 
--- src/lib.rt:43:9
 slice-write-s : tie.Need-slice-write-s Inv-loop μ-loop
 slice-write-s c = search needs
 
--- src/lib.rt:44:9
 add-j : tie.Need-add-j Inv-loop μ-loop
 add-j c = search needs
 
--- src/lib.rt:42:5
 loop-less : tie.Need-loop-less Inv-loop μ-loop
 loop-less c = search needs
 
--- src/lib.rt:42:5
 loop-again : tie.Need-loop-again Inv-loop μ-loop
 loop-again c =
     let l = c .before .before .before in (
@@ -80,11 +65,9 @@ loop-again c =
       merging-turn _ _ _ _ _ _ (l .loop .inv .2) (c .before .before .loop-test .taken) (omega (arith, l .loop .inv .0, l .before .pre)),
     )
 
--- src/lib.rt:35:1
 same-length : tie.Need-same-length Inv-loop μ-loop
 same-length c = c .before .loop .inv .0
 
--- src/lib.rt:35:1
 returns : tie.Need-returns Inv-loop μ-loop
 returns c = merging-end _ _ _ _ _ _ (c .before .loop .inv .2) (omega (arith, c .loop-test .left)) (c .before .loop .inv .1)
 

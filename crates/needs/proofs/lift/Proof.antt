@@ -51,7 +51,9 @@ merge-row-requires c κs =
     let l = c .before .before .before .before .before in
     let r : (c .before .before .before .before .before .before .before .args .n + 1) * width (c .before .before .before .before .before .before .before .args .n) ≤ length (l .loop .square) = omega (arith, p .1 .0, l .loop .inv .0) in
     let b : c .before .cell-of .result ≤ c .before .before .before .before .before .before .before .args .n = omega (arith, c .before .cell-of .ensures, p .0 .falls (l .loop .k) (l .loop .inv .1) (l .loop .inv .2), l .loop .inv .2) in
-    (row-room _ _ _ _ (l .loop .inv .2) r, row-room _ _ _ _ b r)
+    let own = row-room _ _ _ _ (l .loop .inv .2) r in
+    let group = row-room _ _ _ _ b r in
+    (omega arith, omega arith)
 
 sub-k : tie.Need-sub-k Inv-loop μ-loop
 sub-k c = search needs

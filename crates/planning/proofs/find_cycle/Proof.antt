@@ -1,42 +1,49 @@
-use mathlib.Core.Path.{_≡_, refl, sym, ap, _∙_, subst}
+use mathlib.Core.Path.{refl}
 use mathlib.Core.Logic.{inl}
-use mathlib.Core.Bool.{true, false}
-use Prim.Native.Nat.{ℕ, _+_, _-_, _*_, _≤_, _<_}
+use Prim.Native.Nat.{ℕ, _+_, _*_, _≤_, _<_}
 use native.Mathlib.Omega.{arith}
+use Rattle.planning.proofs.Plans.{zero-at, zero-chain, zero-room}
 use borrow.Author.Needs.{needs}
-use lib.ListN.{length, getD}
-use Rattle.reach.specs.Rows.{Room}
 use Rattle.planning.proofs.find_cycle.Statement.{statement}
 use Rattle.planning.proofs.find_cycle.Tie as tie
 use Rattle.planning.proofs.find_cycle.Reads as reads
 use Rattle.planning.proofs.find_cycle.Lts as lts
+use Rattle.reach.proofs.first_cycle.Reads as first-cycle-reads
+use Rattle.reach.proofs.link.Reads as link-reads
+use Rattle.reach.proofs.reach_rows.Reads as reach-rows-reads
+
+slice-aggregate-link : tie.Need-slice-aggregate-link
+slice-aggregate-link c = search needs
 
 link-requires : tie.Need-link-requires
-link-requires c κs = let p = c .before .before .before .before .before .pre in (p .0, (inl refl, (p .1 .0 .0, p .1 .1 .0)))
+link-requires c κs =
+    let a = c .before .before in
+    (a .pre .0, (inl refl, zero-chain (a .args .n) 2049 (omega (arith, a .pre .0 .few))))
+
+slice-aggregate-reach-rows : tie.Need-slice-aggregate-reach-rows
+slice-aggregate-reach-rows c = search needs
+
+slice-aggregate-reach-rows-2 : tie.Need-slice-aggregate-reach-rows-2
+slice-aggregate-reach-rows-2 c = search needs
+
+slice-aggregate-reach-rows-3 : tie.Need-slice-aggregate-reach-rows-3
+slice-aggregate-reach-rows-3 c = search needs
 
 reach-rows-requires : tie.Need-reach-rows-requires
 reach-rows-requires c κs =
-    let p = c .before .before .before .before .before .before .before .before .before .before .before .before .pre in
-    let k = c .before .before .before .before .before .before .link in
-    (p .0, (inl refl, ((omega (arith, p .1 .0 .0, k .kept .1 .1 .1 .0), k .ensures), (p .1 .0 .1, (p .1 .1 .1, p .1 .1 .2)))))
+    let a = c .before .before .before .before .before .before .before .before in
+    let k = c .before .before .before .before .before .link in
+    let z = zero-chain (a .args .n) 2049 (omega (arith, a .pre .0 .few)) in
+    (a .pre .0, (inl refl, ((omega (arith, z .0, k .kept .1 .1 .1 .0), k .ensures), (zero-room (a .args .n) 1025 _ (omega (arith, a .pre .0 .few)) (a .pre .1 .0), (zero-at 1025, a .pre .1 .1)))))
 
 first-cycle-requires : tie.Need-first-cycle-requires
 first-cycle-requires c κs =
-    let p = c .before .before .before .before .before .before .before .before .before .before .before .before .before .before .before .before .before .before .before .before .pre in
-    let k = c .before .before .before .before .before .before .before .reach-rows in
-    (p .0, (inl refl, (omega (arith, p .1 .0 .1 .rows, k .kept .1 .1 .1 .1 .1 .0), k .ensures)))
+    let a = c .before .before .before .before .before .before .before .before .before .before .before .before .before .before in
+    let k = c .before .before .before .before .before .reach-rows in
+    (a .pre .0, (inl refl, (omega (arith, a .pre .1 .0, k .kept .1 .1 .1 .1 .1 .0), k .ensures .0)))
 
 same-length : tie.Need-same-length
 same-length c = search needs
-
-same-length-2 : tie.Need-same-length-2
-same-length-2 c = search needs
-
-same-length-3 : tie.Need-same-length-3
-same-length-3 c = search needs
-
-same-length-4 : tie.Need-same-length-4
-same-length-4 c = search needs
 
 returns : tie.Need-returns
 returns c = search needs
@@ -45,11 +52,12 @@ pub find-cycle-spec : {M : Type 1} → statement M
 find-cycle-spec =
     tie.close
     (tie.spec
+    slice-aggregate-link
     link-requires
+    slice-aggregate-reach-rows
+    slice-aggregate-reach-rows-2
+    slice-aggregate-reach-rows-3
     reach-rows-requires
     first-cycle-requires
     same-length
-    same-length-2
-    same-length-3
-    same-length-4
     returns)

@@ -1,55 +1,21 @@
 use Prim.Native.Nat.{ℕ, _+_, _*_, _≤_, _<_}
 use native.Mathlib.Omega.{arith}
+use Rattle.planning.proofs.Plans.{zero-square}
 use borrow.Author.Needs.{needs}
-use Rattle.planning.proofs.Plans.{square-room, zero-room, zero-scratch, zero-chains, zero-blank}
 use Rattle.planning.proofs.plan_medium.Statement.{statement}
 use Rattle.planning.proofs.plan_medium.Tie as tie
 use Rattle.planning.proofs.plan_medium.Reads as reads
 use Rattle.planning.proofs.plan_medium.Lts as lts
-use Rattle.planning.proofs.plan_with.Reads as plan-with-reads
+use Rattle.planning.proofs.plan_in.Reads as plan-in-reads
 
-slice-aggregate-plan-with : tie.Need-slice-aggregate-plan-with
-slice-aggregate-plan-with c = search needs
+slice-aggregate-plan-in : tie.Need-slice-aggregate-plan-in
+slice-aggregate-plan-in c = search needs
 
-slice-aggregate-plan-with-2 : tie.Need-slice-aggregate-plan-with-2
-slice-aggregate-plan-with-2 c = search needs
-
-slice-aggregate-plan-with-3 : tie.Need-slice-aggregate-plan-with-3
-slice-aggregate-plan-with-3 c = search needs
-
-slice-aggregate-plan-with-4 : tie.Need-slice-aggregate-plan-with-4
-slice-aggregate-plan-with-4 c = search needs
-
-slice-aggregate-plan-with-5 : tie.Need-slice-aggregate-plan-with-5
-slice-aggregate-plan-with-5 c = search needs
-
-slice-aggregate-plan-with-6 : tie.Need-slice-aggregate-plan-with-6
-slice-aggregate-plan-with-6 c = search needs
-
-slice-aggregate-plan-with-7 : tie.Need-slice-aggregate-plan-with-7
-slice-aggregate-plan-with-7 c = search needs
-
-slice-aggregate-plan-with-8 : tie.Need-slice-aggregate-plan-with-8
-slice-aggregate-plan-with-8 c = search needs
-
-slice-aggregate-plan-with-9 : tie.Need-slice-aggregate-plan-with-9
-slice-aggregate-plan-with-9 c = search needs
-
-slice-aggregate-plan-with-10 : tie.Need-slice-aggregate-plan-with-10
-slice-aggregate-plan-with-10 c = search needs
-
-plan-with-requires : tie.Need-plan-with-requires
-plan-with-requires c κs =
-    let p = c .before .before .before .before .before .before .before .before .before .before .before .pre in
-    let n = c .before .before .before .before .before .before .before .before .before .before .before .args .n in
-    let h : n ≤ 255 = c .before .before .before .before .before .before .before .before .before .before .before .pre .1 .0 in
-    let z = zero-chains n 1024 511 256 511 256 4 256 4 256 256 (omega arith) (omega arith) in (
-      p .0,
-      (
-        (p .1 .1, z .0, z .1, zero-room n 1024 511 256 511 256 4 256 4 256 256 (square-room n 256 4 (omega arith) (omega arith)) (omega arith) (omega arith), zero-scratch n 1024 511 256 511 256 4 256 4 256 256 (omega arith) (omega arith) (omega arith) (omega arith) (omega arith)),
-        zero-blank n 1024 511 256 511 256 4 256 4 256 256,
-      ),
-    )
+plan-in-requires : tie.Need-plan-in-requires
+plan-in-requires c κs =
+    let a = c .before .before in
+    let h : a .args .n ≤ 511 = a .pre .1 .0 in
+    (a .pre .0, (a .pre .1 .1, zero-square (a .args .n) 512 8 (omega arith) (omega arith)))
 
 same-length : tie.Need-same-length
 same-length c = search needs
@@ -59,18 +25,4 @@ returns c = search needs
 
 pub plan-medium-spec : {M : Type 1} → statement M
 plan-medium-spec =
-    tie.close
-    (tie.spec
-    slice-aggregate-plan-with
-    slice-aggregate-plan-with-2
-    slice-aggregate-plan-with-3
-    slice-aggregate-plan-with-4
-    slice-aggregate-plan-with-5
-    slice-aggregate-plan-with-6
-    slice-aggregate-plan-with-7
-    slice-aggregate-plan-with-8
-    slice-aggregate-plan-with-9
-    slice-aggregate-plan-with-10
-    plan-with-requires
-    same-length
-    returns)
+    tie.close (tie.spec slice-aggregate-plan-in plan-in-requires same-length returns)

@@ -7,9 +7,11 @@ use lib.Seq.{getD-set-same}
 use Rattle.cells.specs.Accepted.{HasBody}
 use Rattle.reach.specs.Chains.{Hangs, Last}
 use Rattle.reach.specs.Rows.{Rows, Room}
+use Rattle.reach.specs.Visits.{spent}
 use Rattle.reach.specs.Turns.{Since}
 use Rattle.reach.proofs.Links.{column-range, body-label, end-body}
-use Rattle.reach.proofs.Visits.{since-same, since-then, unbegun, begin, fewer, finish, stay}
+use Rattle.reach.proofs.Visits.{since-same, since-then, unbegun, begin, fewer, finish, stay, visited-few}
+use Rattle.reach.proofs.Totals.{fan-few, spent-few}
 use borrow.Fn.Kinds.{In}
 use borrow.Fn.PlainCycle.{Measures, is, falls, and}
 use Rattle.reach.proofs.visit.Reads as visit
@@ -43,12 +45,12 @@ claims t = (
 )
 
 abbrev visit-Inv-loop : visit-lts.InvT-loop
-visit-Inv-loop table n j chains state₀ square₀ stack₀ d x₀ state square stack x =
+visit-Inv-loop table n j chains state₀ square₀ stack₀ d visits₀ x₀ state square stack visits x =
     (length state ≡ length state₀) × (length square ≡ length square₀) × (length stack ≡ length stack₀) × (x ≤ n) × ((x ≡ 0 → ⊥) → Hangs table j d x)
-    × Rows table n j state square × Since state₀ state
+    × Rows table n j state square × Since state₀ state × (visits + spent table n j state₀ ≤ spent table n j state)
 
 abbrev visit-μ-loop : visit-lts.MeasureT-loop
-visit-μ-loop table n j chains state₀ square₀ stack₀ d x₀ state square stack x = x
+visit-μ-loop table n j chains state₀ square₀ stack₀ d visits₀ x₀ state square stack visits x = x
 
 -- in the loop: d's state is there, and buffers are as long as at entry
 module _ (t : ℕ) (l : visit-lts.At-loop (claims t) (visit-at t) visit.Post visit-Inv-loop visit-μ-loop) where
@@ -107,6 +109,7 @@ visit-loop-holds t c =
       l .hangs,
       begin _ _ (p .0) _ _ _ _ (omega (arith, p .1 .1 .1 .0 .states, b)) (c .before .before .if1 .left) (p .1 .1 .1 .1 .1) (p .1 .1 .1 .1 .0),
       since-same _,
+      omega arith,
     )
 
 visit-cell-of-requires : (t : ℕ) → visit-lts.Need-cell-of-requires (claims t) (visit-at t) visit.Post visit-Inv-loop visit-μ-loop
@@ -125,6 +128,12 @@ visit-visit-requires t c κs =
           (fewer _ _ (p .0) _ _ _ _ (here t l) (l .before .before .before .if1 .left) (p .1 .1 .1 .1 .1) (p .1 .1 .1 .1 .0) _ (l .loop .inv .6)),
       (p .0, (p .1 .0, (p .1 .1 .0, (room t l, (l .loop .inv .5, subst (HasBody (a .args .table .now)) (sym (c .before .before .before .cell-of .ensures)) (end-body _ _ (p .0) _ (l .loop .x) (p .1 .0) (hangs t (c .before .before .before .before) .path))))))),
     )
+
+visit-add-visits : (t : ℕ) → visit-lts.Need-add-visits (claims t) (visit-at t) visit.Post visit-Inv-loop visit-μ-loop
+visit-add-visits t c =
+    let a = c .before .before .before .before .before .before .before .before .before .before .before .before .before .before .before .before .before .before .before .before .before in
+    let few = visited-few _ _ (a .pre .1 .0) _ _ _ _ _ _ (c .before .before .before .before .before .before .visit .ensures) in
+    omega (arith, c .before .before .before .before .before .before .before .before .before .before .before .before .loop .inv .7, a .pre .1 .0 .few)
 
 visit-add-wide : (t : ℕ) → visit-lts.Need-add-wide (claims t) (visit-at t) visit.Post visit-Inv-loop visit-μ-loop
 visit-add-wide t c = let l = line t (c .before .before .before .before .before .before .before .before .before .before .before) in omega (arith, l, c .before .before .before .before .before .before .before .before .before .before .before .before .before .before .before .before .before .before .before .before .before .pre .1 .0 .few)
@@ -155,6 +164,7 @@ visit-loop-again t c =
       x .hangs,
       v .ensures .rows,
       since-then _ _ _ (l .loop .inv .6) (v .ensures .since),
+      omega (arith, l .loop .inv .7, v .ensures .few),
     )
 
 visit-fill-requires : (t : ℕ) → visit-lts.Need-fill-requires (claims t) (visit-at t) visit.Post visit-Inv-loop visit-μ-loop
@@ -164,6 +174,12 @@ visit-fill-requires t c κs =
     let l = c .before .before .before .before in
     let not-made : getD (l .loop .state) (a .args .d) 0 ≡ 2 → ⊥ = λ z. omega (arith, l .loop .inv .6 .held (a .args .d) (getD-set-same (a .args .state .now) (a .args .d) 1 0 (here t l))) in
     (p .0, (p .1 .0, (p .1 .1 .0, (room t l, ((not-made, p .1 .1 .1 .1 .1), (l .loop .inv .5 .made, l .loop .inv .5 .blank (a .args .d) not-made))))))
+
+visit-add-visits-2 : (t : ℕ) → visit-lts.Need-add-visits-2 (claims t) (visit-at t) visit.Post visit-Inv-loop visit-μ-loop
+visit-add-visits-2 t c =
+    let a = c .before .before .before .before .before .before .before .before .before .before .before .before .before .before .before .before .before .before in
+    let l = c .before .before .before .before .before .before .before .before .before in
+    omega (arith, l .loop .inv .7, c .before .before .before .before .fill .ensures .few, spent-few _ _ (a .pre .1 .0) (a .args .j) (l .loop .state), fan-few _ _ (a .pre .1 .0) (a .args .j) (a .args .d), a .pre .1 .0 .few)
 
 visit-slice-write-state-2 : (t : ℕ) → visit-lts.Need-slice-write-state-2 (claims t) (visit-at t) visit.Post visit-Inv-loop visit-μ-loop
 visit-slice-write-state-2 t c = let l = c .before .before .before .before .before .before .before .before .before in omega (arith, here t l, l .loop .inv .0, length-set (c .before .before .before .before .before .before .before .before .before .before .before .before .before .before .before .before .before .before .args .state .now) (c .before .before .before .before .before .before .before .before .before .before .before .before .before .before .before .before .before .before .args .d) 1)
@@ -182,8 +198,8 @@ visit-returns-2 t c =
     let a = c .before .before .before .before .before .before .before .before .before .before .before .before .before .before .before .before .before .before in
     let p = a .pre .1 in
     let l = c .before .before .before .before .before .before .before .before .before in
-    finish _ _ (p .0) _ _ _ _ (here t l) (l .before .before .before .if1 .left) (p .1 .1 .1 .1 .1) (p .1 .1 .1 .1 .0) _ _ _
-    (omega (arith, here t l, l .loop .inv .0, length-set (a .args .state .now) (a .args .d) 1)) (l .loop .inv .6) (l .loop .inv .5) (c .before .before .before .before .fill .ensures)
+    finish _ _ (p .0) _ _ _ _ (here t l) (l .before .before .before .if1 .left) (p .1 .1 .1 .1 .1) (p .1 .1 .1 .1 .0) _ _ _ _ _
+    (omega (arith, here t l, l .loop .inv .0, length-set (a .args .state .now) (a .args .d) 1)) (l .loop .inv .6) (l .loop .inv .5) (c .before .before .before .before .fill .ensures) (l .loop .inv .7)
 
 pub +visit-spec : {M : Type 1} → statement M
 +visit-spec = close μ-visit λ t. visit-lts.spec (claims t)
@@ -200,6 +216,7 @@ pub +visit-spec : {M : Type 1} → statement M
     (visit-loop-holds t)
     (visit-cell-of-requires t)
     (visit-visit-requires t)
+    (visit-add-visits t)
     (visit-add-wide t)
     (visit-mul-wide-2 t)
     (visit-shared-slice-read-wide-2 t)
@@ -207,6 +224,7 @@ pub +visit-spec : {M : Type 1} → statement M
     (visit-loop-less t)
     (visit-loop-again t)
     (visit-fill-requires t)
+    (visit-add-visits-2 t)
     (visit-slice-write-state-2 t)
     (visit-same-length t)
     (visit-same-length-2 t)

@@ -5,7 +5,7 @@ use borrow.Author.Needs.{needs}
 use lib.ListN.{getD, length-set}
 use Rattle.reach.specs.Turns.{marked, added, pushed}
 use Rattle.reach.proofs.Links.{body-label}
-use Rattle.reach.proofs.Reading.{row-room}
+use Rattle.reach.proofs.Reading.{row-room, room-still}
 use Rattle.reach.proofs.Raise.{added-row}
 use Rattle.reach.proofs.meet.Statement.{statement}
 use Rattle.reach.proofs.meet.Tie as tie
@@ -35,10 +35,11 @@ shared-slice-read-if2 c = let p = c .before .before .before .before .before .bef
 
 merge-row-requires : tie.Need-merge-row-requires
 merge-row-requires c κs =
-    let p = c .before .before .before .before .before .before .before .before .before .before .before .before .before .pre in
-    let b = body-label _ _ (p .0) _ (p .1 .1 .1 .0) in
+    let a = c .before .before .before .before .before .before .before .before .before .before .before .before .before in
     let r = c .before .before .before .before .before .mark-around .kept .1 .1 .0 in
-    (row-room _ _ _ _ (b .1) (omega (arith, r, p .1 .0 .rows)), row-room _ _ _ _ (p .1 .1 .0 .0) (omega (arith, r, p .1 .0 .rows)))
+    let from = room-still _ _ _ _ _ (body-label _ _ (a .pre .0) (a .args .f) (a .pre .1 .1 .1 .0) .1) (a .pre .1 .0 .rows) r in
+    let into = room-still _ _ _ _ _ (a .pre .1 .1 .0 .0) (a .pre .1 .0 .rows) r in
+    (omega arith, omega arith)
 
 same-length-2 : tie.Need-same-length-2
 same-length-2 c = c .before .before .merge-row .kept .0 ∙ c .before .before .before .before .before .before .before .before .mark-around .kept .1 .1 .0

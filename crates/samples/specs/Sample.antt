@@ -1,0 +1,157 @@
+-- A sample sheet with what document 01 says of it, and what the definitions of the calls give for it.
+use mathlib.Core.List.{List, [], _∷_, _++_, map}
+use Prim.Native.Nat.{ℕ, zero, suc, _-_, _*_}
+use Prim.Native.String.{String}
+use lib.IntN.{ℤ, pos}
+use lib.ListN.{length, getD}
+use Rattle.cells.specs.Cells.{zeros}
+use Rattle.cells.specs.Table.{kind, owner, target}
+use Rattle.refusals.specs.declared.Reply.{Reply}
+use Rattle.refusals.specs.declared.Reply.the-variants.{Answered, Refused}
+use Rattle.lines.specs.Lines.{labels}
+use Rattle.evaluation.specs.Results.{store}
+use Rattle.reading.specs.Read.{readReply, readTable}
+use Rattle.reading.specs.Name.{namePart}
+use Rattle.calls.specs.Plan.{planReply, planCells}
+use Rattle.calls.specs.Run.{runReply, runPlan, runResults}
+use Rattle.calls.specs.Follow.{followReply, followResults}
+use Rattle.calls.specs.declared.PlanReply.{PlanReply}
+use Rattle.calls.specs.declared.PlanReply.the-variants as planned
+use Rattle.samples.specs.Text.{bytesOf, textOf}
+
+-- ---- a sample
+
+-- what a line of Read's table tells
+pub data Fact : Type 0 where
+  -- label l is a Group, a value or a function in Group g
+  group : (l g : ℕ) → Fact
+  value : (l g : ℕ) → Fact
+  function : (l g : ℕ) → Fact
+  -- definition d reads value e, or calls function e
+  reads : (d e : ℕ) → Fact
+  calls : (d e : ℕ) → Fact
+
+-- a line of the program's print, "label name order state number steps", but for the order
+pub record Line : Type 0 where
+  pub label : ℕ
+  pub name : String
+  pub state : ℕ
+  pub number : ℤ
+  pub steps : ℕ
+
+-- a refusal with its number and place; or a whole or a mixed plan, with a line for each value in plan order
+pub data Outcome : Type 0 where
+  refusal : (number place : ℕ) → Outcome
+  whole : List Line → Outcome
+  mixed : List Line → Outcome
+
+pub record Sample : Type 0 where
+  -- the sheet, line by line
+  pub sheet : List String
+  -- what Read answers, and what its table tells of the labels from 2 on
+  pub read : Reply
+  pub table : List Fact
+  -- what Plan and Run come to
+  pub outcome : Outcome
+
+-- ---- what the calls give for a sheet
+
+-- each field is what the definition of its name gives; Follow and Name are asked about the lines that the sample says
+pub record Given : Type 0 where
+  pub readReply : Reply
+  -- what Read's table tells of the labels from 2 on
+  pub table : List Fact
+  pub planReply : PlanReply
+  pub planCells : List ℤ
+  pub runReply : PlanReply
+  pub runPlan : List ℤ
+  pub runResults : List ℤ
+  -- Follow's, where its order list is the labels of the lines
+  pub followReply : Reply
+  pub followResults : List ℤ
+  -- Name's, for the label of each line
+  pub names : List (List ℕ)
+
+abbrev pub linesOf : Outcome → List Line
+linesOf (refusal r p) = []
+linesOf (whole ls) = ls
+linesOf (mixed ls) = ls
+
+abbrev pub orderOf : List Line → List ℤ
+orderOf ls = map (λ x. pos (x .label)) ls
+
+-- what label l tells, with this kind code, owner o and target e
+abbrev pub factOf : ℕ → ℕ → ℕ → ℕ → List Fact
+factOf code l o e =
+    getD ([] ∷ (group l o ∷ []) ∷ (value l o ∷ []) ∷ (function l o ∷ []) ∷ [] ∷ [] ∷ (reads o e ∷ []) ∷ (calls o e ∷ []) ∷ []) code []
+
+-- what k labels of a table tell, from l on
+abbrev pub factsFrom : List ℤ → ℕ → ℕ → List Fact
+factsFrom t l zero = []
+factsFrom t l (suc k) = factOf (kind t l) l (owner t l) (target t l) ++ factsFrom t (suc l) k
+
+abbrev pub namesIn : List ℕ → ℕ → List Line → List (List ℕ)
+namesIn s m [] = []
+namesIn s m (x ∷ ls) = namePart s m (pos (x .label)) ∷ namesIn s m ls
+
+-- of a text s with n labels, where each call is lent just enough: a table of 8n cells, a plan of n and results of 3n
+abbrev pub givenFor : List ℕ → ℕ → List Line → Given
+givenFor s n ls = record {
+  readReply = readReply s (8 * n);
+  table = factsFrom (readTable s (8 * n)) 2 (n - 1);
+  planReply = planReply s (8 * n) n;
+  planCells = planCells s (8 * n) n;
+  runReply = runReply s (8 * n) n (3 * n);
+  runPlan = runPlan s (8 * n) n (3 * n);
+  runResults = runResults s (8 * n) n (3 * n);
+  followReply = followReply s (orderOf ls) (8 * n) (3 * n);
+  followResults = followResults s (orderOf ls) (8 * n) (3 * n);
+  names = namesIn s (8 * n) ls;
+}
+
+abbrev pub given : Sample → Given
+given x = givenFor (textOf (x .sheet)) (labels (textOf (x .sheet))) (linesOf (x .outcome))
+
+-- ---- what the sample says that they give
+
+abbrev pub planReplyBy : Outcome → PlanReply
+planReplyBy (refusal r p) = planned.Refused r p
+planReplyBy (whole ls) = planned.Whole (length ls)
+planReplyBy (mixed ls) = planned.Mixed (length ls)
+
+abbrev pub followReplyBy : Outcome → Reply
+followReplyBy (refusal r p) = Refused r p
+followReplyBy (whole ls) = Answered (length ls)
+followReplyBy (mixed ls) = Answered (length ls)
+
+-- n cells of a plan: the labels, then zeros
+abbrev pub planBy : ℕ → List Line → List ℤ
+planBy n ls = orderOf ls ++ zeros (n - length ls)
+
+-- m cells of results: zeros, but for the state, number and steps of each line at its label
+abbrev pub resultsBy : ℕ → List Line → List ℤ
+resultsBy m [] = zeros m
+resultsBy m (x ∷ ls) = store (resultsBy m ls) (x .label) (record { number = x .number; state = x .state; steps = x .steps })
+
+abbrev pub namesBy : List Line → List (List ℕ)
+namesBy [] = []
+namesBy (x ∷ ls) = bytesOf (x .name) ∷ namesBy ls
+
+-- of a sheet with n labels, where the lines are ls
+abbrev pub saidOf : Sample → ℕ → List Line → Given
+saidOf x n ls = record {
+  readReply = x .read;
+  table = x .table;
+  planReply = planReplyBy (x .outcome);
+  planCells = planBy n ls;
+  runReply = planReplyBy (x .outcome);
+  runPlan = planBy n ls;
+  runResults = resultsBy (3 * n) ls;
+  followReply = followReplyBy (x .outcome);
+  followResults = resultsBy (3 * n) ls;
+  names = namesBy ls;
+}
+
+-- every line of the sheet but the first has a label
+abbrev pub said : Sample → Given
+said x = saidOf x (length (x .sheet) - 1) (linesOf (x .outcome))

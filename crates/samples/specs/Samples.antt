@@ -1,0 +1,196 @@
+-- Document 01's starred sample sheets, as one table. The sentences are the paper's, and so are the figures in them; the others are counted
+-- by hand, as `sheets/README.md` says. The sheets are those of `sheets/`.
+use mathlib.Core.List.{List, [], _∷_}
+use Prim.Native.Nat.{ℕ}
+use Prim.Native.String.{String}
+use lib.IntN.{ℤ, pos, negℤ}
+use Rattle.refusals.specs.declared.Reply.the-variants.{Answered, Refused}
+use Rattle.samples.specs.Sample.{group, value, function, reads, calls, Line, Outcome, refusal, whole, mixed, Sample}
+
+abbrev line : ℕ → String → ℕ → ℤ → ℕ → Line
+line label name state number steps = record { label = label; name = name; state = state; number = number; steps = steps }
+
+abbrev minus : ℕ → ℤ
+minus n = negℤ (pos n)
+
+-- 1. "the sheet above", of "Program and its print", with the print that the paper gives
+abbrev pub example : Sample
+example = record {
+  sheet =
+      "kind name a b c"
+      ∷ "G - 0 - -"
+      ∷ "V total 1 6 -"
+      ∷ "G right 1 - -"
+      ∷ "V prism 3 9 -"
+      ∷ "V sphere 3 14 -"
+      ∷ "A - 7 8 -"
+      ∷ "R right.prism - - -"
+      ∷ "N - 5 - -"
+      ∷ "D - 10 13 -"
+      ∷ "M - 11 12 -"
+      ∷ "R sphere - - -"
+      ∷ "N - 10 - -"
+      ∷ "N - 100 - -"
+      ∷ "N - -325 - -"
+      ∷ [];
+  read = Answered 14;
+  table = value 2 1 ∷ group 3 1 ∷ value 4 3 ∷ value 5 3 ∷ reads 2 4 ∷ reads 4 5 ∷ [];
+  outcome = whole
+      (line 5 "sphere" 1 (minus 325) 1
+      ∷ line 4 "prism" 1 (minus 33) 5
+      ∷ line 2 "total" 1 (minus 28) 3
+      ∷ []);
+}
+
+-- 2. "label 1 alone: empty whole plan"
+abbrev pub outermostAlone : Sample
+outermostAlone = record {
+  sheet =
+      "kind name a b c"
+      ∷ "G - 0 - -"
+      ∷ [];
+  read = Answered 1;
+  table = [];
+  outcome = whole [];
+}
+
+-- 3. "Groups 2, 3; values 4, 5 in 2 and 6, 7 in 3; 4 reads 6, 7 reads 5, the others are numbers: mixed, 5 6 4 7"
+abbrev pub mixedOrder : Sample
+mixedOrder = record {
+  sheet =
+      "kind name a b c"
+      ∷ "G - 0 - -"
+      ∷ "G right 1 - -"
+      ∷ "G left 1 - -"
+      ∷ "V prism 2 8 -"
+      ∷ "V sphere 2 9 -"
+      ∷ "V prism 3 10 -"
+      ∷ "V sphere 3 11 -"
+      ∷ "R left.prism - - -"
+      ∷ "N - 20 - -"
+      ∷ "N - 30 - -"
+      ∷ "R right.sphere - - -"
+      ∷ [];
+  read = Answered 11;
+  table = group 2 1 ∷ group 3 1 ∷ value 4 2 ∷ value 5 2 ∷ value 6 3 ∷ value 7 3 ∷ reads 4 6 ∷ reads 7 5 ∷ [];
+  outcome = mixed
+      (line 5 "sphere" 1 (pos 20) 1
+      ∷ line 6 "prism" 1 (pos 30) 1
+      ∷ line 4 "prism" 1 (pos 30) 1
+      ∷ line 7 "sphere" 1 (pos 20) 1
+      ∷ []);
+}
+
+-- 4. "`even` (if the argument then `odd` of it less 1, else 1) and `odd` (likewise, else 0) in two Groups: `even` of 0 is 1 in 5 steps, of
+-- 1 is 0 in 11": the sheet whose last line is the argument, where `even` of it is a number in some steps
+abbrev pub evenOf : String → ℤ → ℕ → Sample
+evenOf argument number steps = record {
+  sheet =
+      "kind name a b c"
+      ∷ "G - 0 - -"
+      ∷ "G first 1 - -"
+      ∷ "G second 1 - -"
+      ∷ "F even 2 6 -"
+      ∷ "F odd 3 13 -"
+      ∷ "I - 7 8 9"
+      ∷ "P - - - -"
+      ∷ "C second.odd 10 - -"
+      ∷ "N - 1 - -"
+      ∷ "S - 11 12 -"
+      ∷ "P - - - -"
+      ∷ "N - 1 - -"
+      ∷ "I - 14 15 16"
+      ∷ "P - - - -"
+      ∷ "C first.even 17 - -"
+      ∷ "N - 0 - -"
+      ∷ "S - 18 19 -"
+      ∷ "P - - - -"
+      ∷ "N - 1 - -"
+      ∷ "V answer 1 21 -"
+      ∷ "C first.even 22 - -"
+      ∷ argument
+      ∷ [];
+  read = Answered 22;
+  table = group 2 1 ∷ group 3 1 ∷ function 4 2 ∷ function 5 3 ∷ calls 4 5 ∷ calls 5 4 ∷ value 20 1 ∷ calls 20 4 ∷ [];
+  outcome = whole (line 20 "answer" 1 number steps ∷ []);
+}
+
+-- 6. "f calls f on its argument; a value calling f on a number: state 5, 130 steps"
+abbrev pub endlessCalls : Sample
+endlessCalls = record {
+  sheet =
+      "kind name a b c"
+      ∷ "G - 0 - -"
+      ∷ "F f 1 4 -"
+      ∷ "V endless 1 6 -"
+      ∷ "C f 5 - -"
+      ∷ "P - - - -"
+      ∷ "C f 7 - -"
+      ∷ "N - 1 - -"
+      ∷ [];
+  read = Answered 7;
+  table = function 2 1 ∷ value 3 1 ∷ calls 2 2 ∷ calls 3 2 ∷ [];
+  outcome = whole (line 3 "endless" 5 (pos 0) 130 ∷ []);
+}
+
+-- 7. "-3250 / 100 is -33, 3249 / 100 is 32"
+abbrev pub nearest : Sample
+nearest = record {
+  sheet =
+      "kind name a b c"
+      ∷ "G - 0 - -"
+      ∷ "V up 1 4 -"
+      ∷ "V down 1 7 -"
+      ∷ "D - 5 6 -"
+      ∷ "N - -3250 - -"
+      ∷ "N - 100 - -"
+      ∷ "D - 8 9 -"
+      ∷ "N - 3249 - -"
+      ∷ "N - 100 - -"
+      ∷ [];
+  read = Answered 9;
+  table = value 2 1 ∷ value 3 1 ∷ [];
+  outcome = whole (line 2 "up" 1 (minus 33) 3 ∷ line 3 "down" 1 (pos 32) 3 ∷ []);
+}
+
+-- 8. "a value reading itself: 16"; row 16 is "not Read", so Read answers
+abbrev pub readsItself : Sample
+readsItself = record {
+  sheet =
+      "kind name a b c"
+      ∷ "G - 0 - -"
+      ∷ "V sphere 1 3 -"
+      ∷ "R sphere - - -"
+      ∷ [];
+  read = Answered 3;
+  table = value 2 1 ∷ reads 2 2 ∷ [];
+  outcome = refusal 16 2;
+}
+
+-- 9. "Label 2 a V with body 3, label 3 `A - 4 4 -`, label 4 an N: 9, place 4"
+abbrev pub usedTwice : Sample
+usedTwice = record {
+  sheet =
+      "kind name a b c"
+      ∷ "G - 0 - -"
+      ∷ "V sphere 1 3 -"
+      ∷ "A - 4 4 -"
+      ∷ "N - 7 - -"
+      ∷ [];
+  read = Refused 9 4;
+  table = [];
+  outcome = refusal 9 4;
+}
+
+unfoldable pub samples : List Sample
+samples =
+    example
+    ∷ outermostAlone
+    ∷ mixedOrder
+    ∷ evenOf "N - 0 - -" (pos 1) 5
+    ∷ evenOf "N - 1 - -" (pos 0) 11
+    ∷ endlessCalls
+    ∷ nearest
+    ∷ readsItself
+    ∷ usedTwice
+    ∷ []

@@ -1,42 +1,43 @@
-//! What the library is lent, with canaries on both sides.
+//! What the library is lent, with what is not its own on both sides.
 
-/// How many canaries stand on each side.
+/// How many bytes or cells stand on each side.
 const MARGIN: usize = 8;
 
 const CANARY: i64 = 0x0123_4567_89AB_CDEF;
 
-/// What may stand around a text. A reader that goes past an end meets a line
-/// end, or more of a field.
-pub const SURROUNDINGS: [u8; 2] = [b'\n', b'7'];
+/// What may stand around a text and around an order list. A reader that goes
+/// past an end of the text meets a line end, or more of a field; past an end of
+/// the list it meets no label, or one that may well be a value's.
+pub const SURROUNDINGS: [(u8, i64); 2] = [(b'\n', 0), (b'7', 2)];
 
-/// A text between bytes that are not its own.
-pub struct LentText {
-    bytes: Vec<u8>,
+/// A text or an order list between bytes or cells that are not its own.
+pub struct LentPart<T> {
+    all: Vec<T>,
 }
 
-impl LentText {
-    pub fn new(text: &[u8], surrounding: u8) -> Self {
+impl<T: Copy> LentPart<T> {
+    pub fn new(part: &[T], surrounding: T) -> Self {
         let margin = [surrounding; MARGIN];
-        LentText {
-            bytes: [&margin, text, &margin].concat(),
+        LentPart {
+            all: [&margin, part, &margin].concat(),
         }
     }
 
-    pub fn part(&self) -> &[u8] {
-        &self.bytes[MARGIN..self.bytes.len() - MARGIN]
+    pub fn part(&self) -> &[T] {
+        &self.all[MARGIN..self.all.len() - MARGIN]
     }
 }
 
-/// A table between cells that are not its own.
-pub struct LentTable {
+/// Cells to write to, between cells that must stay as they are.
+pub struct LentCells {
     cells: Vec<i64>,
     rubbish: i64,
 }
 
-impl LentTable {
+impl LentCells {
     pub fn new(length: usize, rubbish: i64) -> Self {
         let cells = vec![CANARY; length + 2 * MARGIN];
-        LentTable { cells, rubbish }
+        LentCells { cells, rubbish }
     }
 
     /// The cells to lend, full of rubbish again.
@@ -58,7 +59,7 @@ impl LentTable {
             return Err(format!("cell {at} is {}, wanted {}", part[at], wanted[at]));
         }
         if before.iter().chain(after).any(|&cell| cell != CANARY) {
-            return Err("cells beside the table were written".to_string());
+            return Err("cells beside it were written".to_string());
         }
         Ok(())
     }

@@ -1,6 +1,6 @@
 //! `cargo run --release -p checks -- SEED COUNT`: as many random trials as
 //! wanted. Status 1 and the seed where the library and the reference differ,
-//! and where many trials have not met every row.
+//! and where many trials have not met every refusal, state and order.
 
 use std::env;
 use std::process::ExitCode;
@@ -28,7 +28,7 @@ fn run() -> Result<checks::Tally, String> {
     let tally = checks::check_seeds(number(seed)?, number(count)?)?;
     match tally.is_complete() {
         true => Ok(tally),
-        false => Err(format!("not every row was met\n{tally}")),
+        false => Err(format!("not everything was met\n{tally}")),
     }
 }
 

@@ -2,62 +2,100 @@
 
 use std::fmt;
 
-use crate::Outcome;
+use crate::{Call, Outcome};
 
-/// The rows that Read may refuse with.
-const ROWS: usize = 15;
+/// Rows of the table of refusals.
+const ROWS: usize = 18;
 
-/// With at least this many random trials every row is met.
+/// With at least this many random trials everything is met.
 const ENOUGH: u64 = 5_000;
 
-/// How many trials were answered, how many refused by each row, and how many
-/// labels Name was asked for and gave a part to.
+const STATES: [&str; 5] = ["number", "range", "zero divisor", "spent", "deep"];
+
+/// How the calls replied, what Plan and Run came to, and how many labels Name
+/// was asked for and gave a part to.
 #[derive(Debug, Default, Clone, PartialEq, Eq)]
 pub struct Tally {
-    answered: u64,
-    refused: [u64; ROWS],
+    trials: u64,
+    /// By call, in the sequence of `Call::ALL`: the answers, then the refusals
+    /// by row.
+    replies: [[u64; ROWS + 1]; 4],
+    whole: u64,
+    mixed: u64,
+    states: [u64; 5],
     asked: u64,
     named: u64,
 }
 
 impl Tally {
     pub fn add(&mut self, outcome: Outcome) {
-        match outcome.reply.refusal as usize {
-            0 => self.answered += 1,
-            row => self.refused[row - 1] += 1,
+        self.trials += 1;
+        for (counts, reply) in self.replies.iter_mut().zip(outcome.replies()) {
+            counts[reply.refusal as usize] += 1;
         }
+        self.whole += u64::from(outcome.plan.order == 1);
+        self.mixed += u64::from(outcome.plan.order == 2);
+        add_all(&mut self.states, &outcome.states);
         self.asked += outcome.asked;
         self.named += outcome.named;
     }
 
     pub fn merge(&mut self, other: &Tally) {
-        self.answered += other.answered;
+        self.trials += other.trials;
+        for (counts, more) in self.replies.iter_mut().zip(&other.replies) {
+            add_all(counts, more);
+        }
+        self.whole += other.whole;
+        self.mixed += other.mixed;
+        add_all(&mut self.states, &other.states);
         self.asked += other.asked;
         self.named += other.named;
-        for (count, more) in self.refused.iter_mut().zip(other.refused) {
-            *count += more;
-        }
     }
 
-    /// Whether Read answered and refused by every row, and Name gave parts,
-    /// empty ones too; a short run need not have met all of them.
+    /// Whether every call answered and refused by each of its rows, plans were
+    /// whole and mixed, values came to every state, and Name gave parts, empty
+    /// ones too; a short run need not have met all of them.
     pub fn is_complete(&self) -> bool {
-        let all = self.refused.iter().all(|&count| count > 0);
-        let both = self.named > 0 && self.named < self.asked;
-        self.total() < ENOUGH || (self.answered > 0 && all && both)
+        let mut calls = Call::ALL.into_iter().zip(&self.replies);
+        let replies = calls.all(|(call, counts)| !counts[..=call.last_row()].contains(&0));
+        let orders = self.whole > 0 && self.mixed > 0;
+        let names = self.named > 0 && self.named < self.asked;
+        self.trials < ENOUGH || (replies && orders && names && !self.states.contains(&0))
     }
 
     pub fn total(&self) -> u64 {
-        self.answered + self.refused.iter().sum::<u64>()
+        self.trials
+    }
+}
+
+fn add_all(counts: &mut [u64], more: &[u64]) {
+    for (count, more) in counts.iter_mut().zip(more) {
+        *count += more;
     }
 }
 
 impl fmt::Display for Tally {
     fn fmt(&self, f: &mut fmt::Formatter) -> fmt::Result {
-        writeln!(f, "{} sheets agree: {} read", self.total(), self.answered)?;
-        for (row, count) in (1..).zip(self.refused) {
-            writeln!(f, "{count} refused by row {row}")?;
+        writeln!(f, "{} sheets agree", self.trials)?;
+        write!(f, "{:<10}", "")?;
+        for call in Call::ALL {
+            write!(f, " {:>8}", format!("{call:?}"))?;
         }
-        write!(f, "{} names of {} labels asked for", self.named, self.asked)
+        writeln!(f)?;
+        for row in 0..=ROWS {
+            match row {
+                0 => write!(f, "{:<10}", "answered")?,
+                _ => write!(f, "refused {row:>2}")?,
+            }
+            for counts in &self.replies {
+                write!(f, " {:>8}", counts[row])?;
+            }
+            writeln!(f)?;
+        }
+        writeln!(f, "plans: {} whole, {} mixed", self.whole, self.mixed)?;
+        let count = |(name, count): (&str, u64)| format!("{count} {name}");
+        let states: Vec<String> = STATES.into_iter().zip(self.states).map(count).collect();
+        writeln!(f, "values: {}", states.join(", "))?;
+        write!(f, "names: {} of {} asked for", self.named, self.asked)
     }
 }

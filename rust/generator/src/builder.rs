@@ -1,5 +1,7 @@
 //! Sheets put together line by line, for fixed shapes.
 
+pub const MAX_LINES: usize = 1_024;
+
 /// Expressions are written operator first: `A C:f 1 R:x.y` adds f of 1 and the
 /// value x.y.
 pub struct Builder {

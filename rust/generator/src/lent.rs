@@ -36,7 +36,7 @@ pub fn order(rng: &mut Rng, text: &[u8]) -> Vec<i64> {
     if reference::read(text, &mut table).is_err() {
         return wild(rng, lines);
     }
-    let values: Vec<usize> = (0..lines).filter(|&at| table[8 * at] == 2).collect();
+    let values = values(&table);
     match rng.below(20) {
         0..=6 => proper(rng, &table, &values),
         7..=9 => planned(text, lines),
@@ -53,6 +53,20 @@ pub fn order(rng: &mut Rng, text: &[u8]) -> Vec<i64> {
         }
         _ => wild(rng, lines),
     }
+}
+
+/// A proper order of a sheet that has one, any of them.
+pub fn proper_order(rng: &mut Rng, text: &[u8]) -> Vec<i64> {
+    let lines = crate::line_count(text);
+    let mut table = vec![0; 8 * lines];
+    reference::read(text, &mut table).expect("a sheet that reads");
+    proper(rng, &table, &values(&table))
+}
+
+/// The lines of the values; lines count from 0 here.
+fn values(table: &[i64]) -> Vec<usize> {
+    let lines = table.len() / 8;
+    (0..lines).filter(|&at| table[8 * at] == 2).collect()
 }
 
 fn planned(text: &[u8], lines: usize) -> Vec<i64> {
@@ -122,7 +136,7 @@ fn proper(rng: &mut Rng, table: &[i64], values: &[usize]) -> Vec<i64> {
     order
 }
 
-/// What each definition mentions; lines count from 0 here.
+/// What each definition mentions; lines count from 0 here, too.
 fn mentions(table: &[i64]) -> Vec<Vec<usize>> {
     let mut mentions = vec![Vec::new(); table.len() / 8];
     for line in table.chunks_exact(8).filter(|line| line[7] != 0) {

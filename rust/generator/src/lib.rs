@@ -2,22 +2,28 @@
 //! fixed shapes for speed figures.
 //!
 //! `random` makes sheets that read, `damage` spoils them, `lent` chooses
-//! buffer lengths and orders for Follow, `shapes` holds the fixed sheets.
+//! buffer lengths and orders for Follow, `everyday` and `shapes` hold the fixed
+//! sheets.
 
 #![forbid(unsafe_code)]
 
 mod builder;
 mod damage;
+mod everyday;
 mod lent;
 mod random;
 mod rng;
 mod shapes;
 
 pub use damage::damaged;
-pub use lent::{buffer_length, order};
-pub use random::sheet;
+pub use everyday::everyday;
+pub use lent::{buffer_length, order, proper_order};
+pub use random::{sheet, sheet_within};
 pub use rng::Rng;
-pub use shapes::{everyday, flat, late_refusal, nested, shapes, Shape};
+pub use shapes::{
+    backward, deepest_calls, dense, flat, forward, late_refusal, nested, nested_values, shapes,
+    short_values, spent, tangled, Shape,
+};
 
 /// All that one trial of all the calls needs.
 #[derive(Debug, Clone, PartialEq, Eq)]

@@ -52,6 +52,10 @@ struct Manner {
     recursion: usize,
     /// Ranks of values without regard to Groups.
     shuffled: bool,
+    /// How many ranks functions have, or all that there are, so that functions
+    /// lead on to functions and then to values.
+    function_ranks: usize,
+    spread: bool,
     /// Mentions as they come, so that values may reach themselves.
     wild: bool,
     /// How long names are and how often they repeat.
@@ -71,6 +75,8 @@ impl Manner {
             calling: 25,
             recursion: 50,
             shuffled: rng.chance(30),
+            function_ranks: 3,
+            spread: false,
             wild: rng.chance(6),
             naming: rng.below(4),
         };
@@ -93,6 +99,21 @@ impl Manner {
                 functions: rng.range(30, 70),
                 calling: 70,
                 recursion: rng.range(60, 100),
+                function_ranks: rng.range(1, 3),
+                ..manner
+            },
+            // Values of several Groups that read each other through functions
+            // that call functions.
+            58..=74 => Manner {
+                lines: rng.range(40, 100),
+                first_groups: rng.range(0, 4),
+                groups: rng.range(0, 15),
+                functions: rng.range(50, 80),
+                body: rng.range(2, 4),
+                reading: rng.range(60, 95),
+                calling: rng.range(60, 95),
+                recursion: rng.range(0, 25),
+                spread: true,
                 ..manner
             },
             _ => manner,
@@ -131,6 +152,16 @@ fn size(rng: &mut Rng) -> usize {
         920..=987 => rng.range(60, 160),
         988..=996 => rng.range(160, 500),
         _ => rng.range(500, MAX_LINES),
+    }
+}
+
+/// A random sheet of this many lines or somewhat fewer, from 40 on.
+pub fn sheet_within(rng: &mut Rng, lines: usize) -> Vec<u8> {
+    loop {
+        let text = sheet_of(rng, 3 * lines / 4);
+        if (lines / 2..=lines).contains(&crate::line_count(&text)) {
+            return text;
+        }
     }
 }
 
@@ -256,9 +287,9 @@ impl Grower<'_> {
             .find(|&m| self.nodes[m].name == name)
     }
 
-    /// Values get odd ranks, all different, functions even ones, few of them.
-    /// In sequence of Groups the sheet has a whole order; shuffled, most often
-    /// none.
+    /// Values get odd ranks, all different, functions even ones, few of them or
+    /// any. In sequence of Groups the sheet has a whole order; shuffled, most
+    /// often none.
     fn deal_ranks(&mut self) {
         self.ranks = vec![0; self.nodes.len()];
         let mut values = Vec::new();
@@ -269,7 +300,12 @@ impl Grower<'_> {
         for (place, &value) in values.iter().enumerate() {
             self.ranks[value] = 2 * place + 1;
         }
-        let steps = [0; 3].map(|_| 2 * self.rng.below(values.len() + 1));
+        let count = self.manner.function_ranks;
+        let any = |_| 2 * self.rng.below(values.len() + 1);
+        let steps: Vec<Rank> = match self.manner.spread {
+            true => (0..=values.len()).map(|step| 2 * step).collect(),
+            false => (0..count).map(any).collect(),
+        };
         for at in 0..self.functions.len() {
             self.ranks[self.functions[at]] = *self.rng.pick(&steps);
         }
@@ -420,9 +456,10 @@ impl Grower<'_> {
         node
     }
 
-    /// The argument of a call: often a number of rounds near the depth limit.
+    /// The argument of a call: often a number of rounds near the depth limit,
+    /// but where functions only lead on to values.
     fn argument(&mut self, owner: usize, level: usize, budget: usize) -> usize {
-        if self.rng.chance(40) {
+        if self.manner.spread || self.rng.chance(40) {
             return self.expression(owner, level, budget);
         }
         let node = self.add(b'N', 0);
@@ -469,11 +506,17 @@ impl Grower<'_> {
         })
     }
 
+    /// A function to call: in a spread sheet one of the next lower rank, so that
+    /// chains of calls grow long.
     fn function_path(&mut self, owner: usize) -> Option<Vec<u8>> {
+        let own = self.ranks[owner];
         (0..4).find_map(|_| {
-            let target = *self
-                .functions
-                .get(self.rng.below(self.functions.len().max(1)))?;
+            let count = self.functions.len().max(1);
+            let tries = if self.manner.spread { 6 } else { 1 };
+            let picks: Vec<usize> = (0..tries).map(|_| self.rng.below(count)).collect();
+            let picked = picks.iter().filter_map(|&at| self.functions.get(at));
+            let lower = |&&target: &&usize| (self.ranks[target] < own, self.ranks[target]);
+            let target = *picked.max_by_key(lower)?;
             self.path(owner, target)
         })
     }

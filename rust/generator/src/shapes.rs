@@ -1,9 +1,6 @@
-//! Fixed sheets for speed figures: everyday orders and the worst shapes.
+//! Fixed sheets for speed figures and for small stacks: the worst shapes.
 
-use crate::builder::Builder;
-use crate::rng::Rng;
-
-const MAX_LINES: usize = 1_024;
+use crate::builder::{Builder, MAX_LINES};
 
 /// A sheet with a name to print beside its figures.
 pub struct Shape {
@@ -11,158 +8,31 @@ pub struct Shape {
     pub text: Vec<u8>,
 }
 
-/// The worst shapes, each near 1,024 lines.
+/// The worst shapes, most of them near 1,024 lines.
 pub fn shapes() -> Vec<Shape> {
     let shape = |name, text| Shape { name, text };
-    vec![
-        shape("flat Group of 500 values", flat()),
-        shape("500 nested Groups", nested()),
+    let mut shapes = vec![
+        shape("flat Group of 500 values", flat(500)),
+        shape("chain of 500, forward", forward(500)),
+        shape("chain of 500, backward", backward(500)),
+        shape("500 nested Groups", nested(500)),
+        shape("341 Groups with a value each", nested_values(341)),
+        shape("1,023 nested Groups", empty_groups()),
+        shape("dense through functions", dense(171)),
         shape("dense mentions", dense_mentions()),
         shape("many through one function", hub()),
-        shape("deepest calls", deepest_calls()),
+        shape("two tangled Groups", tangled(500)),
         shape("one value of 20,000 steps", spent(1)),
         shape("339 values of 20,000 steps", spent(339)),
+        shape("deepest calls", deepest_calls()),
         shape("deepest nesting", deepest_nesting()),
-        shape("500 short values", short_values()),
-        shape("two tangled Groups", tangled()),
+        shape("500 short values", short_values(500)),
         shape("refusal 9 at label 1,024", late_refusal(9)),
         shape("refusal 15 at label 1,024", late_refusal(15)),
         shape("refusal 16 at label 1,023", late_refusal(16)),
-    ]
-}
-
-/// An everyday order of exactly this many lines, 1 to 1,024: Groups right,
-/// left and frame, short names, dotted paths, some functions. It reads and has
-/// a whole plan.
-pub fn everyday(lines: usize, seed: u64) -> Vec<u8> {
-    let rng = &mut Rng::new(seed);
-    let mut day = Everyday::new(lines.clamp(1, MAX_LINES));
-    day.start();
-    while day.left() > 0 {
-        day.value(rng);
-    }
-    day.builder.text()
-}
-
-const GROUPS: [&str; 3] = ["frame", "right", "left"];
-const NAMES: [&str; 10] = [
-    "sphere", "cyl", "axis", "prism", "base", "add", "dec", "pd", "height", "thick",
-];
-
-struct Everyday {
-    builder: Builder,
-    lines: usize,
-    /// Labels of frame, right and left; shorter in a very short sheet.
-    groups: Vec<usize>,
-    functions: usize,
-    /// How many values each Group has, and the outermost one.
-    counts: [usize; 4],
-}
-
-impl Everyday {
-    fn new(lines: usize) -> Self {
-        Everyday {
-            builder: Builder::new(),
-            lines,
-            groups: Vec::new(),
-            functions: 0,
-            counts: [0; 4],
-        }
-    }
-
-    fn left(&self) -> usize {
-        self.lines - self.builder.count()
-    }
-
-    /// Groups and functions, as far as the lines go.
-    fn start(&mut self) {
-        for name in GROUPS {
-            if self.left() > 0 {
-                self.groups.push(self.builder.group(name, 1));
-            }
-        }
-        let bodies = ["D P 2", "M P P", "I P D 1000 P 0"];
-        for (name, body) in ["half", "square", "per"].into_iter().zip(bodies) {
-            if self.left() > 30 {
-                self.builder.function(name, 1, body);
-                self.functions += 1;
-            }
-        }
-    }
-
-    /// One value more; an empty Group if one line is left.
-    fn value(&mut self, rng: &mut Rng) {
-        if self.left() == 1 {
-            self.builder.group("spare", 1);
-            return;
-        }
-        let place = match rng.below(10) {
-            9 => 3,
-            roll => roll % 3,
-        };
-        let group = self.groups.get(place).copied().unwrap_or(1);
-        let place = if group == 1 { 3 } else { place };
-        let mut body = self.body(rng, place);
-        if body.split(' ').count() >= self.left() {
-            body = rng.range(1, 900).to_string();
-        }
-        let name = Self::name(place, self.counts[place]);
-        self.builder.value(&name, group, &body);
-        self.counts[place] += 1;
-    }
-
-    fn name(place: usize, count: usize) -> String {
-        let name = if place == 3 {
-            "total"
-        } else {
-            NAMES[count % NAMES.len()]
-        };
-        let round = if place == 3 {
-            count
-        } else {
-            count / NAMES.len()
-        };
-        match round {
-            0 => name.to_string(),
-            _ => format!("{name}{round}"),
-        }
-    }
-
-    fn body(&self, rng: &mut Rng, place: usize) -> String {
-        let number = rng.range(1, 900) as i64 - 300;
-        let a = self.read(rng, place);
-        let b = self.read(rng, place);
-        match rng.below(9) {
-            0..=1 => number.to_string(),
-            2 => format!("A {a} {number}"),
-            3 => format!("D M {a} {b} 100"),
-            4 => format!("S {a} {b}"),
-            5 => format!("I S {a} {number} {b} 0"),
-            6 if self.functions > 0 => format!("C:half {a}"),
-            7 if self.functions > 2 => format!("A C:per {a} D {b} 10"),
-            _ => a,
-        }
-    }
-
-    /// A read of an earlier value: of its own Group, of frame from anywhere,
-    /// of right from left, of any from outside. So the plan is whole.
-    fn read(&self, rng: &mut Rng, place: usize) -> String {
-        let other = match place {
-            0 => 0,
-            1 => rng.below(2),
-            2 => rng.below(3),
-            _ => rng.below(4),
-        };
-        if self.counts[other] == 0 {
-            return rng.range(1, 90).to_string();
-        }
-        let name = Self::name(other, rng.below(self.counts[other]));
-        if other == place {
-            format!("R:{name}")
-        } else {
-            format!("R:{}.{name}", GROUPS[other])
-        }
-    }
+    ];
+    shapes.extend(endless_calls());
+    shapes
 }
 
 /// Names of 16 bytes that differ only at their end.
@@ -170,26 +40,89 @@ fn long_name(number: usize) -> String {
     format!("decentration{number:04}")
 }
 
-/// One Group of 500 values, each reading the next, so the last comes first.
-pub fn flat() -> Vec<u8> {
+/// One Group of values with long names, each reading the next, so the last
+/// comes first.
+pub fn flat(values: usize) -> Vec<u8> {
+    chain(values, long_name, |value| value + 1)
+}
+
+/// Values that each read the one before: the plan is in label order.
+pub fn forward(values: usize) -> Vec<u8> {
+    chain(values, short_name, |value| value.wrapping_sub(1))
+}
+
+/// Values that each read the next: the plan is in label order from the end.
+pub fn backward(values: usize) -> Vec<u8> {
+    chain(values, short_name, |value| value + 1)
+}
+
+fn short_name(number: usize) -> String {
+    format!("v{number}")
+}
+
+/// Values that each read another one, where there is one.
+fn chain(values: usize, name: fn(usize) -> String, other: fn(usize) -> usize) -> Vec<u8> {
     let mut builder = Builder::new();
-    for value in 0..499 {
-        builder.value(&long_name(value), 1, &format!("R:{}", long_name(value + 1)));
+    for value in 0..values {
+        let body = match other(value) {
+            other if other < values => format!("R:{}", name(other)),
+            _ => "1".to_string(),
+        };
+        builder.value(&name(value), 1, &body);
     }
-    builder.value(&long_name(499), 1, "1");
     builder.text()
 }
 
-/// 500 Groups in each other; the innermost has values that read the outermost.
-pub fn nested() -> Vec<u8> {
+/// Groups in each other; the innermost has values, about half as many, that
+/// read the outermost one's.
+pub fn nested(groups: usize) -> Vec<u8> {
     let mut builder = Builder::new();
     builder.value("far", 1, "7");
     let mut group = 1;
-    for _ in 0..500 {
+    for _ in 0..groups {
         group = builder.group("inner", group);
     }
-    for value in 0..260 {
-        builder.value(&format!("v{value}"), group, "R:far");
+    for value in 0..groups * 52 / 100 {
+        builder.value(&short_name(value), group, "R:far");
+    }
+    builder.text()
+}
+
+/// Groups in each other with one value each, which reads that of the Group
+/// inside it: every Group is needed before an earlier label. 341 fill a sheet.
+pub fn nested_values(groups: usize) -> Vec<u8> {
+    let mut builder = Builder::new();
+    let mut group = 1;
+    for place in 1..=groups {
+        group = builder.group("inner", group);
+        let body = if place < groups { "R:inner.v" } else { "1" };
+        builder.value("v", group, body);
+    }
+    builder.text()
+}
+
+/// As many Groups in each other as a sheet can have.
+fn empty_groups() -> Vec<u8> {
+    let mut builder = Builder::new();
+    for group in 1..MAX_LINES {
+        builder.group("inner", group);
+    }
+    builder.text()
+}
+
+/// Values that each reach every earlier one through functions: a function for
+/// each value reads it and calls the function before. 171 fill a sheet.
+pub fn dense(values: usize) -> Vec<u8> {
+    let mut builder = Builder::new();
+    builder.value("v0", 1, "1");
+    builder.function("f0", 1, "R:v0");
+    for value in 1..values {
+        let before = value - 1;
+        builder.value(&short_name(value), 1, &format!("C:f{before} 1"));
+        if value + 1 < values {
+            let body = format!("C:f{before} R:v{value}");
+            builder.function(&format!("f{value}"), 1, &body);
+        }
     }
     builder.text()
 }
@@ -231,21 +164,23 @@ fn reads(from: usize, to: usize) -> String {
     format!("A {} {}", reads(from, middle), reads(middle, to))
 }
 
-/// Calls at all 64 depths, each body nested to level 32.
-fn deepest_calls() -> Vec<u8> {
+/// Two Groups of values that read each other crosswise: mixed.
+pub fn tangled(values: usize) -> Vec<u8> {
     let mut builder = Builder::new();
-    let body = "A 0 ".repeat(28) + "I P C:down S P 1 1";
-    builder.function("down", 1, &body);
-    while builder.count() + 63 <= MAX_LINES {
-        let name = format!("v{}", builder.count());
-        let body = "A 0 ".repeat(30) + "C:down 63";
-        builder.value(&name, 1, &body);
+    let groups = ["right", "left"].map(|name| builder.group(name, 1));
+    for value in 0..values {
+        let other = ["left", "right"][value % 2];
+        let body = match value + 1 {
+            next if next < values => format!("R:{other}.{}", long_name(next)),
+            _ => "1".to_string(),
+        };
+        builder.value(&long_name(value), groups[value % 2], &body);
     }
     builder.text()
 }
 
 /// This many values, 339 at most, that spend all their steps.
-fn spent(values: usize) -> Vec<u8> {
+pub fn spent(values: usize) -> Vec<u8> {
     let mut builder = Builder::new();
     builder.function("tree", 1, "I P A C:tree S P 1 C:tree S P 1 1");
     while builder.count() + 3 <= MAX_LINES && (builder.count() - 13) / 3 < values {
@@ -255,36 +190,57 @@ fn spent(values: usize) -> Vec<u8> {
     builder.text()
 }
 
+/// Calls at all 64 depths, each body nested to level 32, by as many values as
+/// there is room for.
+pub fn deepest_calls() -> Vec<u8> {
+    let mut builder = Builder::new();
+    let body = "A 0 ".repeat(28) + "I P C:down S P 1 1";
+    builder.function("down", 1, &body);
+    fill_with(&mut builder, &("A 0 ".repeat(30) + "C:down 63"));
+    builder.text()
+}
+
 /// Values nested to level 32, as many as there is room for.
 fn deepest_nesting() -> Vec<u8> {
     let mut builder = Builder::new();
-    while builder.count() + 64 <= MAX_LINES {
+    fill_with(&mut builder, &("A 1 ".repeat(31) + "1"));
+    builder.text()
+}
+
+/// Values with this body, as many as there is room for.
+fn fill_with(builder: &mut Builder, body: &str) {
+    let lines = 1 + body.split(' ').count();
+    while builder.count() + lines <= MAX_LINES {
         let name = format!("v{}", builder.count());
-        let body = "A 1 ".repeat(31) + "1";
-        builder.value(&name, 1, &body);
+        builder.value(&name, 1, body);
     }
-    builder.text()
 }
 
-fn short_values() -> Vec<u8> {
-    let mut builder = Builder::new();
-    for value in 0..500 {
-        builder.value(&format!("v{value}"), 1, "1");
-    }
-    builder.text()
+/// A function that calls itself at level 31 of its body, endlessly, for every
+/// field that an expression can be nested in: the most of each kind that can be
+/// under way at a time.
+fn endless_calls() -> Vec<Shape> {
+    let shape = |name, before: &str, inside: &str, after: &str| {
+        let mut builder = Builder::new();
+        let body = before.repeat(30) + inside + &after.repeat(30);
+        builder.function("f", 1, &body);
+        fill_with(&mut builder, &body.replace('P', "1"));
+        let text = builder.text();
+        Shape { name, text }
+    };
+    vec![
+        shape("endless calls under a", "A ", "C:f P", " 0"),
+        shape("endless calls under b", "M 1 ", "C:f P", ""),
+        shape("endless calls under a test", "I ", "C:f P", " 0 0"),
+        shape("endless calls under a branch", "I 1 ", "C:f P", " 0"),
+        shape("endless calls under arguments", "C:f ", "C:f P", ""),
+    ]
 }
 
-/// Two Groups of 250 values that read each other crosswise: mixed.
-fn tangled() -> Vec<u8> {
+pub fn short_values(values: usize) -> Vec<u8> {
     let mut builder = Builder::new();
-    let groups = ["right", "left"].map(|name| builder.group(name, 1));
-    for value in 0..500 {
-        let other = ["left", "right"][value % 2];
-        let body = match value {
-            499 => "1".to_string(),
-            _ => format!("R:{other}.{}", long_name(value + 1)),
-        };
-        builder.value(&long_name(value), groups[value % 2], &body);
+    for value in 0..values {
+        builder.value(&short_name(value), 1, "1");
     }
     builder.text()
 }

@@ -1,0 +1,5 @@
+pub mod Writing
+pub mod Decimal
+mod Sizes
+mod Lines
+mod Runs

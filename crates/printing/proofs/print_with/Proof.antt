@@ -1,0 +1,136 @@
+use mathlib.Core.Path.{ap}
+use lib.ListN.{length}
+use Rattle.calls.specs.Plan.{lengthOf}
+use Rattle.calls.proofs.Answers.{answers}
+use Rattle.printing.specs.Print.{wholeWord, mixedWord}
+use Rattle.printing.proofs.Runs.{names-in, plan-long, printed}
+use borrow.Author.Needs.{needs}
+use Rattle.printing.proofs.print_with.Statement.{statement}
+use Rattle.printing.proofs.print_with.Tie as tie
+
+run-requires : tie.Need-run-requires
+run-requires c κs = search needs
+
+enum-known-count : tie.Need-enum-known-count
+enum-known-count c = search needs
+
+slice-aggregate-put-answer : tie.Need-slice-aggregate-put-answer
+slice-aggregate-put-answer c = search needs
+
+put-answer-requires : tie.Need-put-answer-requires
+put-answer-requires c κs =
+    let a = c .before .before .before .before .before .before .before .before .before .before .before .before .before .before .before .before .before .args in
+    let k = c .before .before .before .before .before .before .before .before .before .before .before .run in
+    let g = c .before .before .before .before .before .before .count .given .1 in (
+      rw (ap lengthOf g) at (plan-long (a .text .now) (length (a .table .now)) (length (a .plan .now)) (length (a .results .now)) (k .result) (k .ensures .0) (ap answers g) _ (k .ensures .1 .1 .0)),
+      names-in (a .text .now) (length (a .table .now)) (length (a .plan .now)) (length (a .results .now)) (k .result) (k .ensures .0) (ap answers g) _ (k .ensures .1 .0),
+    )
+
+enum-known-count-2 : tie.Need-enum-known-count-2
+enum-known-count-2 c = search needs
+
+slice-aggregate-put-answer-2 : tie.Need-slice-aggregate-put-answer-2
+slice-aggregate-put-answer-2 c = search needs
+
+put-answer-requires-2 : tie.Need-put-answer-requires-2
+put-answer-requires-2 c κs =
+    let a = c .before .before .before .before .before .before .before .before .before .before .before .before .before .before .before .before .before .args in
+    let k = c .before .before .before .before .before .before .before .before .before .before .before .run in
+    let g = c .before .before .before .before .before .before .count2 .given .1 in (
+      rw (ap lengthOf g) at (plan-long (a .text .now) (length (a .table .now)) (length (a .plan .now)) (length (a .results .now)) (k .result) (k .ensures .0) (ap answers g) _ (k .ensures .1 .1 .0)),
+      names-in (a .text .now) (length (a .table .now)) (length (a .plan .now)) (length (a .results .now)) (k .result) (k .ensures .0) (ap answers g) _ (k .ensures .1 .0),
+    )
+
+enum-known-row : tie.Need-enum-known-row
+enum-known-row c = search needs
+
+put-refusal-requires : tie.Need-put-refusal-requires
+put-refusal-requires c κs = search needs
+
+same-length : tie.Need-same-length
+same-length c = search needs
+
+same-length-2 : tie.Need-same-length-2
+same-length-2 c = search needs
+
+same-length-3 : tie.Need-same-length-3
+same-length-3 c = search needs
+
+same-length-4 : tie.Need-same-length-4
+same-length-4 c = search needs
+
+returns : tie.Need-returns
+unfolding wholeWord
+returns c =
+    let a = c .before .before .before .before .before .before .before .before .before .before .before .before .before .before .before .before .before .before .before .before .args in
+    let k = c .before .before .before .before .before .before .before .before .before .before .before .before .before .before .run in
+    rw (← printed (a .text .now) (length (a .table .now)) (length (a .plan .now)) (length (a .results .now)) (k .result) (k .ensures .0) _ _ _ (k .ensures .1 .0) (k .ensures .1 .1 .0) (k .ensures .1 .1 .1 .0) _ (c .before .before .before .before .before .before .before .before .before .count .given .1))
+    (c .before .before .put-answer .ensures)
+
+same-length-5 : tie.Need-same-length-5
+same-length-5 c = search needs
+
+same-length-6 : tie.Need-same-length-6
+same-length-6 c = search needs
+
+same-length-7 : tie.Need-same-length-7
+same-length-7 c = search needs
+
+same-length-8 : tie.Need-same-length-8
+same-length-8 c = search needs
+
+returns-2 : tie.Need-returns-2
+unfolding mixedWord
+returns-2 c =
+    let a = c .before .before .before .before .before .before .before .before .before .before .before .before .before .before .before .before .before .before .before .before .args in
+    let k = c .before .before .before .before .before .before .before .before .before .before .before .before .before .before .run in
+    rw (← printed (a .text .now) (length (a .table .now)) (length (a .plan .now)) (length (a .results .now)) (k .result) (k .ensures .0) _ _ _ (k .ensures .1 .0) (k .ensures .1 .1 .0) (k .ensures .1 .1 .1 .0) _ (c .before .before .before .before .before .before .before .before .before .count2 .given .1))
+    (c .before .before .put-answer2 .ensures)
+
+same-length-9 : tie.Need-same-length-9
+same-length-9 c = search needs
+
+same-length-10 : tie.Need-same-length-10
+same-length-10 c = search needs
+
+same-length-11 : tie.Need-same-length-11
+same-length-11 c = search needs
+
+same-length-12 : tie.Need-same-length-12
+same-length-12 c = search needs
+
+returns-3 : tie.Need-returns-3
+returns-3 c =
+    let a = c .before .before .before .before .before .before .before .before .before .before .before .before .before .before .before .before .args in
+    let k = c .before .before .before .before .before .before .before .before .before .before .run in
+    rw (← printed (a .text .now) (length (a .table .now)) (length (a .plan .now)) (length (a .results .now)) (k .result) (k .ensures .0) _ _ _ (k .ensures .1 .0) (k .ensures .1 .1 .0) (k .ensures .1 .1 .1 .0) _ (c .before .before .before .before .before .row .given .1))
+    (c .before .before .put-refusal .ensures)
+
+pub print-with-spec : {M : Type 1} → statement M
+print-with-spec =
+    tie.close
+    (tie.spec
+    run-requires
+    enum-known-count
+    slice-aggregate-put-answer
+    put-answer-requires
+    enum-known-count-2
+    slice-aggregate-put-answer-2
+    put-answer-requires-2
+    enum-known-row
+    put-refusal-requires
+    same-length
+    same-length-2
+    same-length-3
+    same-length-4
+    returns
+    same-length-5
+    same-length-6
+    same-length-7
+    same-length-8
+    returns-2
+    same-length-9
+    same-length-10
+    same-length-11
+    same-length-12
+    returns-3)

@@ -1,0 +1,40 @@
+use Rattle.printing.specs.Decimal.{decimal}
+use Rattle.printing.specs.Print.{nameField, valueLine}
+use Rattle.printing.proofs.Writing.{field-then}
+use borrow.Author.Needs.{needs}
+use Rattle.printing.proofs.put_line.Statement.{statement}
+use Rattle.printing.proofs.put_line.Tie as tie
+
+put-count-requires : tie.Need-put-count-requires
+put-count-requires c κs = search needs
+
+put-name-requires : tie.Need-put-name-requires
+put-name-requires c κs = search needs
+
+put-text-requires : tie.Need-put-text-requires
+put-text-requires c κs = search needs
+
+put-results-requires : tie.Need-put-results-requires
+put-results-requires c κs = search needs
+
+same-length : tie.Need-same-length
+same-length c = search needs
+
+returns : tie.Need-returns
+unfolding valueLine
+returns c =
+    let a = c .before .before .before .before .before .before .before .before .before .before .before .before .before .before .before .before .before .before .before .args in
+    field-then _ _ (decimal (a .label)) 32 _ _ (c .before .before .before .before .before .before .before .before .before .before .before .before .before .before .put-count .ensures) _ _ _
+    (field-then _ _ (nameField (a .text .now) (a .table .now) (a .label)) 32 _ _ (c .before .before .before .before .before .before .before .before .before .before .put-name .ensures) _ _ _
+    (field-then _ _ (a .word .now) 32 _ _ (c .before .before .before .before .before .before .put-text .ensures) _ _ _ (c .before .before .put-results .ensures)))
+
+pub put-line-spec : {M : Type 1} → statement M
+put-line-spec =
+    tie.close
+    (tie.spec
+    put-count-requires
+    put-name-requires
+    put-text-requires
+    put-results-requires
+    same-length
+    returns)

@@ -1,0 +1,69 @@
+use mathlib.Core.Path.{_≡_}
+use Prim.Native.Nat.{_-_, _≤_, _<_}
+use native.Mathlib.Omega.{arith}
+use borrow.Author.Needs.{needs}
+use lib.ListN.{length, take}
+use Rattle.order.specs.Following.{labelsOf}
+use Rattle.printing.specs.Print.{valueLines}
+use Rattle.printing.specs.Writing.{Wrote}
+use Rattle.printing.proofs.Lines.{lines-none, one-line-more}
+use Rattle.printing.proofs.Writing.{nothing, same-size, within, then}
+use Rattle.printing.proofs.put_lines.Statement.{statement}
+use Rattle.printing.proofs.put_lines.Tie as tie
+
+abbrev Inv-loop : tie.InvT-loop
+Inv-loop text table plan count results word out₀ at end₀ i₀ out end i = (i ≤ count) × Wrote out₀ at (valueLines text table results word (labelsOf (take i plan))) out end
+
+abbrev μ-loop : tie.MeasureT-loop
+μ-loop text table plan count results word out₀ at end₀ i₀ out end i = count - i
+
+loop-holds : tie.Need-loop-holds Inv-loop μ-loop
+loop-holds c =
+    let a = c .before .before .before .args in
+    (omega arith, rw (lines-none (a .text .now) (a .table .now) (a .results .now) (a .word .now) (a .plan .now)) (nothing (a .out .now) (a .at) (c .before .before .before .pre .0)))
+
+nat-at-requires : tie.Need-nat-at-requires Inv-loop μ-loop
+nat-at-requires c κs = search needs
+
+put-line-requires : tie.Need-put-line-requires Inv-loop μ-loop
+put-line-requires c κs = (within _ _ _ _ _ (c .before .before .before .loop .inv .1), c .before .before .before .before .before .before .before .pre .2)
+
+add-i : tie.Need-add-i Inv-loop μ-loop
+add-i c = omega arith
+
+loop-less : tie.Need-loop-less Inv-loop μ-loop
+loop-less c = omega arith
+
+loop-again : tie.Need-loop-again Inv-loop μ-loop
+loop-again c =
+    let a = c .before .before .before .before .before .before .before .before .before .before .args in
+    let l = c .before .before .before .before .before .before .loop in
+    let h : l .i < length (a .plan .now) = omega (arith, c .before .before .before .before .before .before .before .before .before .before .pre .1) in (
+      omega arith,
+      rw (one-line-more (a .text .now) (a .table .now) (a .results .now) (a .word .now) (a .plan .now) (l .i) _ h (c .before .before .before .before .nat-at .ensures))
+          (then _ _ _ _ _ (l .inv .1) _ _ _ (c .before .before .put-line .ensures)),
+    )
+
+same-length : tie.Need-same-length Inv-loop μ-loop
+same-length c = same-size _ _ _ _ _ (c .before .loop .inv .1)
+
+returns : tie.Need-returns Inv-loop μ-loop
+returns c =
+    let l = c .before .loop in
+    let e : l .i ≡ c .before .before .before .before .before .args .count = omega arith in
+    rw e at (l .inv .1)
+
+pub put-lines-spec : {M : Type 1} → statement M
+put-lines-spec =
+    tie.close
+    (tie.spec
+    Inv-loop
+    μ-loop
+    loop-holds
+    nat-at-requires
+    put-line-requires
+    add-i
+    loop-less
+    loop-again
+    same-length
+    returns)

@@ -1,0 +1,19 @@
+-- Numbers as the print has them, in bytes: decimal, no leading zeros, `-` before a negative number. 45 is `-`, 48 to 57 are the digits.
+use Prim.Native.Nat.{ℕ, zero, suc, _+_, _/_, _%_}
+use mathlib.Core.List.{List, [], _∷_, _++_}
+use lib.IntN.{ℤ, pos, negsuc}
+
+-- the digits of n, none of 0: those of n / 10, then the last one. At most k of them.
+unfoldable pub digits : ℕ → ℕ → List ℕ
+digits zero n = []
+digits (suc k) zero = []
+digits (suc k) (suc n) = digits k (suc n / 10) ++ (48 + suc n % 10) ∷ []
+
+-- n has at most n digits
+unfoldable pub decimal : ℕ → List ℕ
+decimal zero = 48 ∷ []
+decimal (suc n) = digits (suc n) (suc n)
+
+abbrev pub integer : ℤ → List ℕ
+integer (pos n) = decimal n
+integer (negsuc n) = 45 ∷ decimal (suc n)

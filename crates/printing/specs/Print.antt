@@ -1,0 +1,66 @@
+-- Document 01's "Program and its print", in bytes: 10 ends a line, 32 stands between fields.
+use mathlib.Core.List.{List, [], _∷_, _++_}
+use Prim.Native.Nat.{ℕ, _+_}
+use lib.IntN.{ℤ}
+use lib.ListN.{take}
+use lib.Seq.{slice}
+use Rattle.cells.specs.Table.{nameStart, nameLength}
+use Rattle.order.specs.Following.{labelsOf}
+use Rattle.evaluation.specs.Results.{stateAt, numberAt, stepsAt}
+use Rattle.calls.specs.Run.{runReply, runTable, runPlan, runResults}
+use Rattle.calls.specs.declared.PlanReply.{PlanReply}
+use Rattle.calls.specs.declared.PlanReply.the-variants as reply
+use Rattle.printing.specs.Decimal.{decimal, integer}
+
+-- ---- lines
+
+-- a line of fields
+abbrev pub lineOf : List (List ℕ) → List ℕ
+lineOf [] = 10 ∷ []
+lineOf (f ∷ []) = f ++ 10 ∷ []
+lineOf (f ∷ g ∷ fs) = f ++ 32 ∷ lineOf (g ∷ fs)
+
+-- the line `label name order state number steps`
+unfoldable pub columnsLine : List ℕ
+columnsLine = 108 ∷ 97 ∷ 98 ∷ 101 ∷ 108 ∷ 32 ∷ 110 ∷ 97 ∷ 109 ∷ 101 ∷ 32 ∷ 111 ∷ 114 ∷ 100 ∷ 101 ∷ 114 ∷ 32 ∷ 115 ∷ 116 ∷ 97 ∷ 116 ∷ 101 ∷ 32 ∷ 110 ∷ 117 ∷ 109 ∷ 98 ∷ 101 ∷ 114 ∷ 32 ∷ 115 ∷ 116 ∷ 101 ∷ 112 ∷ 115 ∷ 10 ∷ []
+
+-- the line `refusal place`
+unfoldable pub refusalLine : List ℕ
+refusalLine = 114 ∷ 101 ∷ 102 ∷ 117 ∷ 115 ∷ 97 ∷ 108 ∷ 32 ∷ 112 ∷ 108 ∷ 97 ∷ 99 ∷ 101 ∷ 10 ∷ []
+
+-- `whole` and `mixed`
+unfoldable pub wholeWord : List ℕ
+wholeWord = 119 ∷ 104 ∷ 111 ∷ 108 ∷ 101 ∷ []
+
+unfoldable pub mixedWord : List ℕ
+mixedWord = 109 ∷ 105 ∷ 120 ∷ 101 ∷ 100 ∷ []
+
+-- ---- one line per value: the text s, its table t, the results r, and the word for the plan
+
+-- the name field of label l: that part of the text
+abbrev pub nameField : List ℕ → List ℤ → ℕ → List ℕ
+nameField s t l = slice (nameStart t l) (nameStart t l + nameLength t l) s
+
+-- "label, name, whole or mixed, state, number, steps"
+unfoldable pub valueLine : List ℕ → List ℤ → List ℤ → List ℕ → ℕ → List ℕ
+valueLine s t r word l = lineOf (decimal l ∷ nameField s t l ∷ word ∷ decimal (stateAt r l) ∷ integer (numberAt r l) ∷ decimal (stepsAt r l) ∷ [])
+
+unfoldable pub valueLines : List ℕ → List ℤ → List ℤ → List ℕ → List ℕ → List ℕ
+valueLines s t r word [] = []
+valueLines s t r word (l ∷ ls) = valueLine s t r word l ++ valueLines s t r word ls
+
+-- ---- the print
+
+-- of a reply, with the table t, the plan p and the results r as Run leaves them
+abbrev pub printBy : List ℕ → PlanReply → List ℤ → List ℤ → List ℤ → List ℕ
+printBy s (reply.Whole k) t p r = columnsLine ++ valueLines s t r wholeWord (labelsOf (take k p))
+printBy s (reply.Mixed k) t p r = columnsLine ++ valueLines s t r mixedWord (labelsOf (take k p))
+printBy s (reply.Refused row place) t p r = refusalLine ++ lineOf (decimal row ∷ decimal place ∷ [])
+
+-- of what Run gives with a table of m cells, a plan of p and results of q
+abbrev pub printWith : List ℕ → ℕ → ℕ → ℕ → List ℕ
+printWith s m p q = printBy s (runReply s m p q) (runTable s m p q) (runPlan s m p q) (runResults s m p q)
+
+-- the program's print of the text s: with buffers for 1,024 labels, the most that a sheet has, so that they are long enough for every sheet
+unfoldable pub printOf : List ℕ → List ℕ
+printOf s = printWith s 8192 1024 3072

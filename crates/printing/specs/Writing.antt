@@ -1,0 +1,24 @@
+-- What the functions between promise: bytes written into a lent buffer, one after the other, as far as it goes.
+use Prim.Native.Nat.{ℕ, zero, suc, _+_, _*_, _≤_, min}
+use mathlib.Core.Path.{_≡_}
+use mathlib.Core.List.{List}
+use lib.IntN.{ℤ, pos}
+use lib.ListN.{length}
+use lib.Seq.{sets}
+use Rattle.cells.specs.Cells.{intAt}
+use Rattle.cells.specs.Table.{nameStart, nameLength}
+
+-- the bytes x, written into `out` from index `at` on: what it then holds, and the index behind them. A byte that has no room is left out,
+-- and every byte of the buffer that is not written over stays.
+pub record Wrote (out : List ℕ) (at : ℕ) (x left : List ℕ) (end : ℕ) : Type 0 where
+  pub bytes : left ≡ sets out at x
+  pub behind : end ≡ min (at + length x) (length out)
+
+-- every name field of the table t lies in the text s
+abbrev pub NamesIn : List ℕ → List ℤ → Type 0
+NamesIn s t = (l : ℕ) → nameStart t l + nameLength t l ≤ length s
+
+-- result j of label l: 0 state, 1 number, 2 steps
+abbrev pub resultAt : List ℤ → ℕ → ℕ → ℤ
+resultAt r zero j = pos 0
+resultAt r (suc k) j = intAt r (3 * k + j)

@@ -1,0 +1,45 @@
+// The program: reads a sheet from standard input, or from each file that an argument names, and prints what running it gives.
+use libc::STDIN_FILENO;
+use libc::STDOUT_FILENO;
+
+// A sheet has at most 65,536 bytes. One more is read, so that a longer one is refused.
+fn print_sheet(fd: i32) {
+    let mut text = [0u8; 65537];
+    let mut print = [0u8; 65536];
+    let n = io::read_full(fd, &mut text);
+    let end = printing::write_print(&text[..n], &mut print);
+    if !io::write_all(STDOUT_FILENO, &print[..end]) {
+        os::fail(b"standard output");
+    }
+}
+
+fn print_file(path: &[u8]) {
+    let fd = os::open_read(path);
+    if fd < 0 {
+        os::fail(path);
+        return;
+    }
+    print_sheet(fd);
+    libc::close(fd);
+}
+
+fn print_argument(i: usize) {
+    let mut path = io::buffer();
+    let n = os::arg(i, &mut path);
+    if os::errno() != 0 {
+        os::fail(b"file name");
+        return;
+    }
+    print_file(&path[..n]);
+}
+
+fn main() {
+    let count = os::arg_count();
+    if count < 2 {
+        print_sheet(STDIN_FILENO);
+        return;
+    }
+    for i in 1..count {
+        print_argument(i);
+    }
+}

@@ -1,0 +1,110 @@
+//! Times of the library and of the reference.
+
+use std::hint::black_box;
+use std::time::Instant;
+
+use crate::calls::{Call, Function, Lent};
+use crate::workloads::{Sheet, Workload};
+
+/// The rounds of a pass that count, and those before.
+pub const ROUNDS: usize = 50;
+const WARM_UP: usize = 3;
+
+/// About this many seconds for each round.
+const ROUND: f64 = 0.0007;
+
+/// Seconds a call of the library and of the reference.
+#[derive(Clone)]
+pub struct Times {
+    pub library: f64,
+    pub reference: f64,
+}
+
+impl Times {
+    /// Slower than any, to start from.
+    const MAX: Times = Times {
+        library: f64::INFINITY,
+        reference: f64::INFINITY,
+    };
+
+    pub fn ratio(&self) -> f64 {
+        self.library / self.reference
+    }
+
+    /// The shorter time of each.
+    fn min(&self, other: &Times) -> Times {
+        Times {
+            library: self.library.min(other.library),
+            reference: self.reference.min(other.reference),
+        }
+    }
+}
+
+/// The shortest times of each workload, in several passes through all of them.
+pub fn measure(call: Call, workloads: &[&Workload], passes: usize) -> Vec<Times> {
+    let mut jobs: Vec<Job> = workloads.iter().map(|work| Job::new(call, work)).collect();
+    let mut shortest = vec![Times::MAX; jobs.len()];
+    for _ in 0..passes {
+        for (job, shortest) in jobs.iter_mut().zip(&mut shortest) {
+            for _ in 0..WARM_UP {
+                job.round();
+            }
+            for _ in 0..ROUNDS {
+                *shortest = shortest.min(&job.round());
+            }
+        }
+    }
+    shortest
+}
+
+/// A call on a workload, with the buffers that both are lent.
+struct Job<'a> {
+    call: Call,
+    sheets: &'a [Sheet],
+    table: Vec<i64>,
+    plan: Vec<i64>,
+    results: Vec<i64>,
+    /// How often a round goes through the sheets.
+    turns: usize,
+}
+
+impl<'a> Job<'a> {
+    fn new(call: Call, workload: &'a Workload) -> Self {
+        let lines = workload.lines();
+        let mut job = Job {
+            call,
+            sheets: &workload.sheets,
+            table: vec![0; 8 * lines],
+            plan: vec![0; lines],
+            results: vec![0; 3 * lines],
+            turns: 1,
+        };
+        let once = job.time(call.reference()) * job.sheets.len() as f64;
+        job.turns = (ROUND / once).ceil() as usize;
+        job
+    }
+
+    fn round(&mut self) -> Times {
+        Times {
+            library: self.time(self.call.library()),
+            reference: self.time(self.call.reference()),
+        }
+    }
+
+    /// Seconds a call.
+    fn time(&mut self, function: Function) -> f64 {
+        let start = Instant::now();
+        for _ in 0..self.turns {
+            for sheet in self.sheets {
+                black_box(function(black_box(Lent {
+                    text: &sheet.text,
+                    order: &sheet.order,
+                    table: &mut self.table,
+                    plan: &mut self.plan,
+                    results: &mut self.results,
+                })));
+            }
+        }
+        start.elapsed().as_secs_f64() / (self.turns * self.sheets.len()) as f64
+    }
+}

@@ -1,0 +1,168 @@
+//! The sheets that are measured.
+
+use std::fs;
+use std::path::Path;
+
+use crate::calls::Call;
+
+const LINES: [usize; 3] = [60, 250, 1_024];
+
+/// How many different sheets are taken in turn.
+const SHEETS: u64 = 16;
+
+/// A sheet and the order for Follow: the plan, or none where there is none.
+pub struct Sheet {
+    pub text: Vec<u8>,
+    pub order: Vec<i64>,
+}
+
+impl Sheet {
+    fn new(text: Vec<u8>) -> Self {
+        let lines = generator::line_count(&text);
+        let (mut table, mut order) = (vec![0; 8 * lines], vec![0; lines]);
+        let planned = reference::plan(&text, &mut table, &mut order);
+        order.truncate(planned.map_or(0, |(length, _)| length));
+        Sheet { text, order }
+    }
+}
+
+/// Sheets of as many lines each, taken in turn, and the calls to measure.
+pub struct Workload {
+    pub name: String,
+    pub calls: &'static [Call],
+    pub sheets: Vec<Sheet>,
+}
+
+impl Workload {
+    fn one(name: &str, calls: &'static [Call], text: Vec<u8>) -> Self {
+        Workload {
+            name: name.to_string(),
+            calls,
+            sheets: vec![Sheet::new(text)],
+        }
+    }
+
+    fn everyday(lines: usize, sheets: u64) -> Self {
+        let name = match sheets {
+            1 => "everyday order".to_string(),
+            _ => format!("{sheets} everyday orders in turn"),
+        };
+        let texts = (1..=sheets).map(|seed| generator::everyday(lines, seed));
+        Workload {
+            name,
+            calls: &Call::ALL,
+            sheets: texts.map(Sheet::new).collect(),
+        }
+    }
+
+    pub fn lines(&self) -> usize {
+        generator::line_count(&self.sheets[0].text)
+    }
+
+    /// The bytes of a sheet, on average.
+    pub fn bytes(&self) -> usize {
+        let bytes = self.sheets.iter().map(|sheet| sheet.text.len());
+        bytes.sum::<usize>() / self.sheets.len()
+    }
+}
+
+pub fn workloads() -> Vec<Workload> {
+    let mut list = vec![Workload::one("the paper's example", &Call::ALL, example())];
+    list.extend(LINES.map(|lines| Workload::everyday(lines, 1)));
+    list.extend(LINES.map(|lines| Workload::everyday(lines, SHEETS)));
+    list.extend(shapes());
+    list.extend([7, 9, 15, 16].map(refused));
+    list
+}
+
+fn example() -> Vec<u8> {
+    let sheets = Path::new(env!("CARGO_MANIFEST_DIR")).join("../../sheets");
+    fs::read(sheets.join("01-example.sheet")).expect("the example")
+}
+
+/// 171 values that reach each other through functions and 341 Groups with a
+/// value are as many as 1,024 lines hold: six lines a value, three a Group.
+fn shapes() -> Vec<Workload> {
+    let all = &Call::ALL;
+    let planned = &Call::PLANNED;
+    let evaluated = &Call::EVALUATED;
+    let one = Workload::one;
+    vec![
+        one("flat Group of 500 values", all, generator::flat(500)),
+        one("500 nested Groups", all, generator::nested(500)),
+        one("chain of 500, forward", planned, generator::forward(500)),
+        one("chain of 500, backward", planned, generator::backward(500)),
+        one("dense: 171 by functions", planned, generator::dense(171)),
+        one(
+            "tangled Groups of 250 each",
+            planned,
+            generator::tangled(500),
+        ),
+        one(
+            "341 Groups, a value in each",
+            all,
+            generator::nested_values(341),
+        ),
+        one("a value of 20,000 steps", evaluated, generator::spent(1)),
+        one("deepest calls", evaluated, generator::deepest_calls()),
+        one("500 short values", evaluated, generator::short_values(500)),
+    ]
+}
+
+fn refused(number: u64) -> Workload {
+    let (name, calls) = match number {
+        // The value whose body is the last line.
+        16 => (
+            "refusal 16 at the last value".to_string(),
+            &Call::PLANNED[..],
+        ),
+        _ => (
+            format!("refusal {number} at the last label"),
+            &Call::ALL[..],
+        ),
+    };
+    Workload::one(&name, calls, generator::late_refusal(number))
+}
+
+/// A shape in two sizes: about 256 lines and about 1,024.
+pub struct Growth {
+    pub name: &'static str,
+    pub calls: &'static [Call],
+    pub sizes: [Workload; 2],
+}
+
+pub fn growths() -> Vec<Growth> {
+    let all = &Call::ALL;
+    let planned = &Call::PLANNED;
+    let everyday = Growth {
+        name: "everyday orders",
+        calls: all,
+        sizes: [256, 1_024].map(|lines| Workload::everyday(lines, SHEETS)),
+    };
+    vec![
+        everyday,
+        growth("flat Group", all, generator::flat, [127, 511]),
+        growth("nested Groups", all, generator::nested, [124, 500]),
+        growth("chain, forward", planned, generator::forward, [127, 511]),
+        growth("chain, backward", planned, generator::backward, [127, 511]),
+        growth("dense", planned, generator::dense, [43, 171]),
+        growth("tangled Groups", planned, generator::tangled, [126, 510]),
+        growth(
+            "Groups, a value in each",
+            planned,
+            generator::nested_values,
+            [85, 341],
+        ),
+    ]
+}
+
+/// A shape made with each of these counts.
+fn growth(
+    name: &'static str,
+    calls: &'static [Call],
+    shape: fn(usize) -> Vec<u8>,
+    counts: [usize; 2],
+) -> Growth {
+    let sizes = counts.map(|count| Workload::one(name, calls, shape(count)));
+    Growth { name, calls, sizes }
+}

@@ -1,0 +1,100 @@
+//! The calls that reply, each from the library and from the reference.
+
+use lindypo::Reply;
+use reference::{Order, Refusal};
+
+#[derive(Debug, Clone, Copy, PartialEq, Eq)]
+pub enum Call {
+    Read,
+    Plan,
+    Run,
+    Follow,
+}
+
+/// All that any call is lent. One that is not lent a buffer must leave it.
+pub struct Lent<'a> {
+    pub text: &'a [u8],
+    pub order: &'a [i64],
+    pub table: &'a mut [i64],
+    pub plan: &'a mut [i64],
+    pub results: &'a mut [i64],
+}
+
+impl Call {
+    pub const ALL: [Call; 4] = [Call::Read, Call::Plan, Call::Run, Call::Follow];
+
+    /// The last row that the call may refuse with.
+    pub fn last_row(self) -> usize {
+        match self {
+            Call::Read => 15,
+            Call::Plan | Call::Run => 16,
+            Call::Follow => 18,
+        }
+    }
+
+    pub fn library(self, lent: Lent) -> Reply {
+        let Lent {
+            text,
+            order,
+            table,
+            plan,
+            results,
+        } = lent;
+        match self {
+            Call::Read => lindypo::read_reply(text, table),
+            Call::Plan => lindypo::plan_reply(text, table, plan),
+            Call::Run => lindypo::run_reply(text, table, plan, results),
+            Call::Follow => lindypo::follow_reply(text, order, table, results),
+        }
+    }
+
+    pub fn reference(self, lent: Lent) -> Reply {
+        let Lent {
+            text,
+            order,
+            table,
+            plan,
+            results,
+        } = lent;
+        match self {
+            Call::Read => counted(reference::read(text, table)),
+            Call::Plan => planned(reference::plan(text, table, plan)),
+            Call::Run => planned(reference::run(text, table, plan, results)),
+            Call::Follow => counted(reference::follow(text, order, table, results)),
+        }
+    }
+}
+
+/// The reference's answer in the form of the C interface.
+fn counted(answer: Result<usize, Refusal>) -> Reply {
+    match answer {
+        Ok(count) => answered(count, 0),
+        Err(refusal) => refused(refusal),
+    }
+}
+
+fn planned(answer: Result<(usize, Order), Refusal>) -> Reply {
+    match answer {
+        Ok((length, Order::Whole)) => answered(length, 1),
+        Ok((length, Order::Mixed)) => answered(length, 2),
+        Err(refusal) => refused(refusal),
+    }
+}
+
+fn answered(count: usize, order: u64) -> Reply {
+    Reply {
+        refusal: 0,
+        place: 0,
+        count: count as u64,
+        order,
+    }
+}
+
+fn refused(Refusal { number, place }: Refusal) -> Reply {
+    Reply {
+        refusal: number,
+        place,
+        count: 0,
+        order: 0,
+    }
+}

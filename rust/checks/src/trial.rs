@@ -1,0 +1,248 @@
+//! One trial of all the calls.
+
+use lindypo::{Part, Reply};
+
+use crate::calls::{Call, Lent};
+use crate::lent::{LentCells, LentPart, SURROUNDINGS};
+
+/// Name is tried with every label of a sheet up to this many lines.
+const ALL_LABELS: usize = 40;
+
+/// The buffers that a call may be lent for writing.
+const BUFFERS: [&str; 3] = ["table", "plan", "results"];
+
+/// What is lent: the text, a list for Follow, the lengths of the buffers, what
+/// they are full of beforehand, and a label for Name besides those of every
+/// trial.
+#[derive(Debug, Clone, Copy)]
+pub struct Trial<'a> {
+    pub text: &'a [u8],
+    pub order: &'a [i64],
+    pub table: usize,
+    pub plan: usize,
+    pub results: usize,
+    pub rubbish: i64,
+    pub label: i64,
+}
+
+/// What a trial came to.
+#[derive(Debug, Clone, Copy)]
+pub struct Outcome {
+    pub read: Reply,
+    pub plan: Reply,
+    pub run: Reply,
+    pub follow: Reply,
+    /// How many values Run left in each of the states 1 to 5.
+    pub states: [u64; 5],
+    /// How many labels Name was asked for, and how many of them have a name.
+    pub asked: u64,
+    pub named: u64,
+}
+
+impl Outcome {
+    /// The replies in the sequence of `Call::ALL`.
+    pub fn replies(&self) -> [Reply; 4] {
+        [self.read, self.plan, self.run, self.follow]
+    }
+}
+
+/// What a call has to reply and to leave in every buffer.
+struct Wanted {
+    call: Call,
+    reply: Reply,
+    buffers: [Vec<i64>; 3],
+}
+
+/// What Name has to give for a label.
+struct WantedName {
+    label: i64,
+    part: Part,
+}
+
+impl<'a> Trial<'a> {
+    /// A trial with buffers one cell longer than need be.
+    pub fn new(text: &'a [u8], order: &'a [i64]) -> Self {
+        let lines = generator::line_count(text);
+        Trial {
+            text,
+            order,
+            table: 8 * lines + 1,
+            plan: lines + 1,
+            results: 3 * lines + 1,
+            rubbish: -77,
+            label: 2,
+        }
+    }
+
+    /// The reference's outcome where the library agrees with it in every cell,
+    /// else the difference in words.
+    pub fn run(&self) -> Result<Outcome, String> {
+        let wanted = Call::ALL.map(|call| self.wanted(call));
+        let [read, plan, run, follow] = wanted.each_ref().map(|wanted| wanted.reply);
+        let names = self.names(&wanted[0])?;
+        for (turn, surrounding) in SURROUNDINGS.into_iter().enumerate() {
+            // Name under one surrounding and the other in turn.
+            let names = names.iter().skip(turn).step_by(SURROUNDINGS.len());
+            self.compare(&wanted, names, surrounding)?;
+        }
+        let is_named = |wanted: &&WantedName| wanted.part.length > 0;
+        Ok(Outcome {
+            read,
+            plan,
+            run,
+            follow,
+            states: states(&wanted[2].buffers[2], run),
+            asked: names.len() as u64,
+            named: names.iter().filter(is_named).count() as u64,
+        })
+    }
+
+    /// As `run`, for a test that wants nothing but agreement.
+    pub fn expect(&self) -> Outcome {
+        match self.run() {
+            Ok(outcome) => outcome,
+            Err(difference) => panic!(
+                "{difference}\n{:?}\norder {:?}",
+                String::from_utf8_lossy(self.text),
+                self.order
+            ),
+        }
+    }
+
+    fn lengths(&self) -> [usize; 3] {
+        [self.table, self.plan, self.results]
+    }
+
+    fn wanted(&self, call: Call) -> Wanted {
+        let mut buffers = self.lengths().map(|length| vec![self.rubbish; length]);
+        let [table, plan, results] = &mut buffers;
+        let reply = call.reference(Lent {
+            text: self.text,
+            order: self.order,
+            table,
+            plan,
+            results,
+        });
+        Wanted {
+            call,
+            reply,
+            buffers,
+        }
+    }
+
+    /// What the reference's Name gives for each label to try.
+    fn names(&self, read: &Wanted) -> Result<Vec<WantedName>, String> {
+        let mut table = vec![self.rubbish; self.table];
+        let mut names = Vec::new();
+        for label in labels(read.reply, generator::line_count(self.text), self.label) {
+            table.fill(self.rubbish);
+            let name = reference::name(self.text, &mut table, label);
+            if table != read.buffers[0] {
+                return Err(format!("the reference's Name {label} has another table"));
+            }
+            let part = part_of(self.text, name);
+            names.push(WantedName { label, part });
+        }
+        Ok(names)
+    }
+
+    /// The library between these surroundings: every call, then these names.
+    fn compare<'n>(
+        &self,
+        wanted: &[Wanted],
+        names: impl Iterator<Item = &'n WantedName>,
+        (byte, cell): (u8, i64),
+    ) -> Result<(), String> {
+        let text = LentPart::new(self.text, byte);
+        let order = LentPart::new(self.order, cell);
+        let mut cells = self
+            .lengths()
+            .map(|length| LentCells::new(length, self.rubbish));
+        for wanted in wanted {
+            compare_call(wanted, text.part(), order.part(), &mut cells)?;
+        }
+        for name in names {
+            compare_name(name, text.part(), &mut cells[0], &wanted[0].buffers[0])?;
+        }
+        Ok(())
+    }
+}
+
+fn compare_call(
+    wanted: &Wanted,
+    text: &[u8],
+    order: &[i64],
+    cells: &mut [LentCells; 3],
+) -> Result<(), String> {
+    let Wanted {
+        call,
+        reply,
+        buffers,
+    } = wanted;
+    let [table, plan, results] = cells.each_mut().map(LentCells::lend);
+    let given = call.library(Lent {
+        text,
+        order,
+        table,
+        plan,
+        results,
+    });
+    if given != *reply {
+        return Err(format!("{call:?} replied {given:?}, wanted {reply:?}"));
+    }
+    for ((name, cells), wanted) in BUFFERS.iter().zip(cells).zip(buffers) {
+        let with_place = |difference| format!("{name} after {call:?}: {difference}");
+        cells.compare(wanted).map_err(with_place)?;
+    }
+    Ok(())
+}
+
+fn compare_name(
+    wanted: &WantedName,
+    text: &[u8],
+    table: &mut LentCells,
+    wanted_table: &[i64],
+) -> Result<(), String> {
+    let WantedName { label, part } = wanted;
+    let given = lindypo::name_part(text, table.lend(), *label);
+    if given != *part {
+        return Err(format!("Name {label} gave {given:?}, wanted {part:?}"));
+    }
+    let with_place = |difference| format!("table after Name {label}: {difference}");
+    table.compare(wanted_table).map_err(with_place)
+}
+
+/// The labels for Name: those at the edges, the one given, and of a sheet that
+/// reads every one, or as many spread through a long one.
+fn labels(reply: Reply, lines: usize, label: i64) -> Vec<i64> {
+    let n = lines as i64;
+    let mut labels = vec![i64::MIN, -1, 0, 1, n, n + 1, i64::MAX, label];
+    if reply.refusal == 0 {
+        let step = 1 + lines / ALL_LABELS;
+        labels.extend((1..=n).step_by(step));
+    }
+    labels
+}
+
+/// Where in the text a part of it stands; 0, 0 for an empty one.
+fn part_of(text: &[u8], part: &[u8]) -> Part {
+    let start = match part.len() {
+        0 => 0,
+        _ => part.as_ptr() as usize - text.as_ptr() as usize,
+    };
+    Part {
+        start: start as u64,
+        length: part.len() as u64,
+    }
+}
+
+/// The values in each state, where Run answered.
+fn states(results: &[i64], run: Reply) -> [u64; 5] {
+    let mut states = [0; 5];
+    if run.refusal == 0 {
+        for cells in results.chunks_exact(3).filter(|cells| cells[0] != 0) {
+            states[cells[0] as usize - 1] += 1;
+        }
+    }
+    states
+}

@@ -1,0 +1,143 @@
+//! The random sheets have what planning can go wrong on: orders that are mixed,
+//! Groups needed before an earlier label, values that reach others through
+//! chains of functions, and functions in cycles.
+
+use std::collections::VecDeque;
+
+use generator::{case, line_count};
+use reference::Order;
+
+const CASES: u64 = 10_000;
+
+const GROUP: usize = 1;
+const VALUE: usize = 2;
+const FUNCTION: usize = 3;
+
+/// A sheet that has a plan; labels count from 1.
+struct Planned {
+    table: Vec<i64>,
+    plan: Vec<usize>,
+    order: Order,
+    /// What each definition mentions, by label.
+    mentions: Vec<Vec<usize>>,
+}
+
+impl Planned {
+    fn new(text: &[u8]) -> Option<Self> {
+        let lines = line_count(text);
+        let (mut table, mut plan) = (vec![0; 8 * lines], vec![0; lines]);
+        let (length, order) = reference::plan(text, &mut table, &mut plan).ok()?;
+        let mut mentions = vec![Vec::new(); lines + 1];
+        for line in table.chunks_exact(8).filter(|line| line[7] != 0) {
+            mentions[line[6] as usize].push(line[7] as usize);
+        }
+        Some(Planned {
+            table,
+            plan: plan[..length].iter().map(|&label| label as usize).collect(),
+            order,
+            mentions,
+        })
+    }
+
+    fn kind(&self, label: usize) -> usize {
+        self.table[8 * (label - 1)] as usize
+    }
+
+    /// The Group of a definition; 0 for the outermost one.
+    fn group(&self, label: usize) -> usize {
+        self.table[8 * (label - 1) + 6] as usize
+    }
+
+    fn of_kind(&self, kind: usize) -> impl Iterator<Item = usize> + '_ {
+        (1..self.mentions.len()).filter(move |&label| self.kind(label) == kind)
+    }
+
+    /// Whether some Group lists two of its Groups the later label first.
+    fn has_later_group_first(&self) -> bool {
+        let mut first = vec![None; self.mentions.len()];
+        for (at, &value) in self.plan.iter().enumerate() {
+            let mut group = self.group(value);
+            while group != 0 && first[group].is_none() {
+                first[group] = Some(at);
+                group = self.group(group);
+            }
+        }
+        // The latest that a Group of each Group starts, of those met so far.
+        let mut latest = vec![None; self.mentions.len()];
+        self.of_kind(GROUP).any(|label| {
+            let around = &mut latest[self.group(label)];
+            let earlier = first[label].is_some() && first[label] < *around;
+            *around = first[label].max(*around);
+            earlier
+        })
+    }
+
+    /// How many functions lie at least between a definition and each other one
+    /// that it reaches with nothing but functions between.
+    fn between(&self, from: usize) -> Vec<Option<usize>> {
+        let mut between = vec![None; self.mentions.len()];
+        let mut open = VecDeque::from([(from, 0)]);
+        while let Some((definition, functions)) = open.pop_front() {
+            for &target in &self.mentions[definition] {
+                if between[target].is_none() {
+                    between[target] = Some(functions);
+                    if self.kind(target) == FUNCTION {
+                        open.push_back((target, functions + 1));
+                    }
+                }
+            }
+        }
+        between
+    }
+
+    /// The most functions that lie between a value and another one.
+    fn farthest(&self, value: usize) -> usize {
+        let between = self.between(value);
+        let functions = self.of_kind(VALUE).filter_map(|other| between[other]);
+        functions.max().unwrap_or(0)
+    }
+}
+
+#[derive(Debug, Default)]
+struct Counts {
+    mixed: usize,
+    /// Whole plans that list Groups the later label first.
+    later_first: usize,
+    /// Values that read another through one function at least, two, three.
+    through: [usize; 3],
+    /// Sheets with a function that calls itself; with several in a circle.
+    own_cycles: usize,
+    shared_cycles: usize,
+}
+
+impl Counts {
+    fn add(&mut self, planned: &Planned) {
+        let whole = planned.order == Order::Whole;
+        self.mixed += usize::from(!whole);
+        self.later_first += usize::from(whole && planned.has_later_group_first());
+        for &value in &planned.plan {
+            for count in self.through.iter_mut().take(planned.farthest(value)) {
+                *count += 1;
+            }
+        }
+        let back = |function| planned.between(function)[function];
+        let cycles: Vec<usize> = planned.of_kind(FUNCTION).filter_map(back).collect();
+        self.own_cycles += usize::from(cycles.contains(&0));
+        self.shared_cycles += usize::from(cycles.iter().any(|&others| others > 0));
+    }
+}
+
+#[test]
+fn what_planning_can_go_wrong_on() {
+    let mut counts = Counts::default();
+    for seed in 0..CASES {
+        if let Some(planned) = Planned::new(&case(seed).text) {
+            counts.add(&planned);
+        }
+    }
+    println!("{counts:?}");
+    assert!(counts.mixed > 600 && counts.later_first > 400);
+    let [one, two, three] = counts.through;
+    assert!(one > 2_000 && two > 500 && three > 100);
+    assert!(counts.own_cycles > 1_500 && counts.shared_cycles > 200);
+}

@@ -1,0 +1,54 @@
+//! What the static library exports; include/lindypo.h has the same for C.
+//!
+//! A slice passes as a pointer and a length. Nothing compares these
+//! declarations with the Rattle source: the tests of `checks` do.
+
+use crate::{Part, Reply};
+
+extern "C" {
+    pub fn lindypo_read(
+        text: *const u8,
+        text_length: usize,
+        table: *mut i64,
+        table_length: usize,
+    ) -> Reply;
+
+    pub fn lindypo_name(
+        text: *const u8,
+        text_length: usize,
+        table: *mut i64,
+        table_length: usize,
+        label: i64,
+    ) -> Part;
+
+    pub fn lindypo_plan(
+        text: *const u8,
+        text_length: usize,
+        table: *mut i64,
+        table_length: usize,
+        plan: *mut i64,
+        plan_length: usize,
+    ) -> Reply;
+
+    pub fn lindypo_run(
+        text: *const u8,
+        text_length: usize,
+        table: *mut i64,
+        table_length: usize,
+        plan: *mut i64,
+        plan_length: usize,
+        results: *mut i64,
+        results_length: usize,
+    ) -> Reply;
+
+    pub fn lindypo_follow(
+        text: *const u8,
+        text_length: usize,
+        order: *const i64,
+        order_length: usize,
+        table: *mut i64,
+        table_length: usize,
+        results: *mut i64,
+        results_length: usize,
+    ) -> Reply;
+}

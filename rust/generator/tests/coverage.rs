@@ -162,6 +162,49 @@ fn shapes_run() {
     }
 }
 
+/// Run's plan, order and results of a sheet, long enough buffers lent.
+fn run(text: &[u8]) -> (Vec<i64>, Order, Vec<i64>) {
+    let lines = generator::line_count(text);
+    let (mut table, mut plan) = (vec![0; 8 * lines], vec![0; lines]);
+    let mut results = vec![0; 3 * lines];
+    let answer = reference::run(text, &mut table, &mut plan, &mut results);
+    let (length, order) = answer.expect("a sheet that runs");
+    plan.truncate(length);
+    (plan, order, results)
+}
+
+/// Whether all values of a sheet come to this state.
+fn all_in_state(text: &[u8], state: i64) -> bool {
+    let (plan, _, results) = run(text);
+    let mut states = plan.iter().map(|&label| results[3 * label as usize - 3]);
+    states.all(|other| other == state)
+}
+
+#[test]
+fn shapes_are_what_they_are_called() {
+    let (plan, _, _) = run(&generator::forward(500));
+    assert!(plan.len() == 500 && plan.is_sorted());
+    let (mut plan, _, _) = run(&generator::backward(500));
+    plan.reverse();
+    assert!(plan.len() == 500 && plan.is_sorted());
+    assert_eq!(run(&generator::tangled(500)).1, Order::Mixed);
+    let text = generator::nested_values(341);
+    assert_eq!(generator::line_count(&text), 1_024);
+    let (mut plan, order, _) = run(&text);
+    plan.reverse();
+    assert!(order == Order::Whole && plan.len() == 341 && plan.is_sorted());
+    let text = generator::dense(171);
+    assert_eq!(generator::line_count(&text), 1_022);
+    assert_eq!(run(&text).0.len(), 171);
+    assert!(all_in_state(&generator::spent(339), 4));
+    assert!(all_in_state(&generator::deepest_calls(), 1));
+    for shape in generator::shapes() {
+        if shape.name.starts_with("endless") {
+            assert!(all_in_state(&shape.text, 5), "{}", shape.name);
+        }
+    }
+}
+
 #[test]
 fn everyday_orders_have_their_lines_and_a_whole_plan() {
     for lines in (1..=80).chain([250, 500, 1_000, 1_023, 1_024]) {

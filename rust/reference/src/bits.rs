@@ -1,5 +1,6 @@
 //! Tables of bits: each row is a set of small numbers.
 
+#[derive(Clone)]
 pub struct BitMatrix {
     /// Words in one row.
     words: usize,
@@ -32,16 +33,12 @@ impl BitMatrix {
         *word != before
     }
 
-    pub fn contains(&self, row: usize, number: usize) -> bool {
-        self.row(row)[number / 64] >> (number % 64) & 1 == 1
+    pub fn remove(&mut self, row: usize, number: usize) {
+        self.bits[row * self.words + number / 64] &= !(1 << (number % 64));
     }
 
-    /// Adds these words' numbers to a row.
-    pub fn add(&mut self, row: usize, words: &[u64]) {
-        let row = &mut self.bits[row * self.words..][..self.words];
-        for (word, more) in row.iter_mut().zip(words) {
-            *word |= more;
-        }
+    pub fn contains(&self, row: usize, number: usize) -> bool {
+        self.row(row)[number / 64] >> (number % 64) & 1 == 1
     }
 
     /// Adds all that row `from` holds to row `into`.

@@ -190,7 +190,7 @@ fn read_sheet<'a>(text: &'a [u8], lent: &Lent) -> Result<Sheet<'a>, Refusal> {
 /// Rows 1 to 16, and the plan.
 fn plan_sheet<'a>(text: &'a [u8], lent: &Lent) -> Result<Planned<'a>, Refusal> {
     let sheet = read_sheet(text, lent)?;
-    let (plan, order) = order::plan(&sheet, &reach::reach(&sheet)?);
+    let (plan, order) = order::plan(&sheet, reach::reach(&sheet)?);
     Ok(Planned { sheet, plan, order })
 }
 

@@ -10,10 +10,10 @@ use crate::sheet::{Kind, Label, Sheet};
 use crate::{Order, Refusal};
 
 /// The plan: whole if no Group gets stuck, else mixed.
-pub fn plan(sheet: &Sheet, reach: &Reach) -> (Vec<Label>, Order) {
-    match WholePlan::new(sheet, reach).finish() {
+pub fn plan(sheet: &Sheet, mut reach: Reach) -> (Vec<Label>, Order) {
+    match WholePlan::new(sheet, &mut reach).finish() {
         Some(listed) => (listed, Order::Whole),
-        None => (mixed(reach), Order::Mixed),
+        None => (mixed(&reach), Order::Mixed),
     }
 }
 
@@ -33,10 +33,14 @@ impl Needs {
         }
     }
 
-    fn add(&mut self, item: usize, needed: usize) {
-        if self.needed_by.insert(needed, item) {
-            self.unmet[item] += 1;
+    /// All that an item needs, each once.
+    fn add(&mut self, item: usize, needed: impl Iterator<Item = usize>) {
+        let mut count = 0;
+        for needed in needed {
+            self.needed_by.insert(needed, item);
+            count += 1;
         }
+        self.unmet[item] = count;
     }
 
     /// "Repeatedly place the smallest-labelled member not yet placed whose
@@ -69,70 +73,72 @@ fn mixed(reach: &Reach) -> Vec<Label> {
     }
     let mut needs = Needs::new(values.len());
     for (item, &value) in values.iter().enumerate() {
-        for reached in reach.reached_values(value) {
-            needs.add(item, item_of[reached]);
-        }
+        needs.add(
+            item,
+            reach.reached_values(value).map(|other| item_of[other]),
+        );
     }
     let placed = needs.place().expect("no value reaches itself");
     let label = |item: usize| reach.labels[values[item]];
     placed.into_iter().map(label).collect()
 }
 
-/// What the whole plan asks; definitions go by their numbers in `Reach`.
+/// What the whole plan asks; definitions go by their numbers in `Reach`. The
+/// row of a Group there has all that the values under it reach.
 struct WholePlan<'s> {
     sheet: &'s Sheet<'s>,
     reach: &'s Reach,
-    /// The members of each Group.
+    /// The Groups and values of each Group, as lists and as rows of bits. "F
+    /// gives nothing", needs nothing and is not needed.
     members: Adjacency,
-    /// Row d: the values that are d or under d.
-    under: BitMatrix,
-    /// Row d: what the values of `under` reach.
-    reached: BitMatrix,
-    /// For a value under the Group at hand, which of its members it lies in.
-    member_at: Vec<u32>,
+    member_rows: BitMatrix,
+    /// Where each one stands in its Group's list.
+    places: Vec<u32>,
 }
 
 impl<'s> WholePlan<'s> {
-    fn new(sheet: &'s Sheet<'s>, reach: &'s Reach) -> Self {
+    fn new(sheet: &'s Sheet<'s>, reach: &'s mut Reach) -> Self {
         let count = reach.labels.len();
-        let group_of = |member: usize| reach.number(sheet.owner(reach.labels[member]));
-        let members = Adjacency::new(count, (1..count).map(|member| (group_of(member), member)));
-        let mut under = BitMatrix::new(count, count);
-        let mut reached = BitMatrix::new(count, count);
-        for value in reach.values() {
-            under.insert(value, value);
-            reached.add(value, reach.reached.row(value));
+        let is_listed = |&member: &usize| sheet.kind(reach.labels[member]) != Kind::Function;
+        let listed: Vec<usize> = (1..count).filter(is_listed).collect();
+        let group_of = |member: usize| reach.groups[member] as usize;
+        let pairs = listed.iter().map(|&member| (group_of(member), member));
+        let members = Adjacency::new(count, pairs.clone());
+        let mut member_rows = BitMatrix::new(count, count);
+        let mut places = vec![0; count];
+        let mut sizes = vec![0; count];
+        for (group, member) in pairs {
+            member_rows.insert(group, member);
+            places[member] = sizes[group];
+            sizes[group] += 1;
         }
         // Members lie above their Group: going down, a Group is complete when met.
-        for member in (1..count).rev() {
-            under.merge(group_of(member), member);
-            reached.merge(group_of(member), member);
+        for &member in listed.iter().rev() {
+            reach.reached.merge(reach.groups[member] as usize, member);
         }
         WholePlan {
             sheet,
             reach,
             members,
-            under,
-            reached,
-            member_at: vec![0; count],
+            member_rows,
+            places,
         }
     }
 
-    fn finish(mut self) -> Option<Vec<Label>> {
+    fn finish(self) -> Option<Vec<Label>> {
         let mut listed = Vec::new();
         self.list(0, &mut listed)?;
         Some(listed)
     }
 
-    /// "A G is listed by the same rule in its place, F gives nothing."
-    fn list(&mut self, group: usize, listed: &mut Vec<Label>) -> Option<()> {
+    /// "A G is listed by the same rule in its place."
+    fn list(&self, group: usize, listed: &mut Vec<Label>) -> Option<()> {
         for at in self.needs(group).place()? {
             let member = self.members.of(group)[at] as usize;
             let label = self.reach.labels[member];
             match self.sheet.kind(label) {
                 Kind::Group => self.list(member, listed)?,
-                Kind::Value => listed.push(label),
-                _ => {}
+                _ => listed.push(label),
             }
         }
         Some(())
@@ -140,31 +146,19 @@ impl<'s> WholePlan<'s> {
 
     /// "Member p needs another member q of its Group if a V that is p or under
     /// p reaches one that is q or under q": members by their places in the
-    /// Group's list.
-    fn needs(&mut self, group: usize) -> Needs {
+    /// Group's list. A row has the Groups around the values reached, so q is in
+    /// that of p.
+    fn needs(&self, group: usize) -> Needs {
         let members = self.members.of(group);
-        for (at, &member) in (0..).zip(members) {
-            for value in self.under.members(member as usize) {
-                self.member_at[value] = at;
-            }
-        }
         let mut needs = Needs::new(members.len());
         for (at, &member) in members.iter().enumerate() {
-            for value in self.reached_elsewhere(group, member as usize) {
-                needs.add(at, self.member_at[value] as usize);
-            }
+            let reached = self.reach.reached.row(member as usize).iter();
+            let words = reached.zip(self.member_rows.row(group));
+            let needed = ones(words.map(|(reached, members)| reached & members));
+            let others = needed.filter(|&other| other != member as usize);
+            needs.add(at, others.map(|other| self.places[other] as usize));
         }
         needs
-    }
-
-    /// The values under `group`, but not under its `member`, that values under
-    /// `member` reach.
-    fn reached_elsewhere(&self, group: usize, member: usize) -> impl Iterator<Item = usize> + '_ {
-        let reached = self.reached.row(member).iter();
-        let inside = self.under.row(group).iter();
-        let own = self.under.row(member).iter();
-        let words = reached.zip(inside).zip(own);
-        ones(words.map(|((reached, inside), own)| reached & inside & !own))
     }
 }
 
@@ -198,13 +192,14 @@ fn check_listed(sheet: &Sheet, reach: &Reach, order: &[i64]) -> Result<Vec<Label
 
 /// Row 18: every value stands after those that it reaches.
 fn check_reached(reach: &Reach, listed: &[Label]) -> Result<(), Refusal> {
-    let mut earlier = vec![false; reach.labels.len()];
+    let mut unlisted = reach.values.clone();
     for (position, &label) in (1..).zip(listed) {
         let value = reach.number(label);
-        if !reach.reached_values(value).all(|reached| earlier[reached]) {
+        let mut words = reach.reached.row(value).iter().zip(unlisted.row(0));
+        if words.any(|(reached, unlisted)| reached & unlisted != 0) {
             return Err(Refusal::new(18, position));
         }
-        earlier[value] = true;
+        unlisted.remove(0, value);
     }
     Ok(())
 }

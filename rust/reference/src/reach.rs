@@ -12,10 +12,13 @@ pub struct Reach {
     pub labels: Vec<Label>,
     /// Number of each definition, by label.
     numbers: Vec<u32>,
-    /// Row d holds what d "reaches by one or more mentions".
+    /// Number of the Group of each definition; the outermost one's is its own.
+    pub groups: Vec<u32>,
+    /// Row d holds what d "reaches by one or more mentions", and the Groups
+    /// around the values among them.
     pub reached: BitMatrix,
     /// One row: the definitions that are values.
-    values: BitMatrix,
+    pub values: BitMatrix,
 }
 
 impl Reach {
@@ -47,10 +50,13 @@ pub fn reach(sheet: &Sheet) -> Result<Reach, Refusal> {
             values.insert(0, number);
         }
     }
-    let reached = Closure::new(labels.len(), &mentions(sheet, &numbers)).finish();
+    let group = |&label: &Label| numbers[sheet.owner(label)];
+    let groups: Vec<u32> = labels.iter().map(group).collect();
+    let reached = Closure::new(&mentions(sheet, &numbers), &groups, &values).finish();
     let reach = Reach {
         labels,
         numbers,
+        groups,
         reached,
         values,
     };
@@ -73,6 +79,8 @@ fn mentions(sheet: &Sheet, numbers: &[u32]) -> Adjacency {
 /// component is closed after every other one that it reaches.
 struct Closure<'m> {
     mentions: &'m Adjacency,
+    groups: &'m [u32],
+    values: &'m BitMatrix,
     reached: BitMatrix,
     /// When each definition was first met, from 1; 0 if not yet.
     met: Vec<u32>,
@@ -83,9 +91,12 @@ struct Closure<'m> {
 }
 
 impl<'m> Closure<'m> {
-    fn new(count: usize, mentions: &'m Adjacency) -> Self {
+    fn new(mentions: &'m Adjacency, groups: &'m [u32], values: &'m BitMatrix) -> Self {
+        let count = groups.len();
         Closure {
             mentions,
+            groups,
+            values,
             reached: BitMatrix::new(count, count),
             met: vec![0; count],
             meetings: 0,
@@ -131,18 +142,28 @@ impl<'m> Closure<'m> {
     /// `from` on: it reaches every target of its mentions and all they reach.
     fn close(&mut self, from: usize) {
         let root = self.open[from];
-        for &definition in &self.open[from..] {
-            for &target in self.mentions.of(definition) {
+        for at in from..self.open.len() {
+            for &target in self.mentions.of(self.open[at]) {
                 let target = target as usize;
-                self.reached.insert(root, target);
                 if !self.is_open[target] {
                     self.reached.merge(root, target);
                 }
+                self.mark(root, target);
             }
         }
         for definition in self.open.drain(from..) {
             self.is_open[definition] = false;
             self.reached.merge(definition, root);
+        }
+    }
+
+    /// Puts a target into a row, and the Groups around it if it is a value.
+    /// Those around one that is there are there, too.
+    fn mark(&mut self, row: usize, target: usize) {
+        let is_value = self.values.contains(0, target);
+        let mut next = target;
+        while self.reached.insert(row, next) && is_value {
+            next = self.groups[next] as usize;
         }
     }
 }

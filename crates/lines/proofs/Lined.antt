@@ -5,10 +5,10 @@ use mathlib.Core.List.{List, _++_}
 use Prim.Native.Nat.{ℕ, zero, suc, _+_, _-_, _*_, _≤_, _<_}
 use native.Mathlib.Nat.{not-suc-le-zero}
 use native.Mathlib.Omega.{arith}
-use borrow.Author.Tests.{eqb-true, eqb-false, eq-eqb, ltb-true, ltb-false}
-use lib.Dec.{eqb, ltb}
+use borrow.Author.Tests.{eqb-true, eqb-false, eq-eqb, ne-eqb, leb-true, ltb-true, ltb-false}
+use lib.Dec.{eqb, leb, ltb}
 use lib.IntN.{ℤ, pos, natAbs}
-use lib.ListN.{length, length-append, length-replicate, List·getD-append}
+use lib.ListN.{length, getD, length-append, length-replicate, List·getD-append}
 use lib.Seq.{getD-append-add}
 use Rattle.cells.specs.Cells.{natOf, intAt, zeros}
 use Rattle.cells.specs.Table.{cell, kind, nameStart, nameLength, fieldA}
@@ -23,7 +23,7 @@ use Rattle.numbers.proofs.Decimals.{number-size}
 use Rattle.refusals.specs.Rows.{fieldsRow, kindRow, formRow}
 use Rattle.refusals.specs.declared.Verdict.the-variants.{Fine}
 use Rattle.refusals.proofs.FirstBad.{first-none}
-use Rattle.text.specs.Bytes.{same}
+use Rattle.text.specs.Bytes.{all, same, isLetter, isAlphanumeric}
 use Rattle.text.specs.Pieces.{cut, place, fieldsAre}
 use Rattle.text.specs.Forms.{isName, isPath, labelOf}
 use Rattle.text.proofs.Bytes.{true-false, and-left, and-right, same-eq}
@@ -49,6 +49,18 @@ Natural z = z ≡ pos (natOf z)
 blank-natural : (b : Bool) → Natural (held (blankIf b))
 blank-natural true = refl
 blank-natural false = refl
+
+is-blank : (b : Bool) → isRight (blankIf b) ≡ true → b ≡ true
+is-blank true e = refl
+is-blank false e = absurd (true-false (sym e))
+
+name-size : (f : List ℕ) → isName f ≡ true → length f ≤ 16
+unfolding isName
+name-size f e =
+    let a = leb 1 (length f) in
+    let b = leb (length f) 16 in
+    let c = isLetter (getD f 0 0) in
+    leb-true (length f) 16 (and-right a b (and-left (a && b) c (and-left (a && b && c) (all isAlphanumeric f) e)))
 
 label-natural : (d : Decimal) → Natural (held (fromLabel d))
 label-natural (decimal.Is v) = refl
@@ -305,6 +317,34 @@ module _ (s : List ℕ) (m : ℕ) (head : headBad s ≡ Fine) (fine : linesBad s
       go : (b : Bool) → ltb k n ≡ b → nameStart t (suc k) + nameLength t (suc k) ≤ length s
       go true e = name-inside k (ltb-true k n e)
       go false e = let h = ltb-false k n e in omega (arith, past k 1 h, past k 2 h)
+
+  -- a value's name has at most 16 bytes
+  value-forms : (k : ℕ) → k < n → kind t (suc k) ≡ 2 → formsRight n (kindOf k) (fields k) ≡ true
+  value-forms k h e =
+      let d : suc k ≡ 1 → ⊥ = λ q. omega (arith, ap (kind t) q, root-kind) in
+      rw (ne-eqb (suc k) 1 d) at (fine-forms n (suc k) (line s (suc k)) (line-fine k h))
+
+  value-name : (k : ℕ) → k < n → kind t (suc k) ≡ 2 → isName (field (fields k) 1) ≡ true
+  unfolding kindAt kinds fieldOf
+  value-name k h e =
+      let c : kindCode (field (fields k) 0) ≡ 2 = sym (kind-at k h) ∙ e in
+      is-blank (isName (field (fields k) 1)) (and-left _ _ (and-left _ _ (and-left _ _ (rw c at (value-forms k h e)))))
+
+  name-short : (k : ℕ) → k < n → kind t (suc k) ≡ 2 → nameLength t (suc k) ≤ 16
+  unfolding rowOf
+  name-short k h e = rw (cells-at k 2 h (omega arith)) (go (same (field (fields k) 1) dash))
+    where
+      go : (b : Bool) → cond b 0 (length (field (fields k) 1)) ≤ 16
+      go true = omega arith
+      go false = name-size (field (fields k) 1) (value-name k h e)
+
+  pub names-short : (l : ℕ) → kind t l ≡ 2 → nameLength t l ≤ 16
+  names-short zero e = omega arith
+  names-short (suc k) e = go (ltb k n) refl
+    where
+      go : (b : Bool) → ltb k n ≡ b → nameLength t (suc k) ≤ 16
+      go true q = name-short k (ltb-true k n q) e
+      go false q = omega (arith, past k 2 (ltb-false k n q))
 
   -- cell j of a line holds its field i, of the form that `wanted` says of its kind
   operand-at : (wanted : Kind → Form) (i j : ℕ) → j < 8

@@ -3,3 +3,4 @@ pub mod Decimal
 mod Sizes
 mod Lines
 mod Runs
+mod Bounds

@@ -1,29 +1,32 @@
--- What Run's reply r says of the table t, the plan o and the results u that it leaves, and of the print.
+-- What Run's reply says of the table, the plan and the results that it leaves, and of the print.
 use mathlib.Core.Path.{_≡_, refl, sym, ap, _∙_}
-use mathlib.Core.Bool.{true}
+use mathlib.Core.Bool.{Bool, true, false, cond}
 use mathlib.Core.List.{List, [], _∷_, _++_, map}
-use Prim.Native.Nat.{ℕ, _-_, _≤_}
+use Prim.Native.Nat.{ℕ, _-_, _*_, _≤_}
 use native.Mathlib.Omega.{arith}
+use borrow.Author.Tests.{leb-true}
+use lib.Dec.{leb}
 use lib.IntN.{ℤ, pos}
 use lib.ListN.{length, take, length-append, length-map}
 use Rattle.cells.specs.Cells.{zeros}
+use Rattle.refusals.specs.Refusal.{orElse}
 use Rattle.refusals.specs.declared.Verdict.{Verdict}
-use Rattle.refusals.specs.declared.Verdict.the-variants.{Fine}
+use Rattle.refusals.specs.declared.Verdict.the-variants.{Fine, Refused}
 use Rattle.refusals.proofs.OrElse.{both-fine}
 use Rattle.lines.specs.Lines.{labels, headBad}
-use Rattle.order.specs.Order.{Answer, cycle, whole, mixed}
+use Rattle.order.specs.Order.{Proper, Answer, cycle, whole, mixed}
 use Rattle.order.specs.Following.{labelsOf}
 use Rattle.order.specs.Rows.{cycleBad}
+use Rattle.order.proofs.Following.{proper-list}
 use Rattle.reading.specs.Read.{tableShort, sheetBad, sheetTable, readBad, tableOf}
-use Rattle.reading.proofs.Accepted.{read-names}
-use Rattle.calls.specs.Buffers.{runBuffers}
+use Rattle.reading.proofs.Accepted.{read-accepted, read-names}
+use Rattle.calls.specs.Buffers.{planShort, resultsShort, runBuffers}
 use Rattle.calls.specs.Plan.{openBad, plannedBad, planOf, answerBy, listedBy, lengthOf}
 use Rattle.calls.specs.Run.{runBad, runReply, runTable, runPlan, runResults}
 use Rattle.calls.specs.declared.PlanReply.{PlanReply}
-use Rattle.calls.specs.declared.PlanReply.the-variants as reply
-use Rattle.calls.proofs.Answers.{answers, answers-fine}
-use Rattle.printing.specs.Decimal.{decimal}
-use Rattle.printing.specs.Print.{lineOf, columnsLine, refusalLine, wholeWord, mixedWord, valueLines, printBy, printWith}
+use Rattle.calls.proofs.Answers.{answers, answers-number, answers-fine}
+use Rattle.calls.proofs.Sheets.{kept}
+use Rattle.printing.specs.Print.{printBy, printWith}
 use Rattle.printing.specs.Writing.{NamesIn}
 
 listed-length : (a : Answer) (p : ℕ) → lengthOf (answerBy Fine a) ≤ length (listedBy Fine a p)
@@ -31,29 +34,69 @@ listed-length (cycle v) p = omega arith
 listed-length (whole o) p = omega (arith, length-append (map pos o) (zeros (p - length o)), length-map o pos)
 listed-length (mixed o) p = omega (arith, length-append (map pos o) (zeros (p - length o)), length-map o pos)
 
+results-long : (s : List ℕ) (q : ℕ) → resultsShort s q ≡ Fine → 3 * labels s ≤ q
+unfolding resultsShort
+results-long s q e = go (leb (3 * labels s) q) refl e
+  where
+    go : (b : Bool) → leb (3 * labels s) q ≡ b → cond b Fine (Refused 4 3) ≡ Fine → 3 * labels s ≤ q
+    go true f g = leb-true (3 * labels s) q f
+    go false f g = let z : _≡_ {A = ℕ} 0 1 = cc in absurd (omega arith)
+
+-- ---- where it answers
+
+module _ (s : List ℕ) (m p q : ℕ) (a : answers (runReply s m p q) ≡ true) where
+  pub run-fine : runBad s m p q ≡ Fine
+  unfolding runReply
+  run-fine = answers-fine (runBad s m p q) (planOf s m) a
+
+  open-fine : openBad s m (runBuffers s m p q) ≡ Fine
+  unfolding runBad plannedBad
+  open-fine = both-fine (openBad s m (runBuffers s m p q)) (cycleBad (sheetTable s m) (labels s)) run-fine .0
+
+  parts : (headBad s ≡ Fine) × (runBuffers s m p q ≡ Fine) × (sheetBad s m ≡ Fine)
+  unfolding openBad
+  parts =
+      let h = both-fine (headBad s) _ open-fine in
+      let b = both-fine (runBuffers s m p q) (sheetBad s m) (h .1) in
+      (h .0, b .0, b .1)
+
+  buffers : (tableShort s m ≡ Fine) × (orElse (planShort s p) (resultsShort s q) ≡ Fine)
+  buffers = both-fine (tableShort s m) _ (parts .1)
+
+  pub reads : readBad s m ≡ Fine
+  unfolding readBad
+  reads = rw (parts .0, buffers .0) (parts .2)
+
+  pub results-fit : 3 * labels s ≤ q
+  results-fit = results-long s q (both-fine (planShort s p) (resultsShort s q) (buffers .1) .1)
+
+  pub table-is : runTable s m p q ≡ sheetTable s m
+  unfolding runTable
+  table-is = ap (λ (v : Verdict). tableOf v s m) run-fine
+
+  -- the plan has as many labels as the reply says, and they are a proper order
+  pub plan-long : lengthOf (runReply s m p q) ≤ length (runPlan s m p q)
+  unfolding runReply runPlan
+  plan-long = rw run-fine (listed-length (planOf s m) p)
+
+  pub plan-proper : Proper (sheetTable s m) (labelsOf (take (lengthOf (runReply s m p q)) (runPlan s m p q)))
+  unfolding runReply runPlan runBad
+  plan-proper =
+      proper-list _ _ .0
+      (kept s m (runBuffers s m p q) p open-fine (read-accepted s m reads) .proper (answers-number (runReply s m p q) a))
+
+-- ---- for the code: the reply r, the table t, the plan o and the results u
+
 module _ (s : List ℕ) (m p q : ℕ) (r : PlanReply) (er : r ≡ runReply s m p q) where
   module _ (a : answers r ≡ true) where
-    fine : runBad s m p q ≡ Fine
-    unfolding runReply
-    fine = answers-fine (runBad s m p q) (planOf s m) (ap answers (sym er) ∙ a)
+    answered : answers (runReply s m p q) ≡ true
+    answered = ap answers (sym er) ∙ a
 
-    reads : readBad s m ≡ Fine
-    unfolding runBad plannedBad openBad readBad
-    reads =
-        let o = both-fine (openBad s m (runBuffers s m p q)) (cycleBad (sheetTable s m) (labels s)) fine in
-        let h = both-fine (headBad s) _ (o .0) in
-        let b = both-fine (runBuffers s m p q) (sheetBad s m) (h .1) in
-        rw (h .0, both-fine (tableShort s m) _ (b .0) .0) (b .1)
-
-    -- the name fields lie in the text
     pub names-in : (t : List ℤ) → t ≡ runTable s m p q → NamesIn s t
-    unfolding runTable
-    names-in t et l = rw (et ∙ ap (λ (v : Verdict). tableOf v s m) fine) (read-names s m reads l)
+    names-in t et l = rw (et ∙ table-is s m p q answered) (read-names s m (reads s m p q answered) l)
 
-    -- the plan has as many labels as the reply says
-    pub plan-long : (o : List ℤ) → o ≡ runPlan s m p q → lengthOf r ≤ length o
-    unfolding runReply runPlan
-    plan-long o eo = rw (er, eo, fine) (listed-length (planOf s m) p)
+    pub count-in : (o : List ℤ) → o ≡ runPlan s m p q → lengthOf r ≤ length o
+    count-in o eo = rw (er, eo) (plan-long s m p q answered)
 
   module _ (t o u : List ℤ) (et : t ≡ runTable s m p q) (eo : o ≡ runPlan s m p q) (eu : u ≡ runResults s m p q) where
     pub printed : (x : PlanReply) → r ≡ x → printBy s x t o u ≡ printWith s m p q

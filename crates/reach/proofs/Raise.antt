@@ -12,6 +12,7 @@ use Rattle.cells.specs.Accepted.{Accepted, HasBody}
 use Rattle.order.specs.Order.{up, Within}
 use Rattle.order.proofs.Tree.{within-owner}
 use Rattle.marks.specs.Marks.{mark, Added}
+use Rattle.marks.proofs.Squares.{mark-in}
 use Rattle.reach.specs.Links.{Around}
 use Rattle.reach.specs.Rows.{width}
 use Rattle.reach.specs.Turns.{Raised}
@@ -164,24 +165,31 @@ module _ (t : List ℤ) (n : ℕ) (ok : Accepted t n) where
         only q (inl y) = inl y
         only q (inr y) = inr (inl y)
 
--- a row added to a row to which something was added
-pub added-row : (P : ℕ → Type 0) (s s₁ s₂ : List ℕ) (w d f : ℕ) → (f ≡ d → ⊥) → Added P s s₁ w d → Added (λ (q : ℕ). mark s₁ w f q ≡ true) s₁ s₂ w d
-    → Added (λ (q : ℕ). P q ⊎ (mark s w f q ≡ true)) s s₂ w d
-added-row P s s₁ s₂ w d f z a b = record {
+-- something added, and something more
+pub added-then : (P Q : ℕ → Type 0) (s s₁ s₂ : List ℕ) (w d : ℕ) → Added P s s₁ w d → Added Q s₁ s₂ w d → Added (λ (q : ℕ). Q q ⊎ P q) s s₂ w d
+added-then P Q s s₁ s₂ w d a b = record {
   others = λ x q y. b .others x q y ∙ a .others x q y;
   kept = λ q y. b .kept q (a .kept q y);
   new = new;
   only = λ q y. only q (b .only q y);
 }
   where
-    new : (q : ℕ) → q < 64 * w → P q ⊎ (mark s w f q ≡ true) → mark s₂ w d q ≡ true
-    new q h (inl y) = b .kept q (a .new q h y)
-    new q h (inr y) = b .new q h (a .others f q z ∙ y)
+    new : (q : ℕ) → q < 64 * w → Q q ⊎ P q → mark s₂ w d q ≡ true
+    new q h (inl y) = b .new q h y
+    new q h (inr y) = b .kept q (a .new q h y)
 
-    first : (q : ℕ) → (mark s w d q ≡ true) ⊎ P q → (mark s w d q ≡ true) ⊎ (P q ⊎ (mark s w f q ≡ true))
+    first : (q : ℕ) → (mark s w d q ≡ true) ⊎ P q → (mark s w d q ≡ true) ⊎ (Q q ⊎ P q)
     first q (inl y) = inl y
-    first q (inr y) = inr (inl y)
+    first q (inr y) = inr (inr y)
 
-    only : (q : ℕ) → (mark s₁ w d q ≡ true) ⊎ (mark s₁ w f q ≡ true) → (mark s w d q ≡ true) ⊎ (P q ⊎ (mark s w f q ≡ true))
+    only : (q : ℕ) → (mark s₁ w d q ≡ true) ⊎ Q q → (mark s w d q ≡ true) ⊎ (Q q ⊎ P q)
     only q (inl y) = first q (a .only q y)
-    only q (inr y) = inr (inr (sym (a .others f q z) ∙ y))
+    only q (inr y) = inr (inl y)
+
+-- a row with all that is above it, added to another
+pub row-raised : (t : List ℤ) (s s₁ : List ℕ) (w d f : ℕ) → Raised t (mark s w d) → Raised t (mark s w f) → Added (λ (q : ℕ). mark s w f q ≡ true) s s₁ w d → Raised t (mark s₁ w d)
+row-raised t s s₁ w d f r r′ a g k m h = go (a .only g m)
+  where
+    go : (mark s w d g ≡ true) ⊎ (mark s w f g ≡ true) → mark s₁ w d (owner t g) ≡ true
+    go (inl y) = a .kept (owner t g) (r g k y h)
+    go (inr y) = let z = r′ g k y h in a .new (owner t g) (mark-in s w f (owner t g) z) z

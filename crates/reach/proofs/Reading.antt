@@ -36,6 +36,3 @@ row-room n w p size h g =
     let m : suc p * w ≤ suc n * w = mul-le-mul-right w (omega arith) in
     let e : (n + 1) * w ≡ suc n * w = ap (λ (x : ℕ). x * w) (omega arith) in
     omega (arith, suc-mul p w)
-
-pub room-still : (n w p size size′ : ℕ) → p ≤ n → (n + 1) * w ≤ size → size′ ≡ size → p * w + w ≤ size′
-room-still n w p size size′ h g e = row-room n w p size′ h (omega (arith, g))

@@ -317,7 +317,11 @@ module _ (t : List ℤ) (n : ℕ) (ok : Accepted t n) (j : ℕ) (col : Column j)
       → r + (n - found t n j d (mark s′ (width n) d)) ≤ top + (n - found t n j d (mark s (width n) d))
   grown-less d e s top s′ stack′ r g = omega (arith, g .less, found-few t n ok j d (mark s′ (width n) d), found-few t n ok j d (mark s (width n) d))
 
-  -- ---- at the end
+  -- ---- rows that are made
+
+  -- with a Group, they have the Groups around it
+  pub row-above : (f : ℕ) (s : List ℕ) → Row t n j s f → Raised t (mark s (width n) f)
+  row-above f s row g k m h = row (owner t g) .1 (touch-owner t n ok j col (row g .0 m) k h)
 
   -- rows that are made stay so while row d grows
   pub rows-kept : (d : ℕ) (state s s′ : List ℕ) → (getD state d 0 ≡ 2 → ⊥) → ((f : ℕ) → getD state f 0 ≡ 2 → Row t n j s f)
@@ -343,3 +347,15 @@ module _ (t : List ℤ) (n : ℕ) (ok : Accepted t n) (j : ℕ) (col : Column j)
           go (inl m) = m
           go (inr (inl i)) = absurd (omega arith)
           go (inr (inr i)) = absurd (omega (arith, body-label t n ok e (links-body t n ok j col r) .0))
+
+  -- a row taken from one that is linked to and links back
+  pub shared : (d e : ℕ) (s s′ : List ℕ) → HasBody t d → Link t j d e → Row t n j s e → mark s (width n) e d ≡ true → Blank n s d
+      → Added (λ (q : ℕ). mark s (width n) e q ≡ true) s s′ (width n) d → Filled t n j d s s′ 0
+  shared d e s s′ b l row m blank add = record { row = λ q x. here q (add .only q x); all = all; others = add .others; few = omega arith }
+    where
+      here : (q : ℕ) → (mark s (width n) d q ≡ true) ⊎ (mark s (width n) e q ≡ true) → Touches t j d q
+      here q (inl x) = clash (mark s (width n) d q) x (blank q)
+      here q (inr x) = touch-on t n ok j col (once l) (row q .0 x)
+
+      all : (q : ℕ) → Touches t j d q → mark s′ (width n) d q ≡ true
+      all q x = add .new q (in-row t n ok q (touch-label t n ok j col x .1)) (row q .1 (touch-on t n ok j col (touch-body t n ok j col (row d .0 m) b) x))

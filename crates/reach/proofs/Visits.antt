@@ -8,7 +8,7 @@ use native.Mathlib.Omega.{arith}
 use native.Mathlib.Decide.{ℕ-discrete}
 use lib.Dec.{eqb}
 use lib.IntN.{ℤ}
-use lib.ListN.{length, getD, set}
+use lib.ListN.{length, getD, set, length-set}
 use lib.Seq.{getD-set-same, getD-set-other}
 use borrow.Author.Count.{below-more}
 use borrow.Author.Tests.{eqb-true, eq-eqb, ne-eqb}
@@ -19,7 +19,7 @@ use Rattle.order.specs.Order.{labels}
 use Rattle.order.proofs.Lists.{tally-lt}
 use Rattle.order.proofs.Tables.{in-labels}
 use Rattle.marks.specs.Marks.{mark}
-use Rattle.reach.specs.Rows.{width, Row, Blank, AllRows, Rows}
+use Rattle.reach.specs.Rows.{width, Row, Blank, AllRows, Rows, Room}
 use Rattle.reach.specs.Visits.{fan, spent}
 use Rattle.reach.specs.Turns.{Filled, Since, Visited}
 use Rattle.reach.proofs.Links.{body-label, body-group}
@@ -30,6 +30,15 @@ since-same state = record { kept = λ e f. f; held = λ e h. h; unmade = λ e h.
 
 pub since-then : (a b c : List ℕ) → Since a b → Since b c → Since a c
 since-then a b c p q = record { kept = λ e f. q .kept e (p .kept e f); held = λ e h. q .held e (p .held e h); unmade = λ e h. p .unmade e (q .unmade e h) }
+
+-- what holds between visits: since state₀, in buffers of these lengths, with so many visits
+pub record Going (t : List ℤ) (n j : ℕ) (state₀ square₀ stack₀ state square stack : List ℕ) (visits : ℕ) : Type 0 where
+  pub states : length state ≡ length state₀
+  pub squares : length square ≡ length square₀
+  pub stacks : length stack ≡ length stack₀
+  pub rows : Rows t n j state square
+  pub since : Since state₀ state
+  pub few : visits + spent t n j state₀ ≤ spent t n j state
 
 -- how many labels are not begun
 abbrev pub unbegun : ℕ → List ℕ → ℕ
@@ -86,9 +95,9 @@ module _ (t : List ℤ) (n : ℕ) (ok : Accepted t n) (j : ℕ) where
             go (no y) = absurd (s .kept e (λ x. y (sym (other state d 1 room e z) ∙ x)) h)
 
     -- and made
-    pub finish : (state₁ square₁ square₂ : List ℕ) (k r : ℕ) → d < length state₁ → Since (set state d 1) state₁ → Rows t n j state₁ square₁ → Filled t n j d square₁ square₂ r
-        → k + spent t n j (set state d 1) ≤ spent t n j state₁ → Visited t n j d state (set state₁ d 2) square₂ (k + r)
-    finish state₁ square₁ square₂ k r room₁ s r₁ f few = record {
+    pub finish : (square₀ stack₀ state₁ square₁ stack₁ square₂ : List ℕ) (k r v : ℕ) → Going t n j (set state d 1) square₀ stack₀ state₁ square₁ stack₁ k → Filled t n j d square₁ square₂ r
+        → v ≡ k + r → Visited t n j d state (set state₁ d 2) square₂ v
+    finish square₀ stack₀ state₁ square₁ stack₁ square₂ k r v g f e = record {
       rows = record {
         small = λ e. small e (ℕ-discrete e d);
         begun = λ e y. begun e y (ℕ-discrete e d);
@@ -101,13 +110,23 @@ module _ (t : List ℤ) (n : ℕ) (ok : Accepted t n) (j : ℕ) where
           let b = body-label t n ok d body in
           omega (
             arith,
-            few,
+            e,
+            g .few,
             f .few,
             spent-begin t n ok j state d room 1 (λ z. omega arith) new,
             spent-made t n ok j state₁ d room₁ (λ z. omega (arith, s .held d (own state d 1 room))) (in-labels t n ok d (b .0) (b .1)),
           );
     }
       where
+        s : Since (set state d 1) state₁
+        s = g .since
+
+        r₁ : Rows t n j state₁ square₁
+        r₁ = g .rows
+
+        room₁ : d < length state₁
+        room₁ = omega (arith, room, g .states, length-set state d 1)
+
         small : (e : ℕ) → Dec (e ≡ d) → getD (set state₁ d 2) e 0 ≤ 2
         small e (yes z) = rw z (omega (arith, own state₁ d 2 room₁))
         small e (no z) = omega (arith, other state₁ d 2 room₁ e z, r₁ .small e)
@@ -143,8 +162,35 @@ module _ (t : List ℤ) (n : ℕ) (ok : Accepted t n) (j : ℕ) where
   pub stay : (state square : List ℕ) (d : ℕ) → (getD state d 0 ≡ 0 → ⊥) → Rows t n j state square → Visited t n j d state state square 0
   stay state square d f r = record { rows = r; here = f; since = since-same state; few = omega arith }
 
-  pub visited-few : (state state′ square′ : List ℕ) (d r : ℕ) → Visited t n j d state state′ square′ r → r + spent t n j state ≤ 1025 * n
-  visited-few state state′ square′ d r h = omega (arith, h .few, spent-few t n ok j state′)
+  -- ---- between visits
+
+  pub going-start : (state square stack : List ℕ) → Rows t n j state square → Going t n j state square stack state square stack 0
+  going-start state square stack r = record { states = refl; squares = refl; stacks = refl; rows = r; since = since-same state; few = omega arith }
+
+  module _ (state₀ square₀ stack₀ state square stack : List ℕ) (k : ℕ) (g : Going t n j state₀ square₀ stack₀ state square stack k) where
+    pub going-room : Room n state₀ square₀ stack₀ → Room n state square stack
+    going-room r = record { states = omega (arith, r .states, g .states); rows = omega (arith, r .rows, g .squares); heights = omega (arith, r .heights, g .stacks) }
+
+    pub going-few : k ≤ 1025 * n
+    going-few = omega (arith, g .few, spent-few t n ok j state)
+
+    pub going-still : (square′ : List ℕ) → square′ ≡ square → Going t n j state₀ square₀ stack₀ state square′ stack k
+    going-still square′ e = subst (λ (s : List ℕ). Going t n j state₀ square₀ stack₀ state s stack k) (sym e) g
+
+    module _ (state′ square′ : List ℕ) (d r : ℕ) (v : Visited t n j d state state′ square′ r) where
+      pub going-sum : k + r ≤ 1025 * n
+      going-sum = omega (arith, g .few, v .few, spent-few t n ok j state′)
+
+      pub going-more : (stack′ : List ℕ) → length state′ ≡ length state → length square′ ≡ length square → length stack′ ≡ length stack
+          → Going t n j state₀ square₀ stack₀ state′ square′ stack′ (k + r)
+      going-more stack′ a b c = record {
+        states = a ∙ g .states;
+        squares = b ∙ g .squares;
+        stacks = c ∙ g .stacks;
+        rows = v .rows;
+        since = since-then state₀ state state′ (g .since) (v .since);
+        few = omega (arith, g .few, v .few);
+      }
 
   -- ---- all rows
 

@@ -52,6 +52,11 @@ pub record Filled (t : List ℤ) (n j d : ℕ) (s s′ : List ℕ) (r : ℕ) : T
   pub others : (a q : ℕ) → (a ≡ d → ⊥) → mark s′ (width n) a q ≡ mark s (width n) a q
   pub few : r ≤ 1 + fan t n j d
 
+-- row d has become row e, which is made and has d; or nothing changed
+abbrev pub Shared : ℕ → List ℕ → ℕ → ℕ → List ℕ → List ℕ → Bool → Type 0
+Shared n state d e s s′ true = (getD state e 0 ≡ 2) × (mark s (width n) e d ≡ true) × Added (λ (q : ℕ). mark s (width n) e q ≡ true) s s′ (width n) d
+Shared n state d e s s′ false = s′ ≡ s
+
 -- What was begun is so still, and what is begun and not made was and is so on both sides.
 pub record Since (state state′ : List ℕ) : Type 0 where
   pub kept : (e : ℕ) → (getD state e 0 ≡ 0 → ⊥) → getD state′ e 0 ≡ 0 → ⊥

@@ -14,7 +14,7 @@ ghost use Rattle.reach.specs.Links.{Column, Links, Around};
 ghost use Rattle.reach.specs.Rows.{width, Row, Blank, AllRows, Rows, Room};
 ghost use Rattle.reach.specs.Chains.{Linked, Empty};
 ghost use Rattle.reach.specs.Visits.{visits};
-ghost use Rattle.reach.specs.Turns.{Raised, Met, Spread, Grown, Filled, Visited};
+ghost use Rattle.reach.specs.Turns.{Raised, Met, Spread, Grown, Filled, Shared, Visited};
 
 // ---- cells of an accepted table
 
@@ -118,19 +118,21 @@ fn meet(
     requires { ⌜ Room n (now state) (now square) (now stack) ⌝ }
     requires { ⌜ (d ≤ n) × (top ≤ n) ⌝ }
     requires { ⌜ HasBody (now table) f ⌝ }
-    requires { ⌜ (getD (now state) d 0 ≡ 2 → ⊥) ⌝ }
     requires { ⌜ Raised (now table) (mark (now square) (width n) d) ⌝ }
+    requires { ⌜ (getD (now state) f 0 ≡ 2 → Raised (now table) (mark (now square) (width n) f)) ⌝ }
     ensures { λ r. ⌜ Met (now (table .entry)) n (now (state .entry)) d f (now (square .entry)) (now (stack .entry)) top (now (square .exit)) (now (stack .exit)) r ⌝ }
 {
     let w = n / 64 + 1;
     if marks::has_mark(square, w, d, f) {
         return top;
     }
-    mark_around(table, n, square, d, f);
     if state[f] == 2 {
+        // its row first: above a Group that it has, all are marked
         marks::merge_row(square, w, f, d);
+        mark_around(table, n, square, d, f);
         return top;
     }
+    mark_around(table, n, square, d, f);
     stack[top] = f as u16;
     top + 1
 }
@@ -196,6 +198,22 @@ fn fill(
     visits
 }
 
+// If row e is made and has d, which links to e, both reach the same: d has the same row. Answers whether it is so.
+fn share_row(n: usize, state: &[u8], square: &mut [u64], d: usize, e: usize) -> bool
+    requires { ⌜ (n ≤ 1024) × (d ≤ n) × (e ≤ n) × (n < length (now state)) × ((n + 1) * width n ≤ length (now square)) ⌝ }
+    ensures { λ r. ⌜ Shared n (now (state .entry)) d e (now (square .entry)) (now (square .exit)) r ⌝ }
+{
+    let w = n / 64 + 1;
+    if state[e] != 2 {
+        return false;
+    }
+    if marks::has_mark(square, w, e, d) {
+        marks::merge_row(square, w, e, d);
+        return true;
+    }
+    false
+}
+
 // Makes row d after the rows of what d links to, unless d is begun. Answers how many visits that took.
 fn visit(
     table: &[i64],
@@ -222,7 +240,13 @@ fn visit(
     let mut x = marks::wide(chains[d]);
     while x != 0 {
         let e = cell_of(table, n, x, j);
-        visits += visit(table, n, j, chains, state, square, stack, e);
+        if state[e] == 0 {
+            visits += visit(table, n, j, chains, state, square, stack, e);
+        }
+        if share_row(n, state, square, d, e) {
+            state[d] = 2;
+            return visits;
+        }
         x = marks::wide(chains[n + x]);
     }
     visits += fill(table, n, j, chains, state, square, stack, d);

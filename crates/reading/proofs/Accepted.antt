@@ -26,7 +26,7 @@ use Rattle.tree.proofs.Codes.{label-low, label-high}
 use Rattle.paths.specs.Paths.{targetOf, targetCell, wanted, duplicateBad, headBad as noHead, laterBad, targetBad, pathsBad}
 use Rattle.lines.specs.Lined.{Lined, linedTable}
 use Rattle.reading.specs.Read.{tableShort, ownedTable, tiedTable, tiedBad, sheetBad, sheetTable, readBad}
-use Rattle.lines.proofs.Lined.{lined}
+use Rattle.lines.proofs.Lined.{lined, names-short}
 use Rattle.reading.proofs.Tied.{formed, accepted}
 
 -- a cell that is some natural number is its own natural number
@@ -199,6 +199,13 @@ module _ (s : List ℕ) (m : ℕ) (h : headBad s ≡ Fine) (room : 8 * labels s 
   unfolding sheetTable
   sheet-names = tied-names s (linedTable s m) (labels s) is-lined (tree-fine .0) (tree-fine .1)
 
+  -- a value's name has at most 16 bytes
+  pub sheet-short : (v : ℕ) → kind (sheetTable s m) v ≡ 2 → nameLength (sheetTable s m) v ≤ 16
+  unfolding sheetTable
+  sheet-short v k =
+      let same = same-lines s (linedTable s m) (labels s) is-lined (tree-fine .0) (tree-fine .1) v in
+      rw (same 2 (omega arith)) (names-short s m h (lines-fine .0) v (sym (same 0 (omega arith)) ∙ k))
+
 module _ (s : List ℕ) (m : ℕ) (e : readBad s m ≡ Fine) where
   head-part : (headBad s ≡ Fine) × (orElse (tableShort s m) (sheetBad s m) ≡ Fine)
   unfolding readBad
@@ -220,3 +227,6 @@ module _ (s : List ℕ) (m : ℕ) (e : readBad s m ≡ Fine) where
 
   pub read-names : (l : ℕ) → nameStart (sheetTable s m) l + nameLength (sheetTable s m) l ≤ length s
   read-names = sheet-names s m (head-part .0) long-enough (sheet-part .1)
+
+  pub read-short : (v : ℕ) → kind (sheetTable s m) v ≡ 2 → nameLength (sheetTable s m) v ≤ 16
+  read-short = sheet-short s m (head-part .0) long-enough (sheet-part .1)

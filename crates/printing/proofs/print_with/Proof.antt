@@ -1,9 +1,11 @@
-use mathlib.Core.Path.{ap}
+use mathlib.Core.Path.{_∙_, sym, ap}
 use lib.ListN.{length}
 use Rattle.calls.specs.Plan.{lengthOf}
 use Rattle.calls.proofs.Answers.{answers}
 use Rattle.printing.specs.Print.{wholeWord, mixedWord}
-use Rattle.printing.proofs.Runs.{names-in, plan-long, printed}
+use Rattle.printing.proofs.Runs.{names-in, count-in, printed}
+use Rattle.printing.proofs.Bounds.{whole-length, mixed-length, refused-length}
+use native.Mathlib.Omega.{arith}
 use borrow.Author.Needs.{needs}
 use Rattle.printing.proofs.print_with.Statement.{statement}
 use Rattle.printing.proofs.print_with.Tie as tie
@@ -22,7 +24,7 @@ put-answer-requires c κs =
     let a = c .before .before .before .before .before .before .before .before .before .before .before .before .before .before .before .before .before .args in
     let k = c .before .before .before .before .before .before .before .before .before .before .before .run in
     let g = c .before .before .before .before .before .before .count .given .1 in (
-      rw (ap lengthOf g) at (plan-long (a .text .now) (length (a .table .now)) (length (a .plan .now)) (length (a .results .now)) (k .result) (k .ensures .0) (ap answers g) _ (k .ensures .1 .1 .0)),
+      rw (ap lengthOf g) at (count-in (a .text .now) (length (a .table .now)) (length (a .plan .now)) (length (a .results .now)) (k .result) (k .ensures .0) (ap answers g) _ (k .ensures .1 .1 .0)),
       names-in (a .text .now) (length (a .table .now)) (length (a .plan .now)) (length (a .results .now)) (k .result) (k .ensures .0) (ap answers g) _ (k .ensures .1 .0),
     )
 
@@ -37,7 +39,7 @@ put-answer-requires-2 c κs =
     let a = c .before .before .before .before .before .before .before .before .before .before .before .before .before .before .before .before .before .args in
     let k = c .before .before .before .before .before .before .before .before .before .before .before .run in
     let g = c .before .before .before .before .before .before .count2 .given .1 in (
-      rw (ap lengthOf g) at (plan-long (a .text .now) (length (a .table .now)) (length (a .plan .now)) (length (a .results .now)) (k .result) (k .ensures .0) (ap answers g) _ (k .ensures .1 .1 .0)),
+      rw (ap lengthOf g) at (count-in (a .text .now) (length (a .table .now)) (length (a .plan .now)) (length (a .results .now)) (k .result) (k .ensures .0) (ap answers g) _ (k .ensures .1 .1 .0)),
       names-in (a .text .now) (length (a .table .now)) (length (a .plan .now)) (length (a .results .now)) (k .result) (k .ensures .0) (ap answers g) _ (k .ensures .1 .0),
     )
 
@@ -64,8 +66,10 @@ unfolding wholeWord
 returns c =
     let a = c .before .before .before .before .before .before .before .before .before .before .before .before .before .before .before .before .before .before .before .before .args in
     let k = c .before .before .before .before .before .before .before .before .before .before .before .before .before .before .run in
-    rw (← printed (a .text .now) (length (a .table .now)) (length (a .plan .now)) (length (a .results .now)) (k .result) (k .ensures .0) _ _ _ (k .ensures .1 .0) (k .ensures .1 .1 .0) (k .ensures .1 .1 .1 .0) _ (c .before .before .before .before .before .before .before .before .before .count .given .1))
-    (c .before .before .put-answer .ensures)
+    let g = c .before .before .before .before .before .before .before .before .before .count .given .1 in (
+      rw (← printed (a .text .now) (length (a .table .now)) (length (a .plan .now)) (length (a .results .now)) (k .result) (k .ensures .0) _ _ _ (k .ensures .1 .0) (k .ensures .1 .1 .0) (k .ensures .1 .1 .1 .0) _ g) (c .before .before .put-answer .ensures),
+      whole-length (a .text .now) (length (a .table .now)) (length (a .plan .now)) (length (a .results .now)) _ (sym (k .ensures .0) ∙ g),
+    )
 
 same-length-5 : tie.Need-same-length-5
 same-length-5 c = search needs
@@ -84,8 +88,10 @@ unfolding mixedWord
 returns-2 c =
     let a = c .before .before .before .before .before .before .before .before .before .before .before .before .before .before .before .before .before .before .before .before .args in
     let k = c .before .before .before .before .before .before .before .before .before .before .before .before .before .before .run in
-    rw (← printed (a .text .now) (length (a .table .now)) (length (a .plan .now)) (length (a .results .now)) (k .result) (k .ensures .0) _ _ _ (k .ensures .1 .0) (k .ensures .1 .1 .0) (k .ensures .1 .1 .1 .0) _ (c .before .before .before .before .before .before .before .before .before .count2 .given .1))
-    (c .before .before .put-answer2 .ensures)
+    let g = c .before .before .before .before .before .before .before .before .before .count2 .given .1 in (
+      rw (← printed (a .text .now) (length (a .table .now)) (length (a .plan .now)) (length (a .results .now)) (k .result) (k .ensures .0) _ _ _ (k .ensures .1 .0) (k .ensures .1 .1 .0) (k .ensures .1 .1 .1 .0) _ g) (c .before .before .put-answer2 .ensures),
+      mixed-length (a .text .now) (length (a .table .now)) (length (a .plan .now)) (length (a .results .now)) _ (sym (k .ensures .0) ∙ g),
+    )
 
 same-length-9 : tie.Need-same-length-9
 same-length-9 c = search needs
@@ -103,8 +109,10 @@ returns-3 : tie.Need-returns-3
 returns-3 c =
     let a = c .before .before .before .before .before .before .before .before .before .before .before .before .before .before .before .before .args in
     let k = c .before .before .before .before .before .before .before .before .before .before .run in
-    rw (← printed (a .text .now) (length (a .table .now)) (length (a .plan .now)) (length (a .results .now)) (k .result) (k .ensures .0) _ _ _ (k .ensures .1 .0) (k .ensures .1 .1 .0) (k .ensures .1 .1 .1 .0) _ (c .before .before .before .before .before .row .given .1))
-    (c .before .before .put-refusal .ensures)
+    let g = c .before .before .before .before .before .row .given .1 in (
+      rw (← printed (a .text .now) (length (a .table .now)) (length (a .plan .now)) (length (a .results .now)) (k .result) (k .ensures .0) _ _ _ (k .ensures .1 .0) (k .ensures .1 .1 .0) (k .ensures .1 .1 .1 .0) _ g) (c .before .before .put-refusal .ensures),
+      refused-length (a .text .now) (length (a .table .now)) (length (a .plan .now)) (length (a .results .now)) _ _ (sym (k .ensures .0) ∙ g) (omega (arith, c .before .before .before .before .known-told3 .given)) (omega (arith, c .before .before .before .before .known-told3 .given)),
+    )
 
 pub print-with-spec : {M : Type 1} → statement M
 print-with-spec =

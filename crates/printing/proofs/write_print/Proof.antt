@@ -1,3 +1,4 @@
+use native.Mathlib.Nat.{le-trans}
 use Rattle.printing.specs.Print.{printOf}
 use Rattle.printing.proofs.Writing.{from-start, where-long}
 use borrow.Author.Needs.{needs}
@@ -23,7 +24,7 @@ returns : tie.Need-returns
 unfolding printOf
 returns c =
     let w = c .before .before .before .before .before .print-with .ensures in
-    (from-start _ _ _ _ w, (w .bytes, λ h. where-long _ _ _ _ w h))
+    (from-start _ _ _ _ (w .0), (w .0 .bytes, λ h. where-long _ _ _ _ (w .0) (le-trans (w .1) h)))
 
 pub write-print-spec : {M : Type 1} → statement M
 write-print-spec =

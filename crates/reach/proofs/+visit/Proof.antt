@@ -1,23 +1,26 @@
 use mathlib.Core.Path.{_≡_, refl, sym, _∙_, subst}
+use mathlib.Core.Logic.{⊎-elim}
 use Prim.Native.Nat.{ℕ, _+_, _-_, _≤_, _<_}
 use native.Mathlib.Omega.{arith}
 use borrow.Author.Needs.{needs}
 use lib.ListN.{length, getD, set, length-set}
 use lib.Seq.{getD-set-same}
+use Rattle.cells.specs.Table.{cell}
 use Rattle.cells.specs.Accepted.{HasBody}
 use Rattle.reach.specs.Chains.{Hangs, Last}
-use Rattle.reach.specs.Rows.{Rows, Room}
-use Rattle.reach.specs.Visits.{spent}
-use Rattle.reach.specs.Turns.{Since}
+use Rattle.reach.specs.Rows.{Room}
+use Rattle.reach.specs.Turns.{Shared}
 use Rattle.reach.proofs.Links.{column-range, body-label, end-body}
-use Rattle.reach.proofs.Visits.{since-same, since-then, unbegun, begin, fewer, finish, stay, visited-few}
-use Rattle.reach.proofs.Totals.{fan-few, spent-few}
+use Rattle.reach.proofs.Visits.{Going, unbegun, begin, fewer, finish, stay, going-start, going-room, going-few, going-still, going-sum, going-more}
+use Rattle.reach.proofs.Totals.{fan-few}
+use Rattle.reach.proofs.Spread.{shared}
 use borrow.Fn.Kinds.{In}
 use borrow.Fn.PlainCycle.{Measures, is, falls, and}
 use Rattle.reach.proofs.visit.Reads as visit
 use Rattle.reach.proofs.visit.Kinds as visit-kinds
 use Rattle.reach.proofs.+visit.Lts-visit as visit-lts
 use Rattle.reach.proofs.cell_of.Reads as cell-of-reads
+use Rattle.reach.proofs.share_row.Reads as share-row-reads
 use Rattle.reach.proofs.fill.Reads as fill-reads
 use Rattle.marks.proofs.wide.Reads as wide-reads
 use Rattle.reach.proofs.+visit.{statement}
@@ -40,57 +43,82 @@ claims t = (
   cell-of-reads.Learnt,
   visit-below t,
   visit.Post,
+  share-row-reads.Asked,
+  share-row-reads.Learnt,
   fill-reads.Asked,
   fill-reads.Learnt,
 )
 
 abbrev visit-Inv-loop : visit-lts.InvT-loop
 visit-Inv-loop table n j chains state₀ square₀ stack₀ d visits₀ x₀ state square stack visits x =
-    (length state ≡ length state₀) × (length square ≡ length square₀) × (length stack ≡ length stack₀) × (x ≤ n) × ((x ≡ 0 → ⊥) → Hangs table j d x)
-    × Rows table n j state square × Since state₀ state × (visits + spent table n j state₀ ≤ spent table n j state)
+    Going table n j state₀ square₀ stack₀ state square stack visits × (x ≤ n) × ((x ≡ 0 → ⊥) → Hangs table j d x)
 
 abbrev visit-μ-loop : visit-lts.MeasureT-loop
 visit-μ-loop table n j chains state₀ square₀ stack₀ d visits₀ x₀ state square stack visits x = x
 
--- in the loop: d's state is there, and buffers are as long as at entry
+-- at the loop: d's state is there, and there is room
 module _ (t : ℕ) (l : visit-lts.At-loop (claims t) (visit-at t) visit.Post visit-Inv-loop visit-μ-loop) where
   here : l .before .before .before .before .before .before .before .before .before .args .d < length (l .before .before .before .before .before .before .before .before .before .args .state .now)
-  here = let p = l .before .before .before .before .before .before .before .before .before .pre .1 in omega (arith, p .1 .1 .1 .0 .states, body-label _ _ (p .0) (l .before .before .before .before .before .before .before .before .before .args .d) (p .1 .1 .1 .1 .1))
+  here = let a = l .before .before .before .before .before .before .before .before .before in omega (arith, a .pre .1 .1 .1 .1 .0 .states, body-label _ _ (a .pre .1 .0) (a .args .d) (a .pre .1 .1 .1 .1 .1 .1))
+
+  first : Room (l .before .before .before .before .before .before .before .before .before .args .n) (set (l .before .before .before .before .before .before .before .before .before .args .state .now) (l .before .before .before .before .before .before .before .before .before .args .d) 1) (l .before .before .before .before .before .before .before .before .before .args .square .now) (l .before .before .before .before .before .before .before .before .before .args .stack .now)
+  first =
+      let a = l .before .before .before .before .before .before .before .before .before in
+      let r = a .pre .1 .1 .1 .1 .0 in
+      record { states = omega (arith, r .states, length-set (a .args .state .now) (a .args .d) 1); rows = r .rows; heights = r .heights }
 
   room : Room (l .before .before .before .before .before .before .before .before .before .args .n) (l .loop .state) (l .loop .square) (l .loop .stack)
-  room =
-      let r = l .before .before .before .before .before .before .before .before .before .pre .1 .1 .1 .1 .0 in
-      record {
-        states = omega (arith, r .states, l .loop .inv .0, length-set (l .before .before .before .before .before .before .before .before .before .args .state .now) (l .before .before .before .before .before .before .before .before .before .args .d) 1);
-        rows = omega (arith, r .rows, l .loop .inv .1);
-        heights = omega (arith, r .heights, l .loop .inv .2);
-      }
+  room = going-room _ _ (l .before .before .before .before .before .before .before .before .before .pre .1 .0) _ _ _ _ _ _ _ _ (l .loop .inv .0) first
 
--- in a turn: the line at hand
+-- in a turn: the line at hand, and where its link leads
 module _ (t : ℕ) (c : visit-lts.In-loop (claims t) (visit-at t) visit.Post visit-Inv-loop visit-μ-loop) where
   hangs : Hangs (c .before .before .before .before .before .before .before .before .before .before .args .table .now) (c .before .before .before .before .before .before .before .before .before .before .args .j) (c .before .before .before .before .before .before .before .before .before .before .args .d) (c .before .loop .x)
-  hangs = c .before .loop .inv .4 (c .loop-test .taken)
+  hangs = c .before .loop .inv .2 (c .loop-test .taken)
 
   line : (1 ≤ c .before .loop .x) × (c .before .loop .x ≤ c .before .before .before .before .before .before .before .before .before .before .args .n)
-  line = let z : c .before .loop .x ≡ 0 → ⊥ = c .loop-test .taken in (omega arith, c .before .loop .inv .3)
+  line = let z : c .before .loop .x ≡ 0 → ⊥ = c .loop-test .taken in (omega arith, c .before .loop .inv .1)
 
   last : Last (c .before .before .before .before .before .before .before .before .before .before .args .table .now) (c .before .before .before .before .before .before .before .before .before .before .args .j) (c .before .before .before .before .before .before .before .before .before .before .args .d) (c .before .loop .x - 1) (getD (c .before .before .before .before .before .before .before .before .before .before .args .chains .now) (c .before .before .before .before .before .before .before .before .before .before .args .n + c .before .loop .x) 0)
   last = c .before .before .before .before .before .before .before .before .before .before .pre .1 .1 .1 .0 .1 .links (c .before .loop .x) (c .before .before .before .before .before .before .before .before .before .before .args .d) (line .1) hangs
 
+  body : HasBody (c .before .before .before .before .before .before .before .before .before .before .args .table .now) (cell (c .before .before .before .before .before .before .before .before .before .before .args .table .now) (c .before .loop .x) (c .before .before .before .before .before .before .before .before .before .before .args .j))
+  body = let p = c .before .before .before .before .before .before .before .before .before .before .pre .1 in end-body _ _ (p .0) _ (c .before .loop .x) (p .1 .0) (hangs .path)
+
+  label : (1 ≤ cell (c .before .before .before .before .before .before .before .before .before .before .args .table .now) (c .before .loop .x) (c .before .before .before .before .before .before .before .before .before .before .args .j)) × (cell (c .before .before .before .before .before .before .before .before .before .before .args .table .now) (c .before .loop .x) (c .before .before .before .before .before .before .before .before .before .before .args .j) ≤ c .before .before .before .before .before .before .before .before .before .before .args .n)
+  label = body-label _ _ (c .before .before .before .before .before .before .before .before .before .before .pre .1 .0) _ body
+
+-- after e is visited, unless it was begun
+module _ (t : ℕ) (w : visit-lts.Joined2 (claims t) (visit-at t) visit.Post visit-Inv-loop visit-μ-loop) where
+  going : Going (w .before .before .before .before .before .before .before .before .before .before .before .before .before .args .table .now) (w .before .before .before .before .before .before .before .before .before .before .before .before .before .args .n) (w .before .before .before .before .before .before .before .before .before .before .before .before .before .args .j) (set (w .before .before .before .before .before .before .before .before .before .before .before .before .before .args .state .now) (w .before .before .before .before .before .before .before .before .before .before .before .before .before .args .d) 1) (w .before .before .before .before .before .before .before .before .before .before .before .before .before .args .square .now) (w .before .before .before .before .before .before .before .before .before .before .before .before .before .args .stack .now) (w .if2 .state) (w .if2 .square) (w .if2 .stack) (w .if2 .visits)
+  going =
+      let g = w .before .before .before .before .loop .inv .0 in
+      ⊎-elim (λ u.
+      let k = u .4 .kept .1 .1 .1 .1 in
+      rw (u .11, u .12, u .13, u .14) (going-more _ _ (w .before .before .before .before .before .before .before .before .before .before .before .before .before .pre .1 .0) _ _ _ _ _ _ _ _ g _ _ _ _ (u .4 .ensures) _ (k .0) (k .1 .0) (k .1 .1 .0)))
+      (λ u. rw (u .1, u .2, u .3, u .4) g)
+      (w .if2 .came)
+
+  after : Room (w .before .before .before .before .before .before .before .before .before .before .before .before .before .args .n) (w .if2 .state) (w .if2 .square) (w .if2 .stack)
+  after = going-room _ _ (w .before .before .before .before .before .before .before .before .before .before .before .before .before .pre .1 .0) _ _ _ _ _ _ _ _ going (first t (w .before .before .before .before))
+
+  -- d is begun and not made
+  not-made : getD (w .if2 .state) (w .before .before .before .before .before .before .before .before .before .before .before .before .before .args .d) 0 ≡ 2 → ⊥
+  not-made z = omega (arith, going .since .held (w .before .before .before .before .before .before .before .before .before .before .before .before .before .args .d) (getD-set-same (w .before .before .before .before .before .before .before .before .before .before .before .before .before .args .state .now) (w .before .before .before .before .before .before .before .before .before .before .before .before .before .args .d) 1 0 (here t (w .before .before .before .before))))
+
 visit-slice-read-if1 : (t : ℕ) → visit-lts.Need-slice-read-if1 (claims t) (visit-at t) visit.Post visit-Inv-loop visit-μ-loop
-visit-slice-read-if1 t c = let p = c .before .before .before .before .before .pre .1 in omega (arith, p .1 .1 .1 .0 .states, body-label _ _ (p .0) (c .before .before .before .before .before .args .d) (p .1 .1 .1 .1 .1))
+visit-slice-read-if1 t c = let a = c .before .before .before .before .before in omega (arith, a .pre .1 .1 .1 .1 .0 .states, body-label _ _ (a .pre .1 .0) (a .args .d) (a .pre .1 .1 .1 .1 .1 .1))
 
 visit-returns : (t : ℕ) → visit-lts.Need-returns (claims t) (visit-at t) visit.Post visit-Inv-loop visit-μ-loop
 visit-returns t c = let p = c .before .before .before .before .before .before .pre .1 in stay _ _ (p .0) _ _ _ _ (c .if1 .taken) (p .1 .1 .1 .1 .0)
 
 visit-slice-write-state : (t : ℕ) → visit-lts.Need-slice-write-state (claims t) (visit-at t) visit.Post visit-Inv-loop visit-μ-loop
-visit-slice-write-state t c = let p = c .before .before .before .before .before .before .pre .1 in omega (arith, p .1 .1 .1 .0 .states, body-label _ _ (p .0) (c .before .before .before .before .before .before .args .d) (p .1 .1 .1 .1 .1))
+visit-slice-write-state t c = let a = c .before .before .before .before .before .before in omega (arith, a .pre .1 .1 .1 .1 .0 .states, body-label _ _ (a .pre .1 .0) (a .args .d) (a .pre .1 .1 .1 .1 .1 .1))
 
 visit-mul-wide : (t : ℕ) → visit-lts.Need-mul-wide (claims t) (visit-at t) visit.Post visit-Inv-loop visit-μ-loop
-visit-mul-wide t c = let p = c .before .before .before .before .before .before .pre .1 in omega (arith, p .0 .few, body-label _ _ (p .0) (c .before .before .before .before .before .before .args .d) (p .1 .1 .1 .1 .1))
+visit-mul-wide t c = let a = c .before .before .before .before .before .before in omega (arith, a .pre .1 .0 .few, body-label _ _ (a .pre .1 .0) (a .args .d) (a .pre .1 .1 .1 .1 .1 .1))
 
 visit-shared-slice-read-wide : (t : ℕ) → visit-lts.Need-shared-slice-read-wide (claims t) (visit-at t) visit.Post visit-Inv-loop visit-μ-loop
-visit-shared-slice-read-wide t c = let p = c .before .before .before .before .before .before .before .pre .1 in omega (arith, p .1 .1 .0 .0, body-label _ _ (p .0) (c .before .before .before .before .before .before .before .args .d) (p .1 .1 .1 .1 .1))
+visit-shared-slice-read-wide t c = let a = c .before .before .before .before .before .before .before in omega (arith, a .pre .1 .1 .1 .0 .0, body-label _ _ (a .pre .1 .0) (a .args .d) (a .pre .1 .1 .1 .1 .1 .1))
 
 visit-wide-requires : (t : ℕ) → visit-lts.Need-wide-requires (claims t) (visit-at t) visit.Post visit-Inv-loop visit-μ-loop
 visit-wide-requires t c κs = search needs
@@ -102,14 +130,9 @@ visit-loop-holds t c =
     let b = body-label _ _ (p .0) (a .args .d) (p .1 .1 .1 .1 .1) in
     let l = p .1 .1 .0 .1 .heads (a .args .d) (b .1) in
     rw (c .wide .ensures) (
-      refl,
-      refl,
-      refl,
+      going-start _ _ (p .0) _ _ _ _ (begin _ _ (p .0) _ _ _ _ (omega (arith, p .1 .1 .1 .0 .states, b)) (c .before .before .if1 .left) (p .1 .1 .1 .1 .1) (p .1 .1 .1 .1 .0)),
       l .within,
       l .hangs,
-      begin _ _ (p .0) _ _ _ _ (omega (arith, p .1 .1 .1 .0 .states, b)) (c .before .before .if1 .left) (p .1 .1 .1 .1 .1) (p .1 .1 .1 .1 .0),
-      since-same _,
-      omega arith,
     )
 
 visit-cell-of-requires : (t : ℕ) → visit-lts.Need-cell-of-requires (claims t) (visit-at t) visit.Post visit-Inv-loop visit-μ-loop
@@ -119,87 +142,121 @@ visit-cell-of-requires t c κs =
     let l = line t c in
     (p .0, (l .0, l .1, omega (arith, r), omega (arith, r)))
 
+visit-slice-read-if2 : (t : ℕ) → visit-lts.Need-slice-read-if2 (claims t) (visit-at t) visit.Post visit-Inv-loop visit-μ-loop
+visit-slice-read-if2 t c = omega (arith, label t (c .before .before), c .before .cell-of .ensures, room t (c .before .before .before) .states)
+
 visit-visit-requires : (t : ℕ) → visit-lts.Need-visit-requires (claims t) (visit-at t) visit.Post visit-Inv-loop visit-μ-loop
 visit-visit-requires t c κs =
-    let a = c .before .before .before .before .before .before .before .before .before .before .before .before .before .before in
+    let a = c .before .before .before .before .before .before .before .before .before .before .before .before .before .before .before .before in
     let p = a .pre .1 in
-    let l = c .before .before .before .before .before in (
+    let l = c .before .before .before .before .before .before .before in (
       subst (λ (m : ℕ). unbegun (a .args .n) (l .loop .state) < m) (a .pre .0)
-          (fewer _ _ (p .0) _ _ _ _ (here t l) (l .before .before .before .if1 .left) (p .1 .1 .1 .1 .1) (p .1 .1 .1 .1 .0) _ (l .loop .inv .6)),
-      (p .0, (p .1 .0, (p .1 .1 .0, (room t l, (l .loop .inv .5, subst (HasBody (a .args .table .now)) (sym (c .before .before .before .cell-of .ensures)) (end-body _ _ (p .0) _ (l .loop .x) (p .1 .0) (hangs t (c .before .before .before .before) .path))))))),
+          (fewer _ _ (p .0) _ _ _ _ (here t l) (l .before .before .before .if1 .left) (p .1 .1 .1 .1 .1) (p .1 .1 .1 .1 .0) _ (l .loop .inv .0 .since)),
+      (p .0, (p .1 .0, (p .1 .1 .0, (room t l, (l .loop .inv .0 .rows, subst (HasBody (a .args .table .now)) (sym (c .before .before .before .before .before .cell-of .ensures)) (body t (c .before .before .before .before .before .before))))))),
     )
 
 visit-add-visits : (t : ℕ) → visit-lts.Need-add-visits (claims t) (visit-at t) visit.Post visit-Inv-loop visit-μ-loop
 visit-add-visits t c =
-    let a = c .before .before .before .before .before .before .before .before .before .before .before .before .before .before .before .before .before .before .before .before .before in
-    let few = visited-few _ _ (a .pre .1 .0) _ _ _ _ _ _ (c .before .before .before .before .before .before .visit .ensures) in
-    omega (arith, c .before .before .before .before .before .before .before .before .before .before .before .before .loop .inv .7, a .pre .1 .0 .few)
+    let a = c .before .before .before .before .before .before .before .before .before .before .before .before .before .before .before .before .before .before .before .before .before .before .before in
+    let sum = going-sum _ _ (a .pre .1 .0) _ _ _ _ _ _ _ _ (c .before .before .before .before .before .before .before .before .before .before .before .before .before .before .loop .inv .0) _ _ _ _ (c .before .before .before .before .before .before .visit .ensures) in
+    omega (arith, a .pre .1 .0 .few)
+
+visit-share-row-requires : (t : ℕ) → visit-lts.Need-share-row-requires (claims t) (visit-at t) visit.Post visit-Inv-loop visit-μ-loop
+visit-share-row-requires t c κs =
+    let a = c .before .before .before .before .before .before .before .before .before .before .before .before .before .before .before in
+    let p = a .pre .1 in
+    let r = after t (c .before .before) in
+    (p .0 .few, body-label _ _ (p .0) (a .args .d) (p .1 .1 .1 .1 .1) .1, omega (arith, label t (c .before .before .before .before .before), c .before .before .before .before .cell-of .ensures), r .states, r .rows)
+
+visit-slice-write-state-2 : (t : ℕ) → visit-lts.Need-slice-write-state-2 (claims t) (visit-at t) visit.Post visit-Inv-loop visit-μ-loop
+visit-slice-write-state-2 t c = let a = c .before .before .before .before .before .before .before .before .before .before .before .before .before .before .before .before .before .before .before in omega (arith, after t (c .before .before .before .before .before .before) .states, body-label _ _ (a .pre .1 .0) (a .args .d) (a .pre .1 .1 .1 .1 .1 .1))
+
+visit-same-length : (t : ℕ) → visit-lts.Need-same-length (claims t) (visit-at t) visit.Post visit-Inv-loop visit-μ-loop
+visit-same-length t c = let a = c .before .before .before .before .before .before .before .before .before .before .before .before .before .before .before .before .before .before .before .args in length-set (c .before .before .before .before .before .before .if2 .state) (a .d) 2 ∙ going t (c .before .before .before .before .before .before) .states ∙ length-set (a .state .now) (a .d) 1
+
+visit-same-length-2 : (t : ℕ) → visit-lts.Need-same-length-2 (claims t) (visit-at t) visit.Post visit-Inv-loop visit-μ-loop
+visit-same-length-2 t c = c .before .before .before .share-row .kept .1 .1 .0 ∙ going t (c .before .before .before .before .before .before) .squares
+
+visit-same-length-3 : (t : ℕ) → visit-lts.Need-same-length-3 (claims t) (visit-at t) visit.Post visit-Inv-loop visit-μ-loop
+visit-same-length-3 t c = going t (c .before .before .before .before .before .before) .stacks
+
+visit-returns-2 : (t : ℕ) → visit-lts.Need-returns-2 (claims t) (visit-at t) visit.Post visit-Inv-loop visit-μ-loop
+visit-returns-2 t c =
+    let a = c .before .before .before .before .before .before .before .before .before .before .before .before .before .before .before .before .before .before .before in
+    let p = a .pre .1 in
+    let w = c .before .before .before .before .before .before in
+    let l = c .before .before .before .before .before .before .before .before .before .before in
+    let h = hangs t (c .before .before .before .before .before .before .before .before .before) in
+    let k = c .before .before .before .share-row in
+    let s = subst (Shared (a .args .n) (w .if2 .state) (a .args .d) (c .before .before .before .before .before .before .before .before .cell-of .result) (w .if2 .square) (k .last .1 .1 .0)) (c .if3 .taken) (k .ensures) in
+    let g = going t w in
+    finish _ _ (p .0) _ _ _ _ (here t l) (l .before .before .before .if1 .left) (p .1 .1 .1 .1 .1) (p .1 .1 .1 .1 .0) _ _ _ _ _ _ _ 0 _ g
+    (shared _ _ (p .0) _ (p .1 .0) _ _ _ _ (p .1 .1 .1 .1 .1) (record { line = l .loop .x; path = h .path; from = h .from; to = sym (c .before .before .before .before .before .before .before .before .cell-of .ensures) })
+    (g .rows .made _ (s .0)) (s .1) (g .rows .blank _ (not-made t w)) (s .2)) (omega arith)
 
 visit-add-wide : (t : ℕ) → visit-lts.Need-add-wide (claims t) (visit-at t) visit.Post visit-Inv-loop visit-μ-loop
-visit-add-wide t c = let l = line t (c .before .before .before .before .before .before .before .before .before .before .before) in omega (arith, l, c .before .before .before .before .before .before .before .before .before .before .before .before .before .before .before .before .before .before .before .before .before .pre .1 .0 .few)
+visit-add-wide t c = let l = line t (c .before .before .before .before .before .before .before .before .before) in omega (arith, l, c .before .before .before .before .before .before .before .before .before .before .before .before .before .before .before .before .before .before .before .pre .1 .0 .few)
 
 visit-mul-wide-2 : (t : ℕ) → visit-lts.Need-mul-wide-2 (claims t) (visit-at t) visit.Post visit-Inv-loop visit-μ-loop
-visit-mul-wide-2 t c = let l = line t (c .before .before .before .before .before .before .before .before .before .before .before) in omega (arith, l, c .before .before .before .before .before .before .before .before .before .before .before .before .before .before .before .before .before .before .before .before .before .pre .1 .0 .few)
+visit-mul-wide-2 t c = let l = line t (c .before .before .before .before .before .before .before .before .before) in omega (arith, l, c .before .before .before .before .before .before .before .before .before .before .before .before .before .before .before .before .before .before .before .pre .1 .0 .few)
 
 visit-shared-slice-read-wide-2 : (t : ℕ) → visit-lts.Need-shared-slice-read-wide-2 (claims t) (visit-at t) visit.Post visit-Inv-loop visit-μ-loop
-visit-shared-slice-read-wide-2 t c = let l = line t (c .before .before .before .before .before .before .before .before .before .before .before .before) in omega (arith, l, c .before .before .before .before .before .before .before .before .before .before .before .before .before .before .before .before .before .before .before .before .before .before .pre .1 .1 .1 .0 .0)
+visit-shared-slice-read-wide-2 t c = let l = line t (c .before .before .before .before .before .before .before .before .before .before) in omega (arith, l, c .before .before .before .before .before .before .before .before .before .before .before .before .before .before .before .before .before .before .before .before .pre .1 .1 .1 .0 .0)
 
 visit-wide-requires-2 : (t : ℕ) → visit-lts.Need-wide-requires-2 (claims t) (visit-at t) visit.Post visit-Inv-loop visit-μ-loop
 visit-wide-requires-2 t c κs = search needs
 
 visit-loop-less : (t : ℕ) → visit-lts.Need-loop-less (claims t) (visit-at t) visit.Post visit-Inv-loop visit-μ-loop
-visit-loop-less t c = let l = line t (c .before .before .before .before .before .before .before .before .before .before .before .before .before) in omega (arith, l, c .wide2 .ensures, last t (c .before .before .before .before .before .before .before .before .before .before .before .before .before) .within)
+visit-loop-less t c = let l = line t (c .before .before .before .before .before .before .before .before .before .before .before) in omega (arith, l, c .wide2 .ensures, last t (c .before .before .before .before .before .before .before .before .before .before .before) .within)
 
 visit-loop-again : (t : ℕ) → visit-lts.Need-loop-again (claims t) (visit-at t) visit.Post visit-Inv-loop visit-μ-loop
 visit-loop-again t c =
-    let l = c .before .before .before .before .before .before .before .before .before .before .before .before .before .before in
-    let v = c .before .before .before .before .before .before .before .before .visit in
-    let k = v .kept .1 .1 .1 .1 in
-    let x = last t (c .before .before .before .before .before .before .before .before .before .before .before .before .before) in
-    rw (c .wide2 .ensures) (
-      k .0 ∙ l .loop .inv .0,
-      k .1 .0 ∙ l .loop .inv .1,
-      k .1 .1 .0 ∙ l .loop .inv .2,
-      omega (arith, x .within, line t (c .before .before .before .before .before .before .before .before .before .before .before .before .before)),
-      x .hangs,
-      v .ensures .rows,
-      since-then _ _ _ (l .loop .inv .6) (v .ensures .since),
-      omega (arith, l .loop .inv .7, v .ensures .few),
-    )
+    let a = c .before .before .before .before .before .before .before .before .before .before .before .before .before .before .before .before .before .before .before .before .before in
+    let w = c .before .before .before .before .before .before .before .before in
+    let x = last t (c .before .before .before .before .before .before .before .before .before .before .before) in
+    let k = c .before .before .before .before .before .share-row in
+    let same = subst (Shared (a .args .n) (w .if2 .state) (a .args .d) (c .before .before .before .before .before .before .before .before .before .before .cell-of .result) (w .if2 .square) (k .last .1 .1 .0)) (c .before .before .if3 .left) (k .ensures) in
+    rw (c .wide2 .ensures) (going-still _ _ (a .pre .1 .0) _ _ _ _ _ _ _ _ (going t w) _ same, omega (arith, x .within, line t (c .before .before .before .before .before .before .before .before .before .before .before)), x .hangs)
+
+-- after the loop
+module _ (t : ℕ) (l : visit-lts.At-loop (claims t) (visit-at t) visit.Post visit-Inv-loop visit-μ-loop) where
+  open-still : getD (l .loop .state) (l .before .before .before .before .before .before .before .before .before .args .d) 0 ≡ 2 → ⊥
+  open-still z = omega (arith, l .loop .inv .0 .since .held (l .before .before .before .before .before .before .before .before .before .args .d) (getD-set-same (l .before .before .before .before .before .before .before .before .before .args .state .now) (l .before .before .before .before .before .before .before .before .before .args .d) 1 0 (here t l)))
 
 visit-fill-requires : (t : ℕ) → visit-lts.Need-fill-requires (claims t) (visit-at t) visit.Post visit-Inv-loop visit-μ-loop
 visit-fill-requires t c κs =
     let a = c .before .before .before .before .before .before .before .before .before .before .before .before .before in
     let p = a .pre .1 in
     let l = c .before .before .before .before in
-    let not-made : getD (l .loop .state) (a .args .d) 0 ≡ 2 → ⊥ = λ z. omega (arith, l .loop .inv .6 .held (a .args .d) (getD-set-same (a .args .state .now) (a .args .d) 1 0 (here t l))) in
-    (p .0, (p .1 .0, (p .1 .1 .0, (room t l, ((not-made, p .1 .1 .1 .1 .1), (l .loop .inv .5 .made, l .loop .inv .5 .blank (a .args .d) not-made))))))
+    let r = l .loop .inv .0 .rows in
+    (p .0, (p .1 .0, (p .1 .1 .0, (room t l, ((open-still t l, p .1 .1 .1 .1 .1), (r .made, r .blank (a .args .d) (open-still t l)))))))
 
 visit-add-visits-2 : (t : ℕ) → visit-lts.Need-add-visits-2 (claims t) (visit-at t) visit.Post visit-Inv-loop visit-μ-loop
 visit-add-visits-2 t c =
     let a = c .before .before .before .before .before .before .before .before .before .before .before .before .before .before .before .before .before .before in
+    let sum = going-few _ _ (a .pre .1 .0) _ _ _ _ _ _ _ _ (c .before .before .before .before .before .before .before .before .before .loop .inv .0) in
+    omega (arith, c .before .before .before .before .fill .ensures .few, fan-few _ _ (a .pre .1 .0) (a .args .j) (a .args .d), a .pre .1 .0 .few)
+
+visit-slice-write-state-3 : (t : ℕ) → visit-lts.Need-slice-write-state-3 (claims t) (visit-at t) visit.Post visit-Inv-loop visit-μ-loop
+visit-slice-write-state-3 t c = let a = c .before .before .before .before .before .before .before .before .before .before .before .before .before .before .before .before .before .before in omega (arith, room t (c .before .before .before .before .before .before .before .before .before) .states, body-label _ _ (a .pre .1 .0) (a .args .d) (a .pre .1 .1 .1 .1 .1 .1))
+
+visit-same-length-4 : (t : ℕ) → visit-lts.Need-same-length-4 (claims t) (visit-at t) visit.Post visit-Inv-loop visit-μ-loop
+visit-same-length-4 t c =
+    let a = c .before .before .before .before .before .before .before .before .before .before .before .before .before .before .before .before .before .before .args in
     let l = c .before .before .before .before .before .before .before .before .before in
-    omega (arith, l .loop .inv .7, c .before .before .before .before .fill .ensures .few, spent-few _ _ (a .pre .1 .0) (a .args .j) (l .loop .state), fan-few _ _ (a .pre .1 .0) (a .args .j) (a .args .d), a .pre .1 .0 .few)
+    length-set (l .loop .state) (a .d) 2 ∙ l .loop .inv .0 .states ∙ length-set (a .state .now) (a .d) 1
 
-visit-slice-write-state-2 : (t : ℕ) → visit-lts.Need-slice-write-state-2 (claims t) (visit-at t) visit.Post visit-Inv-loop visit-μ-loop
-visit-slice-write-state-2 t c = let l = c .before .before .before .before .before .before .before .before .before in omega (arith, here t l, l .loop .inv .0, length-set (c .before .before .before .before .before .before .before .before .before .before .before .before .before .before .before .before .before .before .args .state .now) (c .before .before .before .before .before .before .before .before .before .before .before .before .before .before .before .before .before .before .args .d) 1)
+visit-same-length-5 : (t : ℕ) → visit-lts.Need-same-length-5 (claims t) (visit-at t) visit.Post visit-Inv-loop visit-μ-loop
+visit-same-length-5 t c = c .before .before .before .before .fill .kept .1 .1 .1 .1 .1 .0 ∙ c .before .before .before .before .before .before .before .before .before .loop .inv .0 .squares
 
-visit-same-length : (t : ℕ) → visit-lts.Need-same-length (claims t) (visit-at t) visit.Post visit-Inv-loop visit-μ-loop
-visit-same-length t c = let l = c .before .before .before .before .before .before .before .before .before in length-set (l .loop .state) (c .before .before .before .before .before .before .before .before .before .before .before .before .before .before .before .before .before .before .args .d) 2 ∙ l .loop .inv .0 ∙ length-set (c .before .before .before .before .before .before .before .before .before .before .before .before .before .before .before .before .before .before .args .state .now) (c .before .before .before .before .before .before .before .before .before .before .before .before .before .before .before .before .before .before .args .d) 1
+visit-same-length-6 : (t : ℕ) → visit-lts.Need-same-length-6 (claims t) (visit-at t) visit.Post visit-Inv-loop visit-μ-loop
+visit-same-length-6 t c = c .before .before .before .before .fill .kept .1 .1 .1 .1 .1 .1 .0 ∙ c .before .before .before .before .before .before .before .before .before .loop .inv .0 .stacks
 
-visit-same-length-2 : (t : ℕ) → visit-lts.Need-same-length-2 (claims t) (visit-at t) visit.Post visit-Inv-loop visit-μ-loop
-visit-same-length-2 t c = c .before .before .before .before .fill .kept .1 .1 .1 .1 .1 .0 ∙ c .before .before .before .before .before .before .before .before .before .loop .inv .1
-
-visit-same-length-3 : (t : ℕ) → visit-lts.Need-same-length-3 (claims t) (visit-at t) visit.Post visit-Inv-loop visit-μ-loop
-visit-same-length-3 t c = c .before .before .before .before .fill .kept .1 .1 .1 .1 .1 .1 .0 ∙ c .before .before .before .before .before .before .before .before .before .loop .inv .2
-
-visit-returns-2 : (t : ℕ) → visit-lts.Need-returns-2 (claims t) (visit-at t) visit.Post visit-Inv-loop visit-μ-loop
-visit-returns-2 t c =
-    let a = c .before .before .before .before .before .before .before .before .before .before .before .before .before .before .before .before .before .before in
-    let p = a .pre .1 in
+visit-returns-3 : (t : ℕ) → visit-lts.Need-returns-3 (claims t) (visit-at t) visit.Post visit-Inv-loop visit-μ-loop
+visit-returns-3 t c =
+    let p = c .before .before .before .before .before .before .before .before .before .before .before .before .before .before .before .before .before .before .pre .1 in
     let l = c .before .before .before .before .before .before .before .before .before in
-    finish _ _ (p .0) _ _ _ _ (here t l) (l .before .before .before .if1 .left) (p .1 .1 .1 .1 .1) (p .1 .1 .1 .1 .0) _ _ _ _ _
-    (omega (arith, here t l, l .loop .inv .0, length-set (a .args .state .now) (a .args .d) 1)) (l .loop .inv .6) (l .loop .inv .5) (c .before .before .before .before .fill .ensures) (l .loop .inv .7)
+    finish _ _ (p .0) _ _ _ _ (here t l) (l .before .before .before .if1 .left) (p .1 .1 .1 .1 .1) (p .1 .1 .1 .1 .0) _ _ _ _ _ _ _ _ _ (l .loop .inv .0) (c .before .before .before .before .fill .ensures) refl
 
 pub +visit-spec : {M : Type 1} → statement M
 +visit-spec = close μ-visit λ t. visit-lts.spec (claims t)
@@ -215,8 +272,15 @@ pub +visit-spec : {M : Type 1} → statement M
     (visit-wide-requires t)
     (visit-loop-holds t)
     (visit-cell-of-requires t)
+    (visit-slice-read-if2 t)
     (visit-visit-requires t)
     (visit-add-visits t)
+    (visit-share-row-requires t)
+    (visit-slice-write-state-2 t)
+    (visit-same-length t)
+    (visit-same-length-2 t)
+    (visit-same-length-3 t)
+    (visit-returns-2 t)
     (visit-add-wide t)
     (visit-mul-wide-2 t)
     (visit-shared-slice-read-wide-2 t)
@@ -225,8 +289,8 @@ pub +visit-spec : {M : Type 1} → statement M
     (visit-loop-again t)
     (visit-fill-requires t)
     (visit-add-visits-2 t)
-    (visit-slice-write-state-2 t)
-    (visit-same-length t)
-    (visit-same-length-2 t)
-    (visit-same-length-3 t)
-    (visit-returns-2 t)
+    (visit-slice-write-state-3 t)
+    (visit-same-length-4 t)
+    (visit-same-length-5 t)
+    (visit-same-length-6 t)
+    (visit-returns-3 t)

@@ -11,7 +11,7 @@ use Rattle.reach.specs.Links.{Link, Links, once, then}
 use Rattle.reach.specs.Chains.{Hangs, Last}
 use Rattle.reach.specs.Rows.{Room}
 use Rattle.reach.proofs.Links.{column-range, body-label, end-body}
-use Rattle.reach.proofs.Spread.{Growing, growing-start, growing-turn, growing-end, rows-kept}
+use Rattle.reach.proofs.Spread.{Growing, growing-start, growing-turn, growing-end, row-above, rows-kept}
 use Rattle.reach.proofs.grow.Statement.{statement}
 use Rattle.reach.proofs.grow.Tie as tie
 use Rattle.reach.proofs.grow.Reads as reads
@@ -84,10 +84,13 @@ cell-of-requires c κs =
 
 meet-requires : tie.Need-meet-requires Inv-loop μ-loop
 meet-requires c κs =
-    let p = c .before .before .before .before .before .before .before .before .before .before .before .pre in
+    let a = c .before .before .before .before .before .before .before .before .before .before .before in
+    let p = a .pre in
     let l = c .before .before .before .before in
-    let room : Room (c .before .before .before .before .before .before .before .before .before .before .before .args .n) (c .before .before .before .before .before .before .before .before .before .before .before .args .state .now) (l .loop .square) (l .loop .stack) = record { states = p .1 .1 .1 .0 .states; rows = omega (arith, p .1 .1 .1 .0 .rows, l .loop .inv .0); heights = omega (arith, p .1 .1 .1 .0 .heights, l .loop .inv .1) } in
-    (p .0, (room, ((p .1 .1 .1 .1 .0 .0, l .loop .inv .4), (subst (HasBody (c .before .before .before .before .before .before .before .before .before .before .before .args .table .now)) (sym (c .before .before .cell-of .ensures)) (end (c .before .before .before)), (p .1 .1 .1 .1 .0 .1, l .loop .inv .5 .spread .raised)))))
+    let f = c .before .before .cell-of .result in
+    let room : Room (a .args .n) (a .args .state .now) (l .loop .square) (l .loop .stack) = record { states = p .1 .1 .1 .0 .states; rows = omega (arith, p .1 .1 .1 .0 .rows, l .loop .inv .0); heights = omega (arith, p .1 .1 .1 .0 .heights, l .loop .inv .1) } in
+    let made = rows-kept _ _ (p .0) _ (p .1 .0) (a .args .d) (a .args .state .now) (a .args .square .now) (l .loop .square) (p .1 .1 .1 .1 .0 .1) (p .1 .1 .1 .1 .1 .0) (l .loop .inv .5 .others) f in
+    (p .0, (room, ((p .1 .1 .1 .1 .0 .0, l .loop .inv .4), (subst (HasBody (a .args .table .now)) (sym (c .before .before .cell-of .ensures)) (end (c .before .before .before)), (l .loop .inv .5 .spread .raised, λ two. row-above _ _ (p .0) _ (p .1 .0) f (l .loop .square) (made two))))))
 
 add-wide : tie.Need-add-wide Inv-loop μ-loop
 add-wide c = omega (arith, c .before .before .before .before .before .before .before .before .before .before .before .before .before .before .before .before .pre .0 .few, line (c .before .before .before .before .before .before .before .before))

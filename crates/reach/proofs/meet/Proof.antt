@@ -5,8 +5,8 @@ use borrow.Author.Needs.{needs}
 use lib.ListN.{getD, length-set}
 use Rattle.reach.specs.Turns.{marked, added, pushed}
 use Rattle.reach.proofs.Links.{body-label}
-use Rattle.reach.proofs.Reading.{row-room, room-still}
-use Rattle.reach.proofs.Raise.{added-row}
+use Rattle.reach.proofs.Reading.{row-room}
+use Rattle.reach.proofs.Raise.{added-then, row-raised}
 use Rattle.reach.proofs.meet.Statement.{statement}
 use Rattle.reach.proofs.meet.Tie as tie
 use Rattle.reach.proofs.meet.Reads as reads
@@ -27,33 +27,36 @@ same-length c = refl
 returns : tie.Need-returns
 returns c = marked (sym (c .before .has-mark .ensures) ∙ c .if1 .taken) refl refl refl
 
-mark-around-requires : tie.Need-mark-around-requires
-mark-around-requires c κs = let p = c .before .before .before .before .before .before .before .pre in (p .0, ((p .1 .1 .0 .0, p .1 .0 .rows), (p .1 .1 .1 .0, p .1 .1 .1 .1 .1)))
-
 shared-slice-read-if2 : tie.Need-shared-slice-read-if2
-shared-slice-read-if2 c = let p = c .before .before .before .before .before .before .before .before .before .before .before .pre in omega (arith, p .1 .0 .states, body-label _ _ (p .0) (c .before .before .before .before .before .before .before .before .before .before .before .args .f) (p .1 .1 .1 .0))
+shared-slice-read-if2 c = let a = c .before .before .before .before .before .before .before in omega (arith, a .pre .1 .0 .states, body-label _ _ (a .pre .0) (a .args .f) (a .pre .1 .1 .1 .0))
 
 merge-row-requires : tie.Need-merge-row-requires
 merge-row-requires c κs =
-    let a = c .before .before .before .before .before .before .before .before .before .before .before .before .before in
-    let r = c .before .before .before .before .before .mark-around .kept .1 .1 .0 in
-    let from = room-still _ _ _ _ _ (body-label _ _ (a .pre .0) (a .args .f) (a .pre .1 .1 .1 .0) .1) (a .pre .1 .0 .rows) r in
-    let into = room-still _ _ _ _ _ (a .pre .1 .1 .0 .0) (a .pre .1 .0 .rows) r in
+    let a = c .before .before .before .before .before .before .before .before .before in
+    let from = row-room _ _ _ _ (body-label _ _ (a .pre .0) (a .args .f) (a .pre .1 .1 .1 .0) .1) (a .pre .1 .0 .rows) in
+    let into = row-room _ _ _ _ (a .pre .1 .1 .0 .0) (a .pre .1 .0 .rows) in
     (omega arith, omega arith)
-
-same-length-2 : tie.Need-same-length-2
-same-length-2 c = c .before .before .merge-row .kept .0 ∙ c .before .before .before .before .before .before .before .before .mark-around .kept .1 .1 .0
 
 returns-2 : tie.Need-returns-2
 returns-2 c =
-    let a = c .before .before .before .before .before .before .before .before .before .before .before .before .before .before .before .before in
     added (sym (c .before .before .before .before .before .before .before .before .before .before .before .has-mark .ensures) ∙ c .before .before .before .before .before .before .before .before .before .before .if1 .left)
-    (c .before .before .before .before .if2 .taken) refl refl
-    (added-row _ _ _ _ _ _ _ (λ z. a .pre .1 .1 .1 .1 .0 (subst (λ (x : ℕ). getD (a .args .state .now) x 0 ≡ 2) z (c .before .before .before .before .if2 .taken)))
-    (c .before .before .before .before .before .before .before .before .mark-around .ensures) (c .before .before .merge-row .ensures))
+    (c .before .before .before .before .before .before .before .before .if2 .taken) refl refl
+    (added-then _ _ _ _ _ _ _ (c .before .before .before .before .before .before .merge-row .ensures) (c .before .before .mark-around .ensures))
+
+mark-around-requires : tie.Need-mark-around-requires
+mark-around-requires c κs =
+    let p = c .before .before .before .before .before .before .before .before .before .before .before .before .before .pre in
+    let m = c .before .before .before .merge-row in
+    (p .0, ((p .1 .1 .0 .0, omega (arith, p .1 .0 .rows, m .kept .0)), (p .1 .1 .1 .0, row-raised _ _ _ _ _ _ (p .1 .1 .1 .1 .0) (p .1 .1 .1 .1 .1 (c .before .before .before .before .before .if2 .taken)) (m .ensures))))
+
+same-length-2 : tie.Need-same-length-2
+same-length-2 c = c .before .before .mark-around .kept .1 .1 .0 ∙ c .before .before .before .before .before .before .merge-row .kept .0
+
+mark-around-requires-2 : tie.Need-mark-around-requires-2
+mark-around-requires-2 c κs = let p = c .before .before .before .before .before .before .before .before .before .pre in (p .0, ((p .1 .1 .0 .0, p .1 .0 .rows), (p .1 .1 .1 .0, p .1 .1 .1 .1 .0)))
 
 cast-stack : tie.Need-cast-stack
-cast-stack c = let p = c .before .before .before .before .before .before .before .before .before .before .before .before .pre in omega (arith, p .0 .few, body-label _ _ (p .0) (c .before .before .before .before .before .before .before .before .before .before .before .before .args .f) (p .1 .1 .1 .0))
+cast-stack c = let a = c .before .before .before .before .before .before .before .before .before .before .before .before in omega (arith, a .pre .0 .few, body-label _ _ (a .pre .0) (a .args .f) (a .pre .1 .1 .1 .0))
 
 mul-stack : tie.Need-mul-stack
 mul-stack c = let p = c .before .before .before .before .before .before .before .before .before .before .before .before .pre in omega (arith, p .0 .few, p .1 .1 .0)
@@ -65,13 +68,13 @@ add-result : tie.Need-add-result
 add-result c = let p = c .before .before .before .before .before .before .before .before .before .before .before .before .pre in omega (arith, p .0 .few, p .1 .1 .0)
 
 same-length-3 : tie.Need-same-length-3
-same-length-3 c = c .before .before .before .before .mark-around .kept .1 .1 .0
+same-length-3 c = c .before .before .mark-around2 .kept .1 .1 .0
 
 same-length-4 : tie.Need-same-length-4
 same-length-4 c = simp length-set
 
 returns-3 : tie.Need-returns-3
-returns-3 c = pushed (sym (c .before .before .before .before .before .before .before .has-mark .ensures) ∙ c .before .before .before .before .before .before .if1 .left) refl refl (c .before .before .before .before .mark-around .ensures)
+returns-3 c = pushed (sym (c .before .before .before .before .before .before .before .has-mark .ensures) ∙ c .before .before .before .before .before .before .if1 .left) refl refl (c .before .before .mark-around2 .ensures)
 
 pub meet-spec : {M : Type 1} → statement M
 meet-spec =
@@ -81,11 +84,12 @@ meet-spec =
     has-mark-requires
     same-length
     returns
-    mark-around-requires
     shared-slice-read-if2
     merge-row-requires
+    mark-around-requires
     same-length-2
     returns-2
+    mark-around-requires-2
     cast-stack
     mul-stack
     slice-write-stack

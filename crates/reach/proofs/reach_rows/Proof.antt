@@ -7,10 +7,7 @@ use borrow.Author.Needs.{needs}
 use borrow.Author.Count.{below-more}
 use lib.ListN.{length, getD}
 use Rattle.cells.specs.Table.{kind}
-use Rattle.reach.specs.Rows.{Rows, Room}
-use Rattle.reach.specs.Visits.{spent}
-use Rattle.reach.specs.Turns.{Since}
-use Rattle.reach.proofs.Visits.{since-same, since-then, visited-few, begun-more, rows-none, rows-all}
+use Rattle.reach.proofs.Visits.{Going, going-start, going-room, going-sum, going-more, begun-more, rows-none, rows-all}
 use Rattle.reach.proofs.Totals.{spent-visits}
 use Rattle.reach.proofs.reach_rows.Statement.{statement}
 use Rattle.reach.proofs.reach_rows.Tie as tie
@@ -21,9 +18,7 @@ use Rattle.reach.proofs.visit.Reads as visit-reads
 
 abbrev Inv-loop : tie.InvT-loop
 Inv-loop table n j chains state₀ square₀ stack₀ visits₀ v₀ state square stack visits v =
-    (1 ≤ v) × (v ≤ n + 1) × (length state ≡ length state₀) × (length square ≡ length square₀) × (length stack ≡ length stack₀)
-    × Rows table n j state square × Since state₀ state × ((u : ℕ) → u < v → 1 ≤ u → kind table u ≡ 2 → getD state u 0 ≡ 0 → ⊥)
-    × (visits ≤ spent table n j state)
+    (1 ≤ v) × (v ≤ n + 1) × Going table n j state₀ square₀ stack₀ state square stack visits × ((u : ℕ) → u < v → 1 ≤ u → kind table u ≡ 2 → getD state u 0 ≡ 0 → ⊥)
 
 abbrev μ-loop : tie.MeasureT-loop
 μ-loop table n j chains state₀ square₀ stack₀ visits₀ v₀ state square stack visits v = n + 1 - v
@@ -32,7 +27,7 @@ loop-holds : tie.Need-loop-holds Inv-loop μ-loop
 loop-holds c =
     let p = c .before .before .before .before .pre in
     let q = p .1 .1 .1 .1 in
-    (omega arith, omega arith, refl, refl, refl, rows-none _ _ (p .0) _ _ _ (q .0) (q .1), since-same _, λ u h i. absurd (omega arith), omega arith)
+    (omega arith, omega arith, going-start _ _ (p .0) _ _ _ _ (rows-none _ _ (p .0) _ _ _ (q .0) (q .1)), λ u h i. absurd (omega arith))
 
 kind-of-requires : tie.Need-kind-of-requires Inv-loop μ-loop
 kind-of-requires c κs = search needs
@@ -40,17 +35,14 @@ kind-of-requires c κs = search needs
 visit-requires : tie.Need-visit-requires Inv-loop μ-loop
 visit-requires c κs =
     let p = c .before .before .before .before .before .before .before .before .before .before .before .pre in
-    let l = c .before .before .before .before .before .before in
-    let r = p .1 .1 .1 .0 in
-    let room : Room (c .before .before .before .before .before .before .before .before .before .before .before .args .n) (l .loop .state) (l .loop .square) (l .loop .stack) =
-    record { states = omega (arith, r .states, l .loop .inv .2); rows = omega (arith, r .rows, l .loop .inv .3); heights = omega (arith, r .heights, l .loop .inv .4) } in
-    (p .0, (p .1 .0, (p .1 .1 .0, (room, (l .loop .inv .5, inl (sym (c .before .before .before .before .kind-of .ensures) ∙ c .before .before .before .if1 .taken))))))
+    let g = c .before .before .before .before .before .before .loop .inv .2 in
+    (p .0, (p .1 .0, (p .1 .1 .0, (going-room _ _ (p .0) _ _ _ _ _ _ _ _ g (p .1 .1 .1 .0), (g .rows, inl (sym (c .before .before .before .before .kind-of .ensures) ∙ c .before .before .before .if1 .taken))))))
 
 add-visits : tie.Need-add-visits Inv-loop μ-loop
 add-visits c =
-    let a = c .before .before .before .before .before .before .before .before .before .before .before .before .before .before .before .before .before .before in
-    let few = visited-few _ _ (a .pre .0) _ _ _ _ _ _ (c .before .before .before .before .before .before .visit .ensures) in
-    omega (arith, c .before .before .before .before .before .before .before .before .before .before .before .before .before .loop .inv .8, a .pre .0 .few)
+    let p = c .before .before .before .before .before .before .before .before .before .before .before .before .before .before .before .before .before .before .pre in
+    let sum = going-sum _ _ (p .0) _ _ _ _ _ _ _ _ (c .before .before .before .before .before .before .before .before .before .before .before .before .before .loop .inv .2) _ _ _ _ (c .before .before .before .before .before .before .visit .ensures) in
+    omega (arith, p .0 .few)
 
 add-v : tie.Need-add-v Inv-loop μ-loop
 add-v c = search needs
@@ -61,49 +53,41 @@ loop-less c = search needs
 loop-again : tie.Need-loop-again Inv-loop μ-loop
 loop-again c =
     let l = c .before .before .before in
+    let a = c .before .before .before .before .before .before .before .before in
     ⊎-elim (λ w.
     let v = w .4 in
     let k = v .kept .1 .1 .1 .1 in
     rw (w .11, w .12, w .13, w .14) (
       omega arith,
       omega arith,
-      k .0 ∙ l .loop .inv .2,
-      k .1 .0 ∙ l .loop .inv .3,
-      k .1 .1 .0 ∙ l .loop .inv .4,
-      v .ensures .rows,
-      since-then _ _ _ (l .loop .inv .6) (v .ensures .since),
-      begun-more _ _ (c .before .before .before .before .before .before .before .before .pre .0) _ _ _ _ _ _ (l .loop .inv .7) (v .ensures),
-      omega (arith, l .loop .inv .8, v .ensures .few),
+      going-more _ _ (a .pre .0) _ _ _ _ _ _ _ _ (l .loop .inv .2) _ _ _ _ (v .ensures) _ (k .0) (k .1 .0) (k .1 .1 .0),
+      begun-more _ _ (a .pre .0) _ _ _ _ _ _ (l .loop .inv .3) (v .ensures),
     ))
     (λ w. rw (w .1, w .2, w .3, w .4) (
       omega arith,
       omega arith,
       l .loop .inv .2,
-      l .loop .inv .3,
-      l .loop .inv .4,
-      l .loop .inv .5,
-      l .loop .inv .6,
-      below-more (λ (u : ℕ). 1 ≤ u → kind (c .before .before .before .before .before .before .before .before .args .table .now) u ≡ 2 → getD (l .loop .state) u 0 ≡ 0 → ⊥) (l .loop .v) (l .loop .inv .7) (λ i e. absurd (w .0 .left (c .before .kind-of .ensures ∙ e))),
-      l .loop .inv .8,
+      below-more (λ (u : ℕ). 1 ≤ u → kind (a .args .table .now) u ≡ 2 → getD (l .loop .state) u 0 ≡ 0 → ⊥) (l .loop .v) (l .loop .inv .3) (λ i e. absurd (w .0 .left (c .before .kind-of .ensures ∙ e))),
     ))
     (c .if1 .came)
 
 same-length : tie.Need-same-length Inv-loop μ-loop
-same-length c = c .before .loop .inv .2
+same-length c = c .before .loop .inv .2 .states
 
 same-length-2 : tie.Need-same-length-2 Inv-loop μ-loop
-same-length-2 c = c .before .loop .inv .3
+same-length-2 c = c .before .loop .inv .2 .squares
 
 same-length-3 : tie.Need-same-length-3 Inv-loop μ-loop
-same-length-3 c = c .before .loop .inv .4
+same-length-3 c = c .before .loop .inv .2 .stacks
 
 returns : tie.Need-returns Inv-loop μ-loop
 returns c =
     let p = c .before .before .before .before .before .before .pre in
     let l = c .before in
-    let few = spent-visits _ _ (p .0) _ (p .1 .0) (l .loop .state) (λ d two. l .loop .inv .5 .begun d (λ z. omega arith)) in (
-      rows-all _ _ (p .0) _ _ _ _ (p .1 .1 .1 .1 .0) (l .loop .inv .6) (l .loop .inv .5) (λ v a b. l .loop .inv .7 v (omega (arith, c .loop-test .left)) a),
-      omega (arith, few, l .loop .inv .8),
+    let g = l .loop .inv .2 in
+    let few = spent-visits _ _ (p .0) _ (p .1 .0) (l .loop .state) (λ d two. g .rows .begun d (λ z. omega arith)) in (
+      rows-all _ _ (p .0) _ _ _ _ (p .1 .1 .1 .1 .0) (g .since) (g .rows) (λ v a b. l .loop .inv .3 v (omega (arith, c .loop-test .left)) a),
+      omega (arith, few, g .few),
     )
 
 pub reach-rows-spec : {M : Type 1} → statement M

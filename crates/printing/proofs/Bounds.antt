@@ -1,0 +1,154 @@
+-- How long a print can get: the line of column names, 36 bytes, and 1,024 lines of at most 48.
+use mathlib.Core.Path.{_≡_, refl, sym, ap, _∙_}
+use mathlib.Core.Bool.{true}
+use mathlib.Core.List.{List, [], _∷_, _++_}
+use Prim.Native.Nat.{ℕ, _+_, _*_, _≤_, _<_}
+use native.Mathlib.Omega.{arith}
+use lib.IntN.{ℤ, natAbs}
+use lib.ListN.{length, take, drop, length-append, length-take, length-drop}
+use Rattle.cells.specs.Table.{kind, nameStart, nameLength}
+use Rattle.cells.specs.Accepted.{Accepted}
+use Rattle.lines.specs.Lines.{labels}
+use Rattle.lines.proofs.Heads.{headed}
+use Rattle.order.specs.Lists.{_∈_}
+use Rattle.order.specs.Order.{NoCycle, Proper}
+use Rattle.order.specs.Following.{labelsOf}
+use Rattle.order.proofs.Lists.{in-here, in-there}
+use Rattle.order.proofs.Mixed.{listed-value, proper-no-cycle}
+use Rattle.order.proofs.Planned.{order-short}
+use Rattle.reading.specs.Read.{sheetTable}
+use Rattle.reading.proofs.Accepted.{read-accepted, read-short}
+use Rattle.evaluation.specs.Results.{stateAt, numberAt, stepsAt, stored}
+use Rattle.evaluation.specs.Evaluation.{valueOutcome, evaluated}
+use Rattle.evaluation.specs.declared.Value.{Value}
+use Rattle.evaluation.proofs.Range.{Good, value-settled}
+use Rattle.figures.specs.Figures.{resultCells}
+use Rattle.figures.proofs.Working.{value-label, figures-value, figures-stored}
+use Rattle.figures.proofs.Early.{figures-settled}
+use Rattle.calls.specs.Plan.{lengthOf}
+use Rattle.calls.specs.Run.{runReply, runTable, runPlan, runResults}
+use Rattle.calls.specs.declared.PlanReply.the-variants as reply
+use Rattle.calls.proofs.Answers.{answers}
+use Rattle.printing.specs.Decimal.{decimal, integer}
+use Rattle.printing.specs.Print.{lineOf, columnsLine, refusalLine, wholeWord, mixedWord, nameField, valueLine, valueLines, mostBytes, printWith}
+use Rattle.printing.proofs.Sizes.{decimal-length, integer-length}
+use Rattle.printing.proofs.Runs.{run-fine, reads, results-fit, table-is, plan-proper}
+
+-- ---- one value
+
+-- what stands in its line
+record Short (t r : List ℤ) (v : ℕ) : Type 0 where
+  label : v ≤ 1024
+  name : nameLength t v ≤ 16
+  state : stateAt r v ≤ 5
+  number : natAbs (numberAt r v) ≤ 1000000000
+  steps : stepsAt r v ≤ 20000
+
+name-length : (s : List ℕ) (t : List ℤ) (v : ℕ) → length (nameField s t v) ≤ nameLength t v
+name-length s t v =
+    let x = nameStart t v in
+    let y = nameLength t v in
+    omega (arith, length-drop x (take (x + y) s), length-take (x + y) s)
+
+field-length : (f : List ℕ) (k : ℕ) (l : List ℕ) (a b : ℕ) → length f ≤ a → length l ≤ b → length (f ++ k ∷ l) ≤ a + 1 + b
+field-length f k l a b h g = omega (arith, length-append f (k ∷ l))
+
+line-length : (s : List ℕ) (t r : List ℤ) (word : List ℕ) (v : ℕ) → length word ≤ 5 → Short t r v → length (valueLine s t r word v) ≤ 48
+unfolding valueLine
+line-length s t r word v w h =
+    field-length (decimal v) 32 _ 4 43 (decimal-length 3 v (omega (arith, h .label)))
+    (field-length (nameField s t v) 32 _ 16 26 (omega (arith, name-length s t v, h .name))
+    (field-length word 32 _ 5 20 w
+    (field-length (decimal (stateAt r v)) 32 _ 1 18 (decimal-length 0 (stateAt r v) (omega (arith, h .state)))
+    (field-length (integer (numberAt r v)) 32 _ 11 6 (integer-length 9 (numberAt r v) (omega (arith, h .number)))
+    (field-length (decimal (stepsAt r v)) 10 [] 5 0 (decimal-length 4 (stepsAt r v) (omega (arith, h .steps))) (omega arith))))))
+
+lines-length : (s : List ℕ) (t r : List ℤ) (word l : List ℕ) → length word ≤ 5 → ((v : ℕ) → v ∈ l → Short t r v) → length (valueLines s t r word l) ≤ 48 * length l
+unfolding valueLines
+lines-length s t r word [] w h = omega arith
+lines-length s t r word (v ∷ l) w h =
+    omega (
+      arith,
+      length-append (valueLine s t r word v) (valueLines s t r word l),
+      line-length s t r word v w (h v (in-here v l)),
+      lines-length s t r word l w (λ x i. h x (in-there x v l i)),
+    )
+
+-- ---- a value of an accepted table without a cycle, with the results of Working out
+
+module _ (t : List ℤ) (n m : ℕ) (ok : Accepted t n) (nc : NoCycle t) (fit : 3 * n ≤ m) where
+  value-is : (v : ℕ) → kind t v ≡ 2 → stored (resultCells t n m) v ≡ evaluated t (resultCells t n m) v
+  value-is v k = figures-stored t n ok m fit v ∙ figures-value t n ok m fit nc v k
+
+  value-good : (v : ℕ) → kind t v ≡ 2 → Good 1 (valueOutcome t (resultCells t n m) v)
+  value-good v k = value-settled t (resultCells t n m) n ok v k (λ x j _. figures-settled t n ok nc m fit x j)
+
+  value-short : (v : ℕ) → kind t v ≡ 2 → nameLength t v ≤ 16 → Short t (resultCells t n m) v
+  value-short v k h =
+      let e = value-is v k in
+      let g = value-good v k in
+      let x = ap (λ (y : Value). y .number) e in
+      record {
+        label = omega (arith, value-label t n ok v k, ok .few);
+        name = h;
+        state = omega (arith, ap (λ (y : Value). y .state) e, g .most);
+        number = rw x (g .ranged);
+        steps = omega (arith, ap (λ (y : Value). y .steps) e);
+      }
+
+-- ---- the print of an answer
+
+module _ (s : List ℕ) (m p q : ℕ) (a : answers (runReply s m p q) ≡ true) where
+  abbrev order : List ℕ
+  order = labelsOf (take (lengthOf (runReply s m p q)) (runPlan s m p q))
+
+  ok : Accepted (sheetTable s m) (labels s)
+  ok = read-accepted s m (reads s m p q a)
+
+  results-are : runResults s m p q ≡ resultCells (sheetTable s m) (labels s) q
+  unfolding runResults
+  results-are = rw (run-fine s m p q a)
+
+  all-short : (v : ℕ) → v ∈ order → Short (runTable s m p q) (runResults s m p q) v
+  all-short v i =
+      let o = plan-proper s m p q a in
+      let k = listed-value o v i in
+      rw (table-is s m p q a, results-are)
+      (value-short (sheetTable s m) (labels s) q ok (proper-no-cycle o) (results-fit s m p q a) v k (read-short s m (reads s m p q a) v k))
+
+  answer-length : (word : List ℕ) → length word ≤ 5 → length (columnsLine ++ valueLines s (runTable s m p q) (runResults s m p q) word order) ≤ mostBytes
+  unfolding columnsLine
+  answer-length word w =
+      omega (
+        arith,
+        length-append columnsLine (valueLines s (runTable s m p q) (runResults s m p q) word order),
+        lines-length s (runTable s m p q) (runResults s m p q) word order w all-short,
+        order-short (sheetTable s m) (labels s) ok order (plan-proper s m p q a),
+        ok .few,
+      )
+
+-- ---- the print of a refusal: two numbers of 64 bits
+
+refusal-length : (row place : ℕ) → row < 18446744073709551616 → place < 18446744073709551616 → length (refusalLine ++ lineOf (decimal row ∷ decimal place ∷ [])) ≤ mostBytes
+unfolding refusalLine
+refusal-length row place h g =
+    omega (
+      arith,
+      length-append refusalLine (lineOf (decimal row ∷ decimal place ∷ [])),
+      field-length (decimal row) 32 (decimal place ++ 10 ∷ []) 20 21 (decimal-length 19 row (omega arith))
+          (field-length (decimal place) 10 [] 20 0 (decimal-length 19 place (omega arith)) (omega arith)),
+    )
+
+-- ---- any print, by Run's reply
+
+module _ (s : List ℕ) (m p q : ℕ) where
+  pub whole-length : (k : ℕ) → runReply s m p q ≡ reply.Whole k → length (printWith s m p q) ≤ mostBytes
+  unfolding wholeWord
+  whole-length k e = rw e (rw e at (answer-length s m p q (ap answers e) wholeWord (omega arith)))
+
+  pub mixed-length : (k : ℕ) → runReply s m p q ≡ reply.Mixed k → length (printWith s m p q) ≤ mostBytes
+  unfolding mixedWord
+  mixed-length k e = rw e (rw e at (answer-length s m p q (ap answers e) mixedWord (omega arith)))
+
+  pub refused-length : (row place : ℕ) → runReply s m p q ≡ reply.Refused row place → row < 18446744073709551616 → place < 18446744073709551616 → length (printWith s m p q) ≤ mostBytes
+  refused-length row place e h g = rw e (refusal-length row place h g)

@@ -1,0 +1,51 @@
+use mathlib.Core.Path.{sym, _∙_}
+use native.Mathlib.Omega.{arith}
+use borrow.Author.Needs.{needs}
+use Rattle.reach.proofs.Reading.{row-room}
+use Rattle.reach.proofs.share_row.Statement.{statement}
+use Rattle.reach.proofs.share_row.Tie as tie
+use Rattle.reach.proofs.share_row.Reads as reads
+use Rattle.reach.proofs.share_row.Lts as lts
+use Rattle.marks.proofs.has_mark.Reads as has-mark-reads
+use Rattle.marks.proofs.merge_row.Reads as merge-row-reads
+
+add-w : tie.Need-add-w
+add-w c = search needs
+
+shared-slice-read-if1 : tie.Need-shared-slice-read-if1
+shared-slice-read-if1 c = search needs
+
+returns : tie.Need-returns
+returns c = search needs
+
+has-mark-requires : tie.Need-has-mark-requires
+has-mark-requires c κs = let p = c .before .before .before .before .before .pre in (omega (arith, p .1), row-room _ _ _ _ (p .2) (p .4))
+
+merge-row-requires : tie.Need-merge-row-requires
+merge-row-requires c κs = let p = c .before .before .before .before .before .before .before .before .pre in (row-room _ _ _ _ (p .2) (p .4), row-room _ _ _ _ (p .1) (p .4))
+
+same-length : tie.Need-same-length
+same-length c = search needs
+
+returns-2 : tie.Need-returns-2
+returns-2 c = (c .before .before .before .before .before .before .before .if1 .left, sym (c .before .before .before .before .before .has-mark .ensures) ∙ c .before .before .before .before .if2 .taken, c .before .before .merge-row .ensures)
+
+same-length-2 : tie.Need-same-length-2
+same-length-2 c = search needs
+
+returns-3 : tie.Need-returns-3
+returns-3 c = search needs
+
+pub share-row-spec : {M : Type 1} → statement M
+share-row-spec =
+    tie.close
+    (tie.spec
+    add-w
+    shared-slice-read-if1
+    returns
+    has-mark-requires
+    merge-row-requires
+    same-length
+    returns-2
+    same-length-2
+    returns-3)

@@ -8,10 +8,9 @@ ghost use Rattle.cells.specs.Table.{kind};
 ghost use Rattle.cells.specs.Accepted.{Accepted};
 ghost use Rattle.order.specs.Order.{mixedPlan, place16};
 ghost use Rattle.order.specs.Order as Order;
-ghost use Rattle.reach.specs.Rows.{width, Blank, AllRows, Room};
-ghost use Rattle.reach.specs.Chains.{Empty};
+ghost use Rattle.reach.specs.Rows.{width, Blank, AllRows};
 ghost use Rattle.needs.specs.Needs.{NeedRows};
-ghost use Rattle.groups.specs.Members.{Ordered, Scratch};
+ghost use Rattle.groups.specs.Members.{Chained, Ordered, GroupOrders};
 ghost use Rattle.planning.specs.Listing.{listOf, Put};
 ghost use Rattle.planning.specs.Plans.{PlanIs};
 
@@ -65,38 +64,59 @@ fn put_all(order: &[u16], r: usize, plan: &mut [i64])
 }
 
 // The mixed list.
-fn list_mixed(
-    table: &[i64],
-    n: usize,
-    square: &[u64],
-    plan: &mut [i64],
-    items: &mut [u16],
-    mask: &mut [u64],
-    unmet: &mut [u16],
-    ready: &mut [u64],
-    list: &mut [u16],
-    order: &mut [u16],
-) -> usize
+fn list_mixed(table: &[i64], n: usize, square: &[u64], plan: &mut [i64]) -> usize
     requires { ⌜ Accepted (now table) n ⌝ }
-    requires { ⌜ ((n ≤ length (now plan)) × (n < length (now items))) × Scratch n (now mask) (now unmet) (now ready) (now list) (now order) ⌝ }
+    requires { ⌜ (n ≤ length (now plan)) × (place16 (now table) n ≡ 0) ⌝ }
     requires { ⌜ ((n + 1) * width n ≤ length (now square)) × NeedRows (now table) n (now square) ⌝ }
-    requires { ⌜ place16 (now table) n ≡ 0 ⌝ }
     ensures { λ r. ⌜ Put (mixedPlan (now (table .entry)) n) 0 (now (plan .entry)) (now (plan .exit)) r ⌝ }
 {
-    let m = groups::gather_values(table, n, items);
+    let mut items = [0u16; 1025];
+    let m = groups::gather_values(table, n, &mut items);
+    let mut mask = [0u64; 17];
+    let mut unmet = [0u16; 1025];
+    let mut ready = [0u64; 17];
+    let mut list = [0u16; 1088];
+    let mut order = [0u16; 1025];
     let r = groups::place_items(
         table,
         n,
         square,
         &items[0..m],
-        mask,
-        unmet,
-        ready,
-        list,
-        order,
+        &mut mask,
+        &mut unmet,
+        &mut ready,
+        &mut list,
+        &mut order,
     );
-    put_all(order, r, plan);
+    put_all(&order, r, plan);
     r
+}
+
+// Puts the members of every Group in order. Answers whether some Group gets stuck.
+fn order_all(table: &[i64], n: usize, square: &[u64], next: &mut [u16]) -> bool
+    requires { ⌜ Accepted (now table) n ⌝ }
+    requires { ⌜ (2 * n < length (now next)) × Chained (now table) n (now next) ⌝ }
+    requires { ⌜ ((n + 1) * width n ≤ length (now square)) × NeedRows (now table) n (now square) ⌝ }
+    ensures { λ r. ⌜ GroupOrders (now (table .entry)) n (now (next .exit)) r ⌝ }
+{
+    let mut items = [0u16; 1025];
+    let mut mask = [0u64; 17];
+    let mut unmet = [0u16; 1025];
+    let mut ready = [0u64; 17];
+    let mut list = [0u16; 1088];
+    let mut order = [0u16; 1025];
+    groups::order_groups(
+        table,
+        n,
+        square,
+        next,
+        &mut items,
+        &mut mask,
+        &mut unmet,
+        &mut ready,
+        &mut list,
+        &mut order,
+    )
 }
 
 // ---- the plan
@@ -116,56 +136,6 @@ fn find_cycle(table: &[i64], n: usize, square: &mut [u64]) -> usize
 }
 
 // The plan where there is no cycle: whole, or mixed if some Group is stuck.
-fn list_in(
-    table: &[i64],
-    n: usize,
-    plan: &mut [i64],
-    square: &[u64],
-    next: &mut [u16],
-    items: &mut [u16],
-    mask: &mut [u64],
-    unmet: &mut [u16],
-    ready: &mut [u64],
-    list: &mut [u16],
-    order: &mut [u16],
-) -> Planned
-    requires { ⌜ Accepted (now table) n ⌝ }
-    requires { ⌜ ((n ≤ length (now plan)) × (2 * n < length (now next)) × (n < length (now items))) × Scratch n (now mask) (now unmet) (now ready) (now list) (now order) ⌝ }
-    requires { ⌜ ((n + 1) * width n ≤ length (now square)) × NeedRows (now table) n (now square) ⌝ }
-    requires { ⌜ Empty n (now next) × (place16 (now table) n ≡ 0) ⌝ }
-    ensures { λ r. ⌜ PlanIs (Order.plan (now (table .entry)) n) (now (plan .entry)) (now (plan .exit)) r ⌝ }
-{
-    groups::link_members(table, n, next);
-    if groups::order_groups(
-        table,
-        n,
-        square,
-        next,
-        items,
-        mask,
-        unmet,
-        ready,
-        list,
-        order,
-    ) {
-        return Planned::Mixed(
-            list_mixed(
-                table,
-                n,
-                square,
-                plan,
-                items,
-                mask,
-                unmet,
-                ready,
-                list,
-                order,
-            ) as u64,
-        );
-    }
-    Planned::Whole(list_group(table, n, next, plan, 0, 1) as u64)
-}
-
 fn list_plan(table: &[i64], n: usize, plan: &mut [i64], square: &[u64]) -> Planned
     requires { ⌜ Accepted (now table) n ⌝ }
     requires { ⌜ (n ≤ length (now plan)) × (place16 (now table) n ≡ 0) ⌝ }
@@ -173,25 +143,11 @@ fn list_plan(table: &[i64], n: usize, plan: &mut [i64], square: &[u64]) -> Plann
     ensures { λ r. ⌜ PlanIs (Order.plan (now (table .entry)) n) (now (plan .entry)) (now (plan .exit)) r ⌝ }
 {
     let mut next = [0u16; 2049];
-    let mut items = [0u16; 1025];
-    let mut mask = [0u64; 17];
-    let mut unmet = [0u16; 1025];
-    let mut ready = [0u64; 17];
-    let mut list = [0u16; 1088];
-    let mut order = [0u16; 1025];
-    list_in(
-        table,
-        n,
-        plan,
-        square,
-        &mut next,
-        &mut items,
-        &mut mask,
-        &mut unmet,
-        &mut ready,
-        &mut list,
-        &mut order,
-    )
+    groups::link_members(table, n, &mut next);
+    if order_all(table, n, square, &mut next) {
+        return Planned::Mixed(list_mixed(table, n, square, plan) as u64);
+    }
+    Planned::Whole(list_group(table, n, &next, plan, 0, 1) as u64)
 }
 
 fn plan_in(table: &[i64], n: usize, plan: &mut [i64], square: &mut [u64]) -> Planned

@@ -1,6 +1,7 @@
 pub mod Writing
 pub mod Decimal
+pub mod ReadBack
 mod Sizes
 mod Lines
-mod Runs
-mod Bounds
+pub mod Runs
+pub mod Bounds

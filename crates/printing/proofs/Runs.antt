@@ -4,7 +4,7 @@ use mathlib.Core.Bool.{Bool, true, false, cond}
 use mathlib.Core.List.{List, [], _∷_, _++_, map}
 use Prim.Native.Nat.{ℕ, _-_, _*_, _≤_}
 use native.Mathlib.Omega.{arith}
-use borrow.Author.Tests.{leb-true}
+use borrow.Author.Tests.{leb-true, le-leb}
 use lib.Dec.{leb}
 use lib.IntN.{ℤ, pos}
 use lib.ListN.{length, take, length-append, length-map}
@@ -14,11 +14,13 @@ use Rattle.refusals.specs.declared.Verdict.{Verdict}
 use Rattle.refusals.specs.declared.Verdict.the-variants.{Fine, Refused}
 use Rattle.refusals.proofs.OrElse.{both-fine}
 use Rattle.lines.specs.Lines.{labels, headBad}
+use Rattle.lines.proofs.Heads.{headed}
 use Rattle.order.specs.Order.{Proper, Answer, cycle, whole, mixed}
 use Rattle.order.specs.Following.{labelsOf}
 use Rattle.order.specs.Rows.{cycleBad}
 use Rattle.order.proofs.Following.{proper-list}
 use Rattle.reading.specs.Read.{tableShort, sheetBad, sheetTable, readBad, tableOf}
+use Rattle.reading.specs.Name.{nameBegin, nameSize, namePart}
 use Rattle.reading.proofs.Accepted.{read-accepted, read-names}
 use Rattle.calls.specs.Buffers.{planShort, resultsShort, runBuffers}
 use Rattle.calls.specs.Plan.{openBad, plannedBad, planOf, answerBy, listedBy, lengthOf}
@@ -26,7 +28,7 @@ use Rattle.calls.specs.Run.{runBad, runReply, runTable, runPlan, runResults}
 use Rattle.calls.specs.declared.PlanReply.{PlanReply}
 use Rattle.calls.proofs.Answers.{answers, answers-number, answers-fine}
 use Rattle.calls.proofs.Sheets.{kept}
-use Rattle.printing.specs.Print.{printBy, printWith}
+use Rattle.printing.specs.Print.{nameField, printBy, printWith}
 use Rattle.printing.specs.Writing.{NamesIn}
 
 listed-length : (a : Answer) (p : ℕ) → lengthOf (answerBy Fine a) ≤ length (listedBy Fine a p)
@@ -41,6 +43,13 @@ results-long s q e = go (leb (3 * labels s) q) refl e
     go : (b : Bool) → leb (3 * labels s) q ≡ b → cond b Fine (Refused 4 3) ≡ Fine → 3 * labels s ≤ q
     go true f g = leb-true (3 * labels s) q f
     go false f g = let z : _≡_ {A = ℕ} 0 1 = cc in absurd (omega arith)
+
+-- the program's buffers are long enough for every sheet, so that row 4 finds nothing
+pub long-enough : (s : List ℕ) → headBad s ≡ Fine → runBuffers s 8192 1024 3072 ≡ Fine
+unfolding tableShort planShort resultsShort
+long-enough s e =
+    let h = headed s e .high in
+    rw (le-leb (8 * labels s) 8192 (omega arith), le-leb (labels s) 1024 (omega arith), le-leb (3 * labels s) 3072 (omega arith))
 
 -- ---- where it answers
 
@@ -73,6 +82,11 @@ module _ (s : List ℕ) (m p q : ℕ) (a : answers (runReply s m p q) ≡ true) 
   pub table-is : runTable s m p q ≡ sheetTable s m
   unfolding runTable
   table-is = ap (λ (v : Verdict). tableOf v s m) run-fine
+
+  -- the name that is printed is what Name returns
+  pub name-is : (v : ℕ) → v ≤ labels s → nameField s (runTable s m p q) v ≡ namePart s m (pos v)
+  unfolding namePart nameBegin nameSize
+  name-is v h = rw (table-is, reads, le-leb v (labels s) h)
 
   -- the plan has as many labels as the reply says, and they are a proper order
   pub plan-long : lengthOf (runReply s m p q) ≤ length (runPlan s m p q)

@@ -2,10 +2,10 @@
 use libc::STDIN_FILENO;
 use libc::STDOUT_FILENO;
 
-// A sheet has at most 65,536 bytes. One more is read, so that a longer one is refused.
+// A sheet has at most 65,536 bytes; one more is read, so that a longer one is refused. A print takes at most 49,188, as write_print promises.
 fn print_sheet(fd: i32) {
     let mut text = [0u8; 65537];
-    let mut print = [0u8; 65536];
+    let mut print = [0u8; 49188];
     let n = io::read_full(fd, &mut text);
     let end = printing::write_print(&text[..n], &mut print);
     if !io::write_all(STDOUT_FILENO, &print[..end]) {

@@ -2,4 +2,3 @@ mod Words
 mod Steps
 mod Taken
 mod Places
-mod Scratch

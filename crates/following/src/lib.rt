@@ -6,15 +6,13 @@ ghost use mathlib.Core.Bool.{true};
 ghost use mathlib.Core.List.{[]};
 ghost use mathlib.Core.Logic.{_↔_};
 ghost use Prim.Native.Nat.{ℕ, _+_, _*_, _≤_, _<_};
-ghost use lib.ListN.{length, getD};
+ghost use lib.ListN.{length};
 ghost use Rattle.cells.specs.Accepted.{Accepted};
 ghost use Rattle.refusals.specs.Refusal.{orElse, foundAt};
-ghost use Rattle.order.specs.Order.{place16};
 ghost use Rattle.order.specs.Following.{labelsOf, firstPosition, place17, place18};
 ghost use Rattle.order.specs.Rows.{cycleBad, orderBad};
 ghost use Rattle.marks.specs.Marks.{mark};
-ghost use Rattle.reach.specs.Rows.{width, Blank, AllRows, Room};
-ghost use Rattle.reach.specs.Chains.{Empty};
+ghost use Rattle.reach.specs.Rows.{width, Blank, AllRows};
 ghost use Rattle.following.specs.Left.{Values, Left, lacks, awaits, Meets};
 use refusals::Verdict;
 
@@ -162,149 +160,57 @@ fn check_list(table: &[i64], n: usize, order: &[i64], square: &[u64], left: &mut
     found_at(refusals::EARLY, early_place(table, n, order, square, left))
 }
 
-// Row 16, and the rows of what each value reaches.
-fn find_cycle(
-    table: &[i64],
-    n: usize,
-    square: &mut [u64],
-    chains: &mut [u16],
-    state: &mut [u8],
-    stack: &mut [u16],
-) -> usize
+// Rows 16 to 18, in a blank square.
+fn check_in(table: &[i64], n: usize, order: &[i64], square: &mut [u64]) -> Verdict
     requires { ⌜ Accepted (now table) n ⌝ }
-    requires { ⌜ (2 * n < length (now chains)) × Room n (now state) (now square) (now stack) ⌝ }
-    requires { ⌜ Empty n (now chains) × ((d : ℕ) → getD (now state) d 0 ≡ 0) × ((d : ℕ) → Blank n (now square) d) ⌝ }
-    ensures { λ r. ⌜ (r ≡ place16 (now (table .entry)) n) × AllRows (now (table .entry)) n 7 (now (square .exit)) ⌝ }
-{
-    reach::link(table, n, 7, chains);
-    reach::reach_rows(table, n, 7, chains, state, square, stack);
-    reach::first_cycle(table, n, 7, square)
-}
-
-// In scratch that is all 0.
-fn check_with(
-    table: &[i64],
-    n: usize,
-    order: &[i64],
-    square: &mut [u64],
-    chains: &mut [u16],
-    state: &mut [u8],
-    stack: &mut [u16],
-    left: &mut [u64],
-) -> Verdict
-    requires { ⌜ Accepted (now table) n ⌝ }
-    requires { ⌜ (2 * n < length (now chains)) × Room n (now state) (now square) (now stack) × (width n ≤ length (now left)) ⌝ }
-    requires { ⌜ Empty n (now chains) × ((d : ℕ) → getD (now state) d 0 ≡ 0) × ((d : ℕ) → Blank n (now square) d) ⌝ }
+    requires { ⌜ ((n + 1) * width n ≤ length (now square)) × ((d : ℕ) → Blank n (now square) d) ⌝ }
     ensures { λ r. ⌜ r ≡ orElse (cycleBad (now (table .entry)) n) (orderBad (now (table .entry)) n (now (order .entry))) ⌝ }
 {
-    let v = find_cycle(table, n, square, chains, state, stack);
+    let v = reach::find_cycle(table, n, 7, square);
     if v != 0 {
         return found_at(refusals::CYCLE, v);
     }
-    check_list(table, n, order, square, left)
+    let mut left = [0u64; 17];
+    check_list(table, n, order, square, &mut left)
 }
 
-// ---- scratch by the size of the sheet, since it is zeroed at each call
+// ---- a square by the size of the sheet, since it is zeroed at each call
 
 fn check_small(table: &[i64], n: usize, order: &[i64]) -> Verdict
-    requires { ⌜ Accepted (now table) n ⌝ }
-    requires { ⌜ n ≤ 63 ⌝ }
-    ensures { λ r. ⌜ r ≡ orElse (cycleBad (now (table .entry)) n) (orderBad (now (table .entry)) n (now (order .entry))) ⌝ }
-{
-    let mut square = [0u64; 64];
-    let mut chains = [0u16; 127];
-    let mut state = [0u8; 64];
-    let mut stack = [0u16; 64];
-    let mut left = [0u64; 1];
-    check_with(
-        table,
-        n,
-        order,
-        &mut square,
-        &mut chains,
-        &mut state,
-        &mut stack,
-        &mut left,
-    )
-}
-
-fn check_medium(table: &[i64], n: usize, order: &[i64]) -> Verdict
     requires { ⌜ Accepted (now table) n ⌝ }
     requires { ⌜ n ≤ 255 ⌝ }
     ensures { λ r. ⌜ r ≡ orElse (cycleBad (now (table .entry)) n) (orderBad (now (table .entry)) n (now (order .entry))) ⌝ }
 {
     let mut square = [0u64; 1024];
-    let mut chains = [0u16; 511];
-    let mut state = [0u8; 256];
-    let mut stack = [0u16; 256];
-    let mut left = [0u64; 4];
-    check_with(
-        table,
-        n,
-        order,
-        &mut square,
-        &mut chains,
-        &mut state,
-        &mut stack,
-        &mut left,
-    )
+    check_in(table, n, order, &mut square)
 }
 
-fn check_large(table: &[i64], n: usize, order: &[i64]) -> Verdict
+fn check_medium(table: &[i64], n: usize, order: &[i64]) -> Verdict
     requires { ⌜ Accepted (now table) n ⌝ }
     requires { ⌜ n ≤ 511 ⌝ }
     ensures { λ r. ⌜ r ≡ orElse (cycleBad (now (table .entry)) n) (orderBad (now (table .entry)) n (now (order .entry))) ⌝ }
 {
     let mut square = [0u64; 4096];
-    let mut chains = [0u16; 1023];
-    let mut state = [0u8; 512];
-    let mut stack = [0u16; 512];
-    let mut left = [0u64; 8];
-    check_with(
-        table,
-        n,
-        order,
-        &mut square,
-        &mut chains,
-        &mut state,
-        &mut stack,
-        &mut left,
-    )
+    check_in(table, n, order, &mut square)
 }
 
-fn check_largest(table: &[i64], n: usize, order: &[i64]) -> Verdict
+fn check_large(table: &[i64], n: usize, order: &[i64]) -> Verdict
     requires { ⌜ Accepted (now table) n ⌝ }
     ensures { λ r. ⌜ r ≡ orElse (cycleBad (now (table .entry)) n) (orderBad (now (table .entry)) n (now (order .entry))) ⌝ }
 {
     let mut square = [0u64; 17425];
-    let mut chains = [0u16; 2049];
-    let mut state = [0u8; 1025];
-    let mut stack = [0u16; 1025];
-    let mut left = [0u64; 17];
-    check_with(
-        table,
-        n,
-        order,
-        &mut square,
-        &mut chains,
-        &mut state,
-        &mut stack,
-        &mut left,
-    )
+    check_in(table, n, order, &mut square)
 }
 
 pub fn check_order(table: &[i64], n: usize, order: &[i64]) -> Verdict
     requires { ⌜ Accepted (now table) n ⌝ }
     ensures { λ r. ⌜ r ≡ orElse (cycleBad (now (table .entry)) n) (orderBad (now (table .entry)) n (now (order .entry))) ⌝ }
 {
-    if n <= 63 {
+    if n <= 255 {
         return check_small(table, n, order);
     }
-    if n <= 255 {
+    if n <= 511 {
         return check_medium(table, n, order);
     }
-    if n <= 511 {
-        return check_large(table, n, order);
-    }
-    check_largest(table, n, order)
+    check_large(table, n, order)
 }

@@ -1,20 +1,18 @@
 -- The three answers of planning, by row 16 and by whether some Group is stuck; and the plan's cells.
 use mathlib.Core.Path.{_≡_, refl, sym, ap, _∙_, subst}
-use mathlib.Core.List.{List, [], _∷_, _++_, map}
+use mathlib.Core.List.{List, _++_, map}
 use mathlib.Core.Bool.{true, false}
 use mathlib.Core.Option.{Option, none, some}
-use Prim.Native.Nat.{ℕ, zero, suc, _+_, _*_, _/_, _≤_, _<_}
+use Prim.Native.Nat.{ℕ, zero, suc, _+_, _*_, _≤_, _<_}
 use native.Mathlib.Omega.{arith}
 use lib.IntN.{ℤ, pos}
-use native.Mathlib.Nat.{mul-le-mul}
-use lib.ListN.{length, getD, take, drop, replicate, take-append-drop, length-replicate}
+use lib.ListN.{length, drop, replicate, take-append-drop}
 use Rattle.cells.specs.Accepted.{Accepted}
-use Rattle.order.specs.Order.{firstCycle, someStuck, orZero, place16, wholePlan, mixedPlan, cycle, whole, mixed, plan, NoCycle}
+use Rattle.order.specs.Order.{firstCycle, someStuck, orZero, place16, wholePlan, mixedPlan, cycle, whole, mixed, plan}
 use Rattle.order.proofs.Planned.{cycle-smallest, cycle-none, order-short}
 use Rattle.order.proofs.Whole.{whole-proper}
-use Rattle.marks.proofs.Squares.{marks-none}
-use Rattle.reach.specs.Rows.{width, Blank, Room}
-use Rattle.reach.specs.Chains.{Empty}
+use Rattle.reach.proofs.Scratch.{long}
+use Rattle.reach.specs.Rows.{width}
 use Rattle.groups.specs.Members.{Scratch}
 use Rattle.planning.specs.declared.Planned.the-variants.{Cycle, Whole, Mixed}
 use Rattle.planning.specs.Listing.{listOf, Put}
@@ -75,32 +73,11 @@ module _ (t : List ℤ) (n : ℕ) (ok : Accepted t n) where
 
 -- ---- scratch that is all 0
 
-pub zero-at : (k i : ℕ) → getD (replicate {0} {A = ℕ} k 0) i 0 ≡ 0
-zero-at zero i = refl
-zero-at (suc k) zero = refl
-zero-at (suc k) (suc i) = zero-at k i
-
-pub long : (k : ℕ) → length (replicate {0} {A = ℕ} k 0) ≡ k
-long k = length-replicate {0} {A = ℕ} k 0
-
--- a rows of b words
-pub zero-square : (n a b : ℕ) → n + 1 ≤ a → width n ≤ b → ((n + 1) * width n ≤ length (replicate {0} {A = ℕ} (a * b) 0)) × ((d : ℕ) → Blank n (replicate (a * b) 0) d)
-zero-square n a b h g =
-    let m : (n + 1) * width n ≤ a * b = mul-le-mul h g in
-    (omega (arith, long (a * b)), λ d q. marks-none (replicate (a * b) 0) (zero-at (a * b)) (width n) d q)
-
-module _ (n k : ℕ) where
-  pub zero-chain : 2 * n < k → (2 * n < length (replicate {0} {A = ℕ} k 0)) × Empty n (replicate k 0)
-  zero-chain h = (omega (arith, long k), λ d g. zero-at k d)
-
-  pub zero-room : (square : List ℕ) → n < k → (n + 1) * width n ≤ length square → Room n (replicate k 0) square (replicate k 0)
-  zero-room square h g = record { states = omega (arith, long k); rows = g; heights = omega (arith, long k) }
-
-  pub zero-scratch : (w l : ℕ) → n < k → width n ≤ w → 64 * width n ≤ l → Scratch n (replicate w 0) (replicate k 0) (replicate w 0) (replicate l 0) (replicate k 0)
-  zero-scratch w l a b d = record {
-    masks = omega (arith, long w);
-    counts = omega (arith, long k);
-    readies = omega (arith, long w);
-    lists = omega (arith, long l);
-    orders = omega (arith, long k);
-  }
+pub zero-scratch : (n k w l : ℕ) → n < k → width n ≤ w → 64 * width n ≤ l → Scratch n (replicate w 0) (replicate k 0) (replicate w 0) (replicate l 0) (replicate k 0)
+zero-scratch n k w l a b d = record {
+  masks = omega (arith, long w);
+  counts = omega (arith, long k);
+  readies = omega (arith, long w);
+  lists = omega (arith, long l);
+  orders = omega (arith, long k);
+}

@@ -3,12 +3,12 @@
 
 ghost use mathlib.Core.Path.{_≡_};
 ghost use Prim.Native.Nat.{ℕ, _+_, _*_, _≤_, _<_};
-ghost use lib.ListN.{length, getD, take};
+ghost use lib.ListN.{length, take};
 ghost use Rattle.cells.specs.Table.{kind};
 ghost use Rattle.cells.specs.Accepted.{Accepted};
 ghost use Rattle.order.specs.Order.{mixedPlan, place16};
 ghost use Rattle.order.specs.Order as Order;
-ghost use Rattle.reach.specs.Rows.{width, Blank, AllRows};
+ghost use Rattle.reach.specs.Rows.{width, Blank};
 ghost use Rattle.needs.specs.Needs.{NeedRows};
 ghost use Rattle.groups.specs.Members.{Chained, Ordered, GroupOrders};
 ghost use Rattle.planning.specs.Listing.{listOf, Put};
@@ -121,20 +121,6 @@ fn order_all(table: &[i64], n: usize, square: &[u64], next: &mut [u16]) -> bool
 
 // ---- the plan
 
-// Row 16, and the rows of what reaches each value, in a blank square.
-fn find_cycle(table: &[i64], n: usize, square: &mut [u64]) -> usize
-    requires { ⌜ Accepted (now table) n ⌝ }
-    requires { ⌜ ((n + 1) * width n ≤ length (now square)) × ((d : ℕ) → Blank n (now square) d) ⌝ }
-    ensures { λ r. ⌜ (r ≡ place16 (now (table .entry)) n) × AllRows (now (table .entry)) n 6 (now (square .exit)) ⌝ }
-{
-    let mut chains = [0u16; 2049];
-    let mut state = [0u8; 1025];
-    let mut stack = [0u16; 1025];
-    reach::link(table, n, 6, &mut chains);
-    reach::reach_rows(table, n, 6, &chains, &mut state, square, &mut stack);
-    reach::first_cycle(table, n, 6, square)
-}
-
 // The plan where there is no cycle: whole, or mixed if some Group is stuck.
 fn list_plan(table: &[i64], n: usize, plan: &mut [i64], square: &[u64]) -> Planned
     requires { ⌜ Accepted (now table) n ⌝ }
@@ -156,7 +142,7 @@ fn plan_in(table: &[i64], n: usize, plan: &mut [i64], square: &mut [u64]) -> Pla
     requires { ⌜ ((n + 1) * width n ≤ length (now square)) × ((d : ℕ) → Blank n (now square) d) ⌝ }
     ensures { λ r. ⌜ PlanIs (Order.plan (now (table .entry)) n) (now (plan .entry)) (now (plan .exit)) r ⌝ }
 {
-    let v = find_cycle(table, n, square);
+    let v = reach::find_cycle(table, n, 6, square);
     if v != 0 {
         return Planned::Cycle(v as u64);
     }

@@ -1,5 +1,6 @@
 pub mod Links
 pub mod Reading
+pub mod Scratch
 mod Chains
 mod Raise
 mod Totals

@@ -5,7 +5,7 @@ ghost use mathlib.Core.Path.{_≡_};
 ghost use mathlib.Core.Bool.{false};
 ghost use mathlib.Core.Logic.{_⊎_};
 ghost use Prim.Native.Nat.{ℕ, _+_, _*_, _/_, _≤_, _<_};
-ghost use lib.ListN.{length, getD, set, take};
+ghost use lib.ListN.{length, getD, take};
 ghost use Rattle.cells.specs.Table.{cell, kind, owner};
 ghost use Rattle.cells.specs.Accepted.{Accepted, HasBody};
 ghost use Rattle.order.specs.Order.{Within, hasPath, place16};
@@ -302,4 +302,19 @@ pub fn first_cycle(table: &[i64], n: usize, j: usize, square: &[u64]) -> usize
         v += 1;
     }
     0
+}
+
+// Row 16 and the row of every V, in a blank square.
+pub fn find_cycle(table: &[i64], n: usize, j: usize, square: &mut [u64]) -> usize
+    requires { ⌜ Accepted (now table) n ⌝ }
+    requires { ⌜ Column j ⌝ }
+    requires { ⌜ ((n + 1) * width n ≤ length (now square)) × ((d : ℕ) → Blank n (now square) d) ⌝ }
+    ensures { λ r. ⌜ (r ≡ place16 (now (table .entry)) n) × AllRows (now (table .entry)) n j (now (square .exit)) ⌝ }
+{
+    let mut chains = [0u16; 2049];
+    let mut state = [0u8; 1025];
+    let mut stack = [0u16; 1025];
+    link(table, n, j, &mut chains);
+    reach_rows(table, n, j, &chains, &mut state, square, &mut stack);
+    first_cycle(table, n, j, square)
 }

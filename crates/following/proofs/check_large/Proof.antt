@@ -1,43 +1,21 @@
 use Prim.Native.Nat.{_≤_}
 use native.Mathlib.Omega.{arith}
-use Rattle.following.proofs.Scratch.{zero-room, zero-blank}
+use Rattle.reach.proofs.Scratch.{zero-square}
 use borrow.Author.Needs.{needs}
 use Rattle.following.proofs.check_large.Statement.{statement}
 use Rattle.following.proofs.check_large.Tie as tie
 
-slice-aggregate-check-with : tie.Need-slice-aggregate-check-with
-slice-aggregate-check-with c = search needs
+slice-aggregate-check-in : tie.Need-slice-aggregate-check-in
+slice-aggregate-check-in c = search needs
 
-slice-aggregate-check-with-2 : tie.Need-slice-aggregate-check-with-2
-slice-aggregate-check-with-2 c = search needs
-
-slice-aggregate-check-with-3 : tie.Need-slice-aggregate-check-with-3
-slice-aggregate-check-with-3 c = search needs
-
-slice-aggregate-check-with-4 : tie.Need-slice-aggregate-check-with-4
-slice-aggregate-check-with-4 c = search needs
-
-slice-aggregate-check-with-5 : tie.Need-slice-aggregate-check-with-5
-slice-aggregate-check-with-5 c = search needs
-
-check-with-requires : tie.Need-check-with-requires
-check-with-requires c κs =
-    let p = c .before .before .before .before .before .pre in
-    let n = c .before .before .before .before .before .args .n in
-    let h : n ≤ 511 = p .1 in
-    (p .0, (zero-room n 512 8 (omega arith) (omega arith), zero-blank n 512 8))
+check-in-requires : tie.Need-check-in-requires
+check-in-requires c κs =
+    let a = c .before in
+    let h : a .args .n ≤ 1024 = a .pre .few in
+    (a .pre, zero-square (a .args .n) 1025 17 (omega arith) (omega arith))
 
 returns : tie.Need-returns
 returns c = search needs
 
 pub check-large-spec : {M : Type 1} → statement M
-check-large-spec =
-    tie.close
-    (tie.spec
-    slice-aggregate-check-with
-    slice-aggregate-check-with-2
-    slice-aggregate-check-with-3
-    slice-aggregate-check-with-4
-    slice-aggregate-check-with-5
-    check-with-requires
-    returns)
+check-large-spec = tie.close (tie.spec slice-aggregate-check-in check-in-requires returns)

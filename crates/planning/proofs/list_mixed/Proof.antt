@@ -1,10 +1,11 @@
 use mathlib.Core.Path.{subst}
 use mathlib.Core.List.{List}
-use Prim.Native.Nat.{ℕ, _+_, _*_, _≤_, _<_}
+use Prim.Native.Nat.{ℕ, _≤_}
 use native.Mathlib.Omega.{arith}
 use Rattle.groups.proofs.Orders.{value-items, items-few, mixed-is}
 use Rattle.planning.specs.Listing.{Put}
-use Rattle.planning.proofs.Plans.{long, zero-scratch}
+use Rattle.planning.proofs.Plans.{zero-scratch}
+use Rattle.reach.proofs.Scratch.{long}
 use borrow.Author.Needs.{needs}
 use Rattle.planning.proofs.list_mixed.Statement.{statement}
 use Rattle.planning.proofs.list_mixed.Tie as tie

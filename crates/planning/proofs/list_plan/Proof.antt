@@ -1,11 +1,12 @@
 use mathlib.Core.Path.{_≡_, subst}
 use mathlib.Core.List.{List}
 use mathlib.Core.Bool.{Bool}
-use Prim.Native.Nat.{ℕ, _+_, _*_, _≤_, _<_}
+use Prim.Native.Nat.{ℕ}
 use native.Mathlib.Omega.{arith}
 use lib.IntN.{ℤ}
 use Rattle.groups.specs.Members.{GroupOrders}
-use Rattle.planning.proofs.Plans.{whole-short, plan-whole, plan-mixed, long, zero-chain}
+use Rattle.planning.proofs.Plans.{whole-short, plan-whole, plan-mixed}
+use Rattle.reach.proofs.Scratch.{long, zero-chain}
 use borrow.Author.Needs.{needs}
 use Rattle.planning.proofs.list_plan.Statement.{statement}
 use Rattle.planning.proofs.list_plan.Tie as tie

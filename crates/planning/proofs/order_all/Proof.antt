@@ -1,6 +1,7 @@
-use Prim.Native.Nat.{ℕ, _+_, _*_, _≤_, _<_}
+use Prim.Native.Nat.{_≤_}
 use native.Mathlib.Omega.{arith}
-use Rattle.planning.proofs.Plans.{long, zero-scratch}
+use Rattle.planning.proofs.Plans.{zero-scratch}
+use Rattle.reach.proofs.Scratch.{long}
 use borrow.Author.Needs.{needs}
 use Rattle.planning.proofs.order_all.Statement.{statement}
 use Rattle.planning.proofs.order_all.Tie as tie

@@ -1,18 +1,13 @@
-use mathlib.Core.Path.{sym, _∙_}
-use Prim.Native.Nat.{ℕ, _+_, _*_, _≤_, _<_}
+use mathlib.Core.Path.{refl, sym, _∙_}
+use mathlib.Core.Logic.{inl}
 use native.Mathlib.Omega.{arith}
 use Rattle.planning.proofs.Plans.{plan-cycle}
 use borrow.Author.Needs.{needs}
 use Rattle.planning.proofs.plan_in.Statement.{statement}
 use Rattle.planning.proofs.plan_in.Tie as tie
-use Rattle.planning.proofs.plan_in.Reads as reads
-use Rattle.planning.proofs.plan_in.Lts as lts
-use Rattle.needs.proofs.needs_of.Reads as needs-of-reads
-use Rattle.planning.proofs.find_cycle.Reads as find-cycle-reads
-use Rattle.planning.proofs.list_plan.Reads as list-plan-reads
 
 find-cycle-requires : tie.Need-find-cycle-requires
-find-cycle-requires c κs = search needs
+find-cycle-requires c κs = let p = c .before .before .pre in (p .0, (inl refl, p .1 .1))
 
 same-length : tie.Need-same-length
 same-length c = search needs
@@ -28,7 +23,7 @@ list-plan-requires c κs =
     let p = c .before .before .before .before .before .before .before .before .before .before .before .before .pre in
     let k = c .before .before .before .before .before .before .before .before .before .find-cycle in
     let m = c .before .before .before .before .needs-of in
-    (p .0, ((p .1 .0, sym (k .ensures .0) ∙ c .before .before .before .before .before .before .if1 .left), (omega (arith, p .1 .1 .0, k .kept .1 .1 .0, m .kept .1 .1 .0), m .ensures)))
+    (p .0, ((p .1 .0, sym (k .ensures .0) ∙ c .before .before .before .before .before .before .if1 .left), (omega (arith, p .1 .1 .0, k .kept .1 .1 .1 .0, m .kept .1 .1 .0), m .ensures)))
 
 same-length-2 : tie.Need-same-length-2
 same-length-2 c = search needs

@@ -1,6 +1,6 @@
-use Prim.Native.Nat.{ℕ, _+_, _*_, _≤_, _<_}
+use Prim.Native.Nat.{_≤_}
 use native.Mathlib.Omega.{arith}
-use Rattle.planning.proofs.Plans.{zero-square}
+use Rattle.reach.proofs.Scratch.{zero-square}
 use borrow.Author.Needs.{needs}
 use Rattle.planning.proofs.plan_large.Statement.{statement}
 use Rattle.planning.proofs.plan_large.Tie as tie

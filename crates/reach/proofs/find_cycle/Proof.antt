@@ -1,16 +1,8 @@
-use mathlib.Core.Path.{refl}
-use mathlib.Core.Logic.{inl}
-use Prim.Native.Nat.{ℕ, _+_, _*_, _≤_, _<_}
 use native.Mathlib.Omega.{arith}
-use Rattle.planning.proofs.Plans.{zero-at, zero-chain, zero-room}
+use Rattle.reach.proofs.Scratch.{zero-at, zero-chain, zero-room}
 use borrow.Author.Needs.{needs}
-use Rattle.planning.proofs.find_cycle.Statement.{statement}
-use Rattle.planning.proofs.find_cycle.Tie as tie
-use Rattle.planning.proofs.find_cycle.Reads as reads
-use Rattle.planning.proofs.find_cycle.Lts as lts
-use Rattle.reach.proofs.first_cycle.Reads as first-cycle-reads
-use Rattle.reach.proofs.link.Reads as link-reads
-use Rattle.reach.proofs.reach_rows.Reads as reach-rows-reads
+use Rattle.reach.proofs.find_cycle.Statement.{statement}
+use Rattle.reach.proofs.find_cycle.Tie as tie
 
 slice-aggregate-link : tie.Need-slice-aggregate-link
 slice-aggregate-link c = search needs
@@ -18,7 +10,7 @@ slice-aggregate-link c = search needs
 link-requires : tie.Need-link-requires
 link-requires c κs =
     let a = c .before .before in
-    (a .pre .0, (inl refl, zero-chain (a .args .n) 2049 (omega (arith, a .pre .0 .few))))
+    (a .pre .0, (a .pre .1 .0, zero-chain (a .args .n) 2049 (omega (arith, a .pre .0 .few))))
 
 slice-aggregate-reach-rows : tie.Need-slice-aggregate-reach-rows
 slice-aggregate-reach-rows c = search needs
@@ -34,13 +26,13 @@ reach-rows-requires c κs =
     let a = c .before .before .before .before .before .before .before .before in
     let k = c .before .before .before .before .before .link in
     let z = zero-chain (a .args .n) 2049 (omega (arith, a .pre .0 .few)) in
-    (a .pre .0, (inl refl, ((omega (arith, z .0, k .kept .1 .1 .1 .0), k .ensures), (zero-room (a .args .n) 1025 _ (omega (arith, a .pre .0 .few)) (a .pre .1 .0), (zero-at 1025, a .pre .1 .1)))))
+    (a .pre .0, (a .pre .1 .0, ((omega (arith, z .0, k .kept .1 .1 .1 .0), k .ensures), (zero-room (a .args .n) 1025 _ (omega (arith, a .pre .0 .few)) (a .pre .1 .1 .0), (zero-at 1025, a .pre .1 .1 .1)))))
 
 first-cycle-requires : tie.Need-first-cycle-requires
 first-cycle-requires c κs =
     let a = c .before .before .before .before .before .before .before .before .before .before .before .before .before .before in
     let k = c .before .before .before .before .before .reach-rows in
-    (a .pre .0, (inl refl, (omega (arith, a .pre .1 .0, k .kept .1 .1 .1 .1 .1 .0), k .ensures .0)))
+    (a .pre .0, (a .pre .1 .0, (omega (arith, a .pre .1 .1 .0, k .kept .1 .1 .1 .1 .1 .0), k .ensures .0)))
 
 same-length : tie.Need-same-length
 same-length c = search needs

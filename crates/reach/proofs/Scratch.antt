@@ -1,0 +1,31 @@
+-- Scratch arrays of zeros.
+use mathlib.Core.Path.{_≡_, refl}
+use mathlib.Core.List.{List}
+use Prim.Native.Nat.{ℕ, zero, suc, _+_, _*_, _≤_, _<_}
+use native.Mathlib.Omega.{arith}
+use native.Mathlib.Nat.{mul-le-mul}
+use lib.ListN.{length, getD, replicate, length-replicate}
+use Rattle.marks.proofs.Squares.{marks-none}
+use Rattle.reach.specs.Rows.{width, Blank, Room}
+use Rattle.reach.specs.Chains.{Empty}
+
+pub zero-at : (k i : ℕ) → getD (replicate {0} {A = ℕ} k 0) i 0 ≡ 0
+zero-at zero i = refl
+zero-at (suc k) zero = refl
+zero-at (suc k) (suc i) = zero-at k i
+
+pub long : (k : ℕ) → length (replicate {0} {A = ℕ} k 0) ≡ k
+long k = length-replicate {0} {A = ℕ} k 0
+
+-- a rows of b words
+pub zero-square : (n a b : ℕ) → n + 1 ≤ a → width n ≤ b → ((n + 1) * width n ≤ length (replicate {0} {A = ℕ} (a * b) 0)) × ((d : ℕ) → Blank n (replicate (a * b) 0) d)
+zero-square n a b h g =
+    let m : (n + 1) * width n ≤ a * b = mul-le-mul h g in
+    (omega (arith, long (a * b)), λ d q. marks-none (replicate (a * b) 0) (zero-at (a * b)) (width n) d q)
+
+module _ (n k : ℕ) where
+  pub zero-chain : 2 * n < k → (2 * n < length (replicate {0} {A = ℕ} k 0)) × Empty n (replicate k 0)
+  zero-chain h = (omega (arith, long k), λ d g. zero-at k d)
+
+  pub zero-room : (square : List ℕ) → n < k → (n + 1) * width n ≤ length square → Room n (replicate k 0) square (replicate k 0)
+  zero-room square h g = record { states = omega (arith, long k); rows = g; heights = omega (arith, long k) }

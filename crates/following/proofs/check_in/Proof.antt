@@ -1,5 +1,4 @@
-use mathlib.Core.Path.{refl}
-use mathlib.Core.Logic.{inr}
+use mathlib.Core.Logic.{inl, inr}
 use Prim.Native.Nat.{ℕ}
 use native.Mathlib.Omega.{arith}
 use lib.ListN.{length-replicate}
@@ -9,7 +8,7 @@ use Rattle.following.proofs.check_in.Statement.{statement}
 use Rattle.following.proofs.check_in.Tie as tie
 
 find-cycle-requires : tie.Need-find-cycle-requires
-find-cycle-requires c κs = let p = c .before .before .pre in (p .0, (inr refl, p .1))
+find-cycle-requires c κs = let p = c .before .before .pre in (p .0, (search (inl, inr), p .1))
 
 found-at-requires : tie.Need-found-at-requires
 found-at-requires c κs = search needs

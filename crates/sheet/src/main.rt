@@ -2,14 +2,29 @@
 use libc::STDIN_FILENO;
 use libc::STDOUT_FILENO;
 
-// A sheet has at most 65,536 bytes; one more is read, so that a longer one is refused. A print takes at most 49,188, as write_print promises.
-fn print_sheet(fd: i32) {
-    let mut text = [0u8; 65537];
+// Prints what running a text gives: at most 49,188 bytes, as write_print promises.
+fn print_text(text: &[u8]) {
     let mut print = [0u8; 49188];
-    let n = io::read_full(fd, &mut text);
-    let end = printing::write_print(&text[..n], &mut print);
+    let end = printing::write_print(text, &mut print);
     if !io::write_all(STDOUT_FILENO, &print[..end]) {
         os::fail(b"standard output");
+    }
+}
+
+// Whether the input has ended. A read that fails makes read_full stop too, and a sheet that is cut short must not be run.
+fn is_ended(fd: i32) -> bool {
+    let mut more = [0u8; 1];
+    libc::read(fd, &mut more) == 0
+}
+
+// A sheet has at most 65,536 bytes; one more is read, so that a longer one is refused.
+fn print_sheet(fd: i32) {
+    let mut text = [0u8; 65537];
+    let n = io::read_full(fd, &mut text);
+    if n == 65537 || is_ended(fd) {
+        print_text(&text[..n]);
+    } else {
+        os::fail(b"sheet");
     }
 }
 

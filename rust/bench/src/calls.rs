@@ -1,27 +1,50 @@
 //! The calls, each from the library and from the reference.
 
+use lindypo::raw;
+
 #[derive(Debug, Clone, Copy, PartialEq, Eq)]
 pub enum Call {
     Read,
+    Name,
     Plan,
     Run,
     Follow,
+}
+
+/// Whose calls.
+#[derive(Debug, Clone, Copy, PartialEq, Eq)]
+pub enum Side {
+    Library,
+    Reference,
 }
 
 /// All that a call is lent; it takes what is its own.
 pub struct Lent<'a> {
     pub text: &'a [u8],
     pub order: &'a [i64],
+    pub label: i64,
     pub table: &'a mut [i64],
     pub plan: &'a mut [i64],
     pub results: &'a mut [i64],
 }
 
-/// A call of one of the two: its count, or 0 where it refuses.
+/// A call of one of the two: its count, or 0 where it refuses; the length of a
+/// name.
 pub type Function = fn(Lent) -> usize;
 
+impl Side {
+    pub const ALL: [Side; 2] = [Side::Library, Side::Reference];
+
+    pub fn name(self) -> &'static str {
+        match self {
+            Side::Library => "library",
+            Side::Reference => "reference",
+        }
+    }
+}
+
 impl Call {
-    pub const ALL: [Call; 4] = [Call::Read, Call::Plan, Call::Run, Call::Follow];
+    pub const ALL: [Call; 5] = [Call::Read, Call::Name, Call::Plan, Call::Run, Call::Follow];
 
     /// Those that plan or go by a plan, and those that evaluate.
     pub const PLANNED: [Call; 3] = [Call::Plan, Call::Run, Call::Follow];
@@ -31,26 +54,41 @@ impl Call {
         format!("{self:?}")
     }
 
-    pub fn library(self) -> Function {
+    /// The call of this name, in capitals or not.
+    pub fn named(word: &str) -> Option<Call> {
+        let is_meant = |call: &Call| call.name().eq_ignore_ascii_case(word);
+        Call::ALL.into_iter().find(is_meant)
+    }
+
+    pub fn function(self, side: Side) -> Function {
+        match side {
+            Side::Library => self.library(),
+            Side::Reference => self.reference(),
+        }
+    }
+
+    fn library(self) -> Function {
         match self {
-            Call::Read => |lent| lindypo::read(lent.text, lent.table).unwrap_or(0),
+            Call::Read => |lent| raw::read(lent.text, lent.table).unwrap_or(0),
+            Call::Name => |lent| raw::name(lent.text, lent.table, lent.label).len(),
             Call::Plan => |lent| {
-                let answer = lindypo::plan(lent.text, lent.table, lent.plan);
+                let answer = raw::plan(lent.text, lent.table, lent.plan);
                 answer.map_or(0, |(length, _)| length)
             },
             Call::Run => |lent| {
-                let answer = lindypo::run(lent.text, lent.table, lent.plan, lent.results);
+                let answer = raw::run(lent.text, lent.table, lent.plan, lent.results);
                 answer.map_or(0, |(length, _)| length)
             },
             Call::Follow => {
-                |lent| lindypo::follow(lent.text, lent.order, lent.table, lent.results).unwrap_or(0)
+                |lent| raw::follow(lent.text, lent.order, lent.table, lent.results).unwrap_or(0)
             }
         }
     }
 
-    pub fn reference(self) -> Function {
+    fn reference(self) -> Function {
         match self {
             Call::Read => |lent| reference::read(lent.text, lent.table).unwrap_or(0),
+            Call::Name => |lent| reference::name(lent.text, lent.table, lent.label).len(),
             Call::Plan => |lent| {
                 let answer = reference::plan(lent.text, lent.table, lent.plan);
                 answer.map_or(0, |(length, _)| length)

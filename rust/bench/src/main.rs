@@ -1,6 +1,6 @@
 //! `cargo run --release -p bench`: the proved library's time beside the Rust
 //! reference's, for every call. Words choose: the names of calls, and parts of
-//! the names of sheets (`-- plan tangled`, `-- run growth`).
+//! the names of sheets (`-- plan tangled`, `-- run growth`, `-- instructions`).
 //!
 //! Both are release builds and get the same sheets and the same buffers, just
 //! long enough, which both clear; Follow gets the plan. Rounds of the library
@@ -13,6 +13,7 @@
 #![forbid(unsafe_code)]
 
 mod calls;
+mod instructions;
 mod measure;
 mod workloads;
 
@@ -20,6 +21,7 @@ use std::env;
 use std::process::ExitCode;
 
 use calls::Call;
+use instructions::CALLS_ONLY;
 use measure::{measure, Times, ROUNDS};
 use workloads::{growths, workloads, Growth, Workload};
 
@@ -41,10 +43,7 @@ struct Choice {
 
 impl Choice {
     fn new(words: impl Iterator<Item = String>) -> Self {
-        let call_of = |word: &String| {
-            let is_meant = |call: &Call| call.name().eq_ignore_ascii_case(word);
-            Call::ALL.into_iter().find(is_meant)
-        };
+        let call_of = |word: &String| Call::named(word);
         let (names, words): (Vec<_>, Vec<_>) = words.partition(|word| call_of(word).is_some());
         let calls = names.iter().filter_map(call_of).collect();
         Choice { calls, words }
@@ -61,12 +60,23 @@ impl Choice {
 }
 
 fn main() -> ExitCode {
-    let choice = Choice::new(env::args().skip(1));
+    let words: Vec<String> = env::args().skip(1).collect();
+    match words.split_first() {
+        Some((word, rest)) if word == CALLS_ONLY => {
+            let made = instructions::make_calls(rest);
+            made.map_or(ExitCode::FAILURE, |()| ExitCode::SUCCESS)
+        }
+        _ => measure_all(&Choice::new(words.into_iter())),
+    }
+}
+
+fn measure_all(choice: &Choice) -> ExitCode {
     let (workloads, growths) = (workloads(), growths());
     let mut measured = 0;
     for call in Call::ALL.into_iter().filter(|&call| choice.has_call(call)) {
-        measured += compare(call, &choice, &workloads);
-        measured += grow(call, &choice, &growths);
+        measured += compare(call, choice, &workloads);
+        measured += grow(call, choice, &growths);
+        measured += count(call, choice);
     }
     if measured > 0 {
         return ExitCode::SUCCESS;
@@ -139,6 +149,25 @@ fn grow(call: Call, choice: &Choice, growths: &[Growth]) -> usize {
     }
     println!();
     growths.len()
+}
+
+/// Prints the instructions of a call, where they are chosen; says how many.
+fn count(call: Call, choice: &Choice) -> usize {
+    if !choice.has_sheet("instructions") {
+        return 0;
+    }
+    println!(
+        "{:<WIDTH$} {:>6} {:>7} {:>9} {:>10} {:>6}",
+        format!("{}, instructions", call.name()),
+        "lines",
+        "bytes",
+        "library",
+        "reference",
+        "ratio"
+    );
+    instructions::print(call, WIDTH);
+    println!();
+    1
 }
 
 fn print_growth(growth: &Growth, times: &[Times]) {

@@ -3,7 +3,7 @@
 use std::hint::black_box;
 use std::time::Instant;
 
-use crate::calls::{Call, Function, Lent};
+use crate::calls::{Call, Function, Lent, Side};
 use crate::workloads::{Sheet, Workload};
 
 /// The rounds of a pass that count, and those before.
@@ -42,7 +42,10 @@ impl Times {
 
 /// The shortest times of each workload, in several passes through all of them.
 pub fn measure(call: Call, workloads: &[&Workload], passes: usize) -> Vec<Times> {
-    let mut jobs: Vec<Job> = workloads.iter().map(|work| Job::new(call, work)).collect();
+    let mut jobs: Vec<Job> = workloads
+        .iter()
+        .map(|work| Job::timed(call, work))
+        .collect();
     let mut shortest = vec![Times::MAX; jobs.len()];
     for _ in 0..passes {
         for (job, shortest) in jobs.iter_mut().zip(&mut shortest) {
@@ -58,7 +61,7 @@ pub fn measure(call: Call, workloads: &[&Workload], passes: usize) -> Vec<Times>
 }
 
 /// A call on a workload, with the buffers that both are lent.
-struct Job<'a> {
+pub struct Job<'a> {
     call: Call,
     sheets: &'a [Sheet],
     table: Vec<i64>,
@@ -69,42 +72,51 @@ struct Job<'a> {
 }
 
 impl<'a> Job<'a> {
-    fn new(call: Call, workload: &'a Workload) -> Self {
+    pub fn new(call: Call, workload: &'a Workload) -> Self {
         let lines = workload.lines();
-        let mut job = Job {
+        Job {
             call,
             sheets: &workload.sheets,
             table: vec![0; 8 * lines],
             plan: vec![0; lines],
             results: vec![0; 3 * lines],
             turns: 1,
-        };
-        let once = job.time(call.reference()) * job.sheets.len() as f64;
+        }
+    }
+
+    /// One whose rounds take long enough for a clock.
+    fn timed(call: Call, workload: &'a Workload) -> Self {
+        let mut job = Job::new(call, workload);
+        let once = job.time(call.function(Side::Reference)) * job.sheets.len() as f64;
         job.turns = (ROUND / once).ceil() as usize;
         job
     }
 
     fn round(&mut self) -> Times {
-        Times {
-            library: self.time(self.call.library()),
-            reference: self.time(self.call.reference()),
-        }
+        let [library, reference] = Side::ALL.map(|side| self.time(self.call.function(side)));
+        Times { library, reference }
     }
 
     /// Seconds a call.
     fn time(&mut self, function: Function) -> f64 {
         let start = Instant::now();
         for _ in 0..self.turns {
-            for sheet in self.sheets {
-                black_box(function(black_box(Lent {
-                    text: &sheet.text,
-                    order: &sheet.order,
-                    table: &mut self.table,
-                    plan: &mut self.plan,
-                    results: &mut self.results,
-                })));
-            }
+            self.go_through(function);
         }
         start.elapsed().as_secs_f64() / (self.turns * self.sheets.len()) as f64
+    }
+
+    /// The call on each sheet.
+    pub fn go_through(&mut self, function: Function) {
+        for sheet in self.sheets {
+            black_box(function(black_box(Lent {
+                text: &sheet.text,
+                order: &sheet.order,
+                label: sheet.label,
+                table: &mut self.table,
+                plan: &mut self.plan,
+                results: &mut self.results,
+            })));
+        }
     }
 }

@@ -10,10 +10,12 @@ const LINES: [usize; 3] = [60, 250, 1_024];
 /// How many different sheets are taken in turn.
 const SHEETS: u64 = 16;
 
-/// A sheet and the order for Follow: the plan, or none where there is none.
+/// A sheet, the order for Follow (the plan, or none where there is none) and
+/// the label for Name, the last one that has a name.
 pub struct Sheet {
     pub text: Vec<u8>,
     pub order: Vec<i64>,
+    pub label: i64,
 }
 
 impl Sheet {
@@ -22,7 +24,8 @@ impl Sheet {
         let (mut table, mut order) = (vec![0; 8 * lines], vec![0; lines]);
         let planned = reference::plan(&text, &mut table, &mut order);
         order.truncate(planned.map_or(0, |(length, _)| length));
-        Sheet { text, order }
+        let label = 1 + table.chunks(8).rposition(|cells| cells[2] > 0).unwrap_or(0) as i64;
+        Sheet { text, order, label }
     }
 }
 
@@ -73,6 +76,12 @@ pub fn workloads() -> Vec<Workload> {
     list.extend(shapes());
     list.extend([7, 9, 15, 16].map(refused));
     list
+}
+
+/// The sheets whose instructions are counted.
+pub fn counted() -> [Workload; 2] {
+    let example = Workload::one("the paper's example", &Call::ALL, example());
+    [example, Workload::everyday(1_024, 1)]
 }
 
 fn example() -> Vec<u8> {

@@ -64,8 +64,8 @@ typedef struct {
      * list, which is then the same, from Follow. 0 in a refusal. */
     uint64_t count;
     /* Of the plan, from Plan and Run: 1 whole, the values of every Group stand
-     * together; 2 mixed, no order can have that. 0 in a refusal and from Read
-     * and Follow. */
+     * together; 2 mixed, no order that has each value after those it reaches can
+     * have that. 0 in a refusal and from Read and Follow. */
     uint64_t order;
 } lindypo_reply;
 

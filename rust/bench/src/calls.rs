@@ -33,18 +33,18 @@ impl Call {
 
     pub fn library(self) -> Function {
         match self {
-            Call::Read => |lent| lindypo::read(lent.text, lent.table).unwrap_or(0),
+            Call::Read => |lent| lindypo::raw::read(lent.text, lent.table).unwrap_or(0),
             Call::Plan => |lent| {
-                let answer = lindypo::plan(lent.text, lent.table, lent.plan);
+                let answer = lindypo::raw::plan(lent.text, lent.table, lent.plan);
                 answer.map_or(0, |(length, _)| length)
             },
             Call::Run => |lent| {
-                let answer = lindypo::run(lent.text, lent.table, lent.plan, lent.results);
+                let answer = lindypo::raw::run(lent.text, lent.table, lent.plan, lent.results);
                 answer.map_or(0, |(length, _)| length)
             },
-            Call::Follow => {
-                |lent| lindypo::follow(lent.text, lent.order, lent.table, lent.results).unwrap_or(0)
-            }
+            Call::Follow => |lent| {
+                lindypo::raw::follow(lent.text, lent.order, lent.table, lent.results).unwrap_or(0)
+            },
         }
     }
 

@@ -1,6 +1,6 @@
 //! The calls that reply, each from the library and from the reference.
 
-use lindypo::Reply;
+use lindypo::raw::Reply;
 use reference::{Order, Refusal};
 
 #[derive(Debug, Clone, Copy, PartialEq, Eq)]
@@ -41,10 +41,10 @@ impl Call {
             results,
         } = lent;
         match self {
-            Call::Read => lindypo::read_reply(text, table),
-            Call::Plan => lindypo::plan_reply(text, table, plan),
-            Call::Run => lindypo::run_reply(text, table, plan, results),
-            Call::Follow => lindypo::follow_reply(text, order, table, results),
+            Call::Read => lindypo::raw::read_reply(text, table),
+            Call::Plan => lindypo::raw::plan_reply(text, table, plan),
+            Call::Run => lindypo::raw::run_reply(text, table, plan, results),
+            Call::Follow => lindypo::raw::follow_reply(text, order, table, results),
         }
     }
 

@@ -1,6 +1,6 @@
 //! One trial of all the calls.
 
-use lindypo::{Part, Reply};
+use lindypo::raw::{Part, Reply};
 
 use crate::calls::{Call, Lent};
 use crate::lent::{LentCells, LentPart, SURROUNDINGS};
@@ -204,7 +204,7 @@ fn compare_name(
     wanted_table: &[i64],
 ) -> Result<(), String> {
     let WantedName { label, part } = wanted;
-    let given = lindypo::name_part(text, table.lend(), *label);
+    let given = lindypo::raw::name_part(text, table.lend(), *label);
     if given != *part {
         return Err(format!("Name {label} gave {given:?}, wanted {part:?}"));
     }

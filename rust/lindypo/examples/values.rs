@@ -2,31 +2,30 @@
 
 use std::process::ExitCode;
 
+use lindypo::{Refusal, Sheet};
+
 fn main() -> ExitCode {
     let Some(path) = std::env::args().nth(1) else {
         eprintln!("the file of a sheet, please");
         return ExitCode::from(2);
     };
     let text = std::fs::read(path).expect("a file that can be read");
-    let (mut table, mut plan, mut results) = ([0; 8 * 1024], [0; 1024], [0; 3 * 1024]);
-    let (count, order) = match lindypo::run(&text, &mut table, &mut plan, &mut results) {
-        Ok(answer) => answer,
-        Err(lindypo::Refusal { number, place }) => {
-            println!("refusal {number} at {place}");
-            return ExitCode::FAILURE;
+    match print_values(&text) {
+        Ok(()) => ExitCode::SUCCESS,
+        Err(refusal) => {
+            println!("{refusal}");
+            ExitCode::FAILURE
         }
-    };
-    let order = match order {
-        lindypo::Order::Whole => "whole",
-        lindypo::Order::Mixed => "mixed",
-    };
-    println!("{count} values, {order}");
-    for label in plan[..count].iter().map(|&label| label as usize) {
-        let line = &table[8 * (label - 1)..];
-        let name = String::from_utf8_lossy(&text[line[1] as usize..][..line[2] as usize]);
-        let result = &results[3 * (label - 1)..];
-        let (state, number, steps) = (result[0], result[1], result[2]);
-        println!("{name}: state {state}, number {number}, {steps} steps");
     }
-    ExitCode::SUCCESS
+}
+
+fn print_values(text: &[u8]) -> Result<(), Refusal> {
+    let sheet = Sheet::read(text)?;
+    let run = sheet.run()?;
+    println!("{} values, {}", run.plan.labels.len(), run.plan.order);
+    for (label, outcome) in run.values() {
+        let name = sheet.full_name(label);
+        println!("{name}: {} in {} steps", outcome.state, outcome.steps);
+    }
+    Ok(())
 }

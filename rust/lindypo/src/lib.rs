@@ -1,250 +1,66 @@
-//! Lindypo's calls from Rust: safe functions over the proved static library
-//! that `rt staticlib lindypo` makes.
+//! Order sheets of a lens laboratory: read, planned and evaluated by proved
+//! code.
 //!
-//! A call takes every text, order list, label and length of buffer, and writes
-//! every cell of the buffers: what an answer does not use is 0, and a refusal
-//! leaves zeros throughout. It allocates nothing and runs in a thread stack of
-//! 2 MiB. For n labels the table needs 8n cells, a plan n, results 3n; 1,024
-//! labels at most.
+//! A sheet is a small program: values and functions in nested Groups that name
+//! each other by dotted paths. [`Sheet::read`] judges its text; the sheet then
+//! gives its lines and names, its [`Plan`], and its results, by the plan or by
+//! an order of the caller's.
 //!
-//! Each call is here twice: in Rust's types, and with its reply as the C
-//! interface gives it.
+//! ```
+//! use lindypo::{Order, Sheet, State};
+//!
+//! let sheet = Sheet::read(
+//!     b"kind name a b c\n\
+//!       G - 0 - -\n\
+//!       V total 1 4 -\n\
+//!       V part 1 7 -\n\
+//!       D - 5 6 -\n\
+//!       R part - - -\n\
+//!       N - 2 - -\n\
+//!       N - 7 - -\n",
+//! )?;
+//! let run = sheet.run()?;
+//! assert_eq!(run.plan.order, Order::Whole);
+//! for (label, outcome) in run.values() {
+//!     println!("{}: {} in {} steps", sheet.full_name(label), outcome.state, outcome.steps);
+//! }
+//! let total = sheet.find("total").unwrap();
+//! assert_eq!(run.results.of(total).unwrap().state, State::Number(4));
+//! # Ok::<(), lindypo::Refusal>(())
+//! ```
+//!
+//! A sheet that breaks a rule is refused. The [`Refusal`] has the number and
+//! the place that the library proves, and says in words what is wrong and where:
+//!
+//! ```
+//! use lindypo::{Refusal, Sheet};
+//!
+//! let refusal = Sheet::read(b"kind name a b c\nG - 0 - -\nV x 1 3 -\nR y - - -\n").unwrap_err();
+//! assert!(matches!(refusal, Refusal::Head(_)));
+//! assert_eq!((refusal.number(), refusal.place()), (13, 3));
+//! assert_eq!((refusal.line(), refusal.column()), (Some(4), Some(3)));
+//! assert_eq!(
+//!     refusal.to_string(),
+//!     "refusal 13, line 4, column 3: the outermost Group has no member `y`"
+//! );
+//! ```
+//!
+//! What is proved is what the static library gives: whether a sheet is refused,
+//! by which number and at which place; every cell of the table, of the plan and
+//! of the results. The types here carry that and add words. The library's own
+//! calls, over buffers of the caller's, are in [`raw`].
 
-mod exports;
-mod reply;
+mod answer;
+mod diagnosis;
+mod line;
+pub mod raw;
+mod refusal;
+mod sheet;
 
-pub use reply::{Order, Part, Refusal, Reply};
+pub use answer::{Order, Outcome, Plan, Results, Run, State};
+pub use line::{Kind, Line};
+pub use refusal::{Fault, Mark, Refusal};
+pub use sheet::Sheet;
 
-/// Read: writes the table and answers the number n of labels.
-///
-/// The table then holds eight cells for each label: kind code, name start,
-/// name length, a, b, c, owner and target; and zeros after these 8n. A refusal
-/// leaves zeros through the whole table.
-///
-/// ```
-/// let sheet = b"kind name a b c\nG - 0 - -\nV x 1 3 -\nN - 7 - -\n";
-/// let mut table = [-1; 25];
-/// assert_eq!(lindypo::read(sheet, &mut table), Ok(3));
-/// assert_eq!(table[..8], [1, 0, 0, 0, 0, 0, 0, 0]);
-/// assert_eq!(table[8..16], [2, 28, 1, 1, 3, 0, 1, 0]);
-/// assert_eq!(table[16..24], [4, 0, 0, 7, 0, 0, 2, 0]);
-/// assert_eq!(table[24], 0);
-///
-/// let unused = b"kind name a b c\nG - 0 - -\nN - 7 - -\n";
-/// let refusal = lindypo::Refusal { number: 9, place: 2 };
-/// assert_eq!(lindypo::read(unused, &mut table), Err(refusal));
-/// assert_eq!(table, [0; 25]);
-/// ```
-pub fn read(text: &[u8], table: &mut [i64]) -> Result<usize, Refusal> {
-    read_reply(text, table).counted()
-}
-
-/// `read` with its reply as the C interface gives it.
-///
-/// ```
-/// let reply = lindypo::read_reply(b"kind name a b c\nG - 0 - -\n", &mut [0; 7]);
-/// let too_short = lindypo::Reply { refusal: 4, place: 1, count: 0, order: 0 };
-/// assert_eq!(reply, too_short);
-/// ```
-pub fn read_reply(text: &[u8], table: &mut [i64]) -> Reply {
-    // SAFETY: the function asks nothing of its arguments but that each pointer
-    // and length are those of a slice, the table's lent to it alone. An empty
-    // slice, too, has a pointer that is not null and is aligned.
-    unsafe { exports::lindypo_read(text.as_ptr(), text.len(), table.as_mut_ptr(), table.len()) }
-}
-
-/// Name: writes the table as `read` does and hands back the label's name field
-/// as that very part of the text. It is empty where `read` would refuse, where
-/// the label is not from 1 to n, and where the field is `-`.
-///
-/// ```
-/// let sheet = b"kind name a b c\nG - 0 - -\nG right 1 - -\n";
-/// let mut table = [0; 16];
-/// let name = lindypo::name(sheet, &mut table, 2);
-/// assert_eq!(name, b"right");
-/// assert_eq!(name.as_ptr(), sheet[28..].as_ptr());
-/// assert_eq!(table[8..], [1, 28, 5, 1, 0, 0, 1, 0]);
-///
-/// assert_eq!(lindypo::name(sheet, &mut table, 1), b"");
-/// assert_eq!(lindypo::name(sheet, &mut table, 3), b"");
-/// ```
-pub fn name<'a>(text: &'a [u8], table: &mut [i64], label: i64) -> &'a [u8] {
-    name_part(text, table, label).of(text)
-}
-
-/// `name` with the part as the C interface gives it.
-///
-/// ```
-/// let sheet = b"kind name a b c\nG - 0 - -\nG right 1 - -\n";
-/// let part = lindypo::name_part(sheet, &mut [0; 16], 2);
-/// assert_eq!(part, lindypo::Part { start: 28, length: 5 });
-/// ```
-pub fn name_part(text: &[u8], table: &mut [i64], label: i64) -> Part {
-    let (cells, length) = (table.as_mut_ptr(), table.len());
-    // SAFETY: as for `read_reply`; every label will do.
-    unsafe { exports::lindypo_name(text.as_ptr(), text.len(), cells, length, label) }
-}
-
-/// Plan: writes the table as `read` does, and the plan: the labels of all
-/// values, each after every value that it reaches, then zeros. Answers how many
-/// there are and whether the plan is whole or mixed.
-///
-/// ```
-/// use lindypo::{Order, Refusal};
-///
-/// let sheet = b"kind name a b c\n\
-///     G - 0 - -\n\
-///     V total 1 3 -\n\
-///     R part - - -\n\
-///     V part 1 5 -\n\
-///     N - 7 - -\n";
-/// let (mut table, mut plan) = ([0; 40], [-1; 5]);
-/// assert_eq!(lindypo::plan(sheet, &mut table, &mut plan), Ok((2, Order::Whole)));
-/// assert_eq!(plan, [4, 2, 0, 0, 0]);
-///
-/// let itself = b"kind name a b c\nG - 0 - -\nV x 1 3 -\nR x - - -\n";
-/// let refusal = Refusal { number: 16, place: 2 };
-/// assert_eq!(lindypo::plan(itself, &mut table, &mut plan), Err(refusal));
-/// assert_eq!(plan, [0; 5]);
-/// ```
-pub fn plan(text: &[u8], table: &mut [i64], plan: &mut [i64]) -> Result<(usize, Order), Refusal> {
-    plan_reply(text, table, plan).planned()
-}
-
-/// `plan` with its reply as the C interface gives it.
-///
-/// ```
-/// let sheet = b"kind name a b c\nG - 0 - -\n";
-/// let reply = lindypo::plan_reply(sheet, &mut [0; 8], &mut [0; 1]);
-/// let whole = lindypo::Reply { refusal: 0, place: 0, count: 0, order: 1 };
-/// assert_eq!(reply, whole);
-/// ```
-pub fn plan_reply(text: &[u8], table: &mut [i64], plan: &mut [i64]) -> Reply {
-    // SAFETY: as for `read_reply`; table and plan are two slices, each lent to
-    // the function alone.
-    unsafe {
-        exports::lindypo_plan(
-            text.as_ptr(),
-            text.len(),
-            table.as_mut_ptr(),
-            table.len(),
-            plan.as_mut_ptr(),
-            plan.len(),
-        )
-    }
-}
-
-/// Run: writes table and plan as `plan` does, evaluates the values down the
-/// plan and writes the results. Answers as `plan` does.
-///
-/// The results then hold three cells for each label: state, number and steps;
-/// zeros for a line that is no value, and after these 3n. States are 1 a
-/// number, 2 out of the number range, 3 divided by zero, 4 no step left of
-/// 20,000, 5 a call at depth 64; the number is 0 where the state is not 1.
-///
-/// ```
-/// use lindypo::Order;
-///
-/// let sheet = b"kind name a b c\n\
-///     G - 0 - -\n\
-///     V x 1 3 -\n\
-///     D - 4 5 -\n\
-///     N - 7 - -\n\
-///     N - 2 - -\n";
-/// let (mut table, mut plan, mut results) = ([0; 40], [0; 5], [-1; 16]);
-/// let answer = lindypo::run(sheet, &mut table, &mut plan, &mut results);
-/// assert_eq!(answer, Ok((1, Order::Whole)));
-/// assert_eq!(plan, [2, 0, 0, 0, 0]);
-/// assert_eq!(results[3..6], [1, 4, 3]);
-/// assert_eq!(results[6..], [0; 10]);
-/// ```
-pub fn run(
-    text: &[u8],
-    table: &mut [i64],
-    plan: &mut [i64],
-    results: &mut [i64],
-) -> Result<(usize, Order), Refusal> {
-    run_reply(text, table, plan, results).planned()
-}
-
-/// `run` with its reply as the C interface gives it.
-///
-/// ```
-/// let sheet = b"kind name a b c\nG - 0 - -\n";
-/// let reply = lindypo::run_reply(sheet, &mut [0; 8], &mut [0; 1], &mut [0; 2]);
-/// let too_short = lindypo::Reply { refusal: 4, place: 3, count: 0, order: 0 };
-/// assert_eq!(reply, too_short);
-/// ```
-pub fn run_reply(text: &[u8], table: &mut [i64], plan: &mut [i64], results: &mut [i64]) -> Reply {
-    // SAFETY: as for `plan_reply`, with one slice more.
-    unsafe {
-        exports::lindypo_run(
-            text.as_ptr(),
-            text.len(),
-            table.as_mut_ptr(),
-            table.len(),
-            plan.as_mut_ptr(),
-            plan.len(),
-            results.as_mut_ptr(),
-            results.len(),
-        )
-    }
-}
-
-/// Follow: writes table and results as `run` does, down an order of the
-/// caller's in place of a plan. Answers its length.
-///
-/// The order has to list every value once, each after every value that it
-/// reaches; the results are then those of `run`, whichever such order it is.
-///
-/// ```
-/// use lindypo::Refusal;
-///
-/// let sheet = b"kind name a b c\n\
-///     G - 0 - -\n\
-///     V total 1 3 -\n\
-///     R part - - -\n\
-///     V part 1 5 -\n\
-///     N - 7 - -\n";
-/// let (mut table, mut results) = ([0; 40], [0; 15]);
-/// assert_eq!(lindypo::follow(sheet, &[4, 2], &mut table, &mut results), Ok(2));
-/// assert_eq!(results, [0, 0, 0, 1, 7, 1, 0, 0, 0, 1, 7, 1, 0, 0, 0]);
-///
-/// let early = Refusal { number: 18, place: 1 };
-/// assert_eq!(lindypo::follow(sheet, &[2, 4], &mut table, &mut results), Err(early));
-/// let missing = Refusal { number: 17, place: 2 };
-/// assert_eq!(lindypo::follow(sheet, &[4], &mut table, &mut results), Err(missing));
-/// assert_eq!(results, [0; 15]);
-/// ```
-pub fn follow(
-    text: &[u8],
-    order: &[i64],
-    table: &mut [i64],
-    results: &mut [i64],
-) -> Result<usize, Refusal> {
-    follow_reply(text, order, table, results).counted()
-}
-
-/// `follow` with its reply as the C interface gives it.
-///
-/// ```
-/// let sheet = b"kind name a b c\nG - 0 - -\n";
-/// let reply = lindypo::follow_reply(sheet, &[1], &mut [0; 8], &mut [0; 3]);
-/// let no_value = lindypo::Reply { refusal: 17, place: 1, count: 0, order: 0 };
-/// assert_eq!(reply, no_value);
-/// ```
-pub fn follow_reply(text: &[u8], order: &[i64], table: &mut [i64], results: &mut [i64]) -> Reply {
-    // SAFETY: as for `plan_reply`; the order is read only.
-    unsafe {
-        exports::lindypo_follow(
-            text.as_ptr(),
-            text.len(),
-            order.as_ptr(),
-            order.len(),
-            table.as_mut_ptr(),
-            table.len(),
-            results.as_mut_ptr(),
-            results.len(),
-        )
-    }
-}
+/// Counts the lines after line one from 1: label k stands in line k + 1.
+pub type Label = usize;

@@ -9,7 +9,7 @@ const NO_LABELS: [i64; 5] = [i64::MIN, -1, 0, 1_025, i64::MAX];
 #[test]
 fn the_example_in_full() {
     let mut table = vec![RUBBISH; 8 * 14 + 3];
-    assert_eq!(lindypo::read(&example(), &mut table), Ok(14));
+    assert_eq!(lindypo::raw::read(&example(), &mut table), Ok(14));
     let rows: Vec<&[i64]> = table.chunks(8).collect();
     assert_eq!(rows[0], [1, 0, 0, 0, 0, 0, 0, 0]);
     assert_eq!(rows[1], [2, 28, 5, 1, 6, 0, 1, 0]);
@@ -26,15 +26,15 @@ fn names_are_parts_of_the_text() {
     let mut table = vec![RUBBISH; 8 * 14];
     let wanted = [(2, 28, "total"), (7, 96, "right.prism"), (8, 0, "")];
     for (label, start, name) in wanted {
-        let part = lindypo::name(&text, &mut table, label);
+        let part = lindypo::raw::name(&text, &mut table, label);
         assert_eq!(part, name.as_bytes(), "label {label}");
         assert_eq!(part.as_ptr(), text[start..].as_ptr(), "label {label}");
     }
     for label in NO_LABELS.into_iter().chain([15]) {
-        assert_eq!(lindypo::name(&text, &mut table, label), b"");
+        assert_eq!(lindypo::raw::name(&text, &mut table, label), b"");
         assert_eq!(table[0], 1, "the table is as Read leaves it");
     }
-    assert_eq!(lindypo::name(&text, &mut table[1..], 2), b"");
+    assert_eq!(lindypo::raw::name(&text, &mut table[1..], 2), b"");
     assert_eq!(table[1..], [0; 8 * 14 - 1]);
-    assert_eq!(lindypo::name(b"", &mut [], 1), b"");
+    assert_eq!(lindypo::raw::name(b"", &mut [], 1), b"");
 }

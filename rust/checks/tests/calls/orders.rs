@@ -2,7 +2,7 @@
 
 use checks::Trial;
 use generator::Rng;
-use lindypo::Refusal;
+use lindypo::raw::Refusal;
 
 use crate::{plan_of, sheets, Buffers, RUBBISH};
 
@@ -13,7 +13,7 @@ fn followed(text: &[u8], order: &[i64]) -> Result<Vec<i64>, Refusal> {
         mut results,
         ..
     } = Buffers::new(text);
-    lindypo::follow(text, order, &mut table, &mut results).map(|length| {
+    lindypo::raw::follow(text, order, &mut table, &mut results).map(|length| {
         assert_eq!(length, order.len());
         results
     })
@@ -26,7 +26,7 @@ fn run(text: &[u8]) -> Vec<i64> {
         mut plan,
         mut results,
     } = Buffers::new(text);
-    let answer = lindypo::run(text, &mut table, &mut plan, &mut results);
+    let answer = lindypo::raw::run(text, &mut table, &mut plan, &mut results);
     answer.expect("a sheet that runs");
     results
 }

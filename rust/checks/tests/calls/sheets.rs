@@ -3,7 +3,8 @@
 use std::fs;
 use std::path::Path;
 
-use lindypo::{Order, Refusal};
+use lindypo::raw::Refusal;
+use lindypo::Order;
 
 use crate::{agree, example, is_sheet, plan_of, sheet_files, Buffers};
 
@@ -51,7 +52,7 @@ fn print(text: &[u8]) -> String {
         mut plan,
         mut results,
     } = Buffers::new(text);
-    match lindypo::run(text, &mut table, &mut plan, &mut results) {
+    match lindypo::raw::run(text, &mut table, &mut plan, &mut results) {
         Ok((length, order)) => {
             let order = match order {
                 Order::Whole => "whole",
@@ -92,9 +93,12 @@ fn the_example_run() {
         plan,
         results,
     } = &mut buffers;
-    assert_eq!(lindypo::plan(&text, table, plan), Ok((3, Order::Whole)));
+    assert_eq!(
+        lindypo::raw::plan(&text, table, plan),
+        Ok((3, Order::Whole))
+    );
     assert_eq!(plan[..4], [5, 4, 2, 0]);
-    let answer = lindypo::run(&text, table, plan, results);
+    let answer = lindypo::raw::run(&text, table, plan, results);
     assert_eq!(answer, Ok((3, Order::Whole)));
     assert_eq!(plan[..4], [5, 4, 2, 0]);
     let wanted = [0, 0, 0, 1, -28, 3, 0, 0, 0, 1, -33, 5, 1, -325, 1, 0];
@@ -102,7 +106,10 @@ fn the_example_run() {
     assert_eq!(results[16..], [0; 26]);
     let of_run = results.clone();
     results.fill(-1);
-    assert_eq!(lindypo::follow(&text, &[5, 4, 2], table, results), Ok(3));
+    assert_eq!(
+        lindypo::raw::follow(&text, &[5, 4, 2], table, results),
+        Ok(3)
+    );
     assert_eq!(*results, of_run);
     assert_eq!(plan_of(&text), [5, 4, 2]);
 }

@@ -1,7 +1,7 @@
 //! Texts of all sorts, one byte changed at a time and at the edges.
 
 use generator::late_refusal;
-use lindypo::Refusal;
+use lindypo::raw::Refusal;
 
 use crate::{agree, example, refusal, sheets, RUBBISH};
 
@@ -15,11 +15,11 @@ const BYTES: [u8; 16] = [
 fn a_refusal_has_its_number_and_place() {
     let mut table = vec![RUBBISH; 16];
     let refusal = |number, place| Err(Refusal { number, place });
-    assert_eq!(lindypo::read(b"", &mut []), refusal(1, 0));
-    assert_eq!(lindypo::read(&example(), &mut table), refusal(4, 1));
+    assert_eq!(lindypo::raw::read(b"", &mut []), refusal(1, 0));
+    assert_eq!(lindypo::raw::read(&example(), &mut table), refusal(4, 1));
     assert_eq!(table, [0; 16]);
     let text = b"kind name a b c\nG - 0 - -\nX - - - -\n";
-    assert_eq!(lindypo::read(text, &mut table), refusal(6, 2));
+    assert_eq!(lindypo::raw::read(text, &mut table), refusal(6, 2));
 }
 
 /// Rows 5 to 16 at the end of 1,024 lines.

@@ -1,4 +1,6 @@
-//! What the calls answer: as the C interface has it, and in Rust's types.
+//! What the calls answer: as the C interface has it, and as a `Result`.
+
+use crate::Order;
 
 /// A refusal: its number and its place in document 01's table.
 #[derive(Debug, Clone, Copy, PartialEq, Eq)]
@@ -9,15 +11,6 @@ pub struct Refusal {
     /// table, 2 plan, 3 results; a label (5 to 16); a position in the order
     /// list, counted from 1 (17 and 18).
     pub place: u64,
-}
-
-/// Whether a plan keeps the values of every Group together.
-#[derive(Debug, Clone, Copy, PartialEq, Eq)]
-pub enum Order {
-    /// For every Group the values in it, at any depth, stand together.
-    Whole,
-    /// No order that lists each value after those it reaches can do that.
-    Mixed,
 }
 
 /// A reply as the C interface gives it.

@@ -3,7 +3,7 @@
 //! A slice passes as a pointer and a length. Nothing compares these
 //! declarations with the Rattle source: the tests of `checks` do.
 
-use crate::{Part, Reply};
+use super::{Part, Reply};
 
 extern "C" {
     pub fn lindypo_read(

@@ -1,0 +1,65 @@
+//! The forms of a field, and which form each kind wants.
+
+use crate::Kind;
+
+#[derive(Clone, Copy, PartialEq, Eq)]
+pub enum Form {
+    Missing,
+    Name,
+    Path,
+    Label,
+    Number,
+}
+
+impl Form {
+    /// The forms of name, a, b and c.
+    pub fn wanted(kind: Kind) -> [Form; 4] {
+        use Form::{Label, Missing, Name, Number, Path};
+        match kind {
+            Kind::Group => [Name, Label, Missing, Missing],
+            Kind::Value | Kind::Function => [Name, Label, Label, Missing],
+            Kind::Number => [Missing, Number, Missing, Missing],
+            Kind::Argument => [Missing; 4],
+            Kind::Read => [Path, Missing, Missing, Missing],
+            Kind::Call => [Path, Label, Missing, Missing],
+            Kind::Choice => [Missing, Label, Label, Label],
+            _ => [Missing, Label, Label, Missing],
+        }
+    }
+
+    /// Whether a field of a sheet with `count` labels has the form.
+    pub fn fits(self, field: &str, count: usize) -> bool {
+        match self {
+            Form::Missing => field == "-",
+            Form::Name => is_name(field),
+            Form::Path => field.split('.').count() <= 8 && field.split('.').all(is_name),
+            Form::Label => is_written(field, 1, count as i64),
+            Form::Number => is_written(field, -1_000_000_000, 1_000_000_000),
+        }
+    }
+
+    /// What the form is, after "wanted is".
+    pub fn words(self, count: usize) -> String {
+        match self {
+            Form::Missing => "`-`, a missing field".to_string(),
+            Form::Name => "a name: 1 to 16 letters or digits, a letter first".to_string(),
+            Form::Path => "a path: 1 to 8 names joined by dots".to_string(),
+            Form::Label => format!("a label: 1 to {count}, without a leading zero"),
+            Form::Number => "a number: -1000000000 to 1000000000, \
+                             without a leading zero, a plus sign or `-0`"
+                .to_string(),
+        }
+    }
+}
+
+fn is_name(field: &str) -> bool {
+    field.len() <= 16
+        && field.starts_with(|first: char| first.is_ascii_alphabetic())
+        && field.bytes().all(|byte| byte.is_ascii_alphanumeric())
+}
+
+/// Whether a field is a number in this range, written in the only way allowed.
+fn is_written(field: &str, least: i64, most: i64) -> bool {
+    let is_meant = |number: &i64| (least..=most).contains(number) && number.to_string() == field;
+    field.parse().ok().filter(is_meant).is_some()
+}

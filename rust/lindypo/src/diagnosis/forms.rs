@@ -38,15 +38,17 @@ impl Form {
         }
     }
 
-    /// What the form is, after "wanted is".
+    /// What the form is, after "it has to be".
     pub fn words(self, count: usize) -> String {
         match self {
-            Form::Missing => "`-`, a missing field".to_string(),
+            Form::Missing => "`-` (missing)".to_string(),
             Form::Name => "a name: 1 to 16 letters or digits, a letter first".to_string(),
-            Form::Path => "a path: 1 to 8 names joined by dots".to_string(),
-            Form::Label => format!("a label: 1 to {count}, without a leading zero"),
+            Form::Path => "a path: 1 to 8 names joined by dots, \
+                           each of 1 to 16 letters or digits, a letter first"
+                .to_string(),
+            Form::Label => format!("a label: 1 to {count}, with no leading zero"),
             Form::Number => "a number: -1000000000 to 1000000000, \
-                             without a leading zero, a plus sign or `-0`"
+                             with no leading zero, plus sign or `-0`"
                 .to_string(),
         }
     }

@@ -12,6 +12,7 @@ mod paths;
 mod rows;
 mod text;
 mod tree;
+mod words;
 
 use crate::raw;
 use crate::{Fault, Label, Mark, Refusal, Sheet};
@@ -22,28 +23,32 @@ type Finding = (Option<Mark>, String);
 
 /// The refusal of a text by Read.
 pub fn of_text(text: &[u8], refusal: raw::Refusal) -> Refusal {
-    let rows = Rows::new(text);
-    let label = refusal.place as Label;
-    say(
-        refusal,
-        match refusal.number {
-            1 => text::bytes(text),
-            2 => text::first_line(text),
-            3 => text::count(text),
-            4 => text::buffer(refusal.place),
-            5 => lines::fields(&rows, label),
-            6 => lines::kind(&rows, label),
-            7 => lines::form(&rows, label),
-            8 => tree::link(&rows, label),
-            9 => tree::uses(&rows, label),
-            10 => tree::argument(&rows, label),
-            11 => tree::level(&rows, label),
-            12 => paths::name(&rows, label),
-            13 => paths::head(&rows, label),
-            14 => paths::member(&rows, label),
-            _ => paths::target(&rows, label),
-        },
-    )
+    let finding = match refusal.number {
+        1 => text::bytes(text),
+        2 => text::first_line(text),
+        3 => text::count(text),
+        4 => text::buffer(refusal.place),
+        number => of_line(&Rows::new(text), number, refusal.place as Label),
+    };
+    say(refusal, finding)
+}
+
+/// What rows 5 to 15 have found at a label. Up to row 3 a text may be of any
+/// size, so its lines are cut into fields from here on only.
+fn of_line(rows: &Rows, number: u64, label: Label) -> Finding {
+    match number {
+        5 => lines::fields(rows, label),
+        6 => lines::kind(rows, label),
+        7 => lines::form(rows, label),
+        8 => tree::link(rows, label),
+        9 => tree::uses(rows, label),
+        10 => tree::argument(rows, label),
+        11 => tree::level(rows, label),
+        12 => paths::name(rows, label),
+        13 => paths::head(rows, label),
+        14 => paths::member(rows, label),
+        _ => paths::target(rows, label),
+    }
 }
 
 /// The refusal by Plan, Run or Follow of a sheet that reads.

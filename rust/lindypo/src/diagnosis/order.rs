@@ -3,6 +3,7 @@
 use std::collections::VecDeque;
 
 use super::rows::{Rows, NAME};
+use super::words;
 use super::Finding;
 use crate::{Kind, Label, Sheet};
 
@@ -10,7 +11,7 @@ use crate::{Kind, Label, Sheet};
 pub fn cycle(sheet: &Sheet, label: Label) -> Finding {
     let round = way(sheet, label, |found| found == label);
     let names: Vec<String> = round.iter().map(|&at| sheet.full_name(at)).collect();
-    let (name, names) = (sheet.full_name(label), names.join(" -> "));
+    let (name, names) = (sheet.full_name(label), words::way(&names));
     let sentence = format!("the value `{name}` reaches itself: {names}");
     (Some(Rows::new(sheet.text()).mark(label, NAME)), sentence)
 }
@@ -32,8 +33,8 @@ pub fn listed(sheet: &Sheet, order: &[Label], position: usize) -> Finding {
         }
         Some(&label) => match sheet.line(label) {
             Some(line) => format!(
-                "label {label} is no value but a line {}",
-                line.kind.letter()
+                "label {label} is {}, not a value",
+                words::of_kind(line.kind)
             ),
             None => format!("there is no label {label}"),
         },
@@ -59,15 +60,11 @@ pub fn early(sheet: &Sheet, order: &[Label], position: usize) -> Finding {
     let way = way(sheet, label, is_late);
     let late = way.last().copied().unwrap_or(0);
     let (name, late) = (sheet.full_name(label), sheet.full_name(late));
-    let through: Vec<String> = match &way[..] {
-        [_, between @ .., _] => between.iter().map(|&at| sheet.full_name(at)).collect(),
-        _ => vec![],
-    };
-    let through = match through.is_empty() {
-        true => String::new(),
-        false => format!(" through {}", through.join(" -> ")),
-    };
-    let sentence = format!("`{name}` reaches `{late}`{through}, which is not listed earlier");
+    let mut sentence = format!("`{name}` reaches `{late}`, which is not listed earlier");
+    if way.len() > 2 {
+        let names: Vec<String> = way.iter().map(|&at| sheet.full_name(at)).collect();
+        sentence += &format!(": {}", words::way(&names));
+    }
     (None, sentence)
 }
 

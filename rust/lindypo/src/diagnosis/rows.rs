@@ -127,13 +127,19 @@ impl<'text> Rows<'text> {
         }
     }
 
-    pub fn mark_line(&self, label: Label) -> Mark {
-        let width = self.fields(label).join(" ").len().max(1);
-        let (line, column) = (label + 1, 1);
+    /// The fields from this one on; where there are none, the place after the
+    /// last.
+    pub fn mark_from(&self, label: Label, field: usize) -> Mark {
+        let end: usize = self.fields(label).iter().map(|field| field.len() + 1).sum();
+        let column = self.mark(label, field).column.min(end);
         Mark {
-            line,
+            line: label + 1,
             column,
-            width,
+            width: (end - column).max(1),
         }
+    }
+
+    pub fn mark_line(&self, label: Label) -> Mark {
+        self.mark_from(label, 0)
     }
 }

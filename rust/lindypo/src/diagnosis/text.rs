@@ -20,13 +20,26 @@ pub fn bytes(text: &[u8]) -> Finding {
     match text.iter().position(is_bad) {
         Some(at) => {
             let byte = text[at];
-            let sentence = format!("byte {byte} is not allowed: only line ends and 32 to 126 are");
+            let sentence = format!(
+                "byte {byte}{} is not allowed; lines end with byte 10, all others are 32 to 126",
+                byte_name(byte)
+            );
             (Some(mark(text, at)), sentence)
         }
         None => {
             let sentence = "the last line does not end with a line end (byte 10)";
             (Some(mark(text, text.len())), sentence.to_string())
         }
+    }
+}
+
+/// What the bytes that come into a sheet unseen are called.
+fn byte_name(byte: u8) -> &'static str {
+    match byte {
+        b'\t' => " (a tab)",
+        b'\r' => " (a carriage return)",
+        128.. => " (not ASCII)",
+        _ => "",
     }
 }
 
@@ -54,7 +67,7 @@ pub fn count(text: &[u8]) -> Finding {
     let ends = text.iter().filter(|&&byte| byte == b'\n').count();
     let sentence = match ends.saturating_sub(1) {
         0 => "there is no line after line one; label 1 has to be `G - 0 - -`".to_string(),
-        lines => format!("there are {lines} lines after line one; at most 1,024 are allowed"),
+        lines => format!("there are {lines} lines after line one; at most 1024 are allowed"),
     };
     (None, sentence)
 }

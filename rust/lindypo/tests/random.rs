@@ -1,0 +1,185 @@
+//! Random sheets: the wrapper says what the library's own calls say, and marks
+//! what is in the text.
+
+use generator::Case;
+use lindypo::{raw, Label, Mark, Order, Refusal, Results, Run, Sheet};
+
+const CASES: u64 = 6_000;
+
+/// The buffers that a text needs.
+struct Buffers {
+    table: Vec<i64>,
+    plan: Vec<i64>,
+    results: Vec<i64>,
+}
+
+impl Buffers {
+    fn new(text: &[u8]) -> Self {
+        let labels = generator::line_count(text).min(1_024);
+        Buffers {
+            table: vec![0; 8 * labels],
+            plan: vec![0; labels],
+            results: vec![0; 3 * labels],
+        }
+    }
+}
+
+/// What the random sheets came to, so that each case is known to be met.
+#[derive(Default)]
+struct Met {
+    rows: [usize; 19],
+    runs: usize,
+    followed: usize,
+}
+
+impl Met {
+    fn case(&mut self, case: &Case) {
+        let text = &case.text;
+        let mut buffers = Buffers::new(text);
+        match (Sheet::read(text), raw::read(text, &mut buffers.table)) {
+            (Ok(sheet), Ok(labels)) => {
+                assert_eq!(sheet.labels(), labels);
+                lines_are_cells(&sheet, &buffers.table);
+                self.run(&sheet);
+                self.follow(&sheet, &case.order);
+            }
+            (Err(refusal), Err(wanted)) => self.refused(text, &refusal, wanted),
+            (read, wanted) => panic!("{read:?}, wanted {wanted:?}"),
+        }
+    }
+
+    fn run(&mut self, sheet: &Sheet) {
+        let Buffers {
+            mut table,
+            mut plan,
+            mut results,
+        } = Buffers::new(sheet.text());
+        match (
+            sheet.run(),
+            raw::run(sheet.text(), &mut table, &mut plan, &mut results),
+        ) {
+            (Ok(run), Ok((length, order))) => {
+                run_is_cells(&run, &plan[..length], order, &results);
+                assert_eq!(sheet.plan().as_ref(), Ok(&run.plan));
+                assert_eq!(sheet.follow(&run.plan.labels), Ok(run.results));
+                self.runs += 1;
+            }
+            (Err(refusal), Err(wanted)) => {
+                assert_eq!(sheet.plan(), Err(refusal.clone()));
+                self.refused(sheet.text(), &refusal, wanted);
+            }
+            (run, wanted) => panic!("{run:?}, wanted {wanted:?}"),
+        }
+    }
+
+    /// An order that may be anything; labels below 0 are not the wrapper's.
+    fn follow(&mut self, sheet: &Sheet, order: &[i64]) {
+        let labels: Vec<Label> = order.iter().map(|&label| label.max(0) as Label).collect();
+        let Buffers {
+            mut table,
+            mut results,
+            ..
+        } = Buffers::new(sheet.text());
+        let wanted = raw::follow(sheet.text(), order, &mut table, &mut results);
+        match (sheet.follow(&labels), wanted) {
+            (Ok(followed), Ok(_)) => {
+                results_are_cells(&followed, &results);
+                self.followed += 1;
+            }
+            (Err(refusal), Err(wanted)) => self.refused(sheet.text(), &refusal, wanted),
+            (followed, wanted) => panic!("{followed:?}, wanted {wanted:?}"),
+        }
+    }
+
+    fn refused(&mut self, text: &[u8], refusal: &Refusal, wanted: raw::Refusal) {
+        assert_eq!(
+            (refusal.number(), refusal.place()),
+            (wanted.number, wanted.place)
+        );
+        assert!(refusal.to_string().ends_with(refusal.sentence()));
+        match refusal.number() {
+            5..=16 => assert_eq!(
+                refusal.line(),
+                Some(refusal.place() as usize + 1),
+                "{refusal}"
+            ),
+            17.. => assert_eq!(refusal.mark(), None),
+            _ => {}
+        }
+        if let Some(mark) = refusal.mark() {
+            is_in_text(text, mark, refusal);
+        }
+        self.rows[refusal.number() as usize] += 1;
+    }
+}
+
+/// A mark is a part of its line, or one column past its end where something is
+/// missing: a line end, the rest of line one, a field.
+fn is_in_text(text: &[u8], mark: Mark, refusal: &Refusal) {
+    let Mark {
+        line,
+        column,
+        width,
+    } = mark;
+    let line = text.split(|&byte| byte == b'\n').nth(line - 1);
+    let length = line.expect("a line of the text").len();
+    let is_past = (column, width) == (length + 1, 1);
+    let may_be_past = matches!(refusal.number(), 1 | 2 | 5);
+    let is_within = column >= 1 && width >= 1 && column - 1 + width <= length;
+    assert!(is_within || is_past && may_be_past, "{mark:?}: {refusal}");
+}
+
+fn lines_are_cells(sheet: &Sheet, table: &[i64]) {
+    for (line, cells) in sheet.lines().zip(table.chunks_exact(8)) {
+        let label = |label: Option<Label>| label.map_or(0, |label| label as i64);
+        let name = line.name.map_or(0, |name| name.len() as i64);
+        let given = [
+            line.kind.code(),
+            name,
+            line.a,
+            line.b,
+            line.c,
+            label(line.owner),
+            label(line.target),
+        ];
+        let wanted = [
+            cells[0], cells[2], cells[3], cells[4], cells[5], cells[6], cells[7],
+        ];
+        assert_eq!(given, wanted, "label {}", line.label);
+    }
+}
+
+fn run_is_cells(run: &Run, plan: &[i64], order: Order, results: &[i64]) {
+    let labels: Vec<i64> = run.plan.labels.iter().map(|&label| label as i64).collect();
+    assert_eq!((&labels[..], run.plan.order), (plan, order));
+    results_are_cells(&run.results, results);
+    let values: Vec<Label> = run.values().map(|(label, _)| label).collect();
+    assert_eq!(values, run.plan.labels);
+}
+
+fn results_are_cells(results: &Results, cells: &[i64]) {
+    for (label, cells) in (1..).zip(cells.chunks_exact(3)) {
+        let outcome = results.of(label).map_or([0; 3], |outcome| {
+            let number = outcome.state.number().unwrap_or(0);
+            [outcome.state.code(), number, i64::from(outcome.steps)]
+        });
+        assert_eq!(outcome, cells, "label {label}");
+    }
+}
+
+#[test]
+fn random_sheets() {
+    let mut met = Met::default();
+    for seed in 0..CASES {
+        met.case(&generator::case(seed));
+    }
+    println!(
+        "{} runs, {} followed, refused by row {:?}",
+        met.runs, met.followed, met.rows
+    );
+    assert!(met.runs > 1_000 && met.followed > 500);
+    let sheets_rows = (1..=18).filter(|&row| row != 4);
+    for row in sheets_rows {
+        assert!(met.rows[row] > 0, "row {row} was not met");
+    }
+}

@@ -1,0 +1,431 @@
+//! What a refusal says, row by row: the very words, with line and column.
+
+use lindypo::{Label, Refusal, Sheet};
+
+/// A sheet of these lines after line one.
+fn sheet(lines: &str) -> Vec<u8> {
+    format!("kind name a b c\n{lines}\n").into_bytes()
+}
+
+fn refusal(text: &[u8]) -> Refusal {
+    let run = Sheet::read(text).and_then(|sheet| sheet.run());
+    run.expect_err("a refusal")
+}
+
+#[track_caller]
+fn text_says(text: &[u8], words: &str) {
+    assert_eq!(refusal(text).to_string(), words);
+}
+
+/// What is said of a sheet of these lines.
+#[track_caller]
+fn says(lines: &str, words: &str) {
+    text_says(&sheet(lines), words);
+}
+
+#[test]
+fn row_1_length_and_end() {
+    text_says(b"", "refusal 1: the text is empty");
+    text_says(
+        &b"x".repeat(65_537),
+        "refusal 1: the text has 65537 bytes; at most 65536 are allowed",
+    );
+    text_says(
+        b"kind name a b c\nG - 0 - -",
+        "refusal 1, line 2, column 10: the last line does not end with a line end (byte 10)",
+    );
+}
+
+#[test]
+fn row_1_bytes() {
+    let allowed = "is not allowed; lines end with byte 10, all others are 32 to 126";
+    text_says(
+        b"kind name a b c\r\nG - 0 - -\r\n",
+        &format!("refusal 1, line 1, column 16: byte 13 (a carriage return) {allowed}"),
+    );
+    for (byte, name) in [
+        (0, "0"),
+        (9, "9 (a tab)"),
+        (127, "127"),
+        (195, "195 (not ASCII)"),
+    ] {
+        let mut text = sheet("G - 0 - -\nG x 1 - -");
+        text[28] = byte;
+        let words = format!("refusal 1, line 3, column 3: byte {name} {allowed}");
+        text_says(&text, &words);
+    }
+}
+
+/// The mark is on the rest of the line, from where it differs.
+#[test]
+fn row_2() {
+    for (first, column) in [
+        ("", 1),
+        ("Kind name a b c", 1),
+        ("kind  name a b c", 6),
+        ("kind name a b", 14),
+        ("kind name a b c d", 16),
+    ] {
+        let text = format!("{first}\nG - 0 - -\n");
+        let words =
+            format!("refusal 2, line 1, column {column}: line one has to be `kind name a b c`");
+        text_says(text.as_bytes(), &words);
+    }
+}
+
+#[test]
+fn row_3() {
+    text_says(
+        b"kind name a b c\n",
+        "refusal 3: there is no line after line one; label 1 has to be `G - 0 - -`",
+    );
+    says(
+        &"\n".repeat(1_024),
+        "refusal 3: there are 1025 lines after line one; at most 1024 are allowed",
+    );
+}
+
+#[test]
+fn row_5_number_of_fields() {
+    let five = "it has to have five: kind, name, a, b, c";
+    for (line, column, count) in [
+        ("G", 2, "one field"),
+        ("G - 0 -", 8, "4 fields"),
+        ("G - 0 - - -", 11, "6 fields"),
+        ("G - 0 - - more words", 11, "7 fields"),
+    ] {
+        let words = format!("refusal 5, line 2, column {column}: the line has {count}; {five}");
+        says(line, &words);
+    }
+}
+
+/// The space too many is marked.
+#[test]
+fn row_5_empty_fields() {
+    says(
+        "",
+        "refusal 5, line 2, column 1: \
+         the line is empty; it has to have five fields: kind, name, a, b, c",
+    );
+    says(
+        "G - 0 - -\n G x 1 - -",
+        "refusal 5, line 3, column 1: \
+         the line begins with a space; one space stands between fields, nowhere else",
+    );
+    says(
+        "G - 0 - -\nG x  1 - -",
+        "refusal 5, line 3, column 5: \
+         two spaces stand side by side; one is wanted between fields",
+    );
+    says(
+        "G - 0 - -\nG x 1 - - ",
+        "refusal 5, line 3, column 10: \
+         the line ends with a space; one space stands between fields, nowhere else",
+    );
+}
+
+#[test]
+fn row_6() {
+    let kinds = "the kinds are G V F N P R C A S M D I";
+    for kind in ["X", "v", "-", "GG"] {
+        let words = format!("refusal 6, line 3, column 1: `{kind}` is no kind; {kinds}");
+        says(&format!("G - 0 - -\n{kind} x 1 3 -\nN - 1 - -"), &words);
+    }
+    let (long, start) = ("k".repeat(41), "k".repeat(40));
+    let words = format!("refusal 6, line 2, column 1: `{start}...` is no kind; {kinds}");
+    says(&format!("{long} - 0 - -"), &words);
+}
+
+#[test]
+fn row_7_label_1() {
+    for (line, column) in [
+        ("V - 0 - -", 1),
+        ("G x 0 - -", 3),
+        ("G - 1 - -", 5),
+        ("G - 0 - 1", 9),
+    ] {
+        let place = format!("refusal 7, line 2, column {column}");
+        let words = format!("{place}: label 1 has to be `G - 0 - -`, the outermost Group");
+        says(line, &words);
+    }
+}
+
+#[test]
+fn row_7_forms() {
+    let name = "a name: 1 to 16 letters or digits, a letter first";
+    let path =
+        "a path: 1 to 8 names joined by dots, each of 1 to 16 letters or digits, a letter first";
+    let label = "a label: 1 to 3, with no leading zero";
+    let number = "a number: -1000000000 to 1000000000, with no leading zero, plus sign or `-0`";
+    let missing = "`-` (missing)";
+    for (line, column, field, wanted) in [
+        ("G 1a 1 - -", 3, "name of a Group (G) is `1a`", name),
+        ("G - 1 - -", 3, "name of a Group (G) is `-`", name),
+        ("F x 01 3 -", 5, "a of a function (F) is `01`", label),
+        ("V x 1 4 -", 7, "b of a value (V) is `4`", label),
+        ("V x 1 3 3", 9, "c of a value (V) is `3`", missing),
+        ("N - 05 - -", 5, "a of a number (N) is `05`", number),
+        (
+            "N - 1000000001 - -",
+            5,
+            "a of a number (N) is `1000000001`",
+            number,
+        ),
+        ("N n 5 - -", 3, "name of a number (N) is `n`", missing),
+        ("P - 1 - -", 5, "a of an argument (P) is `1`", missing),
+        ("R a..b - - -", 3, "name of a read (R) is `a..b`", path),
+        ("C f - - -", 5, "a of a call (C) is `-`", label),
+        ("A - 3 x -", 7, "b of a sum (A) is `x`", label),
+        ("I - 3 3 -", 9, "c of a choice (I) is `-`", label),
+    ] {
+        let place = format!("refusal 7, line 3, column {column}");
+        let words = format!("{place}: field {field}; it has to be {wanted}");
+        says(&format!("G - 0 - -\n{line}\nN - 1 - -"), &words);
+    }
+}
+
+#[test]
+fn row_8_groups() {
+    let group = "it has to lead to a Group with a smaller label than";
+    for (lines, label, found) in [
+        (
+            "V x 1 4 -\nV y 2 5 -\nN - 1 - -\nN - 2 - -",
+            3,
+            "label 2, a value (V)",
+        ),
+        ("G x 2 - -", 2, "this very line"),
+        ("G x 3 - -\nG y 1 - -", 2, "label 3, a Group (G)"),
+    ] {
+        let place = format!("refusal 8, line {}, column 5", label + 1);
+        let words = format!("{place}: field a leads to {found}; {group} {label}");
+        says(&format!("G - 0 - -\n{lines}"), &words);
+    }
+}
+
+#[test]
+fn row_8_bodies_and_operands() {
+    let expression = "it has to lead to an expression with a larger label than";
+    for (lines, place, found) in [
+        (
+            "V x 1 1 -",
+            "line 3, column 7: field b",
+            "label 1, a Group (G)",
+        ),
+        ("V x 1 2 -", "line 3, column 7: field b", "this very line"),
+    ] {
+        let words = format!("refusal 8, {place} leads to {found}; {expression} 2");
+        says(&format!("G - 0 - -\n{lines}"), &words);
+    }
+    says(
+        "G - 0 - -\nV x 1 4 -\nN - 1 - -\nI - 5 6 3\nN - 1 - -\nN - 2 - -",
+        &format!(
+            "refusal 8, line 5, column 9: field c leads to label 3, a number (N); {expression} 4"
+        ),
+    );
+}
+
+#[test]
+fn row_9() {
+    let value = "G - 0 - -\nV x 1 3 -";
+    says(
+        &format!("{value}\nN - 1 - -\nN - 2 - -"),
+        "refusal 9, line 5, column 1: no field uses this expression; one field has to",
+    );
+    says(
+        &format!("{value}\nA - 4 4 -\nN - 1 - -"),
+        "refusal 9, line 5, column 1: this expression is used twice, by label 3",
+    );
+    says(
+        "G - 0 - -\nV x 1 4 -\nV y 1 4 -\nN - 1 - -",
+        "refusal 9, line 5, column 1: this expression is used twice, by labels 2 and 3",
+    );
+    says(
+        "G - 0 - -\nV x 1 5 -\nV y 1 4 -\nI - 5 5 5\nN - 1 - -",
+        "refusal 9, line 6, column 1: this expression is used 4 times, by labels 2 and 4",
+    );
+    let values: String = (2..10).map(|at| format!("V v{at} 1 10 -\n")).collect();
+    says(
+        &format!("G - 0 - -\n{values}N - 1 - -"),
+        "refusal 9, line 11, column 1: \
+         this expression is used 8 times, by labels 2, 3, 4, 5, 6, 7 and 2 more",
+    );
+}
+
+#[test]
+fn row_10() {
+    says(
+        "G - 0 - -\nG right 1 - -\nV x 2 4 -\nS - 5 6 -\nN - 1 - -\nP - - - -",
+        "refusal 10, line 7, column 1: \
+         an argument (P) stands in the value `right.x`; only a function has one",
+    );
+}
+
+#[test]
+fn row_11() {
+    let calls: String = (4..36)
+        .map(|label| format!("C f {} - -\n", label + 1))
+        .collect();
+    let lines = format!("G - 0 - -\nF f 1 37 -\nV deep 1 4 -\n{calls}N - 1 - -\nP - - - -");
+    says(
+        &lines,
+        "refusal 11, line 37, column 1: \
+         this expression is at level 33 in the value `deep`; at most 32 levels are allowed",
+    );
+}
+
+#[test]
+fn row_12() {
+    says(
+        "G - 0 - -\nV x 1 3 -\nN - 1 - -\nF x 1 5 -\nP - - - -",
+        "refusal 12, line 5, column 3: the outermost Group has a member `x` already: label 2",
+    );
+    says(
+        "G - 0 - -\nG g 1 - -\nG h 2 - -\nG h 1 - -\nG h 2 - -",
+        "refusal 12, line 6, column 3: the Group `g` has a member `h` already: label 3",
+    );
+}
+
+#[test]
+fn row_13() {
+    says(
+        "G - 0 - -\nV x 1 3 -\nR y - - -",
+        "refusal 13, line 4, column 3: the outermost Group has no member `y`",
+    );
+    says(
+        "G - 0 - -\nG g 1 - -\nG h 2 - -\nF f 3 5 -\nA - 6 7 -\nP - - - -\nR y.z - - -",
+        "refusal 13, line 8, column 3: \
+         neither the Group `g.h` nor a Group around it has a member `y`",
+    );
+}
+
+/// The name that is not found is marked, not the whole path.
+#[test]
+fn row_14() {
+    says(
+        "G - 0 - -\nG g 1 - -\nV x 1 4 -\nR g.x - - -",
+        "refusal 14, line 5, column 5: the Group `g` has no member `x`",
+    );
+    says(
+        "G - 0 - -\nG g 1 - -\nG h 2 - -\nV x 1 5 -\nR g.h.long.z - - -",
+        "refusal 14, line 6, column 7: the Group `g.h` has no member `long`",
+    );
+    says(
+        "G - 0 - -\nV x 1 3 -\nR x.y - - -",
+        "refusal 14, line 4, column 5: the value `x` is no Group, so it has no member `y`",
+    );
+    says(
+        "G - 0 - -\nF f 1 3 -\nC f.g 4 - -\nP - - - -",
+        "refusal 14, line 4, column 5: the function `f` is no Group, so it has no member `g`",
+    );
+    let text = sheet("G - 0 - -\nG g 1 - -\nG h 2 - -\nV x 1 5 -\nR g.h.long.z - - -");
+    assert_eq!(refusal(&text).mark().map(|mark| mark.width), Some(4));
+}
+
+#[test]
+fn row_15() {
+    says(
+        "G - 0 - -\nF f 1 3 -\nR f - - -",
+        "refusal 15, line 4, column 3: \
+         a read (R) has to lead to a value; `f` leads to the function `f`",
+    );
+    says(
+        "G - 0 - -\nG g 1 - -\nG h 2 - -\nV x 2 5 -\nR h - - -",
+        "refusal 15, line 6, column 3: \
+         a read (R) has to lead to a value; `h` leads to the Group `g.h`",
+    );
+    says(
+        "G - 0 - -\nV x 1 3 -\nC x 4 - -\nN - 1 - -",
+        "refusal 15, line 4, column 3: \
+         a call (C) has to lead to a function; `x` leads to the value `x`",
+    );
+}
+
+#[test]
+fn row_16() {
+    says(
+        "G - 0 - -\nV x 1 3 -\nR x - - -",
+        "refusal 16, line 3, column 3: the value `x` reaches itself: x -> x",
+    );
+    says(
+        "G - 0 - -\nV x 1 3 -\nR g.y - - -\nG g 1 - -\nV y 4 6 -\nC f 7 - -\nN - 1 - -\n\
+         F f 1 9 -\nR x - - -",
+        "refusal 16, line 3, column 3: the value `x` reaches itself: x -> g.y -> f -> x",
+    );
+    // The middle of a long way is left out.
+    let value = |at: usize| format!("V v{at} 1 {} -\nR v{} - - -\n", 2 * at + 3, (at + 1) % 10);
+    let values: String = (0..10).map(value).collect();
+    says(
+        &format!("G - 0 - -\n{}", values.trim_end()),
+        "refusal 16, line 3, column 3: the value `v0` reaches itself: \
+         v0 -> v1 -> v2 -> v3 -> ... -> v7 -> v8 -> v9 -> v0",
+    );
+}
+
+/// A value 2 that calls a function 3, which reads a value 5 of the Group 4, and
+/// a value 12 that reads 5 itself.
+const ORDERED: &str = "G - 0 - -\nV total 1 6 -\nF half 1 8 -\nG right 1 - -\nV sphere 4 11 -\n\
+                       C half 7 - -\nN - 8 - -\nD - 9 10 -\nR right.sphere - - -\nP - - - -\n\
+                       N - -325 - -\nV copy 1 13 -\nR right.sphere - - -";
+
+/// What Follow says of an order.
+#[track_caller]
+fn order_says(order: &[Label], words: &str) {
+    let text = sheet(ORDERED);
+    let sheet = Sheet::read(&text).expect("a sheet that reads");
+    let refusal = sheet.follow(order).expect_err("a refusal");
+    assert_eq!(refusal.to_string(), words);
+}
+
+#[test]
+fn row_17() {
+    order_says(
+        &[5, 2, 3, 12],
+        "refusal 17, position 3 of the order: label 3 is a function (F), not a value",
+    );
+    order_says(
+        &[10],
+        "refusal 17, position 1 of the order: label 10 is an argument (P), not a value",
+    );
+    order_says(
+        &[5, 0],
+        "refusal 17, position 2 of the order: there is no label 0",
+    );
+    order_says(
+        &[99],
+        "refusal 17, position 1 of the order: there is no label 99",
+    );
+    order_says(
+        &[Label::MAX],
+        &format!(
+            "refusal 17, position 1 of the order: there is no label {}",
+            Label::MAX
+        ),
+    );
+    order_says(
+        &[5, 2, 5, 12],
+        "refusal 17, position 3 of the order: `right.sphere` is listed already, at position 1",
+    );
+    order_says(
+        &[5, 2],
+        "refusal 17, position 3 of the order: the value `copy` (label 12) is not listed",
+    );
+    order_says(
+        &[],
+        "refusal 17, position 1 of the order: the value `total` (label 2) is not listed",
+    );
+}
+
+#[test]
+fn row_18() {
+    order_says(
+        &[12, 5, 2],
+        "refusal 18, position 1 of the order: \
+         `copy` reaches `right.sphere`, which is not listed earlier",
+    );
+    order_says(
+        &[2, 5, 12],
+        "refusal 18, position 1 of the order: \
+         `total` reaches `right.sphere`, which is not listed earlier: \
+         total -> half -> right.sphere",
+    );
+}

@@ -62,7 +62,7 @@ pub const ROWS: [Row; 18] = [
         "a read leads to a value, a call to a function",
     ),
     row(
-        "value that needs itself",
+        "value reaching itself",
         "no value reaches itself by what it reads and calls",
     ),
     row(

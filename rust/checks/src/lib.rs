@@ -18,21 +18,12 @@ use std::thread;
 
 pub use calls::Call;
 pub use tally::Tally;
-pub use trial::{Outcome, Trial};
+pub use trial::{Outcome, Trial, Wanted, WantedName};
 
 /// The random trial with this seed; a difference says how to run it again.
 pub fn check_seed(seed: u64) -> Result<Outcome, String> {
     let case = generator::case(seed);
-    let trial = Trial {
-        text: &case.text,
-        order: &case.order,
-        table: case.table,
-        plan: case.plan,
-        results: case.results,
-        rubbish: case.rubbish,
-        label: case.label,
-    };
-    trial.run().map_err(|difference| {
+    Trial::of(&case).run().map_err(|difference| {
         format!("seed {seed}: {difference}\nagain: cargo run --release -p checks -- {seed} 1")
     })
 }

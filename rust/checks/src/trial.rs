@@ -1,5 +1,6 @@
 //! One trial of all the calls.
 
+use generator::Case;
 use lindypo::raw::{Part, Reply};
 
 use crate::calls::{Call, Lent};
@@ -40,23 +41,38 @@ pub struct Outcome {
 }
 
 impl Outcome {
+    /// What the calls and these names come to by the reference.
+    pub fn new(wanted: &[Wanted; 4], names: &[WantedName]) -> Self {
+        let [read, plan, run, follow] = wanted.each_ref().map(|wanted| wanted.reply);
+        let is_named = |wanted: &&WantedName| wanted.part.length > 0;
+        Outcome {
+            read,
+            plan,
+            run,
+            follow,
+            states: states(&wanted[2].buffers[2], run),
+            asked: names.len() as u64,
+            named: names.iter().filter(is_named).count() as u64,
+        }
+    }
+
     /// The replies in the sequence of `Call::ALL`.
     pub fn replies(&self) -> [Reply; 4] {
         [self.read, self.plan, self.run, self.follow]
     }
 }
 
-/// What a call has to reply and to leave in every buffer.
-struct Wanted {
-    call: Call,
-    reply: Reply,
-    buffers: [Vec<i64>; 3],
+/// What a call has to reply and to leave in every buffer: table, plan, results.
+pub struct Wanted {
+    pub call: Call,
+    pub reply: Reply,
+    pub buffers: [Vec<i64>; 3],
 }
 
 /// What Name has to give for a label.
-struct WantedName {
-    label: i64,
-    part: Part,
+pub struct WantedName {
+    pub label: i64,
+    pub part: Part,
 }
 
 impl<'a> Trial<'a> {
@@ -74,27 +90,36 @@ impl<'a> Trial<'a> {
         }
     }
 
+    /// The trial that a case of the generator asks for.
+    pub fn of(case: &'a Case) -> Self {
+        Trial {
+            text: &case.text,
+            order: &case.order,
+            table: case.table,
+            plan: case.plan,
+            results: case.results,
+            rubbish: case.rubbish,
+            label: case.label,
+        }
+    }
+
     /// The reference's outcome where the library agrees with it in every cell,
     /// else the difference in words.
     pub fn run(&self) -> Result<Outcome, String> {
-        let wanted = Call::ALL.map(|call| self.wanted(call));
-        let [read, plan, run, follow] = wanted.each_ref().map(|wanted| wanted.reply);
-        let names = self.names(&wanted[0])?;
+        let wanted = self.wanted();
+        let lines = generator::line_count(self.text);
+        let names = self.names(&wanted[0], labels(wanted[0].reply, lines, self.label))?;
         for (turn, surrounding) in SURROUNDINGS.into_iter().enumerate() {
             // Name under one surrounding and the other in turn.
             let names = names.iter().skip(turn).step_by(SURROUNDINGS.len());
             self.compare(&wanted, names, surrounding)?;
         }
-        let is_named = |wanted: &&WantedName| wanted.part.length > 0;
-        Ok(Outcome {
-            read,
-            plan,
-            run,
-            follow,
-            states: states(&wanted[2].buffers[2], run),
-            asked: names.len() as u64,
-            named: names.iter().filter(is_named).count() as u64,
-        })
+        Ok(Outcome::new(&wanted, &names))
+    }
+
+    /// What the reference wants of each call, in the sequence of `Call::ALL`.
+    pub fn wanted(&self) -> [Wanted; 4] {
+        Call::ALL.map(|call| self.wanted_of(call))
     }
 
     /// As `run`, for a test that wants nothing but agreement.
@@ -113,7 +138,7 @@ impl<'a> Trial<'a> {
         [self.table, self.plan, self.results]
     }
 
-    fn wanted(&self, call: Call) -> Wanted {
+    fn wanted_of(&self, call: Call) -> Wanted {
         let mut buffers = self.lengths().map(|length| vec![self.rubbish; length]);
         let [table, plan, results] = &mut buffers;
         let reply = call.reference(Lent {
@@ -130,11 +155,11 @@ impl<'a> Trial<'a> {
         }
     }
 
-    /// What the reference's Name gives for each label to try.
-    fn names(&self, read: &Wanted) -> Result<Vec<WantedName>, String> {
+    /// What the reference's Name gives for each of these labels.
+    pub fn names(&self, read: &Wanted, labels: Vec<i64>) -> Result<Vec<WantedName>, String> {
         let mut table = vec![self.rubbish; self.table];
         let mut names = Vec::new();
-        for label in labels(read.reply, generator::line_count(self.text), self.label) {
+        for label in labels {
             table.fill(self.rubbish);
             let name = reference::name(self.text, &mut table, label);
             if table != read.buffers[0] {

@@ -2,11 +2,10 @@
 
 use crate::random;
 use crate::rng::Rng;
+use crate::rows::{self, Row};
 
 const MAX_BYTES: usize = 65_536;
 const MAX_LINES: usize = 1_024;
-
-type Row = [Vec<u8>; 5];
 
 /// A random sheet with one fault put in, sometimes two. Now and then the
 /// fault does no harm.
@@ -24,7 +23,8 @@ pub fn damaged(rng: &mut Rng) -> Vec<u8> {
     text
 }
 
-fn damage(rng: &mut Rng, text: Vec<u8>) -> Vec<u8> {
+/// One fault put into a text of any sort.
+pub fn damage(rng: &mut Rng, text: Vec<u8>) -> Vec<u8> {
     match rng.below(100) {
         0..=7 => damage_text(rng, text),
         8..=11 => damage_line_one(rng, text),
@@ -129,7 +129,7 @@ fn damage_spaces(rng: &mut Rng, mut text: Vec<u8>) -> Vec<u8> {
 
 /// Rows 6 to 16: the fields of one line or two.
 fn damage_fields(rng: &mut Rng, text: Vec<u8>) -> Vec<u8> {
-    let Some(mut rows) = split(&text) else {
+    let Some(mut rows) = rows::split(&text) else {
         return damage_bytes(rng, text);
     };
     match rng.below(14) {
@@ -143,25 +143,7 @@ fn damage_fields(rng: &mut Rng, text: Vec<u8>) -> Vec<u8> {
         8 => change_name(rng, &mut rows),
         _ => change_path(rng, &mut rows),
     }
-    let mut text = b"kind name a b c\n".to_vec();
-    for row in &rows {
-        text.extend_from_slice(&row.join(&b' '));
-        text.push(b'\n');
-    }
-    text
-}
-
-/// The lines after line one, if each has five fields and there is one.
-fn split(text: &[u8]) -> Option<Vec<Row>> {
-    let lines = text.strip_suffix(b"\n")?.split(|&byte| byte == b'\n');
-    let rows: Option<Vec<Row>> = lines
-        .skip(1)
-        .map(|line| {
-            let fields: Vec<Vec<u8>> = line.split(|&b| b == b' ').map(<[u8]>::to_vec).collect();
-            fields.try_into().ok()
-        })
-        .collect();
-    rows.filter(|rows| !rows.is_empty())
+    rows::join(&rows)
 }
 
 /// A label of one of these kinds, 0-based.

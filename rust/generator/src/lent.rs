@@ -39,7 +39,7 @@ pub fn order(rng: &mut Rng, text: &[u8]) -> Vec<i64> {
     let values = values(&table);
     match rng.below(20) {
         0..=6 => proper(rng, &table, &values),
-        7..=9 => planned(text, lines),
+        7..=9 => planned(text),
         10..=14 => {
             let mut order = proper(rng, &table, &values);
             spoil(rng, &mut order, lines);
@@ -69,7 +69,9 @@ fn values(table: &[i64]) -> Vec<usize> {
     (0..lines).filter(|&at| table[8 * at] == 2).collect()
 }
 
-fn planned(text: &[u8], lines: usize) -> Vec<i64> {
+/// The labels of the reference's plan; none where it refuses.
+pub fn planned(text: &[u8]) -> Vec<i64> {
+    let lines = crate::line_count(text);
     let (mut table, mut plan) = (vec![0; 8 * lines], vec![0; lines]);
     let answer = reference::plan(text, &mut table, &mut plan);
     plan.truncate(answer.map_or(0, |(length, _)| length));

@@ -1,9 +1,9 @@
 //! Random order sheets from a seed, so that a failure can be run again, and
 //! fixed shapes for speed figures.
 //!
-//! `random` makes sheets that read, `damage` spoils them, `lent` chooses
-//! buffer lengths and orders for Follow, `everyday` and `shapes` hold the fixed
-//! sheets.
+//! `random` makes sheets that read, `damage` spoils them, `rows` takes them
+//! apart, `lent` chooses buffer lengths and orders for Follow, `everyday` and
+//! `shapes` hold the fixed sheets.
 
 #![forbid(unsafe_code)]
 
@@ -13,11 +13,12 @@ mod everyday;
 mod lent;
 mod random;
 mod rng;
+pub mod rows;
 mod shapes;
 
-pub use damage::damaged;
+pub use damage::{damage, damaged};
 pub use everyday::everyday;
-pub use lent::{buffer_length, order, proper_order};
+pub use lent::{buffer_length, order, planned, proper_order};
 pub use random::{sheet, sheet_within};
 pub use rng::Rng;
 pub use shapes::{

@@ -13,7 +13,7 @@ use std::fs;
 use std::path::{Path, PathBuf};
 
 use checks::{Outcome, Trial};
-use generator::line_count;
+use generator::{line_count, planned};
 
 const RUBBISH: i64 = -77;
 
@@ -67,22 +67,10 @@ impl Buffers {
     }
 }
 
-/// The labels of the reference's plan; none where it refuses.
-fn plan_of(text: &[u8]) -> Vec<i64> {
-    let Buffers {
-        mut table,
-        mut plan,
-        ..
-    } = Buffers::new(text);
-    let answer = reference::plan(text, &mut table, &mut plan);
-    plan.truncate(answer.map_or(0, |(length, _)| length));
-    plan
-}
-
 /// A trial of this text with buffers that are long enough for it; Follow is
 /// lent the plan.
 fn agree(text: &[u8]) -> Outcome {
-    Trial::new(text, &plan_of(text)).expect()
+    Trial::new(text, &planned(text)).expect()
 }
 
 /// Number and place of Read's refusal of a text.

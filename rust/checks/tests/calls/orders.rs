@@ -1,10 +1,10 @@
 //! Follow with orders of all sorts.
 
 use checks::Trial;
-use generator::Rng;
+use generator::{planned, Rng};
 use lindypo::raw::Refusal;
 
-use crate::{plan_of, sheets, Buffers, RUBBISH};
+use crate::{sheets, Buffers, RUBBISH};
 
 /// What Follow leaves in the results, or its refusal.
 fn followed(text: &[u8], order: &[i64]) -> Result<Vec<i64>, Refusal> {
@@ -47,7 +47,7 @@ fn planned_sheets(count: usize) -> impl Iterator<Item = (Vec<u8>, Vec<i64>)> {
     let mut sheets = Vec::new();
     while sheets.len() < count {
         let text = generator::sheet(rng);
-        let plan = plan_of(&text);
+        let plan = planned(&text);
         if plan.len() > 1 {
             sheets.push((text, plan));
         }
@@ -82,7 +82,7 @@ fn lists(numbers: &[i64], length: usize, list: &mut Vec<i64>, visit: &mut dyn Fn
 #[test]
 fn the_plan_of_run() {
     for shape in generator::shapes() {
-        let plan = plan_of(&shape.text);
+        let plan = planned(&shape.text);
         let refused = shape.name.starts_with("refusal");
         assert_eq!(check(&shape.text, &plan) == (0, 0), !refused);
     }

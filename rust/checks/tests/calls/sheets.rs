@@ -3,10 +3,11 @@
 use std::fs;
 use std::path::Path;
 
+use generator::planned;
 use lindypo::raw::Refusal;
 use lindypo::Order;
 
-use crate::{agree, example, is_sheet, plan_of, sheet_files, Buffers};
+use crate::{agree, example, is_sheet, sheet_files, Buffers};
 
 /// The row that is not Read's: a sheet that it refuses reads.
 const CYCLE: u64 = 16;
@@ -111,5 +112,5 @@ fn the_example_run() {
         Ok(3)
     );
     assert_eq!(*results, of_run);
-    assert_eq!(plan_of(&text), [5, 4, 2]);
+    assert_eq!(planned(&text), [5, 4, 2]);
 }

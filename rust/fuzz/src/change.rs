@@ -1,0 +1,232 @@
+//! New inputs from old ones that stay near a sheet. Most changes of bytes spoil
+//! a sheet, and what it takes to come to planning or to working out would be met
+//! too seldom.
+
+use generator::rows::{self, Row};
+use generator::Rng;
+
+use crate::settings::Settings;
+
+/// The input with one change.
+pub fn change(rng: &mut Rng, input: &[u8]) -> Vec<u8> {
+    let (mut settings, text) = Settings::split(input);
+    let mut text = text.to_vec();
+    match rng.below(40) {
+        0 => settings = Settings::random(rng),
+        1..=7 => settings.change(rng),
+        8 => text = generator::any_sheet(rng),
+        9..=13 => text = generator::damage(rng, text),
+        _ => text = vary(rng, text),
+    }
+    [settings.to_bytes(), text].concat()
+}
+
+/// The settings of the first input, and the lines of both: the second's after
+/// the first's, with one outermost Group for all.
+pub fn join(first: &[u8], second: &[u8]) -> Vec<u8> {
+    let (settings, text) = Settings::split(first);
+    let (_, other) = Settings::split(second);
+    let (Some(mut rows), Some(mut more)) = (rows::split(text), rows::split(other)) else {
+        return first.to_vec();
+    };
+    let by = rows.len() - 1;
+    relabel(&mut more, |label| if label == 1 { 1 } else { label + by });
+    rows.extend(more.into_iter().skip(1));
+    [settings.to_bytes(), rows::join(&rows)].concat()
+}
+
+/// A change after which a sheet that read will often still read.
+fn vary(rng: &mut Rng, text: Vec<u8>) -> Vec<u8> {
+    let Some(mut rows) = rows::split(&text) else {
+        return generator::damage(rng, text);
+    };
+    match rng.below(8) {
+        0 | 1 => swap_labels(rng, &mut rows),
+        2 => grow(rng, &mut rows),
+        3 => change_number(rng, &mut rows),
+        4 => change_operation(rng, &mut rows),
+        5 => change_group(rng, &mut rows),
+        6 => read_another(rng, &mut rows),
+        _ => define(rng, &mut rows),
+    }
+    rows::join(&rows)
+}
+
+fn row(fields: [&str; 5]) -> Row {
+    fields.map(|field| field.as_bytes().to_vec())
+}
+
+fn number(number: impl ToString) -> Vec<u8> {
+    number.to_string().into_bytes()
+}
+
+/// The fields of a row that are labels, by its kind.
+fn label_fields(row: &Row) -> &'static [usize] {
+    match &row[0][..] {
+        b"G" | b"C" => &[2],
+        b"V" | b"F" | b"A" | b"S" | b"M" | b"D" => &[2, 3],
+        b"I" => &[2, 3, 4],
+        _ => &[],
+    }
+}
+
+/// Every label that a row mentions replaced by what `new` gives for it.
+fn relabel(rows: &mut [Row], new: impl Fn(usize) -> usize) {
+    for row in rows {
+        for &field in label_fields(row) {
+            let old = std::str::from_utf8(&row[field]).ok();
+            if let Some(label) = old.and_then(|word| word.parse().ok()) {
+                row[field] = number(new(label));
+            }
+        }
+    }
+}
+
+/// Where a row of one of these kinds stands, from 0.
+fn find(rng: &mut Rng, rows: &[Row], kinds: &[u8]) -> Option<usize> {
+    let has = |row: &Row| row[0].len() == 1 && kinds.contains(&row[0][0]);
+    let found: Vec<usize> = (0..rows.len()).filter(|&at| has(&rows[at])).collect();
+    (!found.is_empty()).then(|| *rng.pick(&found))
+}
+
+/// Two lines that stand together change places, and all labels with them.
+fn swap_labels(rng: &mut Rng, rows: &mut [Row]) {
+    if rows.len() < 3 {
+        return;
+    }
+    let first = rng.range(2, rows.len() - 1);
+    rows.swap(first - 1, first);
+    relabel(rows, |label| match label {
+        _ if label == first => first + 1,
+        _ if label == first + 1 => first,
+        _ => label,
+    });
+}
+
+/// A leaf becomes the first operand of an operation.
+fn grow(rng: &mut Rng, rows: &mut Vec<Row>) {
+    let Some(at) = find(rng, rows, b"NPR") else {
+        return;
+    };
+    let next = rows.len() + 1;
+    let kind = *rng.pick(&["A", "S", "M", "D", "I"]);
+    let mut grown = row([kind, "-", "-", "-", "-"]);
+    for (operand, &field) in label_fields(&grown.clone()).iter().enumerate() {
+        grown[field] = number(next + operand);
+        let small = rng.below(5).to_string();
+        rows.push(match operand {
+            0 => rows[at].clone(),
+            _ => row(["N", "-", &small, "-", "-"]),
+        });
+    }
+    rows[at] = grown;
+}
+
+/// A number near an edge, now and then in a form that is not allowed.
+fn change_number(rng: &mut Rng, rows: &mut [Row]) {
+    const FORMS: [&str; 8] = [
+        "-0",
+        "-01",
+        "01",
+        "00",
+        "-",
+        "+1",
+        "1000000001",
+        "-1000000001",
+    ];
+    if let Some(at) = find(rng, rows, b"N") {
+        let near = *rng.pick(&[0, 0, 63, 31_623, 500_000_000, 999_999_998]);
+        let sign = *rng.pick(&[1, 1, -1]);
+        rows[at][2] = match rng.below(10) {
+            0 => rng.pick(&FORMS).as_bytes().to_vec(),
+            _ => number(sign * (near + rng.below(3) as i64)),
+        };
+    }
+}
+
+fn change_operation(rng: &mut Rng, rows: &mut [Row]) {
+    if let Some(at) = find(rng, rows, b"ASMD") {
+        rows[at][0] = rng.pick(&["A", "S", "M", "D"]).as_bytes().to_vec();
+    }
+}
+
+/// A definition moves to another Group.
+fn change_group(rng: &mut Rng, rows: &mut [Row]) {
+    let Some(at) = find(rng, &rows[1..], b"GVF").map(|at| at + 1) else {
+        return;
+    };
+    if let Some(group) = find(rng, &rows[..at], b"G") {
+        rows[at][2] = number(group + 1);
+    }
+}
+
+/// A leaf becomes a read of some definition's name, by way of its Group's too.
+fn read_another(rng: &mut Rng, rows: &mut [Row]) {
+    let leaf = find(rng, rows, b"NPR");
+    let (Some(at), Some(target)) = (leaf, find(rng, &rows[1..], b"GVF")) else {
+        return;
+    };
+    let mut path = rows[target + 1][1].clone();
+    if let Some(group) = find(rng, &rows[1..], b"G").filter(|_| rng.chance(40)) {
+        path = [&rows[group + 1][1][..], &path].join(&b'.');
+    }
+    rows[at] = row(["R", "-", "-", "-", "-"]);
+    rows[at][1] = path;
+}
+
+/// One more definition, with a body that is a leaf.
+fn define(rng: &mut Rng, rows: &mut Vec<Row>) {
+    let Some(group) = find(rng, rows, b"G") else {
+        return;
+    };
+    let label = rows.len() + 1;
+    let kind = *rng.pick(&["G", "V", "V", "V", "F"]);
+    let name = format!("n{}", rng.below(30));
+    let body = (label + 1).to_string();
+    let body = if kind == "G" { "-" } else { &body };
+    rows.push(row([kind, &name, &(group + 1).to_string(), body, "-"]));
+    if kind != "G" {
+        rows.push(row(["N", "-", "7", "-", "-"]));
+    }
+}
+
+#[cfg(test)]
+mod tests {
+    use super::*;
+
+    fn reads(input: &[u8]) -> bool {
+        let case = crate::decode(input);
+        let trial = checks::Trial::new(&case.text, &[]);
+        trial.wanted()[0].reply.refusal == 0
+    }
+
+    /// Changes are of use only where many of the sheets still read.
+    #[test]
+    fn about_half_of_the_changed_sheets_read() {
+        let rng = &mut Rng::new(3);
+        let mut read = 0;
+        for seed in 0..1_000 {
+            let sheet = generator::sheet(&mut Rng::new(seed));
+            let input = [Settings::default().to_bytes(), sheet].concat();
+            assert!(reads(&input));
+            read += usize::from(reads(&change(rng, &input)));
+        }
+        assert!((400..800).contains(&read), "{read} of 1,000");
+    }
+
+    #[test]
+    fn joined_sheets_have_the_lines_of_both() {
+        let head = Settings::default().to_bytes();
+        let first = b"kind name a b c\nG - 0 - -\nV a 1 3 -\nN - 7 - -\n";
+        let second = b"kind name a b c\nG - 0 - -\nV b 1 3 -\nA - 4 5 -\nR a - - -\nN - 1 - -\n";
+        let joined = join(
+            &[&head, &first[..]].concat(),
+            &[&head, &second[..]].concat(),
+        );
+        let wanted = b"kind name a b c\nG - 0 - -\nV a 1 3 -\nN - 7 - -\n\
+            V b 1 5 -\nA - 6 7 -\nR a - - -\nN - 1 - -\n";
+        assert_eq!(joined[Settings::BYTES..], wanted[..]);
+        assert!(reads(&joined));
+        assert_eq!(join(b"any", &joined), b"any");
+    }
+}

@@ -174,43 +174,23 @@ fn check_in(table: &[i64], n: usize, order: &[i64], square: &mut [u64]) -> Verdi
     check_list(table, n, order, square, &mut left)
 }
 
-// ---- a square by the size of the sheet, since it is zeroed at each call
-
-fn check_small(table: &[i64], n: usize, order: &[i64]) -> Verdict
-    requires { ⌜ Accepted (now table) n ⌝ }
-    requires { ⌜ n ≤ 255 ⌝ }
-    ensures { λ r. ⌜ r ≡ orElse (cycleBad (now (table .entry)) n) (orderBad (now (table .entry)) n (now (order .entry))) ⌝ }
-{
-    let mut square = [0u64; 1024];
-    check_in(table, n, order, &mut square)
-}
-
-fn check_medium(table: &[i64], n: usize, order: &[i64]) -> Verdict
-    requires { ⌜ Accepted (now table) n ⌝ }
-    requires { ⌜ n ≤ 511 ⌝ }
-    ensures { λ r. ⌜ r ≡ orElse (cycleBad (now (table .entry)) n) (orderBad (now (table .entry)) n (now (order .entry))) ⌝ }
-{
-    let mut square = [0u64; 4096];
-    check_in(table, n, order, &mut square)
-}
-
-fn check_large(table: &[i64], n: usize, order: &[i64]) -> Verdict
-    requires { ⌜ Accepted (now table) n ⌝ }
-    ensures { λ r. ⌜ r ≡ orElse (cycleBad (now (table .entry)) n) (orderBad (now (table .entry)) n (now (order .entry))) ⌝ }
-{
-    let mut square = [0u64; 17425];
-    check_in(table, n, order, &mut square)
-}
-
+// Rows 16 to 18. The square goes by the size of the sheet, since it is zeroed at each call.
 pub fn check_order(table: &[i64], n: usize, order: &[i64]) -> Verdict
     requires { ⌜ Accepted (now table) n ⌝ }
     ensures { λ r. ⌜ r ≡ orElse (cycleBad (now (table .entry)) n) (orderBad (now (table .entry)) n (now (order .entry))) ⌝ }
 {
+    if n <= 127 {
+        let mut square = [0u64; 256];
+        return check_in(table, n, order, &mut square);
+    }
     if n <= 255 {
-        return check_small(table, n, order);
+        let mut square = [0u64; 1024];
+        return check_in(table, n, order, &mut square);
     }
     if n <= 511 {
-        return check_medium(table, n, order);
+        let mut square = [0u64; 4096];
+        return check_in(table, n, order, &mut square);
     }
-    check_large(table, n, order)
+    let mut square = [0u64; 17425];
+    check_in(table, n, order, &mut square)
 }

@@ -3,7 +3,7 @@ use mathlib.Core.Path.{_≡_, refl, sym, ap, _∙_, subst}
 use mathlib.Core.List.{List, _++_, map}
 use mathlib.Core.Bool.{true, false}
 use mathlib.Core.Option.{Option, none, some}
-use Prim.Native.Nat.{ℕ, zero, suc, _+_, _*_, _≤_, _<_}
+use Prim.Native.Nat.{ℕ, zero, suc, _+_, _-_, _*_, _≤_, _<_}
 use native.Mathlib.Omega.{arith}
 use lib.IntN.{ℤ, pos}
 use lib.ListN.{length, drop, replicate, take-append-drop}
@@ -11,7 +11,8 @@ use Rattle.cells.specs.Accepted.{Accepted}
 use Rattle.order.specs.Order.{firstCycle, someStuck, orZero, place16, wholePlan, mixedPlan, cycle, whole, mixed, plan}
 use Rattle.order.proofs.Planned.{cycle-smallest, cycle-none, order-short}
 use Rattle.order.proofs.Whole.{whole-proper}
-use Rattle.reach.proofs.Scratch.{long}
+use Rattle.reach.specs.Chains.{Empty}
+use Rattle.reach.proofs.Scratch.{long, zero-chain}
 use Rattle.reach.specs.Rows.{width}
 use Rattle.groups.specs.Members.{Scratch}
 use Rattle.planning.specs.declared.Planned.the-variants.{Cycle, Whole, Mixed}
@@ -73,11 +74,22 @@ module _ (t : List ℤ) (n : ℕ) (ok : Accepted t n) where
 
 -- ---- scratch that is all 0
 
-pub zero-scratch : (n k w l : ℕ) → n < k → width n ≤ w → 64 * width n ≤ l → Scratch n (replicate w 0) (replicate k 0) (replicate w 0) (replicate l 0) (replicate k 0)
-zero-scratch n k w l a b d = record {
-  masks = omega (arith, long w);
-  counts = omega (arith, long k);
-  readies = omega (arith, long w);
-  lists = omega (arith, long l);
-  orders = omega (arith, long k);
-}
+-- what `list_in` asks of it, for n labels below k and rows of b words
+module _ (n k b : ℕ) where
+  abbrev pub Fresh : Type 0
+  Fresh = ((2 * n < length (replicate {0} {A = ℕ} (2 * k - 1) 0)) × Empty n (replicate (2 * k - 1) 0)) × ((n < length (replicate {0} {A = ℕ} k 0)) × Scratch n (replicate b 0) (replicate k 0) (replicate b 0) (replicate (64 * b) 0) (replicate k 0))
+
+  pub zero-lists : n < k → width n ≤ b → Fresh
+  zero-lists h g = (
+    zero-chain n (2 * k - 1) (omega arith),
+    (
+      omega (arith, long k),
+      record {
+        masks = omega (arith, long b);
+        counts = omega (arith, long k);
+        readies = omega (arith, long b);
+        lists = omega (arith, long (64 * b));
+        orders = omega (arith, long k);
+      },
+    ),
+  )

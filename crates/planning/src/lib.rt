@@ -9,8 +9,9 @@ ghost use Rattle.cells.specs.Accepted.{Accepted};
 ghost use Rattle.order.specs.Order.{mixedPlan, place16};
 ghost use Rattle.order.specs.Order as Order;
 ghost use Rattle.reach.specs.Rows.{width, Blank};
+ghost use Rattle.reach.specs.Chains.{Empty};
 ghost use Rattle.needs.specs.Needs.{NeedRows};
-ghost use Rattle.groups.specs.Members.{Chained, Ordered, GroupOrders};
+ghost use Rattle.groups.specs.Members.{Ordered, Scratch};
 ghost use Rattle.planning.specs.Listing.{listOf, Put};
 ghost use Rattle.planning.specs.Plans.{PlanIs};
 
@@ -63,53 +64,115 @@ fn put_all(order: &[u16], r: usize, plan: &mut [i64])
     }
 }
 
-// The mixed list.
-fn list_mixed(table: &[i64], n: usize, square: &[u64], plan: &mut [i64]) -> usize
+// The mixed list, with scratch that is lent.
+fn list_mixed(
+    table: &[i64],
+    n: usize,
+    plan: &mut [i64],
+    square: &[u64],
+    items: &mut [u16],
+    mask: &mut [u64],
+    unmet: &mut [u16],
+    ready: &mut [u64],
+    list: &mut [u16],
+    order: &mut [u16],
+) -> usize
     requires { ⌜ Accepted (now table) n ⌝ }
     requires { ⌜ (n ≤ length (now plan)) × (place16 (now table) n ≡ 0) ⌝ }
     requires { ⌜ ((n + 1) * width n ≤ length (now square)) × NeedRows (now table) n (now square) ⌝ }
+    requires { ⌜ (n < length (now items)) × Scratch n (now mask) (now unmet) (now ready) (now list) (now order) ⌝ }
     ensures { λ r. ⌜ Put (mixedPlan (now (table .entry)) n) 0 (now (plan .entry)) (now (plan .exit)) r ⌝ }
 {
-    let mut items = [0u16; 1025];
-    let m = groups::gather_values(table, n, &mut items);
-    let mut mask = [0u64; 17];
-    let mut unmet = [0u16; 1025];
-    let mut ready = [0u64; 17];
-    let mut list = [0u16; 1088];
-    let mut order = [0u16; 1025];
+    let m = groups::gather_values(table, n, items);
     let r = groups::place_items(
         table,
         n,
         square,
         &items[0..m],
-        &mut mask,
-        &mut unmet,
-        &mut ready,
-        &mut list,
-        &mut order,
+        mask,
+        unmet,
+        ready,
+        list,
+        order,
     );
-    put_all(&order, r, plan);
+    put_all(order, r, plan);
     r
 }
 
-// Puts the members of every Group in order. Answers whether some Group gets stuck.
-fn order_all(table: &[i64], n: usize, square: &[u64], next: &mut [u16]) -> bool
+// ---- the plan
+
+// The plan where there is no cycle: whole, or mixed if some Group is stuck. The scratch serves both orders in turn.
+fn list_in(
+    table: &[i64],
+    n: usize,
+    plan: &mut [i64],
+    square: &[u64],
+    next: &mut [u16],
+    items: &mut [u16],
+    mask: &mut [u64],
+    unmet: &mut [u16],
+    ready: &mut [u64],
+    list: &mut [u16],
+    order: &mut [u16],
+) -> Planned
     requires { ⌜ Accepted (now table) n ⌝ }
-    requires { ⌜ (2 * n < length (now next)) × Chained (now table) n (now next) ⌝ }
+    requires { ⌜ (n ≤ length (now plan)) × (place16 (now table) n ≡ 0) ⌝ }
     requires { ⌜ ((n + 1) * width n ≤ length (now square)) × NeedRows (now table) n (now square) ⌝ }
-    ensures { λ r. ⌜ GroupOrders (now (table .entry)) n (now (next .exit)) r ⌝ }
+    requires { ⌜ (2 * n < length (now next)) × Empty n (now next) ⌝ }
+    requires { ⌜ (n < length (now items)) × Scratch n (now mask) (now unmet) (now ready) (now list) (now order) ⌝ }
+    ensures { λ r. ⌜ PlanIs (Order.plan (now (table .entry)) n) (now (plan .entry)) (now (plan .exit)) r ⌝ }
 {
-    let mut items = [0u16; 1025];
-    let mut mask = [0u64; 17];
-    let mut unmet = [0u16; 1025];
-    let mut ready = [0u64; 17];
-    let mut list = [0u16; 1088];
-    let mut order = [0u16; 1025];
-    groups::order_groups(
+    groups::link_members(table, n, next);
+    if groups::order_groups(
         table,
         n,
         square,
         next,
+        items,
+        mask,
+        unmet,
+        ready,
+        list,
+        order,
+    ) {
+        let r = list_mixed(
+            table,
+            n,
+            plan,
+            square,
+            items,
+            mask,
+            unmet,
+            ready,
+            list,
+            order,
+        );
+        return Planned::Mixed(r as u64);
+    }
+    Planned::Whole(list_group(table, n, next, plan, 0, 1) as u64)
+}
+
+// The scratch goes by the size of the sheet, since it is zeroed at each call.
+fn list_small(table: &[i64], n: usize, plan: &mut [i64], square: &[u64]) -> Planned
+    requires { ⌜ Accepted (now table) n ⌝ }
+    requires { ⌜ n ≤ 127 ⌝ }
+    requires { ⌜ (n ≤ length (now plan)) × (place16 (now table) n ≡ 0) ⌝ }
+    requires { ⌜ ((n + 1) * width n ≤ length (now square)) × NeedRows (now table) n (now square) ⌝ }
+    ensures { λ r. ⌜ PlanIs (Order.plan (now (table .entry)) n) (now (plan .entry)) (now (plan .exit)) r ⌝ }
+{
+    let mut next = [0u16; 255];
+    let mut items = [0u16; 128];
+    let mut mask = [0u64; 2];
+    let mut unmet = [0u16; 128];
+    let mut ready = [0u64; 2];
+    let mut list = [0u16; 128];
+    let mut order = [0u16; 128];
+    list_in(
+        table,
+        n,
+        plan,
+        square,
+        &mut next,
         &mut items,
         &mut mask,
         &mut unmet,
@@ -119,23 +182,38 @@ fn order_all(table: &[i64], n: usize, square: &[u64], next: &mut [u16]) -> bool
     )
 }
 
-// ---- the plan
-
-// The plan where there is no cycle: whole, or mixed if some Group is stuck.
 fn list_plan(table: &[i64], n: usize, plan: &mut [i64], square: &[u64]) -> Planned
     requires { ⌜ Accepted (now table) n ⌝ }
     requires { ⌜ (n ≤ length (now plan)) × (place16 (now table) n ≡ 0) ⌝ }
     requires { ⌜ ((n + 1) * width n ≤ length (now square)) × NeedRows (now table) n (now square) ⌝ }
     ensures { λ r. ⌜ PlanIs (Order.plan (now (table .entry)) n) (now (plan .entry)) (now (plan .exit)) r ⌝ }
 {
-    let mut next = [0u16; 2049];
-    groups::link_members(table, n, &mut next);
-    if order_all(table, n, square, &mut next) {
-        return Planned::Mixed(list_mixed(table, n, square, plan) as u64);
+    if n <= 127 {
+        return list_small(table, n, plan, square);
     }
-    Planned::Whole(list_group(table, n, &next, plan, 0, 1) as u64)
+    let mut next = [0u16; 2049];
+    let mut items = [0u16; 1025];
+    let mut mask = [0u64; 17];
+    let mut unmet = [0u16; 1025];
+    let mut ready = [0u64; 17];
+    let mut list = [0u16; 1088];
+    let mut order = [0u16; 1025];
+    list_in(
+        table,
+        n,
+        plan,
+        square,
+        &mut next,
+        &mut items,
+        &mut mask,
+        &mut unmet,
+        &mut ready,
+        &mut list,
+        &mut order,
+    )
 }
 
+// The plan, in a blank square.
 fn plan_in(table: &[i64], n: usize, plan: &mut [i64], square: &mut [u64]) -> Planned
     requires { ⌜ Accepted (now table) n ⌝ }
     requires { ⌜ n ≤ length (now plan) ⌝ }
@@ -150,45 +228,24 @@ fn plan_in(table: &[i64], n: usize, plan: &mut [i64], square: &mut [u64]) -> Pla
     list_plan(table, n, plan, square)
 }
 
-// ---- a square by the size of the sheet, since it is zeroed at each call; what else is needed is small
-
-fn plan_small(table: &[i64], n: usize, plan: &mut [i64]) -> Planned
-    requires { ⌜ Accepted (now table) n ⌝ }
-    requires { ⌜ (n ≤ 255) × (n ≤ length (now plan)) ⌝ }
-    ensures { λ r. ⌜ PlanIs (Order.plan (now (table .entry)) n) (now (plan .entry)) (now (plan .exit)) r ⌝ }
-{
-    let mut square = [0u64; 1024];
-    plan_in(table, n, plan, &mut square)
-}
-
-fn plan_medium(table: &[i64], n: usize, plan: &mut [i64]) -> Planned
-    requires { ⌜ Accepted (now table) n ⌝ }
-    requires { ⌜ (n ≤ 511) × (n ≤ length (now plan)) ⌝ }
-    ensures { λ r. ⌜ PlanIs (Order.plan (now (table .entry)) n) (now (plan .entry)) (now (plan .exit)) r ⌝ }
-{
-    let mut square = [0u64; 4096];
-    plan_in(table, n, plan, &mut square)
-}
-
-fn plan_large(table: &[i64], n: usize, plan: &mut [i64]) -> Planned
-    requires { ⌜ Accepted (now table) n ⌝ }
-    requires { ⌜ n ≤ length (now plan) ⌝ }
-    ensures { λ r. ⌜ PlanIs (Order.plan (now (table .entry)) n) (now (plan .entry)) (now (plan .exit)) r ⌝ }
-{
-    let mut square = [0u64; 17425];
-    plan_in(table, n, plan, &mut square)
-}
-
+// The square goes by the size of the sheet too.
 pub fn plan_of(table: &[i64], n: usize, plan: &mut [i64]) -> Planned
     requires { ⌜ Accepted (now table) n ⌝ }
     requires { ⌜ n ≤ length (now plan) ⌝ }
     ensures { λ r. ⌜ PlanIs (Order.plan (now (table .entry)) n) (now (plan .entry)) (now (plan .exit)) r ⌝ }
 {
+    if n <= 127 {
+        let mut square = [0u64; 256];
+        return plan_in(table, n, plan, &mut square);
+    }
     if n <= 255 {
-        return plan_small(table, n, plan);
+        let mut square = [0u64; 1024];
+        return plan_in(table, n, plan, &mut square);
     }
     if n <= 511 {
-        return plan_medium(table, n, plan);
+        let mut square = [0u64; 4096];
+        return plan_in(table, n, plan, &mut square);
     }
-    plan_large(table, n, plan)
+    let mut square = [0u64; 17425];
+    plan_in(table, n, plan, &mut square)
 }

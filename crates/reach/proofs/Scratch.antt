@@ -23,9 +23,16 @@ zero-square n a b h g =
     let m : (n + 1) * width n ≤ a * b = mul-le-mul h g in
     (omega (arith, long (a * b)), λ d q. marks-none (replicate (a * b) 0) (zero-at (a * b)) (width n) d q)
 
-module _ (n k : ℕ) where
-  pub zero-chain : 2 * n < k → (2 * n < length (replicate {0} {A = ℕ} k 0)) × Empty n (replicate k 0)
-  zero-chain h = (omega (arith, long k), λ d g. zero-at k d)
+pub zero-chain : (n k : ℕ) → 2 * n < k → (2 * n < length (replicate {0} {A = ℕ} k 0)) × Empty n (replicate k 0)
+zero-chain n k h = (omega (arith, long k), λ d g. zero-at k d)
 
-  pub zero-room : (square : List ℕ) → n < k → (n + 1) * width n ≤ length square → Room n (replicate k 0) square (replicate k 0)
-  zero-room square h g = record { states = omega (arith, long k); rows = g; heights = omega (arith, long k) }
+-- what `cycle_in` asks of scratch, for n labels below k
+module _ (n k : ℕ) (square : List ℕ) where
+  zero-room : n < k → (n + 1) * width n ≤ length square → Room n (replicate k 0) square (replicate k 0)
+  zero-room h r = record { states = omega (arith, long k); rows = r; heights = omega (arith, long k) }
+
+  abbrev pub Fresh : ℕ → Type 0
+  Fresh c = ((2 * n < length (replicate {0} {A = ℕ} c 0)) × Empty n (replicate c 0)) × (Room n (replicate k 0) square (replicate k 0) × (((d : ℕ) → getD (replicate {0} {A = ℕ} k 0) d 0 ≡ 0) × ((d : ℕ) → Blank n square d)))
+
+  pub zero-cycle : (c : ℕ) → 2 * n < c → n < k → ((n + 1) * width n ≤ length square) × ((d : ℕ) → Blank n square d) → Fresh c
+  zero-cycle c g h b = (zero-chain n c g, (zero-room h (b .0), (zero-at k, b .1)))

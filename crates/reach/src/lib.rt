@@ -304,17 +304,43 @@ pub fn first_cycle(table: &[i64], n: usize, j: usize, square: &[u64]) -> usize
     0
 }
 
-// Row 16 and the row of every V, in a blank square.
+// Row 16 and the row of every V, in a blank square, with scratch that is all 0.
+fn cycle_in(
+    table: &[i64],
+    n: usize,
+    j: usize,
+    square: &mut [u64],
+    chains: &mut [u16],
+    state: &mut [u8],
+    stack: &mut [u16],
+) -> usize
+    requires { ⌜ Accepted (now table) n ⌝ }
+    requires { ⌜ Column j ⌝ }
+    requires { ⌜ (2 * n < length (now chains)) × Empty n (now chains) ⌝ }
+    requires { ⌜ Room n (now state) (now square) (now stack) ⌝ }
+    requires { ⌜ ((d : ℕ) → getD (now state) d 0 ≡ 0) × ((d : ℕ) → Blank n (now square) d) ⌝ }
+    ensures { λ r. ⌜ (r ≡ place16 (now (table .entry)) n) × AllRows (now (table .entry)) n j (now (square .exit)) ⌝ }
+{
+    link(table, n, j, chains);
+    reach_rows(table, n, j, chains, state, square, stack);
+    first_cycle(table, n, j, square)
+}
+
+// The same, with scratch of two sizes, since it is zeroed at each call.
 pub fn find_cycle(table: &[i64], n: usize, j: usize, square: &mut [u64]) -> usize
     requires { ⌜ Accepted (now table) n ⌝ }
     requires { ⌜ Column j ⌝ }
     requires { ⌜ ((n + 1) * width n ≤ length (now square)) × ((d : ℕ) → Blank n (now square) d) ⌝ }
     ensures { λ r. ⌜ (r ≡ place16 (now (table .entry)) n) × AllRows (now (table .entry)) n j (now (square .exit)) ⌝ }
 {
+    if n <= 127 {
+        let mut chains = [0u16; 255];
+        let mut state = [0u8; 128];
+        let mut stack = [0u16; 128];
+        return cycle_in(table, n, j, square, &mut chains, &mut state, &mut stack);
+    }
     let mut chains = [0u16; 2049];
     let mut state = [0u8; 1025];
     let mut stack = [0u16; 1025];
-    link(table, n, j, &mut chains);
-    reach_rows(table, n, j, &chains, &mut state, square, &mut stack);
-    first_cycle(table, n, j, square)
+    cycle_in(table, n, j, square, &mut chains, &mut state, &mut stack)
 }

@@ -1,0 +1,124 @@
+use mathlib.Core.Path.{_≡_, _∙_, subst}
+use mathlib.Core.List.{List}
+use mathlib.Core.Bool.{Bool}
+use Prim.Native.Nat.{ℕ}
+use native.Mathlib.Omega.{arith}
+use lib.IntN.{ℤ}
+use Rattle.groups.specs.Members.{GroupOrders}
+use Rattle.groups.proofs.Orders.{scratch-as}
+use Rattle.planning.proofs.Plans.{whole-short, plan-whole, plan-mixed}
+use borrow.Author.Needs.{needs}
+use Rattle.planning.proofs.list_in.Statement.{statement}
+use Rattle.planning.proofs.list_in.Tie as tie
+
+-- what `order_groups` answered
+orders : (t : List ℤ) (n : ℕ) (next : List ℕ) (r b : Bool) → GroupOrders t n next r → r ≡ b → GroupOrders t n next b
+orders t n next r b h e = subst (GroupOrders t n next) e h
+
+link-members-requires : tie.Need-link-members-requires
+link-members-requires c κs = search needs
+
+order-groups-requires : tie.Need-order-groups-requires
+order-groups-requires c κs =
+    let p = c .before .before .before .before .before .before .before .before .before .before .before .before .before .before .before .before .before .before .before .pre in
+    let k = c .before .before .before .before .before .before .before .before .before .link-members in
+    (p .0, (((omega (arith, p .1 .1 .1 .0 .0, k .kept .1 .1 .0), p .1 .1 .1 .1 .0), p .1 .1 .1 .1 .1), (p .1 .1 .0, k .ensures)))
+
+list-mixed-requires : tie.Need-list-mixed-requires
+list-mixed-requires c κs =
+    let p = c .before .before .before .before .before .before .before .before .before .before .before .before .before .before .before .before .before .before .before .before .before .before .before .before .before .before .before .before .before .before .before .before .before .before .before .before .before .before .before .before .before .before .pre in
+    let k = c .before .before .before .before .before .before .before .before .before .before .before .before .before .before .before .before .before .before .before .before .before .before .order-groups .kept .1 .1 .1 .1 in
+    (p .0, (p .1 .0, (p .1 .1 .0, (omega (arith, p .1 .1 .1 .1 .0, k .0), scratch-as _ _ _ _ _ _ _ _ _ _ _ (k .1 .0) (k .1 .1 .0) (k .1 .1 .1 .0) (k .1 .1 .1 .1 .0) (k .1 .1 .1 .1 .1 .0) (p .1 .1 .1 .1 .1)))))
+
+same-length : tie.Need-same-length
+same-length c = search needs
+
+same-length-2 : tie.Need-same-length-2
+same-length-2 c = c .before .before .before .before .before .before .before .before .before .before .before .before .before .before .before .before .before .before .before .before .before .before .before .before .before .before .before .before .before .before .before .before .before .before .before .before .order-groups .kept .1 .1 .1 .0 ∙ c .before .before .before .before .before .before .before .before .before .before .before .before .before .before .before .before .before .before .before .before .before .before .before .before .before .before .before .before .before .before .before .before .before .before .before .before .before .before .before .before .before .before .before .before .before .before .link-members .kept .1 .1 .0
+
+same-length-3 : tie.Need-same-length-3
+same-length-3 c = search needs
+
+same-length-4 : tie.Need-same-length-4
+same-length-4 c = search needs
+
+same-length-5 : tie.Need-same-length-5
+same-length-5 c = search needs
+
+same-length-6 : tie.Need-same-length-6
+same-length-6 c = search needs
+
+same-length-7 : tie.Need-same-length-7
+same-length-7 c = search needs
+
+same-length-8 : tie.Need-same-length-8
+same-length-8 c = search needs
+
+returns : tie.Need-returns
+returns c =
+    let a = c .before .before .before .before .before .before .before .before .before .before .before .before .before .before .before .before .before .before .before .before .before .before .before .before .before .before .before .before .before .before .before .before .before .before .before .before .before .before .before .before .before .before .before .before .before .before .before .before .before .before .before .before .before .before .before .before in
+    plan-mixed _ _ (a .pre .0) _ _ _ (a .pre .1 .0 .1) (orders (a .args .table .now) (a .args .n) _ _ _ (c .before .before .before .before .before .before .before .before .before .before .before .before .before .before .before .before .before .before .before .before .before .before .before .before .before .before .before .before .before .before .before .before .before .before .before .before .order-groups .ensures) (c .before .before .before .before .before .before .before .before .before .before .before .before .before .before .before .before .before .before .before .before .before .if1 .taken)) (c .before .before .before .before .before .before .before .before .before .before .before .before .before .list-mixed .ensures)
+
+list-group-requires : tie.Need-list-group-requires
+list-group-requires c κs =
+    let a = c .before .before .before .before .before .before .before .before .before .before .before .before .before .before .before .before .before .before .before .before .before .before .before .before .before .before .before .before .before .before .before .before .before .before .before .before .before in
+    let k = c .before .before .before .before .before .before .before .before .before .before .before .before .before .before .before .before .before .order-groups in
+    let o = orders (a .args .table .now) (a .args .n) _ _ _ (k .ensures) (c .before .before .if1 .left) in
+    (a .pre .0, ((omega (arith, k .kept .1 .1 .1 .0, c .before .before .before .before .before .before .before .before .before .before .before .before .before .before .before .before .before .before .before .before .before .before .before .before .before .before .before .link-members .kept .1 .1 .0, a .pre .1 .1 .1 .0 .0), o .0), ((omega arith, a .pre .0 .some, a .pre .0 .root), omega (arith, a .pre .1 .0 .0, whole-short _ _ (a .pre .0) (a .pre .1 .0 .1) (o .1)))))
+
+same-length-9 : tie.Need-same-length-9
+same-length-9 c = search needs
+
+same-length-10 : tie.Need-same-length-10
+same-length-10 c = search needs
+
+same-length-11 : tie.Need-same-length-11
+same-length-11 c = search needs
+
+same-length-12 : tie.Need-same-length-12
+same-length-12 c = search needs
+
+same-length-13 : tie.Need-same-length-13
+same-length-13 c = search needs
+
+same-length-14 : tie.Need-same-length-14
+same-length-14 c = search needs
+
+same-length-15 : tie.Need-same-length-15
+same-length-15 c = search needs
+
+same-length-16 : tie.Need-same-length-16
+same-length-16 c = search needs
+
+returns-2 : tie.Need-returns-2
+returns-2 c =
+    let a = c .before .before .before .before .before .before .before .before .before .before .before .before .before .before .before .before .before .before .before .before .before .before .before .before .before .before .before .before .before .before .before .before .before .before .before .before .before .before .before in
+    let o = orders (a .args .table .now) (a .args .n) _ _ _ (c .before .before .before .before .before .before .before .before .before .before .before .before .before .before .before .before .before .before .before .order-groups .ensures) (c .before .before .before .before .if1 .left) in
+    plan-whole _ _ (a .pre .0) _ _ _ (a .pre .1 .0 .1) (o .1) (c .before .list-group .ensures)
+
+pub list-in-spec : {M : Type 1} → statement M
+list-in-spec =
+    tie.close
+    (tie.spec
+    link-members-requires
+    order-groups-requires
+    list-mixed-requires
+    same-length
+    same-length-2
+    same-length-3
+    same-length-4
+    same-length-5
+    same-length-6
+    same-length-7
+    same-length-8
+    returns
+    list-group-requires
+    same-length-9
+    same-length-10
+    same-length-11
+    same-length-12
+    same-length-13
+    same-length-14
+    same-length-15
+    same-length-16
+    returns-2)

@@ -1,0 +1,54 @@
+use Prim.Native.Nat.{_≤_}
+use native.Mathlib.Omega.{arith}
+use Rattle.planning.proofs.Plans.{zero-lists}
+use borrow.Author.Needs.{needs}
+use Rattle.planning.proofs.list_small.Statement.{statement}
+use Rattle.planning.proofs.list_small.Tie as tie
+
+slice-aggregate-list-in : tie.Need-slice-aggregate-list-in
+slice-aggregate-list-in c = search needs
+
+slice-aggregate-list-in-2 : tie.Need-slice-aggregate-list-in-2
+slice-aggregate-list-in-2 c = search needs
+
+slice-aggregate-list-in-3 : tie.Need-slice-aggregate-list-in-3
+slice-aggregate-list-in-3 c = search needs
+
+slice-aggregate-list-in-4 : tie.Need-slice-aggregate-list-in-4
+slice-aggregate-list-in-4 c = search needs
+
+slice-aggregate-list-in-5 : tie.Need-slice-aggregate-list-in-5
+slice-aggregate-list-in-5 c = search needs
+
+slice-aggregate-list-in-6 : tie.Need-slice-aggregate-list-in-6
+slice-aggregate-list-in-6 c = search needs
+
+slice-aggregate-list-in-7 : tie.Need-slice-aggregate-list-in-7
+slice-aggregate-list-in-7 c = search needs
+
+list-in-requires : tie.Need-list-in-requires
+list-in-requires c κs =
+    let a = c .before .before .before .before .before .before .before .before .before in
+    let h : a .args .n ≤ 127 = a .pre .1 .0 in
+    (a .pre .0, (a .pre .1 .1 .0, (a .pre .1 .1 .1, zero-lists (a .args .n) 128 2 (omega arith) (omega arith))))
+
+same-length : tie.Need-same-length
+same-length c = search needs
+
+returns : tie.Need-returns
+returns c = search needs
+
+pub list-small-spec : {M : Type 1} → statement M
+list-small-spec =
+    tie.close
+    (tie.spec
+    slice-aggregate-list-in
+    slice-aggregate-list-in-2
+    slice-aggregate-list-in-3
+    slice-aggregate-list-in-4
+    slice-aggregate-list-in-5
+    slice-aggregate-list-in-6
+    slice-aggregate-list-in-7
+    list-in-requires
+    same-length
+    returns)

@@ -48,6 +48,15 @@ from-closed t v = record { on = go; back = λ e k r. inr (k, r) }
     go d e (inl p) m = once (subst (λ (x : ℕ). Mentions t x e) p m)
     go d e (inr r) m = then (r .1) m
 
+-- what one of these reaches, v reaches
+pub from-reaches : (t : List ℤ) (v d w : ℕ) → From t v d → Reaches t d w → Reaches t v w
+from-reaches t v d w (inl p) r = subst (λ (x : ℕ). Reaches t x w) p r
+from-reaches t v d w (inr h) r = onward (h .1) r
+  where
+    onward : {e f : ℕ} → Reaches t v e → Reaches t e f → Reaches t v f
+    onward p (once m) = then p m
+    onward p (then q m) = then (onward p q) m
+
 -- ---- labels and cells
 
 pub mentions : (t : List ℤ) (x : ℕ) → HasPath t x → Mentions t (owner t x) (target t x)

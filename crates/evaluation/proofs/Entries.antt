@@ -1,22 +1,24 @@
--- What the calls of the cycle ask: an entry leads to the entries of its operands, and the cells that it reads are there.
-use mathlib.Core.Path.{_≡_, sym, ap, _∙_, subst}
+-- What the calls of the cycle ask: an entry leads to the entries of its operands, the cells that it reads are there, and a value that it
+-- reads has been evaluated.
+use mathlib.Core.Path.{_≡_, refl, sym, ap, _∙_, subst}
 use mathlib.Core.List.{List}
 use mathlib.Core.Logic.{inl, inr}
 use Prim.Native.Nat.{ℕ, _+_, _*_, _≤_, _<_}
 use native.Mathlib.Omega.{arith}
 use lib.IntN.{ℤ, natAbs}
 use lib.ListN.{length}
-use Rattle.cells.specs.Table.{kind, fieldA, fieldB, target}
+use Rattle.cells.specs.Table.{kind, fieldA, fieldB, owner, target}
+use Rattle.cells.specs.Reaches.{Reaches}
 use Rattle.numbers.specs.Range.{limit}
 use Rattle.numbers.specs.declared.Operation.{Operation}
 use Rattle.evaluation.specs.Evaluation.{kindOf, branchOf, depthLimit, one, outcome, nothing}
-use Rattle.evaluation.specs.Ready.{Settled, Line, Entry, Entered, Cell, Room, Evaluable}
+use Rattle.evaluation.specs.Ready.{Settled, Ready, ReachedEvaluated, Line, Entry, Entered, Cell, Room, Evaluable}
 use Rattle.evaluation.specs.declared.Arguments.{Arguments}
 use Rattle.evaluation.specs.declared.Kind.{Kind}
 use Rattle.evaluation.specs.declared.Kind.the-variants as kinds
 use Rattle.evaluation.specs.declared.Outcome.{Outcome}
 use Rattle.evaluation.proofs.Codes.{by-code}
-use Rattle.evaluation.proofs.Closure.{Within, All, all-closed, Leads, leads, first, body-within, body-label, cell-ok}
+use Rattle.evaluation.proofs.Closure.{Within, From, from-closed, from-reaches, Leads, leads, first, body-within, body-label, cell-ok}
 use Rattle.evaluation.proofs.Range.{in-range}
 use Rattle.evaluation.proofs.Steps.{left-less}
 
@@ -39,10 +41,18 @@ composite c =
 pub is-kind : {c n : ℕ} {k k′ : Kind} → c ≡ n → k ≡ kindOf c → k ≡ k′ → k′ ≡ kindOf n
 is-kind p q e = sym e ∙ q ∙ ap kindOf p
 
+-- where what v reaches has been evaluated, so has what a function that v reaches does
+handed-on : (t r : List ℤ) (v d : ℕ) → From t v d → ReachedEvaluated t r v → ReachedEvaluated t r d
+handed-on t r v d f h w k p = h w k (from-reaches t v d w f p)
+
+-- and it has a state from 1 to 5
+pub reached-settled : {t r : List ℤ} {d : ℕ} → Ready t r → ReachedEvaluated t r d → (w : ℕ) → kind t w ≡ 2 → Reaches t d w → Settled 1 r w
+reached-settled q h w k p = let s = q .settled w in record { least = h w k p; most = s .most; ranged = s .ranged }
+
 module _ {t r : List ℤ} {l : ℕ} {g : Arguments} {d : ℕ} where
   pub as-kind : Entry t r l g d → {d′ c : ℕ} {k k′ : Kind} → d′ ≡ d → c ≡ kind t l → k ≡ kindOf c → k ≡ k′ → Entered k′ t r l g d′
   as-kind e h p q x = record {
-    entry = record { ready = e .ready; line = e .line; given = e .given; shallow = rw h (e .shallow) };
+    entry = record { ready = e .ready; line = e .line; given = e .given; shallow = rw h (e .shallow); reached = e .reached };
     of = sym (is-kind p q x);
   }
 
@@ -54,22 +64,29 @@ module _ {t r : List ℤ} {l : ℕ} {g : Arguments} {d : ℕ} where
   pub number-cell : Entry t r l g d → (1 ≤ l) × (8 * l ≤ length t)
   number-cell e = let c = line-cell e 0 (omega arith) (λ x. omega arith) in (c .low, c .room)
 
-  enter : (e : Entry t r l g d) {x y : ℕ} → y ≡ x → Within t (e .ready .count) All x → Entry t r y g d
+  enter : (e : Entry t r l g d) {x y : ℕ} → y ≡ x → Within t (e .ready .count) (From t (owner t l)) x → Entry t r y g d
   enter e {x} {y} p h = record {
     ready = e .ready;
     line = subst (λ (n : ℕ). Line t (e .ready .count) n) (sym p) (h .line);
     given = e .given;
     shallow = e .shallow;
+    reached = subst (λ (n : ℕ). ReachedEvaluated t r (owner t n)) (sym p) (handed-on t r (owner t l) (owner t x) (h .owned) (e .reached));
   }
 
   module _ {k : Kind} (e : Entered k t r l g d) where
-    here : Within t (e .entry .ready .count) All l
-    here = record { line = e .entry .line; owned = tt }
+    abbrev Own : ℕ → Type 0
+    Own x = From t (owner t l) x
 
-    has : Leads t (e .entry .ready .count) (e .entry .ready .accepted) All All (all-closed t) k l
+    abbrev Reached : ℕ → Type 0
+    Reached x = Reaches t (owner t l) x
+
+    here : Within t (e .entry .ready .count) Own l
+    here = record { line = e .entry .line; owned = inl refl }
+
+    has : Leads t (e .entry .ready .count) (e .entry .ready .accepted) Own Reached (from-closed t (owner t l)) k l
     has =
-        subst (λ (k : Kind). Leads t (e .entry .ready .count) (e .entry .ready .accepted) All All (all-closed t) k l) (e .of)
-        (leads t (e .entry .ready .count) (e .entry .ready .accepted) All All (all-closed t) l here)
+        subst (λ (k : Kind). Leads t (e .entry .ready .count) (e .entry .ready .accepted) Own Reached (from-closed t (owner t l)) k l) (e .of)
+        (leads t (e .entry .ready .count) (e .entry .ready .accepted) Own Reached (from-closed t (owner t l)) l here)
 
     from-seven : Composite k → 7 ≤ kind t l
     from-seven c = composite (kind t l) (subst Composite (sym (e .of)) c)
@@ -81,7 +98,7 @@ module _ {t r : List ℤ} {l : ℕ} {g : Arguments} {d : ℕ} where
 
     pub first-entry : Composite k → {x : ℕ} → x ≡ fieldA t l → Entry t r x g d
     first-entry c p =
-        enter (e .entry) p (first t (e .entry .ready .count) (e .entry .ready .accepted) All All (all-closed t) l here (from-seven c))
+        enter (e .entry) p (first t (e .entry .ready .count) (e .entry .ready .accepted) Own Reached (from-closed t (owner t l)) l here (from-seven c))
 
   pub second-entry : {op : Operation} → Entered (kinds.Operation op) t r l g d → {x : ℕ} → x ≡ fieldB t l → Entry t r x g d
   unfolding Leads
@@ -95,7 +112,7 @@ module _ {t r : List ℤ} {l : ℕ} {g : Arguments} {d : ℕ} where
   unfolding Leads
   body-entry e {x} {z} p q h k =
       let b = enter (e .entry) (q ∙ ap (fieldB t) p) (has e .1) in
-      record { ready = b .ready; line = b .line; given = h; shallow = k }
+      record { ready = b .ready; line = b .line; given = h; shallow = k; reached = b .reached }
 
   pub body-cell : Entered kinds.Call t r l g d → {z : ℕ} → z ≡ target t l → Cell t z 4
   unfolding Leads
@@ -104,14 +121,16 @@ module _ {t r : List ℤ} {l : ℕ} {g : Arguments} {d : ℕ} where
       let b = body-label t (q .count) (q .accepted) (target t l) (inr (has e .2)) in
       subst (λ (x : ℕ). Cell t x 4) (sym p) (cell-ok t (q .count) (q .accepted) (target t l) 4 (b .0) (b .1) (omega arith) (λ _ x. omega arith))
 
-  pub read-asks : Entered kinds.Read t r l g d → Cell t l 7 × Room r (target t l) × Settled 0 r (target t l)
+  -- the target is a value that the definition reaches
+  pub read-asks : Entered kinds.Read t r l g d → Cell t l 7 × Room r (target t l) × Settled 1 r (target t l)
   unfolding Leads
   read-asks e =
       let q = e .entry .ready in
-      let b = body-label t (q .count) (q .accepted) (target t l) (inl (has e .0)) in (
+      let h = has e in
+      let b = body-label t (q .count) (q .accepted) (target t l) (inl (h .0)) in (
         line-cell (e .entry) 7 (omega arith) (λ x. omega arith),
         record { low = b .0; room = omega (arith, b .1, q .room) },
-        q .settled (target t l),
+        reached-settled q (e .entry .reached) (target t l) (h .0) (h .1),
       )
 
 -- ---- after an operand
@@ -137,9 +156,12 @@ module _ {t r : List ℤ} {v : ℕ} (e : Evaluable t r v) where
   value-room = record { low = label .0; room = omega (arith, label .1, e .ready .room) }
 
   pub value-entry : {x : ℕ} → x ≡ fieldB t v → Entry t r x nothing 0
-  value-entry p = record {
-    ready = e .ready;
-    line = subst (λ (n : ℕ). Line t (e .ready .count) n) (sym p) (body-within t (e .ready .count) (e .ready .accepted) All All (all-closed t) v (inl (e .value)) tt .line);
-    given = omega arith;
-    shallow = omega arith;
-  }
+  value-entry p =
+      let b = body-within t (e .ready .count) (e .ready .accepted) (From t v) (Reaches t v) (from-closed t v) v (inl (e .value)) (inl refl) in
+      record {
+        ready = e .ready;
+        line = subst (λ (n : ℕ). Line t (e .ready .count) n) (sym p) (b .line);
+        given = omega arith;
+        shallow = omega arith;
+        reached = subst (λ (n : ℕ). ReachedEvaluated t r (owner t n)) (sym p) (handed-on t r v (owner t (fieldB t v)) (b .owned) (e .reached));
+      }

@@ -102,18 +102,10 @@ in-range t r q l g s d h k =
 
 -- ---- a value
 
-module _ (low : ℕ) (small : low ≤ hasNumber) (t r : List ℤ) (n : ℕ) (w : Accepted t n) (D E : ℕ → Type 0) (c : Closed t D E) where
-  value-good : ((x : ℕ) → kind t x ≡ 2 → E x → Settled low r x) → (v : ℕ) → kind t v ≡ 2 → D v → Good low (valueOutcome t r v)
-  unfolding valueOutcome
-  value-good settled v k h =
-      good low small t r n w D E c settled (fieldB t v) nothing 20000 0 (body-within t n w D E c v (inl k) h) (omega arith)
-
 -- where every value that v reaches has been evaluated, v has a state from 1 to 5 and a number in range
 pub value-settled : (t r : List ℤ) (n : ℕ) → Accepted t n → (v : ℕ) → kind t v ≡ 2
     → ((x : ℕ) → kind t x ≡ 2 → Reaches t v x → Settled 1 r x) → Good 1 (valueOutcome t r v)
-value-settled t r n w v k h = value-good 1 (omega arith) t r n w (From t v) (Reaches t v) (from-closed t v) h v k (inl refl)
-
--- whatever has been evaluated, the state is at most 5 and the number in range
-pub value-ranged : (t r : List ℤ) (q : Ready t r) (v : ℕ) → kind t v ≡ 2 → Good 0 (valueOutcome t r v)
-value-ranged t r q v k =
-    value-good 0 (omega arith) t r (q .count) (q .accepted) All All (all-closed t) (λ x _ _. q .settled x) v k tt
+unfolding valueOutcome
+value-settled t r n w v k h =
+    good 1 (omega arith) t r n w (From t v) (Reaches t v) (from-closed t v) h (fieldB t v) nothing 20000 0
+    (body-within t n w (From t v) (Reaches t v) (from-closed t v) v (inl k) (inl refl)) (omega arith)

@@ -21,8 +21,8 @@ use Rattle.evaluation.specs.Evaluation.{valueOutcome, valueOf, evaluated
 use Rattle.evaluation.specs.Ready.{Settled, Ready, Room, Evaluable}
 use Rattle.evaluation.specs.declared.Outcome.{Outcome}
 use Rattle.evaluation.specs.declared.Value.{Value}
-use Rattle.evaluation.proofs.Range.{Good, value-ranged}
-use Rattle.evaluation.proofs.Entries.{value-room}
+use Rattle.evaluation.proofs.Range.{Good, value-settled}
+use Rattle.evaluation.proofs.Entries.{reached-settled, value-room}
 
 module _ (r : List ℤ) (l : ℕ) (v : Value) where
   pub store-length : length (store r l v) ≡ length r
@@ -101,16 +101,26 @@ ready-zeros t n m w h = record {
     blank l = record { least = omega arith; most = omega (arith, state l); ranged = λ e. rw (number l) (omega arith) }
 
 -- what `evaluate_into` leaves
-pub ready-stored : (t r : List ℤ) (v : ℕ) → Evaluable t r v → Ready t (store r v (evaluated t r v))
-ready-stored t r v e = record {
-  count = e .ready .count;
-  accepted = e .ready .accepted;
-  room = rw (store-length r v (evaluated t r v)) (e .ready .room);
-  settled = λ l. go l (eqb l v) refl;
-}
-  where
-    go : (l : ℕ) (b : Bool) → eqb l v ≡ b → Settled 0 (store r v (evaluated t r v)) l
-    go l true p =
-        subst (λ (x : ℕ). Settled 0 (store r v (evaluated t r v)) x) (sym (eqb-true l v p))
-        (settled-own 0 r v (valueOutcome t r v) (value-room e) (value-ranged t r (e .ready) v (e .value)))
-    go l false p = settled-other 0 r v (evaluated t r v) l (eqb-false l v p) (value-room e .low) (e .ready .settled l)
+module _ (t r : List ℤ) (v : ℕ) (e : Evaluable t r v) where
+  -- v has been evaluated,
+  pub evaluated-own : Settled 1 (store r v (evaluated t r v)) v
+  evaluated-own = settled-own 1 r v (valueOutcome t r v) (value-room e) (value-settled t r (e .ready .count) (e .ready .accepted) v (e .value) (reached-settled (e .ready) (e .reached)))
+
+  -- and what was settled still is
+  pub settled-still : (low : ℕ) → low ≤ 1 → (l : ℕ) → Settled low r l → Settled low (store r v (evaluated t r v)) l
+  settled-still low h l s = go (eqb l v) refl
+    where
+      go : (b : Bool) → eqb l v ≡ b → Settled low (store r v (evaluated t r v)) l
+      go true p =
+          let o = evaluated-own in
+          subst (λ (x : ℕ). Settled low (store r v (evaluated t r v)) x) (sym (eqb-true l v p))
+          (record { least = omega (arith, o .least); most = o .most; ranged = o .ranged })
+      go false p = settled-other low r v (evaluated t r v) l (eqb-false l v p) (value-room e .low) s
+
+  pub ready-stored : Ready t (store r v (evaluated t r v))
+  ready-stored = record {
+    count = e .ready .count;
+    accepted = e .ready .accepted;
+    room = rw (store-length r v (evaluated t r v)) (e .ready .room);
+    settled = λ l. settled-still 0 (omega arith) l (e .ready .settled l);
+  }

@@ -1,13 +1,14 @@
 -- What evaluation asks of its table, of the results stored so far and of what it enters. A table that Read accepts, and results
--- that start as zeros and get one evaluated value after the other, meet it.
+-- that start as zeros and get one evaluated value after the other, down a proper order, meet it.
 use mathlib.Core.Path.{_≡_}
 use mathlib.Core.List.{List}
 use Prim.Native.Nat.{ℕ, _+_, _-_, _*_, _≤_, _<_}
 use lib.IntN.{ℤ, pos, natAbs}
 use lib.ListN.{length}
 use Rattle.cells.specs.Cells.{intAt}
-use Rattle.cells.specs.Table.{cell, kind}
+use Rattle.cells.specs.Table.{cell, kind, owner}
 use Rattle.cells.specs.Accepted.{Accepted}
+use Rattle.cells.specs.Reaches.{Reaches}
 use Rattle.numbers.specs.Range.{limit}
 use Rattle.evaluation.specs.declared.Arguments.{Arguments}
 use Rattle.evaluation.specs.declared.Kind.{Kind}
@@ -27,6 +28,10 @@ pub record Ready (t r : List ℤ) : Type 0 where
   pub room : 3 * count ≤ length r
   pub settled : (l : ℕ) → Settled 0 r l
 
+-- every value that definition d reaches has been evaluated: its stored state is no longer the 0 that results start with
+abbrev pub ReachedEvaluated : List ℤ → List ℤ → ℕ → Type 0
+ReachedEvaluated t r d = (w : ℕ) → kind t w ≡ 2 → Reaches t d w → 1 ≤ stateAt r w
+
 -- l is an expression of a table of n labels
 pub record Line (t : List ℤ) (n l : ℕ) : Type 0 where
   pub low : 1 ≤ l
@@ -34,12 +39,13 @@ pub record Line (t : List ℤ) (n l : ℕ) : Type 0 where
   pub least : 4 ≤ kind t l
   pub most : kind t l ≤ 12
 
--- expression l may be entered with arguments g at depth d
+-- expression l may be entered with arguments g at depth d: every value that its definition reaches has been evaluated
 pub record Entry (t r : List ℤ) (l : ℕ) (g : Arguments) (d : ℕ) : Type 0 where
   pub ready : Ready t r
   pub line : Line t (ready .count) l
   pub given : natAbs (g .first) ≤ limit
   pub shallow : d ≤ depthLimit
+  pub reached : ReachedEvaluated t r (owner t l)
 
 -- and it is of kind k
 pub record Entered (k : Kind) (t r : List ℤ) (l : ℕ) (g : Arguments) (d : ℕ) : Type 0 where
@@ -58,7 +64,8 @@ pub record Room (r : List ℤ) (l : ℕ) : Type 0 where
   pub low : 1 ≤ l
   pub room : 3 * l ≤ length r
 
--- value v may be evaluated
+-- value v may be evaluated: every value that it reaches has been evaluated
 pub record Evaluable (t r : List ℤ) (v : ℕ) : Type 0 where
   pub ready : Ready t r
   pub value : kind t v ≡ 2
+  pub reached : ReachedEvaluated t r v

@@ -157,9 +157,9 @@ fn branch_of(table: &[i64], label: usize, test: i64) -> usize
     field(table, label, 4)
 }
 
-// The stored answer of a label.
+// The stored answer of a label that has been evaluated.
 fn answer_at(results: &[i64], label: usize, left: u32) -> Outcome
-    requires { ⌜ Room (now results) label × Settled 0 (now results) label ⌝ }
+    requires { ⌜ Room (now results) label × Settled 1 (now results) label ⌝ }
     ensures { λ r. ⌜ r ≡ answerAt (now (results .entry)) label left ⌝ }
 {
     let at = 3 * (label - 1);
@@ -170,9 +170,9 @@ fn answer_at(results: &[i64], label: usize, left: u32) -> Outcome
     failure(state, left)
 }
 
-// "R the target's stored answer, failures too."
+// "R the target's stored answer, failures too." The target has been evaluated.
 fn read(table: &[i64], results: &[i64], label: usize, left: u32) -> Outcome
-    requires { ⌜ Cell (now table) label 7 × Room (now results) (target (now table) label) × Settled 0 (now results) (target (now table) label) ⌝ }
+    requires { ⌜ Cell (now table) label 7 × Room (now results) (target (now table) label) × Settled 1 (now results) (target (now table) label) ⌝ }
     ensures { λ r. ⌜ r ≡ answerAt (now (results .entry)) (target (now (table .entry)) label) left ⌝ }
 {
     answer_at(results, field(table, label, 7), left)
@@ -310,7 +310,7 @@ fn choice(
 
 // ---- a value
 
-// Evaluates a value from the results stored so far.
+// Evaluates a value from the results stored so far. Every value that it reaches has been evaluated.
 pub fn evaluate(table: &[i64], results: &[i64], label: usize) -> Value
     requires { ⌜ Evaluable (now table) (now results) label ⌝ }
     ensures { λ r. ⌜ r ≡ evaluated (now (table .entry)) (now (results .entry)) label ⌝ }

@@ -4,7 +4,6 @@ use mathlib.Core.List.{List, [], _∷_, _++_, append-assoc, append-nil}
 use mathlib.Core.Logic.{_⊎_, inl, inr}
 use Prim.Native.Nat.{ℕ, _+_, _*_, _≤_}
 use native.Mathlib.Omega.{arith}
-use native.Mathlib.Decide.{ℕ-discrete}
 use lib.IntN.{ℤ}
 use lib.ListN.{length}
 use Rattle.cells.specs.Cells.{zeros}
@@ -18,18 +17,16 @@ use Rattle.order.proofs.Lists.{count-parts, in-here, in-left, in-right, in-appe
 use Rattle.order.proofs.Mixed.{listed-once, listed-value, mixed-proper}
 use Rattle.order.proofs.Evaluating.{run-append, run-fits, run-other}
 use Rattle.evaluation.specs.Results.{stored}
-use Rattle.evaluation.specs.Evaluation.{one, valueOutcome, evaluated}
-use Rattle.evaluation.specs.Ready.{Settled, Room}
+use Rattle.evaluation.specs.Ready.{Settled, Ready, Evaluable}
 use Rattle.evaluation.specs.declared.Arguments.{Arguments}
 use Rattle.evaluation.specs.declared.Kind.{Kind}
 use Rattle.evaluation.specs.declared.Kind.the-variants as kinds
 use Rattle.evaluation.proofs.Closure.{Within, From, from-closed, Leads, leads, body-within}
-use Rattle.evaluation.proofs.Range.{value-settled}
-use Rattle.evaluation.proofs.Stored.{store-length, settled-own, settled-other}
+use Rattle.evaluation.proofs.Stored.{ready-zeros, evaluated-own, settled-still, ready-stored}
 use Rattle.figures.specs.Figures.{figures, resultCells, evaluateInto}
 use Rattle.figures.specs.Entered.{IsKind, firstOutcome, Enters, itself, argument, body, first, second, test, branch, EntersRead, NeverEarly}
 use Rattle.figures.proofs.Rows.{same-stored, length-zeros}
-use Rattle.figures.proofs.Working.{value-label, working, down-figures, figures-stored}
+use Rattle.figures.proofs.Working.{working, down-figures, figures-stored}
 
 -- ---- what is entered is of v, or of a function that v reaches
 
@@ -62,31 +59,30 @@ module _ (t : List ℤ) (n : ℕ) (ok : Accepted t n) (v : ℕ) where
 
 -- ---- down a proper order
 
+-- those of a have been evaluated and v may be: then v has been evaluated too
+pub settled-next : (t r : List ℤ) (v : ℕ) → Evaluable t r v → (a : List ℕ) → ((x : ℕ) → x ∈ a → Settled 1 r x)
+    → (x : ℕ) → x ∈ a ++ v ∷ [] → Settled 1 (evaluateInto t r v) x
+settled-next t r v e a old x m = go (in-append x a (v ∷ []) m)
+  where
+    go : (x ∈ a) ⊎ (x ∈ v ∷ []) → Settled 1 (evaluateInto t r v) x
+    go (inl i) = settled-still t r v e 1 (omega arith) x (old x i)
+    go (inr i) = subst (λ (y : ℕ). Settled 1 (evaluateInto t r v) y) (sym (in-single x v i)) (evaluated-own t r v e)
+
 module _ (t : List ℤ) (n : ℕ) (ok : Accepted t n) (o : List ℕ) (p : Proper t o) where
   -- those of a have been evaluated, and then those of c too
-  settled-down : (c a b : List ℕ) → o ≡ a ++ (c ++ b) → (r : List ℤ) → 3 * n ≤ length r → ((x : ℕ) → x ∈ a → Settled 1 r x)
+  settled-down : (c a b : List ℕ) → o ≡ a ++ (c ++ b) → (r : List ℤ) → Ready t r → ((x : ℕ) → x ∈ a → Settled 1 r x)
       → (x : ℕ) → x ∈ a ++ c → Settled 1 (down (evaluateInto t) c r) x
-  settled-down [] a b e r fit old x m = old x (subst (λ (l : List ℕ). x ∈ l) (append-nil a) m)
-  settled-down (v ∷ c) a b e r fit old x m =
-      settled-down c (a ++ v ∷ []) b (e ∙ sym (append-assoc a (v ∷ []) (c ++ b))) (evaluateInto t r v) (omega (arith, store-length r v (evaluated t r v)))
-      (λ y i. now y (in-append y a (v ∷ []) i)) x (subst (λ (l : List ℕ). x ∈ l) (sym (append-assoc a (v ∷ []) c)) m)
+  settled-down [] a b e r q old x m = old x (subst (λ (l : List ℕ). x ∈ l) (append-nil a) m)
+  settled-down (v ∷ c) a b e r q old x m =
+      settled-down c (a ++ v ∷ []) b (e ∙ sym (append-assoc a (v ∷ []) (c ++ b))) (evaluateInto t r v) (ready-stored t r v turn)
+      (settled-next t r v turn a old) x (subst (λ (l : List ℕ). x ∈ l) (sym (append-assoc a (v ∷ []) c)) m)
     where
-      value : kind t v ≡ 2
-      value = listed-value p v (rw e (in-right v a (v ∷ (c ++ b)) (in-here v (c ++ b))))
-
-      room : Room r v
-      room = let l = value-label t n ok v value in record { low = l .0; room = omega (arith, l .1) }
-
-      own : Settled 1 (evaluateInto t r v) v
-      own = settled-own 1 r v (valueOutcome t r v) room (value-settled t r n ok v value (λ y k i. old y (p .after a v (c ++ b) e y k i)))
-
-      at : (y : ℕ) → y ∈ a → Dec (y ≡ v) → Settled 1 (evaluateInto t r v) y
-      at y i (yes q) = subst (λ (z : ℕ). Settled 1 (evaluateInto t r v) z) (sym q) own
-      at y i (no d) = settled-other 1 r v (evaluated t r v) y d (room .low) (old y i)
-
-      now : (y : ℕ) → (y ∈ a) ⊎ (y ∈ v ∷ []) → Settled 1 (evaluateInto t r v) y
-      now y (inl i) = at y i (ℕ-discrete y v)
-      now y (inr i) = subst (λ (z : ℕ). Settled 1 (evaluateInto t r v) z) (sym (in-single y v i)) own
+      turn : Evaluable t r v
+      turn = record {
+        ready = q;
+        value = listed-value p v (rw e (in-right v a (v ∷ (c ++ b)) (in-here v (c ++ b))));
+        reached = λ w k i. old w (p .after a v (c ++ b) e w k i) .least;
+      }
 
   module _ (m : ℕ) (fit : 3 * n ≤ m) where
     fits : 3 * n ≤ length (zeros m)
@@ -105,7 +101,7 @@ module _ (t : List ℤ) (n : ℕ) (ok : Accepted t n) (o : List ℕ) (p : Proper
       before = let q = entered-read t n ok v now x value i in p .after a v b e (target t x) (q .0) (q .1)
 
       finds-answer : Settled 1 now (target t x)
-      finds-answer = settled-down a [] (v ∷ b) e (zeros m) fits (λ y j. absurd (omega arith)) (target t x) before
+      finds-answer = settled-down a [] (v ∷ b) e (zeros m) (ready-zeros t n m ok fit) (λ y j. absurd (omega arith)) (target t x) before
 
       -- what it finds are its target's figures
       pub finds-figures : stored (down (evaluateInto t) a (zeros m)) (target t x) ≡ figures t n (target t x)
@@ -133,7 +129,7 @@ module _ (t : List ℤ) (n : ℕ) (ok : Accepted t n) (o : List ℕ) (p : Proper
     end-settled : (v : ℕ) → kind t v ≡ 2 → Settled 1 (resultCells t n m) v
     end-settled v k =
         subst (λ (r : List ℤ). Settled 1 r v) (down-figures t n ok m fit o p)
-        (settled-down o [] [] (sym (append-nil o)) (zeros m) fits (λ y j. absurd (omega arith)) v (omega (arith, listed-once p v k)))
+        (settled-down o [] [] (sym (append-nil o)) (zeros m) (ready-zeros t n m ok fit) (λ y j. absurd (omega arith)) v (omega (arith, listed-once p v k)))
 
 pub figures-settled : (t : List ℤ) (n : ℕ) → Accepted t n → NoCycle t → (m : ℕ) → 3 * n ≤ m → (v : ℕ) → kind t v ≡ 2 → Settled 1 (resultCells t n m) v
 figures-settled t n ok nc m fit v k = end-settled t n ok (mixedPlan t n) (mixed-proper t n ok nc) m fit v k

@@ -1,10 +1,12 @@
--- What evaluating down the first k cells of an order list asks: each names a value, and the results are ready for the first.
+-- What evaluating down the first k cells of an order list asks: then no value is read before it has been evaluated.
 use mathlib.Core.Path.{_≡_}
 use mathlib.Core.List.{List}
-use Prim.Native.Nat.{ℕ, _≤_}
+use Prim.Native.Nat.{ℕ, _≤_, _<_}
 use lib.IntN.{ℤ}
 use lib.ListN.{length, take}
+use Rattle.cells.specs.Cells.{natAt}
 use Rattle.cells.specs.Table.{kind}
+use Rattle.cells.specs.Reaches.{Reaches}
 use Rattle.order.specs.Lists.{_∈_}
 use Rattle.order.specs.Following.{labelsOf}
 use Rattle.evaluation.specs.Ready.{Ready}
@@ -12,4 +14,7 @@ use Rattle.evaluation.specs.Ready.{Ready}
 pub record Listed (t r order : List ℤ) (k : ℕ) : Type 0 where
   pub room : k ≤ length order
   pub ready : Ready t r
-  pub values : (v : ℕ) → v ∈ labelsOf (take k order) → kind t v ≡ 2
+  -- each cell names a value,
+  pub values : (i : ℕ) → i < k → kind t (natAt order i) ≡ 2
+  -- "each after every V that it reaches"
+  pub after : (i : ℕ) → i < k → (w : ℕ) → kind t w ≡ 2 → Reaches t (natAt order i) w → w ∈ labelsOf (take i order)

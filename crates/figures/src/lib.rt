@@ -11,7 +11,7 @@ ghost use Rattle.order.specs.Evaluating.{down};
 ghost use Rattle.figures.specs.Figures.{evaluateInto, resultCells};
 ghost use Rattle.figures.specs.Down.{Listed};
 
-// Evaluates the values that the first `count` cells of the order list name, in turn.
+// Evaluates the values that the first `count` cells of the order list name, in turn, each after every value that it reaches.
 fn evaluate_down(table: &[i64], order: &[i64], count: usize, results: &mut [i64])
     requires { ⌜ Listed (now table) (now results) (now order) count ⌝ }
     ensures { λ _. ⌜ now (results .exit) ≡ down (evaluateInto (now (table .entry))) (labelsOf (take count (now (order .entry)))) (now (results .entry)) ⌝ }

@@ -1,7 +1,7 @@
 use Prim.Native.Nat.{_-_}
 use native.Mathlib.Omega.{arith}
 use borrow.Author.Needs.{needs}
-use Rattle.figures.proofs.Loop.{Going, start, there, turn, done}
+use Rattle.figures.proofs.Loop.{Going, start, names-value, reached-before, turn, done}
 use Rattle.figures.proofs.evaluate_down.Statement.{statement}
 use Rattle.figures.proofs.evaluate_down.Tie as tie
 
@@ -18,7 +18,13 @@ nat-at-requires : tie.Need-nat-at-requires Inv-loop μ-loop
 nat-at-requires c κs = search needs
 
 evaluate-into-requires : tie.Need-evaluate-into-requires Inv-loop μ-loop
-evaluate-into-requires c κs = there _ _ _ _ (c .before .before .before .loop .inv) (c .before .before .loop-test .taken) (c .before .nat-at .ensures)
+evaluate-into-requires c κs =
+    let g = c .before .before .before .loop .inv in
+    record {
+      ready = g .ready;
+      value = names-value _ _ _ _ g (c .before .nat-at .ensures) (omega (arith, c .before .before .loop-test .taken));
+      reached = reached-before _ _ _ _ g (c .before .nat-at .ensures) (c .before .before .loop-test .taken);
+    }
 
 add-i : tie.Need-add-i Inv-loop μ-loop
 add-i c = search needs

@@ -17,7 +17,7 @@ use Rattle.cells.specs.Accepted.{Part, Accepted}
 use Rattle.cells.proofs.Table.{cell-at}
 use Rattle.cells.proofs.Columns.{column-length, column-keeps, column-has, column-own, column-other, column-number}
 use Rattle.refusals.specs.Refusal.{firstBad, orElse}
-use Rattle.refusals.specs.declared.Verdict.the-variants.{Fine, Refused}
+use Rattle.refusals.specs.declared.Verdict.the-variants.{Fine}
 use Rattle.refusals.proofs.OrElse.{both-fine}
 use Rattle.refusals.proofs.FirstBad.{first-none}
 use Rattle.order.specs.Order.{hasPath}
@@ -295,7 +295,7 @@ module _ (s : List ℕ) (e : Reads s) where
   is-lined : Lined s rows n
   is-lined = rw (rows-lined s) at (lined s (8 * n) (head-fine .0) (lines-fine .0) (omega arith))
 
-  pub read-accepted : Accepted (sheetTable s) n
+  pub read-accepted : Accepted (sheetTable s) (labels s)
   unfolding sheetTable
   read-accepted = tied-accepted s rows n is-lined (tree-fine .0) (tree-fine .1)
 
@@ -311,16 +311,16 @@ module _ (s : List ℕ) (e : Reads s) where
       let short : (kind rows v ≡ 2 → nameLength rows v ≤ 16) = rw (rows-lined s) at (names-short s (8 * n) (head-fine .0) (lines-fine .0) v) in
       rw (same 2 (omega arith)) (short (sym (same 0 (omega arith)) ∙ k))
 
-  pub read-length : length (sheetTable s) ≡ 8 * n
+  pub read-length : length (sheetTable s) ≡ 8 * labels s
   unfolding sheetTable sheetRows
   read-length = tied-length s rows n is-lined (tree-fine .0) (tree-fine .1) ∙ rows-length s n n
 
   -- the target of an R or C is where its path leads by "Paths", and that is one definition
-  pub read-targets : (x : ℕ) → hasPath (sheetTable s) x ≡ true → Leads s (sheetTable s) n x (target (sheetTable s) x)
+  pub read-targets : (x : ℕ) → hasPath (sheetTable s) x ≡ true → Leads s (sheetTable s) (labels s) x (target (sheetTable s) x)
   unfolding sheetTable
   read-targets = tied-leads s rows n is-lined (tree-fine .0) (tree-fine .1)
 
-  pub read-targets-only : (x m : ℕ) → hasPath (sheetTable s) x ≡ true → Leads s (sheetTable s) n x m → m ≡ target (sheetTable s) x
+  pub read-targets-only : (x m : ℕ) → hasPath (sheetTable s) x ≡ true → Leads s (sheetTable s) (labels s) x m → m ≡ target (sheetTable s) x
   unfolding sheetTable
   read-targets-only = tied-leads-only s rows n is-lined (tree-fine .0) (tree-fine .1)
 

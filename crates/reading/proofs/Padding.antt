@@ -1,5 +1,5 @@
 -- Zeros behind the rows of a table change nothing: rows 8 to 15 find what they find in the rows alone, and leave the same zeros behind.
-use mathlib.Core.Path.{_≡_, refl, ap, sym, _∙_}
+use mathlib.Core.Path.{_≡_, refl, ap, _∙_}
 use mathlib.Core.Bool.{Bool}
 use mathlib.Core.List.{List, [], _∷_, _++_, append-nil}
 use Prim.Native.Nat.{ℕ, zero, suc, _+_, _-_, _*_, _≤_, _<_}
@@ -13,7 +13,6 @@ use Rattle.cells.specs.Table.{cell, fieldA, withColumn}
 use Rattle.cells.proofs.Stores.{intAt-zeros}
 use Rattle.cells.proofs.Columns.{column-length, column-same}
 use Rattle.refusals.specs.Refusal.{orElse}
-use Rattle.refusals.specs.declared.Verdict.the-variants.{Fine}
 use Rattle.refusals.proofs.FirstBad.{first-same}
 use Rattle.lines.specs.Lines.{labels, headBad, rows}
 use Rattle.lines.specs.Lined.{linedTable}
@@ -32,7 +31,7 @@ every-same f g h (x ∷ xs) = rw (h x, every-same f g h xs)
 
 -- ---- cells and columns
 
-pub padded : (t : List ℤ) (k i : ℕ) → intAt (t ++ zeros k) i ≡ intAt t i
+padded : (t : List ℤ) (k i : ℕ) → intAt (t ++ zeros k) i ≡ intAt t i
 padded [] k i = intAt-zeros k i
 padded (x ∷ t) k zero = refl
 padded (x ∷ t) k (suc i) = padded t k i

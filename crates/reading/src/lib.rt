@@ -110,7 +110,8 @@ pub fn name_part(text: &[u8], table: &mut [i64], label: i64) -> Part
     }
 }
 
-// Name: that very part of the caller's text.
+// Name: that very part of the caller's text. Promised are its bytes, and its place: the text's own block, so many bytes from where the
+// text begins.
 pub fn name<'a>(text: &'a [u8], table: &mut [i64], label: i64) -> &'a [u8]
     ensures { λ r. ⌜ now r ≡ namePart (now (text .entry)) (length (now (table .entry))) label ⌝ }
     ensures { λ r. ⌜ r .ptr ≡ (text .entry .ptr .0, nameBegin (now (text .entry)) (length (now (table .entry))) label + text .entry .ptr .1) ⌝ }

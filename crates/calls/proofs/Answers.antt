@@ -94,7 +94,7 @@ means t p (mixed o) (q, h) = record {
   mixed = λ _ _ _. refl;
 }
 
--- ---- what planning made of a plan: the reply, and what is left of a table t and of the plan's cells p′
+-- ---- what planning made of a plan: the reply, and what is left of a table w and of the plan's cells p′
 
 abbrev pub replyMade : Planned → PlanReply
 replyMade (made.Cycle v) = reply.Refused cycleRow v
@@ -102,20 +102,20 @@ replyMade (made.Whole k) = reply.Whole k
 replyMade (made.Mixed k) = reply.Mixed k
 
 abbrev pub tableMade : Planned → List ℤ → List ℤ
-tableMade (made.Cycle v) t = zeros (length t)
-tableMade (made.Whole k) t = t
-tableMade (made.Mixed k) t = t
+tableMade (made.Cycle v) w = zeros (length w)
+tableMade (made.Whole k) w = w
+tableMade (made.Mixed k) w = w
 
 abbrev pub cellsMade : Planned → List ℤ → List ℤ
 cellsMade (made.Cycle v) p′ = zeros (length p′)
 cellsMade (made.Whole k) p′ = clearFrom k p′
 cellsMade (made.Mixed k) p′ = clearFrom k p′
 
-made-left : (t p p′ : List ℤ) (r : Planned) (a : Answer) → PlanIs a p p′ r
-    → (replyMade r ≡ answerBy (cycleOf a) a) × ((tableMade r t ≡ keptBy (cycleOf a) t) × (cellsMade r p′ ≡ listedBy (cycleOf a) a (length p)))
-made-left t p p′ r (cycle v) i = rw (i .reply, i .cells) (refl, (refl, refl))
-made-left t p p′ r (whole o) i = rw (i .reply, i .cells) (refl, (refl, listed-cells o p))
-made-left t p p′ r (mixed o) i = rw (i .reply, i .cells) (refl, (refl, listed-cells o p))
+made-left : (w p p′ : List ℤ) (r : Planned) (a : Answer) → PlanIs a p p′ r
+    → (replyMade r ≡ answerBy (cycleOf a) a) × ((tableMade r w ≡ keptBy (cycleOf a) w) × (cellsMade r p′ ≡ listedBy (cycleOf a) a (length p)))
+made-left w p p′ r (cycle v) i = rw (i .reply, i .cells) (refl, (refl, refl))
+made-left w p p′ r (whole o) i = rw (i .reply, i .cells) (refl, (refl, listed-cells o p))
+made-left w p p′ r (mixed o) i = rw (i .reply, i .cells) (refl, (refl, listed-cells o p))
 
 module _ (t : List ℤ) (n : ℕ) (ok : Accepted t n) where
   pub cycle-of : cycleBad t n ≡ cycleOf (plan t n)
@@ -149,7 +149,7 @@ module _ (t : List ℤ) (n : ℕ) (ok : Accepted t n) where
       go (whole o) h = order-short t n ok o (h .0)
       go (mixed o) h = order-short t n ok o (h .0)
 
-  -- where planning made x of a plan p and left p′
-  pub planned-left : (p p′ : List ℤ) (r : Planned) → PlanIs (plan t n) p p′ r → (x : Planned) (u q : List ℤ) → r ≡ x → u ≡ tableMade x t → q ≡ cellsMade x p′
-      → (replyMade x ≡ answerBy (cycleBad t n) (plan t n)) × ((u ≡ keptBy (cycleBad t n) t) × (q ≡ listedBy (cycleBad t n) (plan t n) (length p)))
-  planned-left p p′ r is x u q e f g = rw (f, g, ← e, cycle-of) (made-left t p p′ r (plan t n) is)
+  -- where planning made x of a plan p and left p′, in a table w
+  pub planned-left : (w p p′ : List ℤ) (r : Planned) → PlanIs (plan t n) p p′ r → (x : Planned) (u q : List ℤ) → r ≡ x → u ≡ tableMade x w → q ≡ cellsMade x p′
+      → (replyMade x ≡ answerBy (cycleBad t n) (plan t n)) × ((u ≡ keptBy (cycleBad t n) w) × (q ≡ listedBy (cycleBad t n) (plan t n) (length p)))
+  planned-left w p p′ r is x u q e f g = rw (f, g, ← e, cycle-of) (made-left w p p′ r (plan t n) is)

@@ -2,65 +2,71 @@
 use mathlib.Core.Path.{_≡_, sym, ap, _∙_}
 use mathlib.Core.Logic.{_↔_}
 use mathlib.Core.List.{List}
-use Prim.Native.Nat.{ℕ, _*_, _≤_}
+use Prim.Native.Nat.{ℕ, _-_, _*_, _≤_}
 use lib.IntN.{ℤ}
-use lib.ListN.{length}
+use lib.ListN.{length, take}
 use native.Mathlib.Omega.{arith}
 use borrow.Author.Tests.{le-leb}
+use Rattle.cells.specs.Cells.{zeros}
+use Rattle.cells.specs.Table.{kind}
 use Rattle.cells.specs.Accepted.{Accepted}
-use Rattle.refusals.specs.Refusal.{orElse, numberOf}
+use Rattle.refusals.specs.Refusal.{numberOf}
 use Rattle.refusals.specs.declared.Verdict.the-variants.{Fine}
 use Rattle.refusals.proofs.OrElse.{both-fine}
-use Rattle.lines.specs.Lines.{labels, headBad}
+use Rattle.lines.specs.Lines.{labels}
 use Rattle.order.specs.Order.{NoCycle}
 use Rattle.order.specs.Following.{ProperList}
+use Rattle.order.specs.Evaluating.{row}
 use Rattle.order.proofs.Mixed.{proper-no-cycle}
-use Rattle.reading.specs.Read.{tableShort, sheetBad, sheetTable, readBad}
+use Rattle.reading.specs.Read.{tableShort, sheetTable, Reads}
 use Rattle.reading.specs.Keeps.{Keeps}
+use Rattle.reading.proofs.Accepted.{read-accepted}
 use Rattle.reading.proofs.Keeps.{keeps-read}
-use Rattle.figures.specs.Figures.{resultCells, WorkedOut}
-use Rattle.figures.proofs.Working.{figures-solve, figures-only}
+use Rattle.figures.specs.Figures.{figures, resultCells, WorkedOut}
+use Rattle.figures.proofs.Rows.{row-of}
+use Rattle.figures.proofs.Working.{value-label, figures-solve, figures-only}
 use Rattle.calls.specs.Buffers.{planShort, resultsShort, planBuffers, runBuffers, followBuffers}
-use Rattle.calls.specs.Plan.{openBad, planBad, planReply, planTable, planCells}
+use Rattle.calls.specs.Plan.{plannedBad, planBad, planReply, planTable, planCells, lengthOf}
+use Rattle.calls.specs.Plan as plan
 use Rattle.calls.specs.Run.{runBad, runReply, runTable, runPlan, runResults}
 use Rattle.calls.specs.Follow.{followBad, followReply, followResults}
 use Rattle.calls.specs.Demand.{Demand3}
 use Rattle.calls.proofs.Rooms.{results-room, run-rooms}
-use Rattle.calls.proofs.Sheets.{open-accepted, open-buffers, open-other, open-planned, kept}
+use Rattle.calls.proofs.Sheets.{reads-planned, kept}
 use Rattle.calls.proofs.Followed.{proper-rows, accepts-exactly}
 
--- Follow's reply, where rows 1 to 15 find nothing
-pub follow-accepts : (s : List ℕ) (o : List ℤ) (m q : ℕ) → openBad s m (followBuffers s m q) ≡ Fine → (numberOf (followReply s o m q) ≡ 0) ↔ ProperList (sheetTable s m) o
+-- Follow's reply, of a sheet that reads with buffers long enough
+pub follow-accepts : (s : List ℕ) (o : List ℤ) (m q : ℕ) → Reads s → followBuffers s m q ≡ Fine → (numberOf (followReply s o m q) ≡ 0) ↔ ProperList (sheetTable s) o
 unfolding followReply followBad
-follow-accepts s o m q e =
-    rw (open-planned s m (followBuffers s m q) e) (accepts-exactly (sheetTable s m) (labels s) (open-accepted s m (resultsShort s q) e) o (length o))
+follow-accepts s o m q e f =
+    rw (reads-planned s (followBuffers s m q) e f) (accepts-exactly (sheetTable s) (labels s) (read-accepted s e) o (length o))
 
-module _ (s : List ℕ) (m p q : ℕ) (e : openBad s m (runBuffers s m p q) ≡ Fine) where
+-- "it answers as Plan does": with buffers long enough, Run and Plan find the same in any text, answer the same, and write the same table
+-- and plan
+pub run-as-plan : (s : List ℕ) (m p q : ℕ) → runBuffers s m p q ≡ Fine
+    → (runReply s m p q ≡ planReply s m p) × (runTable s m p q ≡ planTable s m p) × (runPlan s m p q ≡ planCells s m p)
+unfolding runReply runTable runPlan runBad planReply planTable planCells planBad
+run-as-plan s m p q e =
+    let b = run-rooms s m p q e in
+    let f : planBuffers s m p ≡ Fine = rw (b .0) (b .1) in
+    let same : plannedBad s (runBuffers s m p q) ≡ plannedBad s (planBuffers s m p) = ap (plannedBad s) (e ∙ sym f) in
+    (rw same, rw same, rw same)
+
+module _ (s : List ℕ) (m p q m′ q′ : ℕ) (e : Reads s) (f : runBuffers s m p q ≡ Fine) (g : followBuffers s m′ q′ ≡ Fine) where
   abbrev t : List ℤ
-  t = sheetTable s m
+  t = sheetTable s
 
-  ok : Accepted t (labels s)
-  ok = open-accepted s m (orElse (planShort s p) (resultsShort s q)) e
+  abbrev n : ℕ
+  n = labels s
 
-  buffers : (tableShort s m ≡ Fine) × (planShort s p ≡ Fine) × (resultsShort s q ≡ Fine)
-  buffers = run-rooms s m p q (open-buffers s m (runBuffers s m p q) e)
+  ok : Accepted t n
+  ok = read-accepted s e
 
-  open-plan : openBad s m (planBuffers s m p) ≡ Fine
-  open-plan = open-other s m (runBuffers s m p q) e (planBuffers s m p) (rw (buffers .0) (buffers .1))
+  long : planBuffers s m p ≡ Fine
+  long = let b = run-rooms s m p q f in rw (b .0) (b .1)
 
-  open-follow : openBad s m (followBuffers s m q) ≡ Fine
-  open-follow = open-other s m (runBuffers s m p q) e (followBuffers s m q) (rw (buffers .0) (buffers .2))
-
-  fit : 3 * labels s ≤ q
-  fit = results-room s q (buffers .2)
-
-  -- Run and Plan find the same, answer the same, and write the same table and plan
-  pub run-as-plan : (runReply s m p q ≡ planReply s m p) × (runTable s m p q ≡ planTable s m p) × (runPlan s m p q ≡ planCells s m p)
-  unfolding runReply runTable runPlan runBad planReply planTable planCells planBad
-  run-as-plan =
-      let a = open-planned s m (runBuffers s m p q) e in
-      let b = open-planned s m (planBuffers s m p) open-plan in
-      (rw (a, b), rw (a, b), rw (a, b))
+  fit : 3 * n ≤ q′
+  fit = results-room s q′ (both-fine (tableShort s m′) (resultsShort s q′) g .1)
 
   -- ---- a proper order
 
@@ -68,42 +74,54 @@ module _ (s : List ℕ) (m p q : ℕ) (e : openBad s m (runBuffers s m p q) ≡ 
     no-cycle : NoCycle t
     no-cycle = proper-no-cycle (l .proper)
 
-    run-results : runResults s m p q ≡ resultCells t (labels s) q
+    run-results : runResults s m p q ≡ resultCells t n q
     unfolding runResults runBad
-    run-results = rw (open-planned s m (runBuffers s m p q) e, proper-rows t (labels s) ok o l .0)
+    run-results = rw (reads-planned s (runBuffers s m p q) e f, proper-rows t n ok o l .0)
 
-    follow-results : followResults s o m q ≡ resultCells t (labels s) q
+    follow-results : followResults s o m′ q′ ≡ resultCells t n q′
     unfolding followResults followBad
     follow-results =
-        let r = proper-rows t (labels s) ok o l in
-        rw (open-planned s m (followBuffers s m q) open-follow, r .0, r .1)
+        let r = proper-rows t n ok o l in
+        rw (reads-planned s (followBuffers s m′ q′) e g, r .0, r .1)
 
-    worked : WorkedOut t (followResults s o m q)
-    worked = rw follow-results (figures-solve t (labels s) ok q fit no-cycle)
+    same : (v : ℕ) → kind t v ≡ 2 → row 3 (followResults s o m′ q′) v ≡ row 3 (runResults s m p q) v
+    same v k =
+        let b = value-label t n ok v k in
+        rw (follow-results, run-results)
+        (row-of (figures t n) n (zeros (q′ - 3 * n)) v (b .0) (b .1) ∙ sym (row-of (figures t n) n (zeros (q - 3 * n)) v (b .0) (b .1)))
 
-    only : (r : List ℤ) → length r ≡ q → WorkedOut t r → r ≡ followResults s o m q
-    only r f w =
-        let long : 3 * labels s ≤ length r = omega (arith, fit) in
-        figures-only t (labels s) ok no-cycle r long w ∙ ap (resultCells t (labels s)) f ∙ sym follow-results
+    worked : WorkedOut t (followResults s o m′ q′)
+    worked = rw follow-results (figures-solve t n ok q′ fit no-cycle)
 
-  pub demand-3 : Demand3 s m p q
+    only : (r : List ℤ) → length r ≡ q′ → WorkedOut t r → r ≡ followResults s o m′ q′
+    only r h w =
+        let room : 3 * n ≤ length r = omega (arith, fit) in
+        figures-only t n ok no-cycle r room w ∙ ap (resultCells t n) h ∙ sym follow-results
+
+  pub demand-3 : Demand3 s m p q m′ q′
   unfolding planReply planCells planBad
   demand-3 = record {
-    plan = kept s m (planBuffers s m p) p open-plan ok;
-    accepts = λ o. follow-accepts s o m q open-follow;
-    same = λ o l. follow-results o l ∙ sym (run-results o l);
+    plan = kept s (planBuffers s m p) e long p;
+    accepts = λ o. follow-accepts s o m′ q′ e g;
+    same = same;
     worked = worked;
     only = only;
   }
 
+  -- so the plan of one day is followed on another, whatever the buffers' lengths
+  pub plan-followed : plan.numberOf (planReply s m p) ≡ 0 → numberOf (followReply s (take (lengthOf (planReply s m p)) (planCells s m p)) m′ q′) ≡ 0
+  plan-followed h = demand-3 .accepts (take (lengthOf (planReply s m p)) (planCells s m p)) .1 (demand-3 .plan .proper h)
+
 -- ---- of a sheet that keeps document 01's rules, said of its text alone
 
-long-open : (s : List ℕ) (m p q : ℕ) → readBad s m ≡ Fine → labels s ≤ p → 3 * labels s ≤ q → openBad s m (runBuffers s m p q) ≡ Fine
-unfolding openBad readBad planShort resultsShort
-long-open s m p q e a b =
-    let h = both-fine (headBad s) (orElse (tableShort s m) (sheetBad s m)) e in
-    let r = both-fine (tableShort s m) (sheetBad s m) (h .1) in
-    rw (h .0, r .0, le-leb (labels s) p a, le-leb (3 * labels s) q b) (r .1)
+module _ (s : List ℕ) where
+  long-run : (m p q : ℕ) → 8 * labels s ≤ m → labels s ≤ p → 3 * labels s ≤ q → runBuffers s m p q ≡ Fine
+  unfolding tableShort planShort resultsShort
+  long-run m p q a b c = rw (le-leb (8 * labels s) m a, le-leb (labels s) p b, le-leb (3 * labels s) q c)
 
-pub keeps-demand : (s : List ℕ) → Keeps s → (m p q : ℕ) → 8 * labels s ≤ m → labels s ≤ p → 3 * labels s ≤ q → Demand3 s m p q
-keeps-demand s k m p q a b c = demand-3 s m p q (long-open s m p q (keeps-read s m a k) b c)
+  long-follow : (m q : ℕ) → 8 * labels s ≤ m → 3 * labels s ≤ q → followBuffers s m q ≡ Fine
+  unfolding tableShort resultsShort
+  long-follow m q a b = rw (le-leb (8 * labels s) m a, le-leb (3 * labels s) q b)
+
+  pub keeps-demand : Keeps s → (m p q m′ q′ : ℕ) → 8 * labels s ≤ m → labels s ≤ p → 3 * labels s ≤ q → 8 * labels s ≤ m′ → 3 * labels s ≤ q′ → Demand3 s m p q m′ q′
+  keeps-demand k m p q m′ q′ a b c a′ c′ = demand-3 s m p q m′ q′ (keeps-read s k) (long-run m p q a b c) (long-follow m′ q′ a′ c′)

@@ -5,7 +5,6 @@ use Prim.Native.Nat.{ℕ, _*_, _≤_}
 use native.Mathlib.Omega.{arith}
 use lib.IntN.{ℤ}
 use Rattle.cells.specs.Accepted.{Accepted}
-use Rattle.refusals.specs.Refusal.{orElse}
 use Rattle.refusals.specs.declared.Verdict.{Verdict}
 use Rattle.refusals.specs.declared.Verdict.the-variants.{Fine, Refused}
 use Rattle.refusals.specs.declared.Reply.the-variants as head
@@ -13,20 +12,21 @@ use Rattle.refusals.proofs.OrElse.{both-fine}
 use Rattle.lines.specs.Lines.{labels}
 use Rattle.order.specs.Order.{Proper, Answer, orderOf}
 use Rattle.order.specs.Following.{labelsOf}
-use Rattle.order.specs.Rows.{cycleBad, orderBad}
+use Rattle.order.specs.Rows.{orderBad}
 use Rattle.order.proofs.Following.{proper-list}
 use Rattle.reading.specs.Read.{tableShort, sheetTable}
+use Rattle.reading.proofs.Accepted.{read-accepted}
 use Rattle.reading.proofs.Stage.{answered}
 use Rattle.figures.specs.Figures.{resultCells}
 use Rattle.figures.proofs.Working.{down-figures}
 use Rattle.figures.proofs.Early.{never-early}
-use Rattle.calls.specs.Buffers.{planShort, resultsShort, runBuffers, followBuffers}
-use Rattle.calls.specs.Plan.{openBad, plannedBad, planOf, answerBy, wholeOrMixed}
+use Rattle.calls.specs.Buffers.{resultsShort, runBuffers, followBuffers}
+use Rattle.calls.specs.Plan.{plannedBad, planOf, answerBy, wholeOrMixed}
 use Rattle.calls.specs.Run.{resultsBy, runBad, runReply, runResults}
 use Rattle.calls.specs.Follow.{followBad, followReply, followResults}
 use Rattle.calls.specs.Demand.{WorkedDown}
 use Rattle.calls.proofs.Rooms.{results-room, run-rooms}
-use Rattle.calls.proofs.Sheets.{open-accepted, open-buffers}
+use Rattle.calls.proofs.Sheets.{planned-reads}
 use Rattle.calls.proofs.Followed.{planned-proper, order-proper}
 
 -- only where nothing is found there is an order
@@ -38,29 +38,23 @@ worked-down : (t : List ℤ) (n : ℕ) → Accepted t n → (o : List ℕ) → P
 worked-down t n ok o p q fit u e = record { reached = e ∙ sym (down-figures t n ok q fit o p); never = never-early t n ok o p q fit }
 
 module _ (s : List ℕ) (m : ℕ) where
-  module _ (b : Verdict) (e : plannedBad s m b ≡ Fine) where
-    rows-fine : (openBad s m b ≡ Fine) × (cycleBad (sheetTable s m) (labels s) ≡ Fine)
-    unfolding plannedBad
-    rows-fine = both-fine (openBad s m b) (cycleBad (sheetTable s m) (labels s)) e
-
-  pub run-never-early : (p q : ℕ) → 1 ≤ wholeOrMixed (runReply s m p q) → WorkedDown (sheetTable s m) (orderOf (planOf s m)) q (runResults s m p q)
+  pub run-never-early : (p q : ℕ) → 1 ≤ wholeOrMixed (runReply s m p q) → WorkedDown (sheetTable s) (orderOf (planOf s)) q (runResults s m p q)
   unfolding runReply runResults runBad planOf
   run-never-early p q h =
-      let f = ordered-fine (plannedBad s m (runBuffers s m p q)) (planOf s m) h in
-      let r = rows-fine (runBuffers s m p q) f in
-      let ok = open-accepted s m (orElse (planShort s p) (resultsShort s q)) (r .0) in
-      let b = run-rooms s m p q (open-buffers s m (runBuffers s m p q) (r .0)) in
-      worked-down (sheetTable s m) (labels s) ok (orderOf (planOf s m)) (planned-proper (sheetTable s m) (labels s) ok (r .1)) q (results-room s q (b .2)) (resultsBy (plannedBad s m (runBuffers s m p q)) s m q) (rw f)
+      let f = ordered-fine (plannedBad s (runBuffers s m p q)) (planOf s) h in
+      let r = planned-reads s (runBuffers s m p q) f in
+      let ok = read-accepted s (r .0) in
+      worked-down (sheetTable s) (labels s) ok (orderOf (planOf s)) (planned-proper (sheetTable s) (labels s) ok (r .2)) q (results-room s q (run-rooms s m p q (r .1) .2)) (resultsBy (plannedBad s (runBuffers s m p q)) s q) (rw f)
 
-  pub follow-never-early : (o : List ℤ) (q k : ℕ) → followReply s o m q ≡ head.Answered k → WorkedDown (sheetTable s m) (labelsOf o) q (followResults s o m q)
+  pub follow-never-early : (o : List ℤ) (q k : ℕ) → followReply s o m q ≡ head.Answered k → WorkedDown (sheetTable s) (labelsOf o) q (followResults s o m q)
   unfolding followReply followResults followBad
   follow-never-early o q k h =
       let f = answered (followBad s o m q) _ k h .0 in
       let g = rows f in
-      let r = rows-fine (followBuffers s m q) (g .0) in
-      let ok = open-accepted s m (resultsShort s q) (r .0) in
-      let b = both-fine (tableShort s m) (resultsShort s q) (open-buffers s m (followBuffers s m q) (r .0)) in
-      worked-down (sheetTable s m) (labels s) ok (labelsOf o) (proper-list (sheetTable s m) o .0 (order-proper (sheetTable s m) (labels s) ok o (g .1))) q (results-room s q (b .1)) (resultsBy (followBad s o m q) s m q) (rw f)
+      let r = planned-reads s (followBuffers s m q) (g .0) in
+      let ok = read-accepted s (r .0) in
+      let b = both-fine (tableShort s m) (resultsShort s q) (r .1) in
+      worked-down (sheetTable s) (labels s) ok (labelsOf o) (proper-list (sheetTable s) o .0 (order-proper (sheetTable s) (labels s) ok o (g .1))) q (results-room s q (b .1)) (resultsBy (followBad s o m q) s q) (rw f)
     where
-      rows : followBad s o m q ≡ Fine → (plannedBad s m (followBuffers s m q) ≡ Fine) × (orderBad (sheetTable s m) (labels s) o ≡ Fine)
-      rows e = both-fine (plannedBad s m (followBuffers s m q)) (orderBad (sheetTable s m) (labels s) o) e
+      rows : followBad s o m q ≡ Fine → (plannedBad s (followBuffers s m q) ≡ Fine) × (orderBad (sheetTable s) (labels s) o ≡ Fine)
+      rows e = both-fine (plannedBad s (followBuffers s m q)) (orderBad (sheetTable s) (labels s) o) e

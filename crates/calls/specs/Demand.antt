@@ -7,10 +7,11 @@ use Prim.Native.Nat.{ℕ}
 use lib.IntN.{ℤ}
 use lib.ListN.{length, take}
 use Rattle.cells.specs.Cells.{zeros}
+use Rattle.cells.specs.Table.{kind}
 use Rattle.refusals.specs.Refusal as refusal
 use Rattle.order.specs.Order.{Proper, Whole}
 use Rattle.order.specs.Following.{ProperList, labelsOf}
-use Rattle.order.specs.Evaluating.{down}
+use Rattle.order.specs.Evaluating.{down, row}
 use Rattle.reading.specs.Read.{sheetTable}
 use Rattle.figures.specs.Figures.{WorkedOut, evaluateInto}
 use Rattle.figures.specs.Entered.{NeverEarly}
@@ -31,18 +32,18 @@ pub record PlanKept (t : List ℤ) (r : PlanReply) (cells : List ℤ) : Type 0 w
   -- "if none is, one with the answer mixed"
   pub mixed : (o : List ℕ) → Proper t o → ((p : List ℕ) → Proper t p → Whole t p → ⊥) → wholeOrMixed r ≡ 2
 
--- the whole demand, of a text s, a table lent with m cells, a plan with p and results with q
-pub record Demand3 (s : List ℕ) (m p q : ℕ) : Type 0 where
+-- the whole demand, of a text s: Plan and Run are lent a table of m cells, a plan of p and results of q, and Follow, another day, a table
+-- of m′ cells and results of q′
+pub record Demand3 (s : List ℕ) (m p q m′ q′ : ℕ) : Type 0 where
   -- the sentences on Plan, above
-  pub plan : PlanKept (sheetTable s m) (planReply s m p) (planCells s m p)
+  pub plan : PlanKept (sheetTable s) (planReply s m p) (planCells s m p)
   -- "Whatever list Follow is handed, it accepts exactly when that list is a proper order of the sheet"
-  pub accepts : (o : List ℤ) → (refusal.numberOf (followReply s o m q) ≡ 0) ↔ ProperList (sheetTable s m) o
-  -- "Whichever proper order that is, Follow gives every value the same state, number and step count as Run does"
-  pub same : (o : List ℤ) → ProperList (sheetTable s m) o → followResults s o m q ≡ runResults s m p q
+  pub accepts : (o : List ℤ) → (refusal.numberOf (followReply s o m′ q′) ≡ 0) ↔ ProperList (sheetTable s) o
+  -- "Whichever proper order that is, Follow gives every value the same state, number and step count as Run does": its three cells
+  pub same : (o : List ℤ) → ProperList (sheetTable s) o → (v : ℕ) → kind (sheetTable s) v ≡ 2 → row 3 (followResults s o m′ q′) v ≡ row 3 (runResults s m p q) v
   -- "and they are those of document 01's Working out": they satisfy its rules, and no others do
-  pub worked : (o : List ℤ) → ProperList (sheetTable s m) o → WorkedOut (sheetTable s m) (followResults s o m q)
-  pub only : (o : List ℤ) → ProperList (sheetTable s m) o → (r : List ℤ) → length r ≡ q → WorkedOut (sheetTable s m) r
-      → r ≡ followResults s o m q
+  pub worked : (o : List ℤ) → ProperList (sheetTable s) o → WorkedOut (sheetTable s) (followResults s o m′ q′)
+  pub only : (o : List ℤ) → ProperList (sheetTable s) o → (r : List ℤ) → length r ≡ q′ → WorkedOut (sheetTable s) r → r ≡ followResults s o m′ q′
 
 -- "A value read before it has been worked out puts another prism on the block": results in q cells are what one comes to by evaluating
 -- the values of the order o in turn, from zeros, and at each one's turn it reads only those that have been evaluated

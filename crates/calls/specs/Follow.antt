@@ -15,7 +15,7 @@ use Rattle.calls.specs.Run.{resultsBy}
 
 -- rows 1 to 18
 unfoldable pub followBad : List ℕ → List ℤ → ℕ → ℕ → Verdict
-followBad s o m q = orElse (plannedBad s m (followBuffers s m q)) (orderBad (sheetTable s m) (labels s) o)
+followBad s o m q = orElse (plannedBad s (followBuffers s m q)) (orderBad (sheetTable s) (labels s) o)
 
 -- "and answers its length"
 unfoldable pub followReply : List ℕ → List ℤ → ℕ → ℕ → Reply
@@ -25,4 +25,4 @@ unfoldable pub followTable : List ℕ → List ℤ → ℕ → ℕ → List ℤ
 followTable s o m q = tableOf (followBad s o m q) s m
 
 unfoldable pub followResults : List ℕ → List ℤ → ℕ → ℕ → List ℤ
-followResults s o m q = resultsBy (followBad s o m q) s m q
+followResults s o m q = resultsBy (followBad s o m q) s q

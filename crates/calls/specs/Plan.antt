@@ -17,15 +17,15 @@ use Rattle.calls.specs.declared.PlanReply.{PlanReply}
 use Rattle.calls.specs.declared.PlanReply.the-variants as reply
 
 -- rows 1 to 15, and 1 to 16, of a call in whose buffers row 4 finds b, in the order of the paper's table
-unfoldable pub openBad : List ℕ → ℕ → Verdict → Verdict
-openBad s m b = orElse (headBad s) (orElse b (sheetBad s m))
+unfoldable pub openBad : List ℕ → Verdict → Verdict
+openBad s b = orElse (headBad s) (orElse b (sheetBad s))
 
-unfoldable pub plannedBad : List ℕ → ℕ → Verdict → Verdict
-plannedBad s m b = orElse (openBad s m b) (cycleBad (sheetTable s m) (labels s))
+unfoldable pub plannedBad : List ℕ → Verdict → Verdict
+plannedBad s b = orElse (openBad s b) (cycleBad (sheetTable s) (labels s))
 
 -- the plan of a sheet that reads
-unfoldable pub planOf : List ℕ → ℕ → Answer
-planOf s m = plan (sheetTable s m) (labels s)
+unfoldable pub planOf : List ℕ → Answer
+planOf s = plan (sheetTable s) (labels s)
 
 -- what Plan and Run answer where their rows find v: the plan's length, and whole or mixed
 abbrev pub answerBy : Verdict → Answer → PlanReply
@@ -40,16 +40,16 @@ listedBy Fine a p = map pos (orderOf a) ++ zeros (p - length (orderOf a))
 listedBy (Refused r l) a p = zeros p
 
 unfoldable pub planBad : List ℕ → ℕ → ℕ → Verdict
-planBad s m p = plannedBad s m (planBuffers s m p)
+planBad s m p = plannedBad s (planBuffers s m p)
 
 unfoldable pub planReply : List ℕ → ℕ → ℕ → PlanReply
-planReply s m p = answerBy (planBad s m p) (planOf s m)
+planReply s m p = answerBy (planBad s m p) (planOf s)
 
 unfoldable pub planTable : List ℕ → ℕ → ℕ → List ℤ
 planTable s m p = tableOf (planBad s m p) s m
 
 unfoldable pub planCells : List ℕ → ℕ → ℕ → List ℤ
-planCells s m p = listedBy (planBad s m p) (planOf s m) p
+planCells s m p = listedBy (planBad s m p) (planOf s) p
 
 -- ---- document 01's number, place and values of a reply
 

@@ -13,22 +13,22 @@ use Rattle.calls.specs.Plan.{plannedBad, planOf, answerBy, listedBy}
 use Rattle.calls.specs.declared.PlanReply.{PlanReply}
 
 -- results in q cells, those of Working out; zeros alone where the call refuses
-abbrev pub resultsBy : Verdict → List ℕ → ℕ → ℕ → List ℤ
-resultsBy Fine s m q = resultCells (sheetTable s m) (labels s) q
-resultsBy (Refused r l) s m q = zeros q
+abbrev pub resultsBy : Verdict → List ℕ → ℕ → List ℤ
+resultsBy Fine s q = resultCells (sheetTable s) (labels s) q
+resultsBy (Refused r l) s q = zeros q
 
 unfoldable pub runBad : List ℕ → ℕ → ℕ → ℕ → Verdict
-runBad s m p q = plannedBad s m (runBuffers s m p q)
+runBad s m p q = plannedBad s (runBuffers s m p q)
 
 -- "it answers as Plan does"
 unfoldable pub runReply : List ℕ → ℕ → ℕ → ℕ → PlanReply
-runReply s m p q = answerBy (runBad s m p q) (planOf s m)
+runReply s m p q = answerBy (runBad s m p q) (planOf s)
 
 unfoldable pub runTable : List ℕ → ℕ → ℕ → ℕ → List ℤ
 runTable s m p q = tableOf (runBad s m p q) s m
 
 unfoldable pub runPlan : List ℕ → ℕ → ℕ → ℕ → List ℤ
-runPlan s m p q = listedBy (runBad s m p q) (planOf s m) p
+runPlan s m p q = listedBy (runBad s m p q) (planOf s) p
 
 unfoldable pub runResults : List ℕ → ℕ → ℕ → ℕ → List ℤ
-runResults s m p q = resultsBy (runBad s m p q) s m q
+runResults s m p q = resultsBy (runBad s m p q) s q

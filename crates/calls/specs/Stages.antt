@@ -19,12 +19,12 @@ abbrev pub shortBy : ℕ → ℕ → ℕ → Verdict
 shortBy least cells place = cond (leb least cells) Fine (Refused buffersRow place)
 
 -- rows 5 to 16
-unfoldable pub sheetPlanned : List ℕ → ℕ → Verdict
-sheetPlanned s m = orElse (sheetBad s m) (cycleBad (sheetTable s m) (labels s))
+unfoldable pub sheetPlanned : List ℕ → Verdict
+sheetPlanned s = orElse (sheetBad s) (cycleBad (sheetTable s) (labels s))
 
 -- rows 5 to 18, of an order list o
-unfoldable pub sheetFollowed : List ℕ → List ℤ → ℕ → Verdict
-sheetFollowed s o m = orElse (sheetBad s m) (orElse (cycleBad (sheetTable s m) (labels s)) (orderBad (sheetTable s m) (labels s) o))
+unfoldable pub sheetFollowed : List ℕ → List ℤ → Verdict
+sheetFollowed s o = orElse (sheetBad s) (orElse (cycleBad (sheetTable s) (labels s)) (orderBad (sheetTable s) (labels s) o))
 
 -- a buffer that a refusal clears
 abbrev pub keptBy : Verdict → List ℤ → List ℤ

@@ -3,7 +3,7 @@
 ghost use mathlib.Core.Path.{_≡_};
 ghost use mathlib.Core.Logic.{_↔_};
 ghost use Prim.Native.Nat.{_*_, _≤_};
-ghost use lib.ListN.{length};
+ghost use lib.ListN.{length, take};
 ghost use Rattle.cells.specs.Cells.{zeros};
 ghost use Rattle.cells.specs.Accepted.{Accepted};
 ghost use Rattle.refusals.specs.Refusal.{orElse, replyOf, numberOf};
@@ -11,9 +11,9 @@ ghost use Rattle.lines.specs.Lines.{labels, headBad};
 ghost use Rattle.order.specs.Order as Order;
 ghost use Rattle.order.specs.Following.{ProperList};
 ghost use Rattle.order.specs.Rows.{cycleBad};
-ghost use Rattle.reading.specs.Read.{tableShort, sheetTable, tableOf};
+ghost use Rattle.reading.specs.Read.{tableShort, sheetTable, Reads, tableOf};
 ghost use Rattle.calls.specs.Buffers.{planBuffers, runBuffers, followBuffers};
-ghost use Rattle.calls.specs.Plan.{openBad, planOf, answerBy, listedBy, planReply, planTable, planCells};
+ghost use Rattle.calls.specs.Plan.{planOf, answerBy, listedBy, planReply, planTable, planCells};
 ghost use Rattle.calls.specs.Run.{resultsBy, runReply, runTable, runPlan, runResults};
 ghost use Rattle.calls.specs.Follow.{followReply, followTable, followResults};
 ghost use Rattle.calls.specs.Stages.{shortBy, sheetPlanned, sheetFollowed, keptBy};
@@ -89,14 +89,15 @@ fn clear_both(first: &mut [i64], second: &mut [i64])
 
 // ---- Plan
 
-// Row 16, and the plan of an accepted table. Planning leaves the cells behind the order as they were, so they are cleared here.
+// Row 16, and the plan of a table whose rows of n labels are accepted. Planning leaves the cells behind the order as they were, so they
+// are cleared here.
 fn plan_table(n: usize, table: &mut [i64], plan: &mut [i64]) -> PlanReply
-    requires { ⌜ Accepted (now table) n × (n ≤ length (now plan)) ⌝ }
-    ensures { λ r. ⌜ r ≡ answerBy (cycleBad (now (table .entry)) n) (Order.plan (now (table .entry)) n) ⌝ }
-    ensures { λ _. ⌜ now (table .exit) ≡ keptBy (cycleBad (now (table .entry)) n) (now (table .entry)) ⌝ }
-    ensures { λ _. ⌜ now (plan .exit) ≡ listedBy (cycleBad (now (table .entry)) n) (Order.plan (now (table .entry)) n) (length (now (plan .entry))) ⌝ }
+    requires { ⌜ Accepted (take (8 * n) (now table)) n × (8 * n ≤ length (now table)) × (n ≤ length (now plan)) ⌝ }
+    ensures { λ r. ⌜ r ≡ answerBy (cycleBad (take (8 * n) (now (table .entry))) n) (Order.plan (take (8 * n) (now (table .entry))) n) ⌝ }
+    ensures { λ _. ⌜ now (table .exit) ≡ keptBy (cycleBad (take (8 * n) (now (table .entry))) n) (now (table .entry)) ⌝ }
+    ensures { λ _. ⌜ now (plan .exit) ≡ listedBy (cycleBad (take (8 * n) (now (table .entry))) n) (Order.plan (take (8 * n) (now (table .entry))) n) (length (now (plan .entry))) ⌝ }
 {
-    match planning::plan_of(table, n, plan) {
+    match planning::plan_of(&table[..8 * n], n, plan) {
         Planned::Whole(whole) => {
             cells::clear_from(plan, whole as usize);
             PlanReply::Whole(whole)
@@ -115,9 +116,9 @@ fn plan_table(n: usize, table: &mut [i64], plan: &mut [i64]) -> PlanReply
 // Rows 5 to 16 of a text that rows 1 to 4 let pass, with its table and plan: Run plans by it too.
 fn plan_sheet(text: &[u8], n: usize, table: &mut [i64], plan: &mut [i64]) -> PlanReply
     requires { ⌜ (headBad (now text) ≡ Verdict.Fine) × (n ≡ labels (now text)) × (8 * n ≤ length (now table)) × (n ≤ length (now plan)) ⌝ }
-    ensures { λ r. ⌜ r ≡ answerBy (sheetPlanned (now (text .entry)) (length (now (table .entry)))) (planOf (now (text .entry)) (length (now (table .entry)))) ⌝ }
-    ensures { λ _. ⌜ now (table .exit) ≡ tableOf (sheetPlanned (now (text .entry)) (length (now (table .entry)))) (now (text .entry)) (length (now (table .entry))) ⌝ }
-    ensures { λ _. ⌜ now (plan .exit) ≡ listedBy (sheetPlanned (now (text .entry)) (length (now (table .entry)))) (planOf (now (text .entry)) (length (now (table .entry)))) (length (now (plan .entry))) ⌝ }
+    ensures { λ r. ⌜ r ≡ answerBy (sheetPlanned (now (text .entry))) (planOf (now (text .entry))) ⌝ }
+    ensures { λ _. ⌜ now (table .exit) ≡ tableOf (sheetPlanned (now (text .entry))) (now (text .entry)) (length (now (table .entry))) ⌝ }
+    ensures { λ _. ⌜ now (plan .exit) ≡ listedBy (sheetPlanned (now (text .entry))) (planOf (now (text .entry))) (length (now (plan .entry))) ⌝ }
 {
     match reading::read_sheet(text, n, table) {
         Verdict::Fine => plan_table(n, table, plan),
@@ -132,7 +133,7 @@ pub fn plan(text: &[u8], table: &mut [i64], plan: &mut [i64]) -> PlanReply
     ensures { λ r. ⌜ r ≡ planReply (now (text .entry)) (length (now (table .entry))) (length (now (plan .entry))) ⌝ }
     ensures { λ _. ⌜ now (table .exit) ≡ planTable (now (text .entry)) (length (now (table .entry))) (length (now (plan .entry))) ⌝ }
     ensures { λ _. ⌜ now (plan .exit) ≡ planCells (now (text .entry)) (length (now (table .entry))) (length (now (plan .entry))) ⌝ }
-    ensures { λ r. ⌜ (openBad (now (text .entry)) (length (now (table .entry))) (planBuffers (now (text .entry)) (length (now (table .entry))) (length (now (plan .entry)))) ≡ Verdict.Fine → PlanKept (sheetTable (now (text .entry)) (length (now (table .entry)))) r (now (plan .exit))) ⌝ }
+    ensures { λ r. ⌜ (Reads (now (text .entry)) → planBuffers (now (text .entry)) (length (now (table .entry))) (length (now (plan .entry))) ≡ Verdict.Fine → PlanKept (sheetTable (now (text .entry))) r (now (plan .exit))) ⌝ }
 {
     match head_plan(text, table.len(), plan.len()) {
         Reply::Answered(n) => plan_sheet(text, n as usize, table, plan),
@@ -154,18 +155,18 @@ fn run_sheet(
     results: &mut [i64],
 ) -> PlanReply
     requires { ⌜ (headBad (now text) ≡ Verdict.Fine) × (n ≡ labels (now text)) × (8 * n ≤ length (now table)) × (n ≤ length (now plan)) × (3 * n ≤ length (now results)) ⌝ }
-    ensures { λ r. ⌜ r ≡ answerBy (sheetPlanned (now (text .entry)) (length (now (table .entry)))) (planOf (now (text .entry)) (length (now (table .entry)))) ⌝ }
-    ensures { λ _. ⌜ now (table .exit) ≡ tableOf (sheetPlanned (now (text .entry)) (length (now (table .entry)))) (now (text .entry)) (length (now (table .entry))) ⌝ }
-    ensures { λ _. ⌜ now (plan .exit) ≡ listedBy (sheetPlanned (now (text .entry)) (length (now (table .entry)))) (planOf (now (text .entry)) (length (now (table .entry)))) (length (now (plan .entry))) ⌝ }
-    ensures { λ _. ⌜ now (results .exit) ≡ resultsBy (sheetPlanned (now (text .entry)) (length (now (table .entry)))) (now (text .entry)) (length (now (table .entry))) (length (now (results .entry))) ⌝ }
+    ensures { λ r. ⌜ r ≡ answerBy (sheetPlanned (now (text .entry))) (planOf (now (text .entry))) ⌝ }
+    ensures { λ _. ⌜ now (table .exit) ≡ tableOf (sheetPlanned (now (text .entry))) (now (text .entry)) (length (now (table .entry))) ⌝ }
+    ensures { λ _. ⌜ now (plan .exit) ≡ listedBy (sheetPlanned (now (text .entry))) (planOf (now (text .entry))) (length (now (plan .entry))) ⌝ }
+    ensures { λ _. ⌜ now (results .exit) ≡ resultsBy (sheetPlanned (now (text .entry))) (now (text .entry)) (length (now (results .entry))) ⌝ }
 {
     match plan_sheet(text, n, table, plan) {
         PlanReply::Whole(count) => {
-            figures::run_down(table, n, plan, count as usize, results);
+            figures::run_down(&table[..8 * n], n, plan, count as usize, results);
             PlanReply::Whole(count)
         }
         PlanReply::Mixed(count) => {
-            figures::run_down(table, n, plan, count as usize, results);
+            figures::run_down(&table[..8 * n], n, plan, count as usize, results);
             PlanReply::Mixed(count)
         }
         PlanReply::Refused(row, label) => {
@@ -180,7 +181,7 @@ pub fn run(text: &[u8], table: &mut [i64], plan: &mut [i64], results: &mut [i64]
     ensures { λ _. ⌜ now (table .exit) ≡ runTable (now (text .entry)) (length (now (table .entry))) (length (now (plan .entry))) (length (now (results .entry))) ⌝ }
     ensures { λ _. ⌜ now (plan .exit) ≡ runPlan (now (text .entry)) (length (now (table .entry))) (length (now (plan .entry))) (length (now (results .entry))) ⌝ }
     ensures { λ _. ⌜ now (results .exit) ≡ runResults (now (text .entry)) (length (now (table .entry))) (length (now (plan .entry))) (length (now (results .entry))) ⌝ }
-    ensures { λ r. ⌜ (openBad (now (text .entry)) (length (now (table .entry))) (runBuffers (now (text .entry)) (length (now (table .entry))) (length (now (plan .entry))) (length (now (results .entry)))) ≡ Verdict.Fine → PlanKept (sheetTable (now (text .entry)) (length (now (table .entry)))) r (now (plan .exit))) ⌝ }
+    ensures { λ r. ⌜ (Reads (now (text .entry)) → runBuffers (now (text .entry)) (length (now (table .entry))) (length (now (plan .entry))) (length (now (results .entry))) ≡ Verdict.Fine → PlanKept (sheetTable (now (text .entry))) r (now (plan .exit))) ⌝ }
 {
     match head_run(text, table.len(), plan.len(), results.len()) {
         Reply::Answered(n) => run_sheet(text, n as usize, table, plan, results),
@@ -197,11 +198,11 @@ pub fn run(text: &[u8], table: &mut [i64], plan: &mut [i64], results: &mut [i64]
 // Rows 5 to 18 of a text that rows 1 to 4 let pass, and its table. Where they refuse, the table is for the caller to clear.
 fn follow_rows(text: &[u8], n: usize, order: &[i64], table: &mut [i64]) -> Verdict
     requires { ⌜ (headBad (now text) ≡ Verdict.Fine) × (n ≡ labels (now text)) × (8 * n ≤ length (now table)) ⌝ }
-    ensures { λ r. ⌜ r ≡ sheetFollowed (now (text .entry)) (now (order .entry)) (length (now (table .entry))) ⌝ }
-    ensures { λ r. ⌜ (r ≡ Verdict.Fine → now (table .exit) ≡ sheetTable (now (text .entry)) (length (now (table .entry)))) ⌝ }
+    ensures { λ r. ⌜ r ≡ sheetFollowed (now (text .entry)) (now (order .entry)) ⌝ }
+    ensures { λ r. ⌜ (r ≡ Verdict.Fine → now (table .exit) ≡ tableOf Verdict.Fine (now (text .entry)) (length (now (table .entry)))) ⌝ }
 {
     match reading::read_sheet(text, n, table) {
-        Verdict::Fine => following::check_order(table, n, order),
+        Verdict::Fine => following::check_order(&table[..8 * n], n, order),
         Verdict::Refused(row, label) => Verdict::Refused(row, label),
     }
 }
@@ -215,13 +216,13 @@ fn follow_sheet(
     results: &mut [i64],
 ) -> Reply
     requires { ⌜ (headBad (now text) ≡ Verdict.Fine) × (n ≡ labels (now text)) × (8 * n ≤ length (now table)) × (3 * n ≤ length (now results)) ⌝ }
-    ensures { λ r. ⌜ r ≡ replyOf (sheetFollowed (now (text .entry)) (now (order .entry)) (length (now (table .entry)))) (length (now (order .entry))) ⌝ }
-    ensures { λ _. ⌜ now (table .exit) ≡ tableOf (sheetFollowed (now (text .entry)) (now (order .entry)) (length (now (table .entry)))) (now (text .entry)) (length (now (table .entry))) ⌝ }
-    ensures { λ _. ⌜ now (results .exit) ≡ resultsBy (sheetFollowed (now (text .entry)) (now (order .entry)) (length (now (table .entry)))) (now (text .entry)) (length (now (table .entry))) (length (now (results .entry))) ⌝ }
+    ensures { λ r. ⌜ r ≡ replyOf (sheetFollowed (now (text .entry)) (now (order .entry))) (length (now (order .entry))) ⌝ }
+    ensures { λ _. ⌜ now (table .exit) ≡ tableOf (sheetFollowed (now (text .entry)) (now (order .entry))) (now (text .entry)) (length (now (table .entry))) ⌝ }
+    ensures { λ _. ⌜ now (results .exit) ≡ resultsBy (sheetFollowed (now (text .entry)) (now (order .entry))) (now (text .entry)) (length (now (results .entry))) ⌝ }
 {
     match follow_rows(text, n, order, table) {
         Verdict::Fine => {
-            figures::run_down(table, n, order, order.len(), results);
+            figures::run_down(&table[..8 * n], n, order, order.len(), results);
             Reply::Answered(order.len() as u64)
         }
         Verdict::Refused(row, place) => {
@@ -235,7 +236,7 @@ pub fn follow(text: &[u8], order: &[i64], table: &mut [i64], results: &mut [i64]
     ensures { λ r. ⌜ r ≡ followReply (now (text .entry)) (now (order .entry)) (length (now (table .entry))) (length (now (results .entry))) ⌝ }
     ensures { λ _. ⌜ now (table .exit) ≡ followTable (now (text .entry)) (now (order .entry)) (length (now (table .entry))) (length (now (results .entry))) ⌝ }
     ensures { λ _. ⌜ now (results .exit) ≡ followResults (now (text .entry)) (now (order .entry)) (length (now (table .entry))) (length (now (results .entry))) ⌝ }
-    ensures { λ r. ⌜ (openBad (now (text .entry)) (length (now (table .entry))) (followBuffers (now (text .entry)) (length (now (table .entry))) (length (now (results .entry)))) ≡ Verdict.Fine → (numberOf r ≡ 0) ↔ ProperList (sheetTable (now (text .entry)) (length (now (table .entry)))) (now (order .entry))) ⌝ }
+    ensures { λ r. ⌜ (Reads (now (text .entry)) → followBuffers (now (text .entry)) (length (now (table .entry))) (length (now (results .entry))) ≡ Verdict.Fine → (numberOf r ≡ 0) ↔ ProperList (sheetTable (now (text .entry))) (now (order .entry))) ⌝ }
 {
     match head_follow(text, table.len(), results.len()) {
         Reply::Answered(n) => follow_sheet(text, n as usize, order, table, results),

@@ -2,7 +2,7 @@
 use mathlib.Core.Path.{_≡_, refl, sym, ap, _∙_}
 use mathlib.Core.Bool.{true}
 use mathlib.Core.List.{List, [], _∷_, _++_}
-use Prim.Native.Nat.{ℕ, _+_, _*_, _≤_, _<_}
+use Prim.Native.Nat.{ℕ, _+_, _-_, _*_, _≤_, _<_}
 use native.Mathlib.Omega.{arith}
 use lib.IntN.{ℤ, natAbs}
 use lib.ListN.{length, take, drop, length-append, length-take, length-drop}
@@ -16,7 +16,9 @@ use Rattle.order.specs.Following.{labelsOf}
 use Rattle.order.proofs.Lists.{in-here, in-there}
 use Rattle.order.proofs.Mixed.{listed-value, proper-no-cycle}
 use Rattle.order.proofs.Planned.{order-short}
-use Rattle.reading.specs.Read.{sheetTable}
+use Rattle.refusals.specs.declared.Verdict.the-variants.{Fine}
+use Rattle.reading.specs.Read.{sheetTable, tableOf}
+use Rattle.reading.proofs.Padding.{cell-padded}
 use Rattle.reading.proofs.Accepted.{read-accepted, read-short}
 use Rattle.evaluation.specs.Results.{stateAt, numberAt, stepsAt, stored}
 use Rattle.evaluation.specs.Evaluation.{valueOutcome, evaluated}
@@ -83,8 +85,9 @@ module _ (t : List ℤ) (n m : ℕ) (ok : Accepted t n) (nc : NoCycle t) (fit : 
   value-good : (v : ℕ) → kind t v ≡ 2 → Good 1 (valueOutcome t (resultCells t n m) v)
   value-good v k = value-settled t (resultCells t n m) n ok v k (λ x j _. figures-settled t n ok nc m fit x j)
 
-  value-short : (v : ℕ) → kind t v ≡ 2 → nameLength t v ≤ 16 → Short t (resultCells t n m) v
-  value-short v k h =
+  -- its name is in a table w
+  value-short : (w : List ℤ) (v : ℕ) → kind t v ≡ 2 → nameLength w v ≤ 16 → Short w (resultCells t n m) v
+  value-short w v k h =
       let e = value-is v k in
       let g = value-good v k in
       let x = ap (λ (y : Value). y .number) e in
@@ -102,10 +105,10 @@ module _ (s : List ℕ) (m p q : ℕ) (a : answers (runReply s m p q) ≡ true) 
   abbrev order : List ℕ
   order = labelsOf (take (lengthOf (runReply s m p q)) (runPlan s m p q))
 
-  ok : Accepted (sheetTable s m) (labels s)
-  ok = read-accepted s m (reads s m p q a)
+  ok : Accepted (sheetTable s) (labels s)
+  ok = read-accepted s (reads s m p q a)
 
-  results-are : runResults s m p q ≡ resultCells (sheetTable s m) (labels s) q
+  results-are : runResults s m p q ≡ resultCells (sheetTable s) (labels s) q
   unfolding runResults
   results-are = rw (run-fine s m p q a)
 
@@ -113,8 +116,9 @@ module _ (s : List ℕ) (m p q : ℕ) (a : answers (runReply s m p q) ≡ true) 
   all-short v i =
       let o = plan-proper s m p q a in
       let k = listed-value o v i in
+      let name : nameLength (tableOf Fine s m) v ≤ 16 = rw (cell-padded (sheetTable s) (m - 8 * labels s) v 2) (read-short s (reads s m p q a) v k) in
       rw (table-is s m p q a, results-are)
-      (value-short (sheetTable s m) (labels s) q ok (proper-no-cycle o) (results-fit s m p q a) v k (read-short s m (reads s m p q a) v k))
+      (value-short (sheetTable s) (labels s) q ok (proper-no-cycle o) (results-fit s m p q a) (tableOf Fine s m) v k name)
 
   answer-length : (word : List ℕ) → length word ≤ 5 → length (columnsLine ++ valueLines s (runTable s m p q) (runResults s m p q) word order) ≤ mostBytes
   unfolding columnsLine
@@ -123,7 +127,7 @@ module _ (s : List ℕ) (m p q : ℕ) (a : answers (runReply s m p q) ≡ true) 
         arith,
         length-append columnsLine (valueLines s (runTable s m p q) (runResults s m p q) word order),
         lines-length s (runTable s m p q) (runResults s m p q) word order w all-short,
-        order-short (sheetTable s m) (labels s) ok order (plan-proper s m p q a),
+        order-short (sheetTable s) (labels s) ok order (plan-proper s m p q a),
         ok .few,
       )
 

@@ -19,15 +19,16 @@ use Rattle.order.specs.Order.{Proper, Answer, cycle, whole, mixed}
 use Rattle.order.specs.Following.{labelsOf}
 use Rattle.order.specs.Rows.{cycleBad}
 use Rattle.order.proofs.Following.{proper-list}
-use Rattle.reading.specs.Read.{tableShort, sheetBad, sheetTable, readBad, tableOf}
+use Rattle.reading.specs.Read.{tableShort, sheetTable, Reads, readBad, tableOf}
 use Rattle.reading.specs.Name.{nameBegin, nameSize, namePart}
-use Rattle.reading.proofs.Accepted.{read-accepted, read-names}
+use Rattle.reading.proofs.Padding.{cell-padded}
+use Rattle.reading.proofs.Accepted.{read-names}
 use Rattle.calls.specs.Buffers.{planShort, resultsShort, runBuffers}
-use Rattle.calls.specs.Plan.{openBad, plannedBad, planOf, answerBy, listedBy, lengthOf}
+use Rattle.calls.specs.Plan.{planOf, answerBy, listedBy, lengthOf}
 use Rattle.calls.specs.Run.{runBad, runReply, runTable, runPlan, runResults}
 use Rattle.calls.specs.declared.PlanReply.{PlanReply}
 use Rattle.calls.proofs.Answers.{answers, answers-number, answers-fine}
-use Rattle.calls.proofs.Sheets.{kept}
+use Rattle.calls.proofs.Sheets.{planned-reads, kept}
 use Rattle.printing.specs.Print.{nameField, printBy, printWith}
 use Rattle.printing.specs.Writing.{NamesIn}
 
@@ -56,48 +57,45 @@ long-enough s e =
 module _ (s : List ℕ) (m p q : ℕ) (a : answers (runReply s m p q) ≡ true) where
   pub run-fine : runBad s m p q ≡ Fine
   unfolding runReply
-  run-fine = answers-fine (runBad s m p q) (planOf s m) a
+  run-fine = answers-fine (runBad s m p q) (planOf s) a
 
-  open-fine : openBad s m (runBuffers s m p q) ≡ Fine
-  unfolding runBad plannedBad
-  open-fine = both-fine (openBad s m (runBuffers s m p q)) (cycleBad (sheetTable s m) (labels s)) run-fine .0
+  parts : Reads s × (runBuffers s m p q ≡ Fine) × (cycleBad (sheetTable s) (labels s) ≡ Fine)
+  unfolding runBad
+  parts = planned-reads s (runBuffers s m p q) run-fine
 
-  parts : (headBad s ≡ Fine) × (runBuffers s m p q ≡ Fine) × (sheetBad s m ≡ Fine)
-  unfolding openBad
-  parts =
-      let h = both-fine (headBad s) _ open-fine in
-      let b = both-fine (runBuffers s m p q) (sheetBad s m) (h .1) in
-      (h .0, b .0, b .1)
+  pub reads : Reads s
+  reads = parts .0
 
   buffers : (tableShort s m ≡ Fine) × (orElse (planShort s p) (resultsShort s q) ≡ Fine)
   buffers = both-fine (tableShort s m) _ (parts .1)
 
-  pub reads : readBad s m ≡ Fine
+  read-fine : readBad s m ≡ Fine
   unfolding readBad
-  reads = rw (parts .0, buffers .0) (parts .2)
+  read-fine = rw (buffers .0) reads
 
   pub results-fit : 3 * labels s ≤ q
   results-fit = results-long s q (both-fine (planShort s p) (resultsShort s q) (buffers .1) .1)
 
-  pub table-is : runTable s m p q ≡ sheetTable s m
+  pub table-is : runTable s m p q ≡ tableOf Fine s m
   unfolding runTable
   table-is = ap (λ (v : Verdict). tableOf v s m) run-fine
 
   -- the name that is printed is what Name returns
   pub name-is : (v : ℕ) → v ≤ labels s → nameField s (runTable s m p q) v ≡ namePart s m (pos v)
   unfolding namePart nameBegin nameSize
-  name-is v h = rw (table-is, reads, le-leb v (labels s) h)
+  name-is v h =
+      rw (table-is, read-fine, le-leb v (labels s) h, cell-padded (sheetTable s) (m - 8 * labels s) v 1, cell-padded (sheetTable s) (m - 8 * labels s) v 2)
 
   -- the plan has as many labels as the reply says, and they are a proper order
   pub plan-long : lengthOf (runReply s m p q) ≤ length (runPlan s m p q)
   unfolding runReply runPlan
-  plan-long = rw run-fine (listed-length (planOf s m) p)
+  plan-long = rw run-fine (listed-length (planOf s) p)
 
-  pub plan-proper : Proper (sheetTable s m) (labelsOf (take (lengthOf (runReply s m p q)) (runPlan s m p q)))
+  pub plan-proper : Proper (sheetTable s) (labelsOf (take (lengthOf (runReply s m p q)) (runPlan s m p q)))
   unfolding runReply runPlan runBad
   plan-proper =
       proper-list _ _ .0
-      (kept s m (runBuffers s m p q) p open-fine (read-accepted s m reads) .proper (answers-number (runReply s m p q) a))
+      (kept s (runBuffers s m p q) reads (parts .1) p .proper (answers-number (runReply s m p q) a))
 
 -- ---- for the code: the reply r, the table t, the plan o and the results u
 
@@ -107,7 +105,9 @@ module _ (s : List ℕ) (m p q : ℕ) (r : PlanReply) (er : r ≡ runReply s m p
     answered = ap answers (sym er) ∙ a
 
     pub names-in : (t : List ℤ) → t ≡ runTable s m p q → NamesIn s t
-    names-in t et l = rw (et ∙ table-is s m p q answered) (read-names s m (reads s m p q answered) l)
+    names-in t et l =
+        rw (et ∙ table-is s m p q answered, cell-padded (sheetTable s) (m - 8 * labels s) l 1, cell-padded (sheetTable s) (m - 8 * labels s) l 2)
+        (read-names s (reads s m p q answered) l)
 
     pub count-in : (o : List ℤ) → o ≡ runPlan s m p q → lengthOf r ≤ length o
     count-in o eo = rw (er, eo) (plan-long s m p q answered)

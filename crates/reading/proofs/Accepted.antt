@@ -1,4 +1,5 @@
--- The table of a sheet in which rows 1 to 15 find nothing has all that planning and evaluation lean on.
+-- The table of a sheet in which rows 1 to 15 find nothing has all that planning and evaluation lean on, and its owners and targets are
+-- those that the rules define.
 use mathlib.Core.Path.{_≡_, refl, ap, sym, _∙_}
 use mathlib.Core.Logic.{⊎-elim}
 use mathlib.Core.Bool.{Bool, true, false, _||_}
@@ -16,22 +17,51 @@ use Rattle.cells.specs.Accepted.{Part, Accepted}
 use Rattle.cells.proofs.Table.{cell-at}
 use Rattle.cells.proofs.Columns.{column-length, column-keeps, column-has, column-own, column-other, column-number}
 use Rattle.refusals.specs.Refusal.{firstBad, orElse}
-use Rattle.refusals.specs.declared.Verdict.the-variants.{Fine, Refused}
+use Rattle.refusals.specs.declared.Verdict.the-variants.{Fine}
 use Rattle.refusals.proofs.OrElse.{both-fine}
 use Rattle.refusals.proofs.FirstBad.{first-none}
 use Rattle.order.specs.Order.{hasPath}
+use Rattle.text.proofs.Bytes.{true-false, and-left}
 use Rattle.lines.specs.Lines.{labels, headBad, linesBad}
-use Rattle.tree.specs.Tree.{ownerOf, treeBad}
-use Rattle.tree.proofs.Codes.{label-low, label-high}
+use Rattle.tree.specs.Tree.{isGroup, isDefinition, isExpression, Owned, ownerOf, treeBad}
+use Rattle.tree.specs.Treed.{Treed}
+use Rattle.tree.proofs.Codes.{expression-kind, not-expression, label-low, label-high}
+use Rattle.tree.proofs.Parts.{Alike as TreeAlike, alike-expression, alike-definition, alike-parts}
+use Rattle.tree.proofs.Owners.{owner-group}
+use Rattle.tree.proofs.Treed.{treed}
+use Rattle.lines.specs.Kinds.{kindAt}
 use Rattle.paths.specs.Paths.{targetOf, targetCell, wanted, duplicateBad, headBad as noHead, laterBad, targetBad, pathsBad}
-use Rattle.lines.specs.Lined.{Lined, linedTable}
-use Rattle.reading.specs.Read.{tableShort, ownedTable, tiedTable, tiedBad, sheetBad, sheetTable, readBad}
+use Rattle.paths.specs.Leads.{NamesApart, Leads}
+use Rattle.paths.proofs.Leads.{paths-kept, target-leads, leads-unique}
+use Rattle.paths.proofs.Alike.{Alike, column-alike, paths-alike, target-alike}
+use Rattle.lines.specs.Lined.{Lined}
+use Rattle.lines.proofs.Pass.{rows-length}
+use Rattle.reading.specs.Read.{tableShort, ownedTable, tiedTable, tiedBad, sheetRows, sheetBad, sheetTable, Reads, readBad}
 use Rattle.lines.proofs.Lined.{lined, names-short}
 use Rattle.reading.proofs.Tied.{formed, accepted}
+use Rattle.reading.proofs.Padding.{rows-lined}
 
 -- a cell that is some natural number is its own natural number
 natural-cell : (w : List ℤ) (i x : ℕ) → intAt w i ≡ pos x → intAt w i ≡ pos (natOf (intAt w i))
 natural-cell w i x e = rw e
+
+-- the tree reads the cells before the owner only
+owned-alike : (t w : List ℤ) → TreeAlike t w → (d x : ℕ) → Owned t d x → Owned w d x
+owned-alike t w a d x (Owned.body _ _ f p) = Owned.body d x (alike-definition t w a d ∙ f) (rw (alike-parts t w a d) p)
+owned-alike t w a d x (Owned.operand _ u _ o f p) = Owned.operand d u x (owned-alike t w a d u o) (alike-expression t w a u ∙ f) (rw (alike-parts t w a u) p)
+
+definition-kind : (t : List ℤ) (l : ℕ) → isDefinition t l ≡ true → 1 ≤ kind t l
+unfolding isDefinition
+definition-kind t l e = leb-true 1 (kind t l) (and-left (leb 1 (kind t l)) (isGroup (kindAt (kind t l) .a)) e)
+
+-- what an R or C line is to lead to is some kind
+path-kind : (k : ℕ) → (eqb k 6 || eqb k 7) ≡ true → (1 ≤ k) × (1 ≤ wanted k)
+path-kind k p = go (eqb k 6) (eqb k 7) refl refl p
+  where
+    go : (a b : Bool) → eqb k 6 ≡ a → eqb k 7 ≡ b → (a || b) ≡ true → (1 ≤ k) × (1 ≤ wanted k)
+    go true b e f h = rw (eqb-true k 6 e) (omega arith, omega arith)
+    go false true e f h = rw (eqb-true k 7 f) (omega arith, omega arith)
+    go false false e f h = absurd (true-false (sym h))
 
 module _ (s : List ℕ) (t : List ℤ) (n : ℕ) (is : Lined s t n) (tree : treeBad t n ≡ Fine) (paths : pathsBad s (ownedTable t n) n ≡ Fine) where
   abbrev u : List ℤ
@@ -106,6 +136,39 @@ module _ (s : List ℕ) (t : List ℤ) (n : ℕ) (is : Lined s t n) (tree : tree
     owned = same x 6 (omega arith) ∙ p .owned;
   }
 
+  -- ---- owners: an expression's is the definition that owns it, and no other does; a definition's is its Group
+
+  alike-lines : TreeAlike t w
+  alike-lines l j h = same-lines l j h
+
+  owner-own : (x : ℕ) → 1 ≤ kind t x → owner w x ≡ ownerOf t n x
+  unfolding ownedTable
+  owner-own x k =
+      let f = formed s t n is in
+      same x 6 (omega arith) ∙ column-own 6 (ownerOf t n) (omega arith) n t x (label-low t x n f k) (label-high t x n f k) (is .room)
+
+  rules : Treed t n
+  rules = treed t n (formed s t n is) tree
+
+  pub tied-owned : (x : ℕ) → isExpression w x ≡ true → Owned w (owner w x) x
+  tied-owned x e =
+      let q = sym (alike-expression t w alike-lines x) ∙ e in
+      rw (owner-own x (expression-kind t x q)) (owned-alike t w alike-lines (ownerOf t n x) x (rules .owned x q))
+
+  pub tied-owned-only : (d x : ℕ) → Owned w d x → d ≡ owner w x
+  tied-owned-only d x o =
+      let q = owned-alike w t (λ l j h. sym (same-lines l j h)) d x o in
+      rules .owned-only d x q ∙ sym (owner-own x (expression-kind t x (go q)))
+    where
+      go : Owned t d x → isExpression t x ≡ true
+      go (Owned.body _ _ f p) = rules .part d x p .expression
+      go (Owned.operand _ y _ v f p) = rules .part y x p .expression
+
+  pub tied-group : (d : ℕ) → isDefinition w d ≡ true → owner w d ≡ fieldA w d
+  tied-group d e =
+      let q = sym (alike-definition t w alike-lines d) ∙ e in
+      owner-own d (definition-kind t d q) ∙ owner-group t n d (not-expression t d q) ∙ sym (same-lines d 3 (omega arith))
+
   -- ---- targets
 
   found : (firstBad (targetBad s u n) 1 n ≡ Fine)
@@ -124,14 +187,37 @@ module _ (s : List ℕ) (t : List ℤ) (n : ℕ) (is : Lined s t n) (tree : tree
   unfolding tiedTable
   target-own l h g = column-own 7 (targetCell s u n) (omega arith) n u l h g (omega (arith, owned-length, is .room))
 
-  target-found : (l k : ℕ) → kind w l ≡ k → (eqb k 6 || eqb k 7) ≡ true → 1 ≤ k → kind w (target w l) ≡ wanted k
-  target-found l k e p low =
-      let q = sym (same l 0 (omega arith)) ∙ e in
-      let has : hasPath u l ≡ true = rw q p in
-      let h = label-low t l n (formed s t n is) (omega (arith, same-lines l 0 (omega arith), e)) in
-      let g = label-high t l n (formed s t n is) (omega (arith, same-lines l 0 (omega arith), e)) in
+  target-at : (l : ℕ) → hasPath w l ≡ true → 1 ≤ kind w l → (target w l ≡ targetOf s u n l) × (kind w (target w l) ≡ wanted (kind w l))
+  target-at l p low =
+      let q = same l 0 (omega arith) in
+      let has : hasPath u l ≡ true = rw q at p in
+      let h = label-low t l n (formed s t n is) (omega (arith, same-lines l 0 (omega arith))) in
+      let g = label-high t l n (formed s t n is) (omega (arith, same-lines l 0 (omega arith))) in
       let at : target w l ≡ targetOf s u n l = target-own l h g ∙ rw has in
-      rw at (same (targetOf s u n l) 0 (omega arith) ∙ aimed l h g has ∙ ap wanted q)
+      (at, rw at (same (targetOf s u n l) 0 (omega arith) ∙ aimed l h g has ∙ ap wanted (sym q)))
+
+  target-found : (l k : ℕ) → kind w l ≡ k → (eqb k 6 || eqb k 7) ≡ true → 1 ≤ k → kind w (target w l) ≡ wanted k
+  target-found l k e p low = target-at l (rw e p) (omega arith) .1 ∙ ap wanted e
+
+  target-of : (x : ℕ) → hasPath w x ≡ true → (target w x ≡ targetOf s u n x) × (target w x ≡ 0 → ⊥)
+  target-of x p =
+      let b = path-kind (kind w x) p in
+      let a = target-at x p (b .0) in
+      (a .0, λ z. omega (arith, a .1, b .1, ap (kind w) z))
+
+  -- the target of an R or C is where its path leads, and no other label is
+  alike : Alike u w
+  unfolding tiedTable
+  alike = column-alike (targetCell s u n) n u
+
+  names-apart : NamesApart s w n
+  names-apart = paths-kept s w n (paths-alike s u w alike n ∙ paths) .apart
+
+  pub tied-leads : (x : ℕ) → hasPath w x ≡ true → Leads s w n x (target w x)
+  tied-leads x e = target-leads s w n x (target w x) (target-alike s u w alike n x ∙ sym (target-of x e .0)) (target-of x e .1)
+
+  pub tied-leads-only : (x m : ℕ) → hasPath w x ≡ true → Leads s w n x m → m ≡ target w x
+  tied-leads-only x m e p = leads-unique s w n names-apart x m (target w x) p (tied-leads x e)
 
   no-target : (l : ℕ) → (kind w l ≡ 6 → ⊥) → (kind w l ≡ 7 → ⊥) → target w l ≡ 0
   no-target l a b = go l (leb l n) refl a b
@@ -176,57 +262,77 @@ module _ (s : List ℕ) (t : List ℤ) (n : ℕ) (is : Lined s t n) (tree : tree
   pub tied-names : (l : ℕ) → nameStart w l + nameLength w l ≤ length s
   tied-names l = omega (arith, same-lines l 1 (omega arith), same-lines l 2 (omega arith), is .names l)
 
--- ---- Read's table, where it answers
+-- ---- the table of a sheet that reads
 
--- what rows 5 to 15 found nothing in
-module _ (s : List ℕ) (m : ℕ) (h : headBad s ≡ Fine) (room : 8 * labels s ≤ m) (e : sheetBad s m ≡ Fine) where
-  lines-fine : (linesBad s (labels s) ≡ Fine) × (tiedBad s (linedTable s m) (labels s) ≡ Fine)
+-- what rows 1 to 15 find, row 4 aside
+pub reads : (s : List ℕ) → headBad s ≡ Fine → sheetBad s ≡ Fine → Reads s
+reads s h e = rw (h, e)
+
+pub read-fine : (s : List ℕ) (m : ℕ) → readBad s m ≡ Fine → Reads s
+unfolding readBad
+read-fine s m e =
+    let h = both-fine (headBad s) (orElse (tableShort s m) (sheetBad s)) e in
+    reads s (h .0) (both-fine (tableShort s m) (sheetBad s) (h .1) .1)
+
+module _ (s : List ℕ) (e : Reads s) where
+  abbrev n : ℕ
+  n = labels s
+
+  abbrev rows : List ℤ
+  rows = sheetRows s
+
+  head-fine : (headBad s ≡ Fine) × (sheetBad s ≡ Fine)
+  head-fine = both-fine (headBad s) (sheetBad s) e
+
+  lines-fine : (linesBad s n ≡ Fine) × (tiedBad s rows n ≡ Fine)
   unfolding sheetBad
-  lines-fine = both-fine (linesBad s (labels s)) (tiedBad s (linedTable s m) (labels s)) e
+  lines-fine = both-fine (linesBad s n) (tiedBad s rows n) (head-fine .1)
 
-  tree-fine : (treeBad (linedTable s m) (labels s) ≡ Fine) × (pathsBad s (ownedTable (linedTable s m) (labels s)) (labels s) ≡ Fine)
+  tree-fine : (treeBad rows n ≡ Fine) × (pathsBad s (ownedTable rows n) n ≡ Fine)
   unfolding tiedBad
-  tree-fine = both-fine (treeBad (linedTable s m) (labels s)) (pathsBad s (ownedTable (linedTable s m) (labels s)) (labels s)) (lines-fine .1)
+  tree-fine = both-fine (treeBad rows n) (pathsBad s (ownedTable rows n) n) (lines-fine .1)
 
-  is-lined : Lined s (linedTable s m) (labels s)
-  is-lined = lined s m h (lines-fine .0) room
+  is-lined : Lined s rows n
+  is-lined = rw (rows-lined s) at (lined s (8 * n) (head-fine .0) (lines-fine .0) (omega arith))
 
-  pub sheet-accepted : Accepted (sheetTable s m) (labels s)
+  pub read-accepted : Accepted (sheetTable s) (labels s)
   unfolding sheetTable
-  sheet-accepted = tied-accepted s (linedTable s m) (labels s) is-lined (tree-fine .0) (tree-fine .1)
+  read-accepted = tied-accepted s rows n is-lined (tree-fine .0) (tree-fine .1)
 
-  pub sheet-names : (l : ℕ) → nameStart (sheetTable s m) l + nameLength (sheetTable s m) l ≤ length s
+  pub read-names : (l : ℕ) → nameStart (sheetTable s) l + nameLength (sheetTable s) l ≤ length s
   unfolding sheetTable
-  sheet-names = tied-names s (linedTable s m) (labels s) is-lined (tree-fine .0) (tree-fine .1)
+  read-names = tied-names s rows n is-lined (tree-fine .0) (tree-fine .1)
 
   -- a value's name has at most 16 bytes
-  pub sheet-short : (v : ℕ) → kind (sheetTable s m) v ≡ 2 → nameLength (sheetTable s m) v ≤ 16
+  pub read-short : (v : ℕ) → kind (sheetTable s) v ≡ 2 → nameLength (sheetTable s) v ≤ 16
   unfolding sheetTable
-  sheet-short v k =
-      let same = same-lines s (linedTable s m) (labels s) is-lined (tree-fine .0) (tree-fine .1) v in
-      rw (same 2 (omega arith)) (names-short s m h (lines-fine .0) v (sym (same 0 (omega arith)) ∙ k))
+  read-short v k =
+      let same = same-lines s rows n is-lined (tree-fine .0) (tree-fine .1) v in
+      let short : (kind rows v ≡ 2 → nameLength rows v ≤ 16) = rw (rows-lined s) at (names-short s (8 * n) (head-fine .0) (lines-fine .0) v) in
+      rw (same 2 (omega arith)) (short (sym (same 0 (omega arith)) ∙ k))
 
-module _ (s : List ℕ) (m : ℕ) (e : readBad s m ≡ Fine) where
-  head-part : (headBad s ≡ Fine) × (orElse (tableShort s m) (sheetBad s m) ≡ Fine)
-  unfolding readBad
-  head-part = both-fine (headBad s) _ e
+  pub read-length : length (sheetTable s) ≡ 8 * labels s
+  unfolding sheetTable sheetRows
+  read-length = tied-length s rows n is-lined (tree-fine .0) (tree-fine .1) ∙ rows-length s n n
 
-  sheet-part : (tableShort s m ≡ Fine) × (sheetBad s m ≡ Fine)
-  sheet-part = both-fine (tableShort s m) (sheetBad s m) (head-part .1)
+  -- the target of an R or C is where its path leads by "Paths", and that is one definition
+  pub read-targets : (x : ℕ) → hasPath (sheetTable s) x ≡ true → Leads s (sheetTable s) (labels s) x (target (sheetTable s) x)
+  unfolding sheetTable
+  read-targets = tied-leads s rows n is-lined (tree-fine .0) (tree-fine .1)
 
-  long-enough : 8 * labels s ≤ m
-  unfolding tableShort
-  long-enough = go (leb (8 * labels s) m) refl (sheet-part .0)
-    where
-      go : (c : Bool) → leb (8 * labels s) m ≡ c → tableShort s m ≡ Fine → 8 * labels s ≤ m
-      go true q z = leb-true (8 * labels s) m q
-      go false q z = let y : Refused 4 1 ≡ Fine = rw q at z in let x : _≡_ {A = ℕ} 0 1 = cc in absurd (omega arith)
+  pub read-targets-only : (x m : ℕ) → hasPath (sheetTable s) x ≡ true → Leads s (sheetTable s) (labels s) x m → m ≡ target (sheetTable s) x
+  unfolding sheetTable
+  read-targets-only = tied-leads-only s rows n is-lined (tree-fine .0) (tree-fine .1)
 
-  pub read-accepted : Accepted (sheetTable s m) (labels s)
-  read-accepted = sheet-accepted s m (head-part .0) long-enough (sheet-part .1)
+  -- "owner (a definition's Group, an expression's definition)"; an expression is owned by one definition
+  pub read-owners : (x : ℕ) → isExpression (sheetTable s) x ≡ true → Owned (sheetTable s) (owner (sheetTable s) x) x
+  unfolding sheetTable
+  read-owners = tied-owned s rows n is-lined (tree-fine .0) (tree-fine .1)
 
-  pub read-names : (l : ℕ) → nameStart (sheetTable s m) l + nameLength (sheetTable s m) l ≤ length s
-  read-names = sheet-names s m (head-part .0) long-enough (sheet-part .1)
+  pub read-owners-only : (d x : ℕ) → Owned (sheetTable s) d x → d ≡ owner (sheetTable s) x
+  unfolding sheetTable
+  read-owners-only = tied-owned-only s rows n is-lined (tree-fine .0) (tree-fine .1)
 
-  pub read-short : (v : ℕ) → kind (sheetTable s m) v ≡ 2 → nameLength (sheetTable s m) v ≤ 16
-  read-short = sheet-short s m (head-part .0) long-enough (sheet-part .1)
+  pub read-groups : (d : ℕ) → isDefinition (sheetTable s) d ≡ true → owner (sheetTable s) d ≡ fieldA (sheetTable s) d
+  unfolding sheetTable
+  read-groups = tied-group s rows n is-lined (tree-fine .0) (tree-fine .1)

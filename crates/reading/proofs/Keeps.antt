@@ -17,7 +17,7 @@ use Rattle.text.proofs.Bytes.{and-left, and-right}
 use Rattle.lines.specs.Kinds.{kindAt}
 use Rattle.lines.specs.Fields.{kindCode}
 use Rattle.lines.specs.Lines.{isText, line, labels, firstLine, headBad, rootLine, field, formsRight, lineBad, lineCheck, linesBad}
-use Rattle.lines.specs.Lined.{Lined, linedTable}
+use Rattle.lines.specs.Lined.{Lined}
 use Rattle.lines.proofs.Heads.{headed}
 use Rattle.lines.proofs.Lined.{lined, fine-fields, fine-forms, known, root-is}
 use Rattle.tree.specs.Tree.{isDefinition, isExpression, parts, every, groupRight, partRight, structureBad, times, usesBad, Level, ownerOf, levelOf, argumentBad, levelBad, treeBad}
@@ -29,11 +29,11 @@ use Rattle.tree.proofs.Treed.{treed}
 use Rattle.paths.specs.Leads.{PathsKept}
 use Rattle.paths.specs.Paths.{pathsBad}
 use Rattle.paths.proofs.Leads.{paths-kept, kept-paths}
-use Rattle.reading.specs.Read.{ownedTable, tableShort, tiedBad, sheetBad, bodyBad, readBad}
-use Rattle.reading.specs.Keeps.{TextKept, LineKept, TreeKept, sheetRows, Keeps}
+use Rattle.reading.specs.Read.{ownedTable, tiedBad, sheetRows, sheetBad, Reads}
+use Rattle.reading.specs.Keeps.{TextKept, LineKept, TreeKept, Keeps}
 use Rattle.reading.proofs.Tied.{formed, accepted}
 use Rattle.refusals.proofs.OrElse.{both-fine}
-use Rattle.reading.proofs.Padding.{rows-lined, tied-padded, table-long}
+use Rattle.reading.proofs.Padding.{rows-lined}
 
 -- ---- the text
 
@@ -174,20 +174,19 @@ module _ (s : List ℕ) where
   unfolding linesBad
   lines-kept e l h g = line-kept s (labels s) l (first-none (lineCheck s (labels s)) (labels s) 1 e l h (omega arith))
 
-  -- with a table long enough, Read refuses no sheet that keeps the rules
-  pub keeps-read : (m : ℕ) → 8 * labels s ≤ m → Keeps s → readBad s m ≡ Fine
-  unfolding readBad sheetBad
-  keeps-read m room k =
+  -- a sheet that keeps the rules reads
+  pub keeps-read : Keeps s → Reads s
+  unfolding sheetBad
+  keeps-read k =
       let h = kept-text s (k .text) in
       let e = kept-lines k in
-      rw (h, table-long s m room, e, tied-padded s m room) (kept-tied s (sheetRows s) (labels s) (rows-are h e) (k .tree) (k .paths))
+      rw (h, e) (kept-tied s (sheetRows s) (labels s) (rows-are h e) (k .tree) (k .paths))
 
-  -- and a sheet that it does not refuse keeps them
-  pub read-keeps : (m : ℕ) → 8 * labels s ≤ m → readBad s m ≡ Fine → Keeps s
-  unfolding readBad sheetBad
-  read-keeps m room e =
-      let a = both-fine (headBad s) (bodyBad s m) e in
-      let b = both-fine (tableShort s m) (sheetBad s m) (a .1) in
-      let c = both-fine (linesBad s (labels s)) (tiedBad s (linedTable s m) (labels s)) (b .1) in
-      let d = tied-kept s (sheetRows s) (labels s) (rows-are (a .0) (c .0)) (sym (tied-padded s m room) ∙ c .1) in
-      record { text = text-kept s (a .0); lines = lines-kept (c .0); tree = d .0; paths = d .1 }
+  -- and one that reads keeps them
+  pub read-keeps : Reads s → Keeps s
+  unfolding sheetBad
+  read-keeps e =
+      let a = both-fine (headBad s) (sheetBad s) e in
+      let b = both-fine (linesBad s (labels s)) (tiedBad s (sheetRows s) (labels s)) (a .1) in
+      let c = tied-kept s (sheetRows s) (labels s) (rows-are (a .0) (b .0)) (b .1) in
+      record { text = text-kept s (a .0); lines = lines-kept (b .0); tree = c .0; paths = c .1 }

@@ -1,6 +1,6 @@
 pub mod Tied
+pub mod Padding
 pub mod Accepted
 pub mod Stage
 pub mod Named
-pub mod Padding
 pub mod Keeps

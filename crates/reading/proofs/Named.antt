@@ -1,7 +1,7 @@
 -- Name's part, by what Read answered.
-use mathlib.Core.Path.{_≡_, refl, ap, sym, _∙_}
+use mathlib.Core.Path.{_≡_, ap, sym, _∙_}
 use mathlib.Core.List.{List, [], _∷_}
-use Prim.Native.Nat.{ℕ, zero, suc, _+_, _-_, _≤_, _<_}
+use Prim.Native.Nat.{ℕ, zero, suc, _+_, _-_, _*_, _≤_, _<_}
 use native.Mathlib.Nat.{suc-add}
 use native.Mathlib.Omega.{arith}
 use lib.IntN.{ℤ}
@@ -16,7 +16,8 @@ use Rattle.refusals.specs.declared.Reply.the-variants as reply
 use Rattle.lines.specs.Lines.{labels}
 use Rattle.reading.specs.Read.{sheetTable, readBad, readReply, readTable, tableOf}
 use Rattle.reading.specs.Name.{labelIn, nameBegin, nameSize, namePart}
-use Rattle.reading.proofs.Accepted.{read-names}
+use Rattle.reading.proofs.Padding.{cell-padded}
+use Rattle.reading.proofs.Accepted.{read-fine, read-names}
 use Rattle.reading.proofs.Stage.{answered, refused}
 
 -- a part by its length is the part between its ends
@@ -40,11 +41,11 @@ module _ (s : List ℕ) (m : ℕ) (z : ℤ) where
   unfolding readReply readTable nameBegin nameSize
   part-answered n l x y w e t q a b =
       let f = answered (readBad s m) (labels s) n (sym e) in
-      let table : w ≡ sheetTable s m = t ∙ ap (λ (v : Verdict). tableOf v s m) (f .0) in
+      let table : w ≡ tableOf Fine s m = t ∙ ap (λ (v : Verdict). tableOf v s m) (f .0) in
       let label : l ≡ labelIn (labels s) z = q ∙ ap (λ (k : ℕ). labelIn k z) (f .1) in
-      let first : x ≡ cell (sheetTable s m) (labelIn (labels s) z) 1 = a ∙ rw (table, label) in
-      let second : y ≡ cell (sheetTable s m) (labelIn (labels s) z) 2 = b ∙ rw (table, label) in
-      (first ∙ rw (f .0), second ∙ rw (f .0), omega (arith, first, second, read-names s m (f .0) (labelIn (labels s) z)))
+      let first : x ≡ cell (sheetTable s) (labelIn (labels s) z) 1 = a ∙ rw (table, label) (cell-padded (sheetTable s) (m - 8 * labels s) (labelIn (labels s) z) 1) in
+      let second : y ≡ cell (sheetTable s) (labelIn (labels s) z) 2 = b ∙ rw (table, label) (cell-padded (sheetTable s) (m - 8 * labels s) (labelIn (labels s) z) 2) in
+      (first ∙ rw (f .0), second ∙ rw (f .0), omega (arith, first, second, read-names s (read-fine s m (f .0)) (labelIn (labels s) z)))
 
   pub part-refused : (r p : ℕ) → reply.Refused r p ≡ readReply s m → Parted 0 0
   unfolding readReply nameBegin nameSize

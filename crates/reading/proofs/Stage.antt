@@ -17,7 +17,8 @@ use Rattle.lines.specs.Lines.{labels, headBad, linesBad, rows, linesWritten}
 use Rattle.lines.proofs.Pass.{rows-length, written-length}
 use Rattle.lines.specs.Lined.{linedTable, Lined}
 use Rattle.reading.specs.Read.{tableShort, tiedBad, tiedTable, sheetBad, sheetTable, bodyBad, readBad, readReply, readTable, tableOf}
-use Rattle.lines.proofs.Lined.{lined, lined-length}
+use Rattle.lines.proofs.Lined.{lined}
+use Rattle.reading.proofs.Padding.{sheet-bad, sheet-table}
 
 -- ---- what a reply says of the verdict behind it
 
@@ -50,13 +51,13 @@ module _ (s : List ℕ) (n : ℕ) (t u : List ℤ) (v : Verdict) (is : n ≡ lab
   lined-left x h f w e = rw (e ∙ table-lined f w, is) (lined s (length t) h (lines-are ∙ f) (omega arith))
 
   pub sheet-tied : (x y : List ℤ) (r : Verdict) → v ≡ Fine → u ≡ linesWritten s n (passed v n) t → x ≡ clearFrom (8 * n) u
-      → r ≡ tiedBad s x n → (r ≡ Fine → y ≡ tiedTable s x n) → (r ≡ sheetBad s (length t)) × (r ≡ Fine → y ≡ sheetTable s (length t))
+      → r ≡ tiedBad s x n → (r ≡ Fine → y ≡ tiedTable s x n) → (r ≡ sheetBad s) × (r ≡ Fine → y ≡ tableOf Fine s (length t))
   unfolding sheetBad sheetTable
   sheet-tied x y r f w e b g =
-      let q = sym (e ∙ table-lined f w) in
-      (rw (lines-are ∙ f, q, ← is) b, λ z. rw (q, ← is) (g z))
+      let q = e ∙ table-lined f w in
+      (rw (lines-are ∙ f) (b ∙ rw (q, is) (sheet-bad s (length t))), λ z. g z ∙ rw (q, is) (sheet-table s (length t)))
 
-  pub sheet-refused : (r p : ℕ) (y : List ℤ) → v ≡ Refused r p → (Refused r p ≡ sheetBad s (length t)) × (Refused r p ≡ Fine → y ≡ sheetTable s (length t))
+  pub sheet-refused : (r p : ℕ) (y : List ℤ) → v ≡ Refused r p → (Refused r p ≡ sheetBad s) × (Refused r p ≡ Fine → y ≡ tableOf Fine s (length t))
   unfolding sheetBad
   sheet-refused r p y f = (rw (lines-are ∙ f), λ q. let z : _≡_ {A = ℕ} 0 1 = cc in absurd (omega arith))
 
@@ -67,7 +68,7 @@ module _ (s : List ℕ) (m : ℕ) where
   unfolding tableShort
   body-short h = rw (lt-leb (8 * labels s) m h)
 
-  pub body-long : 8 * labels s ≤ m → bodyBad s m ≡ sheetBad s m
+  pub body-long : 8 * labels s ≤ m → bodyBad s m ≡ sheetBad s
   unfolding tableShort
   body-long h = rw (le-leb (8 * labels s) m h)
 

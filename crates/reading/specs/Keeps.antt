@@ -10,10 +10,10 @@ use Rattle.text.specs.Bytes.{all, isAllowed, endsLines}
 use Rattle.text.specs.Pieces.{cut, fieldsAre}
 use Rattle.lines.specs.Kinds.{kindAt}
 use Rattle.lines.specs.Fields.{kindCode}
-use Rattle.lines.specs.Lines.{line, labels, firstLine, rootLine, field, formsRight, rows}
+use Rattle.lines.specs.Lines.{line, labels, firstLine, rootLine, field, formsRight}
 use Rattle.tree.specs.Tree.{isDefinition, isExpression, uses, IsPart, Owned, Level}
 use Rattle.paths.specs.Leads.{PathsKept}
-use Rattle.reading.specs.Read.{ownedTable}
+use Rattle.reading.specs.Read.{ownedTable, sheetRows}
 
 -- "The sheet"
 pub record TextKept (s : List ℕ) : Type 0 where
@@ -51,10 +51,6 @@ pub record TreeKept (t : List ℤ) (n : ℕ) : Type 0 where
   pub argument : (d x : ℕ) → Owned t d x → kind t x ≡ 5 → kind t d ≡ 2 → ⊥
   -- "A body has level 1, its operands level 2, and so on": up to 32
   pub level : (x k : ℕ) → Level t x k → k ≤ 32
-
--- what the fields of all lines hold, label by label: kind code, name field, a, b, c
-unfoldable pub sheetRows : List ℕ → List ℤ
-sheetRows s = rows s (labels s) (labels s)
 
 pub record Keeps (s : List ℕ) : Type 0 where
   pub text : TextKept s

@@ -17,16 +17,16 @@ abbrev pub labelIn : ℕ → ℤ → ℕ
 labelIn n z = cond (leb (natOf z) n) (natOf z) 0
 
 -- cell j of that label in Read's table; 0 where Read refuses
-abbrev pub cellAsked : Verdict → List ℕ → ℕ → ℤ → ℕ → ℕ
-cellAsked Fine s m z j = cell (sheetTable s m) (labelIn (labels s) z) j
-cellAsked (Refused r p) s m z j = 0
+abbrev pub cellAsked : Verdict → List ℕ → ℤ → ℕ → ℕ
+cellAsked Fine s z j = cell (sheetTable s) (labelIn (labels s) z) j
+cellAsked (Refused r p) s z j = 0
 
 -- where the name field begins in the text, and its length; both are 0 for `-`, as in the table
 unfoldable pub nameBegin : List ℕ → ℕ → ℤ → ℕ
-nameBegin s m z = cellAsked (readBad s m) s m z 1
+nameBegin s m z = cellAsked (readBad s m) s z 1
 
 unfoldable pub nameSize : List ℕ → ℕ → ℤ → ℕ
-nameSize s m z = cellAsked (readBad s m) s m z 2
+nameSize s m z = cellAsked (readBad s m) s z 2
 
 -- "that very part of the text": empty if Read would refuse, the label is outside 1 to n, or the field is `-`
 unfoldable pub namePart : List ℕ → ℕ → ℤ → List ℕ

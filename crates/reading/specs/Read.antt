@@ -1,7 +1,8 @@
 -- Document 01's Read: the text s, and a table lent with m cells.
+use mathlib.Core.Path.{_≡_}
 use mathlib.Core.Bool.{cond}
-use mathlib.Core.List.{List}
-use Prim.Native.Nat.{ℕ, _*_}
+use mathlib.Core.List.{List, _++_}
+use Prim.Native.Nat.{ℕ, _-_, _*_}
 use lib.Dec.{leb}
 use lib.IntN.{ℤ}
 use Rattle.cells.specs.Cells.{zeros}
@@ -11,10 +12,9 @@ use Rattle.refusals.specs.Refusal.{orElse, replyOf}
 use Rattle.refusals.specs.declared.Verdict.{Verdict}
 use Rattle.refusals.specs.declared.Verdict.the-variants.{Fine, Refused}
 use Rattle.refusals.specs.declared.Reply.{Reply}
-use Rattle.lines.specs.Lines.{labels, headBad, linesBad}
+use Rattle.lines.specs.Lines.{labels, headBad, linesBad, rows}
 use Rattle.tree.specs.Tree.{ownerOf, treeBad}
 use Rattle.paths.specs.Paths.{targetCell, pathsBad}
-use Rattle.lines.specs.Lined.{linedTable}
 
 -- row 4, place 1: table below 8n cells
 unfoldable pub tableShort : List ℕ → ℕ → Verdict
@@ -31,26 +31,34 @@ tiedTable s t n = withColumn 7 (targetCell s (ownedTable t n) n) n (ownedTable t
 unfoldable pub tiedBad : List ℕ → List ℤ → ℕ → Verdict
 tiedBad s t n = orElse (treeBad t n) (pathsBad s (ownedTable t n) n)
 
--- rows 5 to 15, and the table of a sheet that they let pass
-unfoldable pub sheetBad : List ℕ → ℕ → Verdict
-sheetBad s m = orElse (linesBad s (labels s)) (tiedBad s (linedTable s m) (labels s))
+-- what the fields of all lines hold, label by label: kind code, name field, a, b, c
+unfoldable pub sheetRows : List ℕ → List ℤ
+sheetRows s = rows s (labels s) (labels s)
 
-unfoldable pub sheetTable : List ℕ → ℕ → List ℤ
-sheetTable s m = tiedTable s (linedTable s m) (labels s)
+-- rows 5 to 15, and the table of a sheet that they let pass: eight cells a label
+unfoldable pub sheetBad : List ℕ → Verdict
+sheetBad s = orElse (linesBad s (labels s)) (tiedBad s (sheetRows s) (labels s))
+
+unfoldable pub sheetTable : List ℕ → List ℤ
+sheetTable s = tiedTable s (sheetRows s) (labels s)
+
+-- "A sheet reads when rows 1 to 15, row 4 aside, find nothing in it"
+abbrev pub Reads : List ℕ → Type 0
+Reads s = orElse (headBad s) (sheetBad s) ≡ Fine
 
 -- rows 1 to 15, in the order of the paper's table
 abbrev pub bodyBad : List ℕ → ℕ → Verdict
-bodyBad s m = orElse (tableShort s m) (sheetBad s m)
+bodyBad s m = orElse (tableShort s m) (sheetBad s)
 
 unfoldable pub readBad : List ℕ → ℕ → Verdict
 readBad s m = orElse (headBad s) (bodyBad s m)
 
--- Read answers the number of labels, and leaves the sheet's table; where it refuses, zeros alone
+-- Read answers the number of labels, and leaves the sheet's table, whose unused cells are zero; where it refuses, zeros alone
 unfoldable pub readReply : List ℕ → ℕ → Reply
 readReply s m = replyOf (readBad s m) (labels s)
 
 abbrev pub tableOf : Verdict → List ℕ → ℕ → List ℤ
-tableOf Fine s m = sheetTable s m
+tableOf Fine s m = sheetTable s ++ zeros (m - 8 * labels s)
 tableOf (Refused r p) s m = zeros m
 
 unfoldable pub readTable : List ℕ → ℕ → List ℤ

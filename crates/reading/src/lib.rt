@@ -7,7 +7,7 @@ ghost use Rattle.cells.specs.Cells.{natOf};
 ghost use Rattle.refusals.specs.Refusal.{replyOf};
 ghost use Rattle.lines.specs.Lines.{labels, headBad};
 ghost use Rattle.lines.specs.Lined.{Lined};
-ghost use Rattle.reading.specs.Read.{tiedBad, tiedTable, sheetBad, sheetTable, bodyBad, tableOf, readReply, readTable};
+ghost use Rattle.reading.specs.Read.{tiedBad, tiedTable, sheetBad, bodyBad, tableOf, readReply, readTable};
 ghost use Rattle.reading.specs.Name.{labelIn, nameBegin, nameSize, namePart};
 use refusals::Reply;
 use refusals::Verdict;
@@ -27,8 +27,8 @@ fn tie(text: &[u8], table: &mut [i64], n: usize) -> Verdict
 // Rows 5 to 15 of a text that rows 1 to 4 let pass. Where they refuse, the table is for the caller to clear.
 pub fn read_sheet(text: &[u8], n: usize, table: &mut [i64]) -> Verdict
     requires { ⌜ (headBad (now text) ≡ Verdict.Fine) × (n ≡ labels (now text)) × (8 * n ≤ length (now table)) ⌝ }
-    ensures { λ r. ⌜ r ≡ sheetBad (now (text .entry)) (length (now (table .entry))) ⌝ }
-    ensures { λ r. ⌜ (r ≡ Verdict.Fine → now (table .exit) ≡ sheetTable (now (text .entry)) (length (now (table .entry)))) ⌝ }
+    ensures { λ r. ⌜ r ≡ sheetBad (now (text .entry)) ⌝ }
+    ensures { λ r. ⌜ (r ≡ Verdict.Fine → now (table .exit) ≡ tableOf Verdict.Fine (now (text .entry)) (length (now (table .entry)))) ⌝ }
 {
     match lines::read_lines(text, n, table) {
         Verdict::Fine => {
@@ -110,9 +110,11 @@ pub fn name_part(text: &[u8], table: &mut [i64], label: i64) -> Part
     }
 }
 
-// Name: that very part of the caller's text.
+// Name: that very part of the caller's text. Promised are its bytes, and its place: the text's own block, so many bytes from where the
+// text begins.
 pub fn name<'a>(text: &'a [u8], table: &mut [i64], label: i64) -> &'a [u8]
     ensures { λ r. ⌜ now r ≡ namePart (now (text .entry)) (length (now (table .entry))) label ⌝ }
+    ensures { λ r. ⌜ r .ptr ≡ (text .entry .ptr .0, nameBegin (now (text .entry)) (length (now (table .entry))) label + text .entry .ptr .1) ⌝ }
     ensures { λ _. ⌜ now (table .exit) ≡ readTable (now (text .entry)) (length (now (table .entry))) ⌝ }
 {
     let part = name_part(text, table, label);

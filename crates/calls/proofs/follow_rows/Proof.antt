@@ -1,5 +1,9 @@
 -- Rows 5 to 15, then rows 16 to 18.
+use mathlib.Core.Path.{sym}
+use Prim.Native.Nat.{_*_}
+use native.Mathlib.Omega.{arith}
 use lib.ListN.{length}
+use lib.Seq.{length-take-le}
 use borrow.Author.Needs.{needs}
 use Rattle.calls.proofs.Sheets.{sheet-ready}
 use Rattle.calls.proofs.Lists.{list-checked, list-unread}
@@ -12,11 +16,20 @@ read-sheet-requires c κs = search needs
 enum-told : tie.Need-enum-told
 enum-told c = search needs
 
+mul-check-order : tie.Need-mul-check-order
+mul-check-order c = search needs
+
+slice-reshare-prefix-check-order : tie.Need-slice-reshare-prefix-check-order
+slice-reshare-prefix-check-order c = search needs
+
+slice-aggregate-check-order : tie.Need-slice-aggregate-check-order
+slice-aggregate-check-order c = sym (length-take-le (8 * c .before .before .before .before .before .before .before .args .n) (c .before .before .before .before .read-sheet .last .1 .1 .0) (omega (arith, c .before .before .before .before .before .before .before .pre .2, c .before .before .before .before .read-sheet .kept .1 .1 .0)))
+
 check-order-requires : tie.Need-check-order-requires
 check-order-requires c κs =
     let p = c .before .before .before .before .before .before .before .pre in
     let k = c .before .before .before .before .read-sheet .ensures in
-    sheet-ready (c .before .before .before .before .before .before .before .args .text .now) (length (c .before .before .before .before .before .before .before .args .table .now)) _ (p .1) _ _ (k .0) (k .1) (p .0) (p .2) (c .before .enum-told .given .1)
+    sheet-ready (c .before .before .before .before .before .before .before .args .text .now) (length (c .before .before .before .before .before .before .before .args .table .now)) (p .0) _ (p .1) _ _ (k .0) (k .1) (c .before .enum-told .given .1)
 
 enum-known-row : tie.Need-enum-known-row
 enum-known-row c = search needs
@@ -28,7 +41,8 @@ returns : tie.Need-returns
 returns c =
     let a = c .before .before .before .before .before .before .before .before .args in
     let k = c .before .before .before .before .before .read-sheet .ensures in
-    list-checked (a .text .now) (a .order .now) (length (a .table .now)) _ (c .before .before .before .before .before .before .before .before .pre .1) _ _ (k .0) (k .1) _ (c .before .before .enum-told .given .1) (c .check-order .ensures)
+    let p = c .before .before .before .before .before .before .before .before .pre in
+    list-checked (a .text .now) (a .order .now) (length (a .table .now)) (p .0) _ (p .1) _ _ (k .0) (k .1) _ (c .before .before .enum-told .given .1) (c .check-order .ensures)
 
 same-length-2 : tie.Need-same-length-2
 same-length-2 c = search needs
@@ -37,7 +51,8 @@ returns-2 : tie.Need-returns-2
 returns-2 c =
     let a = c .before .before .before .before .before .before .before .args in
     let k = c .before .before .before .before .read-sheet .ensures in
-    list-unread (a .text .now) (a .order .now) (length (a .table .now)) _ (c .before .before .before .before .before .before .before .pre .1) _ _ (k .0) (k .1) _ _ _ (c .before .row .given .1)
+    let p = c .before .before .before .before .before .before .before .pre in
+    list-unread (a .text .now) (a .order .now) (length (a .table .now)) (p .0) _ (p .1) _ _ (k .0) (k .1) _ _ _ (c .before .row .given .1)
 
 pub follow-rows-spec : {M : Type 1} → statement M
 follow-rows-spec =
@@ -45,6 +60,9 @@ follow-rows-spec =
     (tie.spec
     read-sheet-requires
     enum-told
+    mul-check-order
+    slice-reshare-prefix-check-order
+    slice-aggregate-check-order
     check-order-requires
     enum-known-row
     same-length

@@ -1,7 +1,9 @@
 -- The plan, and the results down it.
 use mathlib.Core.Path.{_∙_, ap, sym}
+use Prim.Native.Nat.{_*_}
 use native.Mathlib.Omega.{arith}
 use lib.ListN.{length}
+use lib.Seq.{length-take-le}
 use borrow.Author.Needs.{needs}
 use Rattle.calls.specs.Plan.{lengthOf}
 use Rattle.calls.proofs.Calls.{run-down-ready, results-worked, results-cleared}
@@ -15,23 +17,41 @@ plan-sheet-requires c κs = search needs
 enum-known-count : tie.Need-enum-known-count
 enum-known-count c = search needs
 
+mul-run-down : tie.Need-mul-run-down
+mul-run-down c = search needs
+
+slice-reshare-prefix-run-down : tie.Need-slice-reshare-prefix-run-down
+slice-reshare-prefix-run-down c = search needs
+
+slice-aggregate-run-down : tie.Need-slice-aggregate-run-down
+slice-aggregate-run-down c = sym (length-take-le (8 * c .before .before .before .before .before .before .before .before .before .before .args .n) (c .before .before .before .before .before .before .plan-sheet .last .1 .1 .0) (omega (arith, c .before .before .before .before .before .before .before .before .before .before .pre .2, c .before .before .before .before .before .before .plan-sheet .kept .1 .1 .0)))
+
 run-down-requires : tie.Need-run-down-requires
 run-down-requires c κs =
     let a = c .before .before .before .before .before .before .before .before .before .before .before .before .args in
     let p = c .before .before .before .before .before .before .before .before .before .before .before .before .pre in
     let e = c .before .before .before .before .count .given .1 in
-    let w = run-down-ready (a .text .now) (length (a .table .now)) (length (a .plan .now)) _ _ _ _ (p .1) (p .0) (p .2) (c .before .before .before .before .before .before .before .before .plan-sheet .ensures) _ (ap answers e) (ap lengthOf e) (p .3) in
+    let w = run-down-ready (a .text .now) (length (a .table .now)) (length (a .plan .now)) _ _ _ _ (p .1) (p .0) (c .before .before .before .before .before .before .before .before .plan-sheet .ensures) _ (ap answers e) (ap lengthOf e) (p .3) in
     (w .0, omega (arith, w .1, c .before .before .before .before .before .before .before .before .plan-sheet .kept .1 .1 .1 .0), p .4, w .2)
 
 enum-known-count-2 : tie.Need-enum-known-count-2
 enum-known-count-2 c = search needs
+
+mul-run-down-2 : tie.Need-mul-run-down-2
+mul-run-down-2 c = search needs
+
+slice-reshare-prefix-run-down-2 : tie.Need-slice-reshare-prefix-run-down-2
+slice-reshare-prefix-run-down-2 c = search needs
+
+slice-aggregate-run-down-2 : tie.Need-slice-aggregate-run-down-2
+slice-aggregate-run-down-2 c = sym (length-take-le (8 * c .before .before .before .before .before .before .before .before .before .before .args .n) (c .before .before .before .before .before .before .plan-sheet .last .1 .1 .0) (omega (arith, c .before .before .before .before .before .before .before .before .before .before .pre .2, c .before .before .before .before .before .before .plan-sheet .kept .1 .1 .0)))
 
 run-down-requires-2 : tie.Need-run-down-requires-2
 run-down-requires-2 c κs =
     let a = c .before .before .before .before .before .before .before .before .before .before .before .before .args in
     let p = c .before .before .before .before .before .before .before .before .before .before .before .before .pre in
     let e = c .before .before .before .before .count2 .given .1 in
-    let w = run-down-ready (a .text .now) (length (a .table .now)) (length (a .plan .now)) _ _ _ _ (p .1) (p .0) (p .2) (c .before .before .before .before .before .before .before .before .plan-sheet .ensures) _ (ap answers e) (ap lengthOf e) (p .3) in
+    let w = run-down-ready (a .text .now) (length (a .table .now)) (length (a .plan .now)) _ _ _ _ (p .1) (p .0) (c .before .before .before .before .before .before .before .before .plan-sheet .ensures) _ (ap answers e) (ap lengthOf e) (p .3) in
     (w .0, omega (arith, w .1, c .before .before .before .before .before .before .before .before .plan-sheet .kept .1 .1 .1 .0), p .4, w .2)
 
 enum-known-row : tie.Need-enum-known-row
@@ -55,7 +75,7 @@ returns c =
     let p = c .before .before .before .before .before .before .before .before .before .before .before .before .before .before .pre in
     let e = c .before .before .before .before .before .before .count .given .1 in
     let k = c .before .before .before .before .before .before .before .before .before .before .plan-sheet .ensures in
-    (sym e ∙ k .0, (k .1 .0, (k .1 .1, results-worked (a .text .now) (length (a .table .now)) (length (a .plan .now)) _ _ _ _ (p .1) (p .0) (p .2) k _ (ap answers e) (ap lengthOf e) _ _ (c .before .run-down .ensures))))
+    (sym e ∙ k .0, (k .1 .0, (k .1 .1, results-worked (a .text .now) (length (a .table .now)) (length (a .plan .now)) _ _ _ _ (p .1) (p .0) k _ (ap answers e) (ap lengthOf e) _ _ (c .before .run-down .ensures))))
 
 same-length-4 : tie.Need-same-length-4
 same-length-4 c = search needs
@@ -72,7 +92,7 @@ returns-2 c =
     let p = c .before .before .before .before .before .before .before .before .before .before .before .before .before .before .pre in
     let e = c .before .before .before .before .before .before .count2 .given .1 in
     let k = c .before .before .before .before .before .before .before .before .before .before .plan-sheet .ensures in
-    (sym e ∙ k .0, (k .1 .0, (k .1 .1, results-worked (a .text .now) (length (a .table .now)) (length (a .plan .now)) _ _ _ _ (p .1) (p .0) (p .2) k _ (ap answers e) (ap lengthOf e) _ _ (c .before .run-down2 .ensures))))
+    (sym e ∙ k .0, (k .1 .0, (k .1 .1, results-worked (a .text .now) (length (a .table .now)) (length (a .plan .now)) _ _ _ _ (p .1) (p .0) k _ (ap answers e) (ap lengthOf e) _ _ (c .before .run-down2 .ensures))))
 
 same-length-7 : tie.Need-same-length-7
 same-length-7 c = search needs
@@ -89,7 +109,7 @@ returns-3 c =
     let p = c .before .before .before .before .before .before .before .before .before .before .before .before .pre in
     let e = c .before .before .before .before .row .given .1 in
     let k = c .before .before .before .before .before .before .before .before .plan-sheet .ensures in
-    (sym e ∙ k .0, (k .1 .0, (k .1 .1, results-cleared (a .text .now) (length (a .table .now)) (length (a .plan .now)) _ _ _ _ (p .1) (p .0) (p .2) k _ _ _ _ e (c .before .clear .ensures))))
+    (sym e ∙ k .0, (k .1 .0, (k .1 .1, results-cleared (a .text .now) (length (a .table .now)) (length (a .plan .now)) _ _ _ _ (p .1) (p .0) k _ _ _ _ e (c .before .clear .ensures))))
 
 pub run-sheet-spec : {M : Type 1} → statement M
 run-sheet-spec =
@@ -97,8 +117,14 @@ run-sheet-spec =
     (tie.spec
     plan-sheet-requires
     enum-known-count
+    mul-run-down
+    slice-reshare-prefix-run-down
+    slice-aggregate-run-down
     run-down-requires
     enum-known-count-2
+    mul-run-down-2
+    slice-reshare-prefix-run-down-2
+    slice-aggregate-run-down-2
     run-down-requires-2
     enum-known-row
     clear-requires

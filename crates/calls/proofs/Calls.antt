@@ -108,8 +108,8 @@ module _ (s : List ℕ) (m p n : ℕ) (r : PlanReply) (t q : List ℤ) (is : n �
         let kept : PlanKept (sheetTable s) r q = rw (c .0, c .1) (plan-kept (sheetTable s) (labels s) ok p) in
         (rw (rows-sheets, is) ok, omega arith, rw (rows-sheets, ← l) (kept .proper (answers-number r a)))
 
-    pub results-worked : (j : ℕ) (u : List ℤ) → u ≡ resultCells (take (8 * n) t) n j → u ≡ resultsBy (sheetPlanned s) s j
-    results-worked j u e = rw fine (e ∙ rw (rows-sheets, is))
+    pub results-evaluated : (j : ℕ) (u : List ℤ) → u ≡ resultCells (take (8 * n) t) n j → u ≡ resultsBy (sheetPlanned s) s j
+    results-evaluated j u e = rw fine (e ∙ rw (rows-sheets, is))
 
   pub results-cleared : (i l j : ℕ) (u : List ℤ) → r ≡ reply.Refused i l → u ≡ zeros j → u ≡ resultsBy (sheetPlanned s) s j
   unfolding planOf

@@ -22,7 +22,7 @@ use Rattle.reading.specs.Read.{tableShort, sheetTable, Reads}
 use Rattle.reading.specs.Keeps.{Keeps}
 use Rattle.reading.proofs.Accepted.{read-accepted}
 use Rattle.reading.proofs.Keeps.{keeps-read}
-use Rattle.figures.specs.Figures.{figures, resultCells, WorkedOut}
+use Rattle.figures.specs.Figures.{figures, resultCells, Evaluated}
 use Rattle.figures.proofs.Rows.{row-of}
 use Rattle.figures.proofs.Working.{value-label, figures-solve, figures-only}
 use Rattle.calls.specs.Buffers.{planShort, resultsShort, planBuffers, runBuffers, followBuffers}
@@ -90,10 +90,10 @@ module _ (s : List ℕ) (m p q m′ q′ : ℕ) (e : Reads s) (f : runBuffers s 
         rw (follow-results, run-results)
         (row-of (figures t n) n (zeros (q′ - 3 * n)) v (b .0) (b .1) ∙ sym (row-of (figures t n) n (zeros (q - 3 * n)) v (b .0) (b .1)))
 
-    worked : WorkedOut t (followResults s o m′ q′)
-    worked = rw follow-results (figures-solve t n ok q′ fit no-cycle)
+    evaluated : Evaluated t (followResults s o m′ q′)
+    evaluated = rw follow-results (figures-solve t n ok q′ fit no-cycle)
 
-    only : (r : List ℤ) → length r ≡ q′ → WorkedOut t r → r ≡ followResults s o m′ q′
+    only : (r : List ℤ) → length r ≡ q′ → Evaluated t r → r ≡ followResults s o m′ q′
     only r h w =
         let room : 3 * n ≤ length r = omega (arith, fit) in
         figures-only t n ok no-cycle r room w ∙ ap (resultCells t n) h ∙ sym follow-results
@@ -104,7 +104,7 @@ module _ (s : List ℕ) (m p q m′ q′ : ℕ) (e : Reads s) (f : runBuffers s 
     plan = kept s (planBuffers s m p) e long p;
     accepts = λ o. follow-accepts s o m′ q′ e g;
     same = same;
-    worked = worked;
+    evaluated = evaluated;
     only = only;
   }
 

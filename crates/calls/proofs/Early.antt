@@ -24,7 +24,7 @@ use Rattle.calls.specs.Buffers.{resultsShort, runBuffers, followBuffers}
 use Rattle.calls.specs.Plan.{plannedBad, planOf, answerBy, wholeOrMixed}
 use Rattle.calls.specs.Run.{resultsBy, runBad, runReply, runResults}
 use Rattle.calls.specs.Follow.{followBad, followReply, followResults}
-use Rattle.calls.specs.Demand.{WorkedDown}
+use Rattle.calls.specs.Demand.{EvaluatedDown}
 use Rattle.calls.proofs.Rooms.{results-room, run-rooms}
 use Rattle.calls.proofs.Sheets.{planned-reads}
 use Rattle.calls.proofs.Followed.{planned-proper, order-proper}
@@ -34,19 +34,19 @@ ordered-fine : (v : Verdict) (a : Answer) → 1 ≤ wholeOrMixed (answerBy v a) 
 ordered-fine Fine a h = refl
 ordered-fine (Refused r l) a h = absurd (omega arith)
 
-worked-down : (t : List ℤ) (n : ℕ) → Accepted t n → (o : List ℕ) → Proper t o → (q : ℕ) → 3 * n ≤ q → (u : List ℤ) → u ≡ resultCells t n q → WorkedDown t o q u
-worked-down t n ok o p q fit u e = record { reached = e ∙ sym (down-figures t n ok q fit o p); never = never-early t n ok o p q fit }
+evaluated-down : (t : List ℤ) (n : ℕ) → Accepted t n → (o : List ℕ) → Proper t o → (q : ℕ) → 3 * n ≤ q → (u : List ℤ) → u ≡ resultCells t n q → EvaluatedDown t o q u
+evaluated-down t n ok o p q fit u e = record { reached = e ∙ sym (down-figures t n ok q fit o p); never = never-early t n ok o p q fit }
 
 module _ (s : List ℕ) (m : ℕ) where
-  pub run-never-early : (p q : ℕ) → 1 ≤ wholeOrMixed (runReply s m p q) → WorkedDown (sheetTable s) (orderOf (planOf s)) q (runResults s m p q)
+  pub run-never-early : (p q : ℕ) → 1 ≤ wholeOrMixed (runReply s m p q) → EvaluatedDown (sheetTable s) (orderOf (planOf s)) q (runResults s m p q)
   unfolding runReply runResults runBad planOf
   run-never-early p q h =
       let f = ordered-fine (plannedBad s (runBuffers s m p q)) (planOf s) h in
       let r = planned-reads s (runBuffers s m p q) f in
       let ok = read-accepted s (r .0) in
-      worked-down (sheetTable s) (labels s) ok (orderOf (planOf s)) (planned-proper (sheetTable s) (labels s) ok (r .2)) q (results-room s q (run-rooms s m p q (r .1) .2)) (resultsBy (plannedBad s (runBuffers s m p q)) s q) (rw f)
+      evaluated-down (sheetTable s) (labels s) ok (orderOf (planOf s)) (planned-proper (sheetTable s) (labels s) ok (r .2)) q (results-room s q (run-rooms s m p q (r .1) .2)) (resultsBy (plannedBad s (runBuffers s m p q)) s q) (rw f)
 
-  pub follow-never-early : (o : List ℤ) (q k : ℕ) → followReply s o m q ≡ head.Answered k → WorkedDown (sheetTable s) (labelsOf o) q (followResults s o m q)
+  pub follow-never-early : (o : List ℤ) (q k : ℕ) → followReply s o m q ≡ head.Answered k → EvaluatedDown (sheetTable s) (labelsOf o) q (followResults s o m q)
   unfolding followReply followResults followBad
   follow-never-early o q k h =
       let f = answered (followBad s o m q) _ k h .0 in
@@ -54,7 +54,7 @@ module _ (s : List ℕ) (m : ℕ) where
       let r = planned-reads s (followBuffers s m q) (g .0) in
       let ok = read-accepted s (r .0) in
       let b = both-fine (tableShort s m) (resultsShort s q) (r .1) in
-      worked-down (sheetTable s) (labels s) ok (labelsOf o) (proper-list (sheetTable s) o .0 (order-proper (sheetTable s) (labels s) ok o (g .1))) q (results-room s q (b .1)) (resultsBy (followBad s o m q) s q) (rw f)
+      evaluated-down (sheetTable s) (labels s) ok (labelsOf o) (proper-list (sheetTable s) o .0 (order-proper (sheetTable s) (labels s) ok o (g .1))) q (results-room s q (b .1)) (resultsBy (followBad s o m q) s q) (rw f)
     where
       rows : followBad s o m q ≡ Fine → (plannedBad s (followBuffers s m q) ≡ Fine) × (orderBad (sheetTable s) (labels s) o ≡ Fine)
       rows e = both-fine (plannedBad s (followBuffers s m q)) (orderBad (sheetTable s) (labels s) o) e

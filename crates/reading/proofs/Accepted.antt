@@ -30,15 +30,15 @@ use Rattle.tree.proofs.Parts.{Alike as TreeAlike, alike-expression, alike-defin
 use Rattle.tree.proofs.Owners.{owner-group}
 use Rattle.tree.proofs.Treed.{treed}
 use Rattle.lines.specs.Kinds.{kindAt}
-use Rattle.paths.specs.Paths.{targetOf, targetCell, wanted, duplicateBad, headBad as noHead, laterBad, targetBad, pathsBad}
+use Rattle.paths.specs.Paths.{targetOf, targetCell, wanted, duplicateBad, pathHeadBad, laterBad, targetBad, pathsBad}
 use Rattle.paths.specs.Leads.{NamesApart, Leads}
 use Rattle.paths.proofs.Leads.{paths-kept, target-leads, leads-unique}
 use Rattle.paths.proofs.Alike.{Alike, column-alike, paths-alike, target-alike}
 use Rattle.lines.specs.Lined.{Lined}
 use Rattle.lines.proofs.Pass.{rows-length}
-use Rattle.reading.specs.Read.{tableShort, ownedTable, tiedTable, tiedBad, sheetRows, sheetBad, sheetTable, Reads, readBad}
+use Rattle.reading.specs.Read.{tableShort, ownedTable, resolvedTable, resolvedBad, sheetRows, sheetBad, sheetTable, Reads, readBad}
 use Rattle.lines.proofs.Lined.{lined, names-short}
-use Rattle.reading.proofs.Tied.{formed, accepted}
+use Rattle.reading.proofs.Resolved.{formed, accepted}
 use Rattle.reading.proofs.Padding.{rows-lined}
 
 -- a cell that is some natural number is its own natural number
@@ -68,11 +68,11 @@ module _ (s : List ℕ) (t : List ℤ) (n : ℕ) (is : Lined s t n) (tree : tree
   u = ownedTable t n
 
   abbrev w : List ℤ
-  w = tiedTable s t n
+  w = resolvedTable s t n
 
-  tied-length : length w ≡ length t
-  unfolding tiedTable ownedTable
-  tied-length = column-length 7 (targetCell s u n) n u ∙ column-length 6 (ownerOf t n) n t
+  resolved-length : length w ≡ length t
+  unfolding resolvedTable ownedTable
+  resolved-length = column-length 7 (targetCell s u n) n u ∙ column-length 6 (ownerOf t n) n t
 
   owned-length : length u ≡ length t
   unfolding ownedTable
@@ -81,7 +81,7 @@ module _ (s : List ℕ) (t : List ℤ) (n : ℕ) (is : Lined s t n) (tree : tree
   -- ---- cells
 
   keeps : (i : ℕ) → ((k : ℕ) → k < n → i ≡ 8 * k + 7 → ⊥) → intAt w i ≡ intAt u i
-  unfolding tiedTable
+  unfolding resolvedTable
   keeps i h = column-keeps 7 (targetCell s u n) (omega arith) n u i h
 
   keeps-lines : (i : ℕ) → ((k : ℕ) → k < n → i ≡ 8 * k + 6 → ⊥) → intAt u i ≡ intAt t i
@@ -89,7 +89,7 @@ module _ (s : List ℕ) (t : List ℤ) (n : ℕ) (is : Lined s t n) (tree : tree
   keeps-lines i h = column-keeps 6 (ownerOf t n) (omega arith) n t i h
 
   same : (l j : ℕ) → j < 7 → cell w l j ≡ cell u l j
-  unfolding tiedTable
+  unfolding resolvedTable
   same l j h = column-other 7 (targetCell s u n) (omega arith) n u l j (omega arith) (λ e. omega arith)
 
   same-lines : (l j : ℕ) → j < 6 → cell w l j ≡ cell t l j
@@ -101,7 +101,7 @@ module _ (s : List ℕ) (t : List ℤ) (n : ℕ) (is : Lined s t n) (tree : tree
 
   -- by column: the target, the owner, or what the line wrote
   last-natural : (l j : ℕ) → l ≤ n → 1 ≤ l → j ≡ 7 → (x : ℕ) × (intAt w (8 * (l - 1) + j) ≡ pos x)
-  unfolding tiedTable
+  unfolding resolvedTable
   last-natural l j g h q = (targetCell s u n (suc (l - 1)), rw q (column-has 7 (targetCell s u n) (omega arith) n u (l - 1) (omega arith) (omega (arith, owned-length, is .room))))
 
   owner-natural : (l j : ℕ) → l ≤ n → 1 ≤ l → j ≡ 6 → (x : ℕ) × (intAt w (8 * (l - 1) + j) ≡ pos x)
@@ -150,13 +150,13 @@ module _ (s : List ℕ) (t : List ℤ) (n : ℕ) (is : Lined s t n) (tree : tree
   rules : Treed t n
   rules = treed t n (formed s t n is) tree
 
-  pub tied-owned : (x : ℕ) → isExpression w x ≡ true → Owned w (owner w x) x
-  tied-owned x e =
+  pub resolved-owned : (x : ℕ) → isExpression w x ≡ true → Owned w (owner w x) x
+  resolved-owned x e =
       let q = sym (alike-expression t w alike-lines x) ∙ e in
       rw (owner-own x (expression-kind t x q)) (owned-alike t w alike-lines (ownerOf t n x) x (rules .owned x q))
 
-  pub tied-owned-only : (d x : ℕ) → Owned w d x → d ≡ owner w x
-  tied-owned-only d x o =
+  pub resolved-owned-only : (d x : ℕ) → Owned w d x → d ≡ owner w x
+  resolved-owned-only d x o =
       let q = owned-alike w t (λ l j h. sym (same-lines l j h)) d x o in
       rules .owned-only d x q ∙ sym (owner-own x (expression-kind t x (go q)))
     where
@@ -164,8 +164,8 @@ module _ (s : List ℕ) (t : List ℤ) (n : ℕ) (is : Lined s t n) (tree : tree
       go (Owned.body _ _ f p) = rules .part d x p .expression
       go (Owned.operand _ y _ v f p) = rules .part y x p .expression
 
-  pub tied-group : (d : ℕ) → isDefinition w d ≡ true → owner w d ≡ fieldA w d
-  tied-group d e =
+  pub resolved-group : (d : ℕ) → isDefinition w d ≡ true → owner w d ≡ fieldA w d
+  resolved-group d e =
       let q = sym (alike-definition t w alike-lines d) ∙ e in
       owner-own d (definition-kind t d q) ∙ owner-group t n d (not-expression t d q) ∙ sym (same-lines d 3 (omega arith))
 
@@ -173,7 +173,7 @@ module _ (s : List ℕ) (t : List ℤ) (n : ℕ) (is : Lined s t n) (tree : tree
 
   found : (firstBad (targetBad s u n) 1 n ≡ Fine)
   unfolding pathsBad
-  found = both-fine (firstBad (laterBad s u n) 1 n) (firstBad (targetBad s u n) 1 n) (both-fine (firstBad (noHead s u n) 1 n) _ (both-fine (firstBad (duplicateBad s u) 1 n) _ paths .1) .1) .1
+  found = both-fine (firstBad (laterBad s u n) 1 n) (firstBad (targetBad s u n) 1 n) (both-fine (firstBad (pathHeadBad s u n) 1 n) _ (both-fine (firstBad (duplicateBad s u) 1 n) _ paths .1) .1) .1
 
   aimed : (l : ℕ) → 1 ≤ l → l ≤ n → hasPath u l ≡ true → kind u (targetOf s u n l) ≡ wanted (kind u l)
   unfolding targetBad
@@ -184,7 +184,7 @@ module _ (s : List ℕ) (t : List ℤ) (n : ℕ) (is : Lined s t n) (tree : tree
       go false q z = let y : _≡_ {A = ℕ} 15 0 = rw (e, q) at z in absurd (omega arith)
 
   target-own : (l : ℕ) → 1 ≤ l → l ≤ n → target w l ≡ targetCell s u n l
-  unfolding tiedTable
+  unfolding resolvedTable
   target-own l h g = column-own 7 (targetCell s u n) (omega arith) n u l h g (omega (arith, owned-length, is .room))
 
   target-at : (l : ℕ) → hasPath w l ≡ true → 1 ≤ kind w l → (target w l ≡ targetOf s u n l) × (kind w (target w l) ≡ wanted (kind w l))
@@ -207,17 +207,17 @@ module _ (s : List ℕ) (t : List ℤ) (n : ℕ) (is : Lined s t n) (tree : tree
 
   -- the target of an R or C is where its path leads, and no other label is
   alike : Alike u w
-  unfolding tiedTable
+  unfolding resolvedTable
   alike = column-alike (targetCell s u n) n u
 
   names-apart : NamesApart s w n
   names-apart = paths-kept s w n (paths-alike s u w alike n ∙ paths) .apart
 
-  pub tied-leads : (x : ℕ) → hasPath w x ≡ true → Leads s w n x (target w x)
-  tied-leads x e = target-leads s w n x (target w x) (target-alike s u w alike n x ∙ sym (target-of x e .0)) (target-of x e .1)
+  pub resolved-leads : (x : ℕ) → hasPath w x ≡ true → Leads s w n x (target w x)
+  resolved-leads x e = target-leads s w n x (target w x) (target-alike s u w alike n x ∙ sym (target-of x e .0)) (target-of x e .1)
 
-  pub tied-leads-only : (x m : ℕ) → hasPath w x ≡ true → Leads s w n x m → m ≡ target w x
-  tied-leads-only x m e p = leads-unique s w n names-apart x m (target w x) p (tied-leads x e)
+  pub resolved-leads-only : (x m : ℕ) → hasPath w x ≡ true → Leads s w n x m → m ≡ target w x
+  resolved-leads-only x m e p = leads-unique s w n names-apart x m (target w x) p (resolved-leads x e)
 
   no-target : (l : ℕ) → (kind w l ≡ 6 → ⊥) → (kind w l ≡ 7 → ⊥) → target w l ≡ 0
   no-target l a b = go l (leb l n) refl a b
@@ -230,16 +230,16 @@ module _ (s : List ℕ) (t : List ℤ) (n : ℕ) (is : Lined s t n) (tree : tree
       go (suc k) false q x y = ap natOf (unused (8 * k + 7) (omega (arith, leb-false (suc k) n q)))
 
   number-same : (l : ℕ) → numberOf w l ≡ numberOf t l
-  unfolding tiedTable ownedTable
+  unfolding resolvedTable ownedTable
   number-same l = column-number 7 (targetCell s u n) (omega arith) n u l (λ e. omega arith) ∙ column-number 6 (ownerOf t n) (omega arith) n t l (λ e. omega arith)
 
-  pub tied-accepted : Accepted w n
-  tied-accepted =
+  pub resolved-accepted : Accepted w n
+  resolved-accepted =
       let a = accepted s t n is tree in
       record {
         some = is .some;
         few = is .few;
-        room = omega (arith, tied-length, is .room);
+        room = omega (arith, resolved-length, is .room);
         unused = unused;
         natural = natural;
         kinds = λ l h g. rw (same-lines l 0 (omega arith)) (is .kinds l h g);
@@ -259,8 +259,8 @@ module _ (s : List ℕ) (t : List ℤ) (n : ℕ) (is : Lined s t n) (tree : tree
         number = λ l e. rw (number-same l) (is .number l (sym (same-lines l 0 (omega arith)) ∙ e));
       }
 
-  pub tied-names : (l : ℕ) → nameStart w l + nameLength w l ≤ length s
-  tied-names l = omega (arith, same-lines l 1 (omega arith), same-lines l 2 (omega arith), is .names l)
+  pub resolved-names : (l : ℕ) → nameStart w l + nameLength w l ≤ length s
+  resolved-names l = omega (arith, same-lines l 1 (omega arith), same-lines l 2 (omega arith), is .names l)
 
 -- ---- the table of a sheet that reads
 
@@ -284,12 +284,12 @@ module _ (s : List ℕ) (e : Reads s) where
   head-fine : (headBad s ≡ Fine) × (sheetBad s ≡ Fine)
   head-fine = both-fine (headBad s) (sheetBad s) e
 
-  lines-fine : (linesBad s n ≡ Fine) × (tiedBad s rows n ≡ Fine)
+  lines-fine : (linesBad s n ≡ Fine) × (resolvedBad s rows n ≡ Fine)
   unfolding sheetBad
-  lines-fine = both-fine (linesBad s n) (tiedBad s rows n) (head-fine .1)
+  lines-fine = both-fine (linesBad s n) (resolvedBad s rows n) (head-fine .1)
 
   tree-fine : (treeBad rows n ≡ Fine) × (pathsBad s (ownedTable rows n) n ≡ Fine)
-  unfolding tiedBad
+  unfolding resolvedBad
   tree-fine = both-fine (treeBad rows n) (pathsBad s (ownedTable rows n) n) (lines-fine .1)
 
   is-lined : Lined s rows n
@@ -297,11 +297,11 @@ module _ (s : List ℕ) (e : Reads s) where
 
   pub read-accepted : Accepted (sheetTable s) (labels s)
   unfolding sheetTable
-  read-accepted = tied-accepted s rows n is-lined (tree-fine .0) (tree-fine .1)
+  read-accepted = resolved-accepted s rows n is-lined (tree-fine .0) (tree-fine .1)
 
   pub read-names : (l : ℕ) → nameStart (sheetTable s) l + nameLength (sheetTable s) l ≤ length s
   unfolding sheetTable
-  read-names = tied-names s rows n is-lined (tree-fine .0) (tree-fine .1)
+  read-names = resolved-names s rows n is-lined (tree-fine .0) (tree-fine .1)
 
   -- a value's name has at most 16 bytes
   pub read-short : (v : ℕ) → kind (sheetTable s) v ≡ 2 → nameLength (sheetTable s) v ≤ 16
@@ -313,26 +313,26 @@ module _ (s : List ℕ) (e : Reads s) where
 
   pub read-length : length (sheetTable s) ≡ 8 * labels s
   unfolding sheetTable sheetRows
-  read-length = tied-length s rows n is-lined (tree-fine .0) (tree-fine .1) ∙ rows-length s n n
+  read-length = resolved-length s rows n is-lined (tree-fine .0) (tree-fine .1) ∙ rows-length s n n
 
   -- the target of an R or C is where its path leads by "Paths", and that is one definition
   pub read-targets : (x : ℕ) → hasPath (sheetTable s) x ≡ true → Leads s (sheetTable s) (labels s) x (target (sheetTable s) x)
   unfolding sheetTable
-  read-targets = tied-leads s rows n is-lined (tree-fine .0) (tree-fine .1)
+  read-targets = resolved-leads s rows n is-lined (tree-fine .0) (tree-fine .1)
 
   pub read-targets-only : (x m : ℕ) → hasPath (sheetTable s) x ≡ true → Leads s (sheetTable s) (labels s) x m → m ≡ target (sheetTable s) x
   unfolding sheetTable
-  read-targets-only = tied-leads-only s rows n is-lined (tree-fine .0) (tree-fine .1)
+  read-targets-only = resolved-leads-only s rows n is-lined (tree-fine .0) (tree-fine .1)
 
   -- "owner (a definition's Group, an expression's definition)"; an expression is owned by one definition
   pub read-owners : (x : ℕ) → isExpression (sheetTable s) x ≡ true → Owned (sheetTable s) (owner (sheetTable s) x) x
   unfolding sheetTable
-  read-owners = tied-owned s rows n is-lined (tree-fine .0) (tree-fine .1)
+  read-owners = resolved-owned s rows n is-lined (tree-fine .0) (tree-fine .1)
 
   pub read-owners-only : (d x : ℕ) → Owned (sheetTable s) d x → d ≡ owner (sheetTable s) x
   unfolding sheetTable
-  read-owners-only = tied-owned-only s rows n is-lined (tree-fine .0) (tree-fine .1)
+  read-owners-only = resolved-owned-only s rows n is-lined (tree-fine .0) (tree-fine .1)
 
   pub read-groups : (d : ℕ) → isDefinition (sheetTable s) d ≡ true → owner (sheetTable s) d ≡ fieldA (sheetTable s) d
   unfolding sheetTable
-  read-groups = tied-group s rows n is-lined (tree-fine .0) (tree-fine .1)
+  read-groups = resolved-group s rows n is-lined (tree-fine .0) (tree-fine .1)

@@ -29,9 +29,9 @@ use Rattle.tree.proofs.Treed.{treed}
 use Rattle.paths.specs.Leads.{PathsKept}
 use Rattle.paths.specs.Paths.{pathsBad}
 use Rattle.paths.proofs.Leads.{paths-kept, kept-paths}
-use Rattle.reading.specs.Read.{ownedTable, tiedBad, sheetRows, sheetBad, Reads}
+use Rattle.reading.specs.Read.{ownedTable, resolvedBad, sheetRows, sheetBad, Reads}
 use Rattle.reading.specs.Keeps.{TextKept, LineKept, TreeKept, Keeps}
-use Rattle.reading.proofs.Tied.{formed, accepted}
+use Rattle.reading.proofs.Resolved.{formed, accepted}
 use Rattle.refusals.proofs.OrElse.{both-fine}
 use Rattle.reading.proofs.Padding.{rows-lined}
 
@@ -148,15 +148,15 @@ module _ (t : List ℤ) (n : ℕ) (s : Formed t n) where
 -- ---- the tree, and names and paths
 
 module _ (s : List ℕ) (t : List ℤ) (n : ℕ) (is : Lined s t n) where
-  tied-kept : tiedBad s t n ≡ Fine → TreeKept t n × PathsKept s (ownedTable t n) n
-  unfolding tiedBad
-  tied-kept e =
+  resolved-kept : resolvedBad s t n ≡ Fine → TreeKept t n × PathsKept s (ownedTable t n) n
+  unfolding resolvedBad
+  resolved-kept e =
       let a = both-fine (treeBad t n) (pathsBad s (ownedTable t n) n) e in
       (tree-kept t n (formed s t n is) (a .0), paths-kept s (ownedTable t n) n (a .1))
 
-  kept-tied : TreeKept t n → PathsKept s (ownedTable t n) n → tiedBad s t n ≡ Fine
-  unfolding tiedBad
-  kept-tied k p =
+  kept-resolved : TreeKept t n → PathsKept s (ownedTable t n) n → resolvedBad s t n ≡ Fine
+  unfolding resolvedBad
+  kept-resolved k p =
       let e = kept-tree t n (formed s t n is) k in
       rw e (kept-paths s (ownedTable t n) n (accepted s t n is e .falls) p)
 
@@ -180,13 +180,13 @@ module _ (s : List ℕ) where
   keeps-read k =
       let h = kept-text s (k .text) in
       let e = kept-lines k in
-      rw (h, e) (kept-tied s (sheetRows s) (labels s) (rows-are h e) (k .tree) (k .paths))
+      rw (h, e) (kept-resolved s (sheetRows s) (labels s) (rows-are h e) (k .tree) (k .paths))
 
   -- and one that reads keeps them
   pub read-keeps : Reads s → Keeps s
   unfolding sheetBad
   read-keeps e =
       let a = both-fine (headBad s) (sheetBad s) e in
-      let b = both-fine (linesBad s (labels s)) (tiedBad s (sheetRows s) (labels s)) (a .1) in
-      let c = tied-kept s (sheetRows s) (labels s) (rows-are (a .0) (b .0)) (b .1) in
+      let b = both-fine (linesBad s (labels s)) (resolvedBad s (sheetRows s) (labels s)) (a .1) in
+      let c = resolved-kept s (sheetRows s) (labels s) (rows-are (a .0) (b .0)) (b .1) in
       record { text = text-kept s (a .0); lines = lines-kept (b .0); tree = c .0; paths = c .1 }

@@ -23,7 +23,7 @@ use Rattle.tree.proofs.Users.{alike-uses}
 use Rattle.tree.proofs.Owners.{alike-level, alike-owner}
 use Rattle.paths.specs.Paths.{targetCell}
 use Rattle.paths.proofs.Alike as paths
-use Rattle.reading.specs.Read.{tableShort, ownedTable, tiedTable, tiedBad, sheetRows, sheetBad, readBad}
+use Rattle.reading.specs.Read.{tableShort, ownedTable, resolvedTable, resolvedBad, sheetRows, sheetBad, readBad}
 
 every-same : (f g : ℕ → Bool) → ((x : ℕ) → f x ≡ g x) → (xs : List ℕ) → every f xs ≡ every g xs
 every-same f g h [] = refl
@@ -92,13 +92,13 @@ module _ (t : List ℤ) (k n : ℕ) (room : 8 * n ≤ length t) where
   }
 
   module _ (s : List ℕ) where
-    pub bad-padded : tiedBad s w n ≡ tiedBad s t n
-    unfolding tiedBad
+    pub bad-padded : resolvedBad s w n ≡ resolvedBad s t n
+    unfolding resolvedBad
     bad-padded = rw (tree-same, owned-padded, paths.paths-alike s (ownedTable t n) (ownedTable t n ++ zeros k) owned-alike n)
 
-    pub tied-padded : tiedTable s w n ≡ tiedTable s t n ++ zeros k
-    unfolding tiedTable
-    tied-padded =
+    pub resolved-padded : resolvedTable s w n ≡ resolvedTable s t n ++ zeros k
+    unfolding resolvedTable
+    resolved-padded =
         rw owned-padded
         (column-same 7 (targetCell s (ownedTable t n ++ zeros k) n) (targetCell s (ownedTable t n) n) n (ownedTable t n ++ zeros k) (λ l h g. paths.target-cell-alike s (ownedTable t n) (ownedTable t n ++ zeros k) owned-alike n l)
         ∙ column-padded 7 (omega arith) (targetCell s (ownedTable t n) n) n (ownedTable t n) (zeros k) owned-long)
@@ -115,13 +115,13 @@ module _ (s : List ℕ) where
   rows-long = omega (arith, rows-length s (labels s) (labels s))
 
   module _ (m : ℕ) where
-    pub sheet-bad : tiedBad s (linedTable s m) (labels s) ≡ tiedBad s (sheetRows s) (labels s)
+    pub sheet-bad : resolvedBad s (linedTable s m) (labels s) ≡ resolvedBad s (sheetRows s) (labels s)
     unfolding linedTable sheetRows
     sheet-bad = bad-padded (sheetRows s) (m - 8 * labels s) (labels s) rows-long s
 
-    pub sheet-table : tiedTable s (linedTable s m) (labels s) ≡ tiedTable s (sheetRows s) (labels s) ++ zeros (m - 8 * labels s)
+    pub sheet-table : resolvedTable s (linedTable s m) (labels s) ≡ resolvedTable s (sheetRows s) (labels s) ++ zeros (m - 8 * labels s)
     unfolding linedTable sheetRows
-    sheet-table = tied-padded (sheetRows s) (m - 8 * labels s) (labels s) rows-long s
+    sheet-table = resolved-padded (sheetRows s) (m - 8 * labels s) (labels s) rows-long s
 
   -- with a table long enough, row 4 finds nothing, and Read what the other rows find
   pub read-long : (m : ℕ) → 8 * labels s ≤ m → readBad s m ≡ orElse (headBad s) (sheetBad s)

@@ -24,12 +24,12 @@ tableShort s m = cond (leb (8 * labels s) m) Fine (Refused buffersRow 1)
 unfoldable pub ownedTable : List ℤ → ℕ → List ℤ
 ownedTable t n = withColumn 6 (ownerOf t n) n t
 
-unfoldable pub tiedTable : List ℕ → List ℤ → ℕ → List ℤ
-tiedTable s t n = withColumn 7 (targetCell s (ownedTable t n) n) n (ownedTable t n)
+unfoldable pub resolvedTable : List ℕ → List ℤ → ℕ → List ℤ
+resolvedTable s t n = withColumn 7 (targetCell s (ownedTable t n) n) n (ownedTable t n)
 
 -- rows 8 to 15, of a table t of n lines
-unfoldable pub tiedBad : List ℕ → List ℤ → ℕ → Verdict
-tiedBad s t n = orElse (treeBad t n) (pathsBad s (ownedTable t n) n)
+unfoldable pub resolvedBad : List ℕ → List ℤ → ℕ → Verdict
+resolvedBad s t n = orElse (treeBad t n) (pathsBad s (ownedTable t n) n)
 
 -- what the fields of all lines hold, label by label: kind code, name field, a, b, c
 unfoldable pub sheetRows : List ℕ → List ℤ
@@ -37,10 +37,10 @@ sheetRows s = rows s (labels s) (labels s)
 
 -- rows 5 to 15, and the table of a sheet that they let pass: eight cells a label
 unfoldable pub sheetBad : List ℕ → Verdict
-sheetBad s = orElse (linesBad s (labels s)) (tiedBad s (sheetRows s) (labels s))
+sheetBad s = orElse (linesBad s (labels s)) (resolvedBad s (sheetRows s) (labels s))
 
 unfoldable pub sheetTable : List ℕ → List ℤ
-sheetTable s = tiedTable s (sheetRows s) (labels s)
+sheetTable s = resolvedTable s (sheetRows s) (labels s)
 
 -- "A sheet reads when rows 1 to 15, row 4 aside, find nothing in it"
 abbrev pub Reads : List ℕ → Type 0

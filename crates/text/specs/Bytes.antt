@@ -55,8 +55,8 @@ abbrev pub endsLines : List ℕ → Type 0
 endsLines s = getD s (length s - 1) 0 ≡ 10
 
 -- a byte above 32: what neither ends a line nor parts two fields
-abbrev pub isInk : ℕ → Bool
-isInk x = ltb 32 x
+abbrev pub isGraphic : ℕ → Bool
+isGraphic x = ltb 32 x
 
 unfoldable pub isLetter : ℕ → Bool
 isLetter x = (leb 65 x && leb x 90) || (leb 97 x && leb x 122)

@@ -14,7 +14,7 @@ use Rattle.lines.specs.declared.Form.{Form}
 use Rattle.lines.specs.declared.Kind.{Kind}
 use Rattle.tree.specs.Tree.{isGroup, isOperand, isDefinition, isExpression, operandIn, parts, every, partRight, structureBad, one, times, notOnce, argumentIn, tooDeep}
 use Rattle.tree.specs.Treed.{Formed}
-use Rattle.tree.specs.Steps.{partIn, nodeAt, Readable, groupFits, partFits, counted, given, givenAll, handed}
+use Rattle.tree.specs.Steps.{partIn, nodeAt, Readable, groupFits, partFits, counted, assigned, assignedAll, propagated}
 use Rattle.tree.specs.declared.Node.{Node}
 use Rattle.tree.proofs.Codes.{definition-is, kind-high}
 use Rattle.tree.proofs.Parts.{times-parts, every-parts}
@@ -151,17 +151,17 @@ module _ (x : ℕ) (t : List ℤ) where
   counted-some d = rw (ne-eqb x 0 d)
 
   module _ (d v : ℕ) where
-    pub given-none : x ≡ 0 → given x d v t ≡ t
-    given-none e = rw e
+    pub assigned-none : x ≡ 0 → assigned x d v t ≡ t
+    assigned-none e = rw e
 
-    pub given-some : (x ≡ 0 → ⊥) → given x d v t ≡ set (set t (8 * (x - 1) + 6) (pos d)) (8 * (x - 1) + 7) (pos v)
-    given-some e = rw (ne-eqb x 0 e)
+    pub assigned-some : (x ≡ 0 → ⊥) → assigned x d v t ≡ set (set t (8 * (x - 1) + 6) (pos d)) (8 * (x - 1) + 7) (pos v)
+    assigned-some e = rw (ne-eqb x 0 e)
 
 module _ (l : ℕ) (t : List ℤ) where
-  pub handed-definition : nodeAt t l .definition ≡ true → handed l t ≡ givenAll (nodeAt t l) l 1 (given l (fieldA t l) 0 t)
-  unfolding handed
-  handed-definition e = rw e
+  pub propagated-definition : nodeAt t l .definition ≡ true → propagated l t ≡ assignedAll (nodeAt t l) l 1 (assigned l (fieldA t l) 0 t)
+  unfolding propagated
+  propagated-definition e = rw e
 
-  pub handed-expression : nodeAt t l .definition ≡ false → handed l t ≡ givenAll (nodeAt t l) (owner t l) (target t l + 1) t
-  unfolding handed
-  handed-expression e = rw e
+  pub propagated-expression : nodeAt t l .definition ≡ false → propagated l t ≡ assignedAll (nodeAt t l) (owner t l) (target t l + 1) t
+  unfolding propagated
+  propagated-expression e = rw e

@@ -106,8 +106,8 @@ module _ (s : List ℕ) (m p n : ℕ) (r : PlanReply) (t q : List ℤ) (is : n �
         let kept : PlanKept (sheetTable s m) r q = rw (c .0, c .1) (plan-kept (sheetTable s m) (labels s) ok p) in
         (rw (table-sheet, is) ok, omega arith, rw (table-sheet, ← l) (kept .proper (answers-number r a)))
 
-    pub results-worked : (j : ℕ) (u : List ℤ) → u ≡ resultCells t n j → u ≡ resultsBy (sheetPlanned s m) s m j
-    results-worked j u e = rw fine (e ∙ rw (table-sheet, is))
+    pub results-evaluated : (j : ℕ) (u : List ℤ) → u ≡ resultCells t n j → u ≡ resultsBy (sheetPlanned s m) s m j
+    results-evaluated j u e = rw fine (e ∙ rw (table-sheet, is))
 
   pub results-cleared : (i l j : ℕ) (u : List ℤ) → r ≡ reply.Refused i l → u ≡ zeros j → u ≡ resultsBy (sheetPlanned s m) s m j
   unfolding planOf

@@ -18,7 +18,7 @@ use Rattle.order.proofs.Mixed.{proper-no-cycle}
 use Rattle.reading.specs.Read.{tableShort, sheetBad, sheetTable, readBad}
 use Rattle.reading.specs.Keeps.{Keeps}
 use Rattle.reading.proofs.Keeps.{keeps-read}
-use Rattle.figures.specs.Figures.{resultCells, WorkedOut}
+use Rattle.figures.specs.Figures.{resultCells, Evaluated}
 use Rattle.figures.proofs.Working.{figures-solve, figures-only}
 use Rattle.calls.specs.Buffers.{planShort, resultsShort, planBuffers, runBuffers, followBuffers}
 use Rattle.calls.specs.Plan.{openBad, planBad, planReply, planTable, planCells}
@@ -78,10 +78,10 @@ module _ (s : List ℕ) (m p q : ℕ) (e : openBad s m (runBuffers s m p q) ≡ 
         let r = proper-rows t (labels s) ok o l in
         rw (open-planned s m (followBuffers s m q) open-follow, r .0, r .1)
 
-    worked : WorkedOut t (followResults s o m q)
-    worked = rw follow-results (figures-solve t (labels s) ok q fit no-cycle)
+    evaluated : Evaluated t (followResults s o m q)
+    evaluated = rw follow-results (figures-solve t (labels s) ok q fit no-cycle)
 
-    only : (r : List ℤ) → length r ≡ q → WorkedOut t r → r ≡ followResults s o m q
+    only : (r : List ℤ) → length r ≡ q → Evaluated t r → r ≡ followResults s o m q
     only r f w =
         let long : 3 * labels s ≤ length r = omega (arith, fit) in
         figures-only t (labels s) ok no-cycle r long w ∙ ap (resultCells t (labels s)) f ∙ sym follow-results
@@ -92,7 +92,7 @@ module _ (s : List ℕ) (m p q : ℕ) (e : openBad s m (runBuffers s m p q) ≡ 
     plan = kept s m (planBuffers s m p) p open-plan ok;
     accepts = λ o. follow-accepts s o m q open-follow;
     same = λ o l. follow-results o l ∙ sym (run-results o l);
-    worked = worked;
+    evaluated = evaluated;
     only = only;
   }
 

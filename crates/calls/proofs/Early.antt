@@ -24,7 +24,7 @@ use Rattle.calls.specs.Buffers.{planShort, resultsShort, runBuffers, fol
 use Rattle.calls.specs.Plan.{openBad, plannedBad, planOf, answerBy, wholeOrMixed}
 use Rattle.calls.specs.Run.{resultsBy, runBad, runReply, runResults}
 use Rattle.calls.specs.Follow.{followBad, followReply, followResults}
-use Rattle.calls.specs.Demand.{WorkedDown}
+use Rattle.calls.specs.Demand.{EvaluatedDown}
 use Rattle.calls.proofs.Rooms.{results-room, run-rooms}
 use Rattle.calls.proofs.Sheets.{open-accepted, open-buffers}
 use Rattle.calls.proofs.Followed.{planned-proper, order-proper}
@@ -34,8 +34,8 @@ ordered-fine : (v : Verdict) (a : Answer) → 1 ≤ wholeOrMixed (answerBy v a) 
 ordered-fine Fine a h = refl
 ordered-fine (Refused r l) a h = absurd (omega arith)
 
-worked-down : (t : List ℤ) (n : ℕ) → Accepted t n → (o : List ℕ) → Proper t o → (q : ℕ) → 3 * n ≤ q → (u : List ℤ) → u ≡ resultCells t n q → WorkedDown t o q u
-worked-down t n ok o p q fit u e = record { reached = e ∙ sym (down-figures t n ok q fit o p); never = never-early t n ok o p q fit }
+evaluated-down : (t : List ℤ) (n : ℕ) → Accepted t n → (o : List ℕ) → Proper t o → (q : ℕ) → 3 * n ≤ q → (u : List ℤ) → u ≡ resultCells t n q → EvaluatedDown t o q u
+evaluated-down t n ok o p q fit u e = record { reached = e ∙ sym (down-figures t n ok q fit o p); never = never-early t n ok o p q fit }
 
 module _ (s : List ℕ) (m : ℕ) where
   module _ (b : Verdict) (e : plannedBad s m b ≡ Fine) where
@@ -43,16 +43,16 @@ module _ (s : List ℕ) (m : ℕ) where
     unfolding plannedBad
     rows-fine = both-fine (openBad s m b) (cycleBad (sheetTable s m) (labels s)) e
 
-  pub run-never-early : (p q : ℕ) → 1 ≤ wholeOrMixed (runReply s m p q) → WorkedDown (sheetTable s m) (orderOf (planOf s m)) q (runResults s m p q)
+  pub run-never-early : (p q : ℕ) → 1 ≤ wholeOrMixed (runReply s m p q) → EvaluatedDown (sheetTable s m) (orderOf (planOf s m)) q (runResults s m p q)
   unfolding runReply runResults runBad planOf
   run-never-early p q h =
       let f = ordered-fine (plannedBad s m (runBuffers s m p q)) (planOf s m) h in
       let r = rows-fine (runBuffers s m p q) f in
       let ok = open-accepted s m (orElse (planShort s p) (resultsShort s q)) (r .0) in
       let b = run-rooms s m p q (open-buffers s m (runBuffers s m p q) (r .0)) in
-      worked-down (sheetTable s m) (labels s) ok (orderOf (planOf s m)) (planned-proper (sheetTable s m) (labels s) ok (r .1)) q (results-room s q (b .2)) (resultsBy (plannedBad s m (runBuffers s m p q)) s m q) (rw f)
+      evaluated-down (sheetTable s m) (labels s) ok (orderOf (planOf s m)) (planned-proper (sheetTable s m) (labels s) ok (r .1)) q (results-room s q (b .2)) (resultsBy (plannedBad s m (runBuffers s m p q)) s m q) (rw f)
 
-  pub follow-never-early : (o : List ℤ) (q k : ℕ) → followReply s o m q ≡ head.Answered k → WorkedDown (sheetTable s m) (labelsOf o) q (followResults s o m q)
+  pub follow-never-early : (o : List ℤ) (q k : ℕ) → followReply s o m q ≡ head.Answered k → EvaluatedDown (sheetTable s m) (labelsOf o) q (followResults s o m q)
   unfolding followReply followResults followBad
   follow-never-early o q k h =
       let f = answered (followBad s o m q) _ k h .0 in
@@ -60,7 +60,7 @@ module _ (s : List ℕ) (m : ℕ) where
       let r = rows-fine (followBuffers s m q) (g .0) in
       let ok = open-accepted s m (resultsShort s q) (r .0) in
       let b = both-fine (tableShort s m) (resultsShort s q) (open-buffers s m (followBuffers s m q) (r .0)) in
-      worked-down (sheetTable s m) (labels s) ok (labelsOf o) (proper-list (sheetTable s m) o .0 (order-proper (sheetTable s m) (labels s) ok o (g .1))) q (results-room s q (b .1)) (resultsBy (followBad s o m q) s m q) (rw f)
+      evaluated-down (sheetTable s m) (labels s) ok (labelsOf o) (proper-list (sheetTable s m) o .0 (order-proper (sheetTable s m) (labels s) ok o (g .1))) q (results-room s q (b .1)) (resultsBy (followBad s o m q) s m q) (rw f)
     where
       rows : followBad s o m q ≡ Fine → (plannedBad s m (followBuffers s m q) ≡ Fine) × (orderBad (sheetTable s m) (labels s) o ≡ Fine)
       rows e = both-fine (plannedBad s m (followBuffers s m q)) (orderBad (sheetTable s m) (labels s) o) e

@@ -12,7 +12,7 @@ use Rattle.order.specs.Order.{Proper, Whole}
 use Rattle.order.specs.Following.{ProperList, labelsOf}
 use Rattle.order.specs.Evaluating.{down}
 use Rattle.reading.specs.Read.{sheetTable}
-use Rattle.figures.specs.Figures.{WorkedOut, evaluateInto}
+use Rattle.figures.specs.Figures.{Evaluated, evaluateInto}
 use Rattle.figures.specs.Entered.{NeverEarly}
 use Rattle.calls.specs.Plan.{planReply, planCells, numberOf, lengthOf, wholeOrMixed}
 use Rattle.calls.specs.Run.{runResults}
@@ -40,12 +40,12 @@ pub record Demand3 (s : List ℕ) (m p q : ℕ) : Type 0 where
   -- "Whichever proper order that is, Follow gives every value the same state, number and step count as Run does"
   pub same : (o : List ℤ) → ProperList (sheetTable s m) o → followResults s o m q ≡ runResults s m p q
   -- "and they are those of document 01's Working out": they satisfy its rules, and no others do
-  pub worked : (o : List ℤ) → ProperList (sheetTable s m) o → WorkedOut (sheetTable s m) (followResults s o m q)
-  pub only : (o : List ℤ) → ProperList (sheetTable s m) o → (r : List ℤ) → length r ≡ q → WorkedOut (sheetTable s m) r
+  pub evaluated : (o : List ℤ) → ProperList (sheetTable s m) o → Evaluated (sheetTable s m) (followResults s o m q)
+  pub only : (o : List ℤ) → ProperList (sheetTable s m) o → (r : List ℤ) → length r ≡ q → Evaluated (sheetTable s m) r
       → r ≡ followResults s o m q
 
 -- "A value read before it has been worked out puts another prism on the block": results in q cells are what one comes to by evaluating
 -- the values of the order o in turn, from zeros, and at each one's turn it reads only those that have been evaluated
-pub record WorkedDown (t : List ℤ) (o : List ℕ) (q : ℕ) (results : List ℤ) : Type 0 where
+pub record EvaluatedDown (t : List ℤ) (o : List ℕ) (q : ℕ) (results : List ℤ) : Type 0 where
   pub reached : results ≡ down (evaluateInto t) o (zeros q)
   pub never : NeverEarly t o (zeros q)

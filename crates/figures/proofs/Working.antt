@@ -25,7 +25,7 @@ use Rattle.evaluation.specs.Results.{stored, store}
 use Rattle.evaluation.specs.Evaluation.{valueOf, evaluated}
 use Rattle.evaluation.proofs.Local.{results-local}
 use Rattle.evaluation.proofs.Stored.{store-length}
-use Rattle.figures.specs.Figures.{blank, cellsOf, rowsOf, afterRounds, figures, resultCells, WorkedOut, evaluateInto}
+use Rattle.figures.specs.Figures.{blank, cellsOf, rowsOf, afterRounds, figures, resultCells, Evaluated, evaluateInto}
 use Rattle.figures.proofs.Rows.{same-stored, stored-row, stored-zeros, row-of, rows-same, zeros-buffer, length-zeros, buffer-length}
 
 -- ---- the rows of results once a value is stored
@@ -123,14 +123,14 @@ module _ (t : List ℤ) (n : ℕ) (ok : Accepted t n) where
               let s : length o ≡ length a + suc (length b) = ap length e ∙ length-append a (v ∷ b) in
               rounds-settle n a v b e (omega (arith, order-short t n ok o p))
 
-      proper-solve : WorkedOut t cells
+      proper-solve : Evaluated t cells
       proper-solve = record {
         values = λ v k. sym (end-figures v k) ∙ run-solves t working o p (zeros m) fits-zeros v k ∙ ap cellsOf (value-rows end cells v k (λ w i _. end-figures w i));
         others = λ l d. other-row l d ∙ ap (λ (i : ℕ). row 3 (zeros i) l) (sym (buffer-length (figures t n) n m fit));
       }
 
       -- what satisfies "Working out" is what one comes to down the order, from zeros
-      down-only : (r : List ℤ) → length r ≡ m → WorkedOut t r → end ≡ r
+      down-only : (r : List ℤ) → length r ≡ m → Evaluated t r → end ≡ r
       down-only r e w =
           only-cells t 3 (omega arith) working (λ r l. refl) (λ r v. store-length r v (evaluated t r v)) o p (zeros m) r fits-zeros
           (omega arith) (e ∙ sym (length-zeros m)) (w .values) (λ l d. w .others l d ∙ ap (λ (i : ℕ). row 3 (zeros i) l) e)
@@ -140,7 +140,7 @@ module _ (t : List ℤ) (n : ℕ) (ok : Accepted t n) where
       down-figures = down-only cells (buffer-length (figures t n) n m fit) proper-solve
 
     -- the figures satisfy "Working out",
-    pub figures-solve : NoCycle t → WorkedOut t (resultCells t n m)
+    pub figures-solve : NoCycle t → Evaluated t (resultCells t n m)
     figures-solve nc = proper-solve (mixedPlan t n) (mixed-proper t n ok nc)
 
     -- and label by label they are: of a value, what it comes to from the figures; of any other line, three zeros
@@ -159,7 +159,7 @@ module _ (t : List ℤ) (n : ℕ) (ok : Accepted t n) where
         go (no d) = same-stored cells (zeros m) l (other-row l d) ∙ stored-zeros m l ∙ sym (round-blank _ l d)
 
   -- and no other results satisfy "Working out"
-  pub figures-only : NoCycle t → (r : List ℤ) → 3 * n ≤ length r → WorkedOut t r → r ≡ resultCells t n (length r)
+  pub figures-only : NoCycle t → (r : List ℤ) → 3 * n ≤ length r → Evaluated t r → r ≡ resultCells t n (length r)
   figures-only nc r fit w =
       let p = mixed-proper t n ok nc in
       sym (down-only (length r) fit (mixedPlan t n) p r refl w) ∙ down-figures (length r) fit (mixedPlan t n) p

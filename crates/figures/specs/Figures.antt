@@ -50,7 +50,7 @@ resultCells t n m = bufferOf (figures t n) n m
 -- ---- what singles them out
 
 -- Results satisfy "Working out": each V has what it comes to from these very results, and all other cells are 0.
-pub record WorkedOut (t r : List ℤ) : Type 0 where
+pub record Evaluated (t r : List ℤ) : Type 0 where
   pub values : (v : ℕ) → kind t v ≡ 2 → row 3 r v ≡ cellsOf (evaluated t r v)
   pub others : (l : ℕ) → (kind t l ≡ 2 → ⊥) → row 3 r l ≡ row 3 (zeros (length r)) l
 

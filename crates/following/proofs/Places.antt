@@ -17,7 +17,8 @@ use Rattle.refusals.specs.Refusal.{orElse, foundAt}
 use Rattle.refusals.specs.Rows.{cycleRow, listedRow, earlyRow}
 use Rattle.order.specs.Lists.{_∈_, mem, upFrom, any}
 use Rattle.order.specs.Order.{isV, values, reaches, place16}
-use Rattle.order.specs.Following.{labelsOf, firstPosition, notNew, missing, early, placeOr, place17, place18}
+use Rattle.cells.specs.Lists.{orIfZero}
+use Rattle.order.specs.Following.{labelsOf, firstPosition, notNew, missing, early, place17, place18}
 use Rattle.order.specs.Rows.{cycleBad, orderBad}
 use Rattle.order.proofs.Tests.{clash, not-so, and-left, and-right, and-intro}
 use Rattle.order.proofs.Lists.{split, any-true, any-intro, any-refute, count-upFrom}
@@ -35,11 +36,11 @@ same-test : (a b : Bool) → (a ≡ true → b ≡ true) → (b ≡ true → a �
 same-test true b f g = sym (f refl)
 same-test false b f g = sym (not-so b (λ e. clash false (g e) refl))
 
-place-first : (a b : ℕ) → (a ≡ 0 → ⊥) → placeOr a b ≡ a
+place-first : (a b : ℕ) → (a ≡ 0 → ⊥) → orIfZero a b ≡ a
 place-first zero b h = absurd (h refl)
 place-first (suc a) b h = refl
 
-place-none : (a b : ℕ) → placeOr a b ≡ 0 → a ≡ 0
+place-none : (a b : ℕ) → orIfZero a b ≡ 0 → a ≡ 0
 place-none zero b e = refl
 place-none (suc a) b e = e
 

@@ -41,7 +41,7 @@ fn gather_members(table: &[i64], n: usize, next: &[u16], group: usize, items: &m
     while p != 0 {
         items[m] = p;
         m += 1;
-        p = next[n + marks::wide(p)];
+        p = next[n + marks::widen(p)];
     }
     m
 }
@@ -75,7 +75,7 @@ fn mask_items(table: &[i64], n: usize, items: &[u16], mask: &mut [u64])
     marks::clear_marks(mask, w);
     let mut i = 0;
     while i < items.len() {
-        let p = marks::wide(items[i]);
+        let p = marks::widen(items[i]);
         if reach::kind_of(table, n, p) <= 2 {
             marks::put_mark(mask, w, 0, p);
         }
@@ -116,7 +116,7 @@ fn relink(n: usize, next: &mut [u16], group: usize, order: &[u16], r: usize)
     while 0 < i {
         i -= 1;
         let x = order[i];
-        next[n + marks::wide(x)] = head;
+        next[n + marks::widen(x)] = head;
         head = x;
     }
     next[group] = head;

@@ -19,7 +19,7 @@ use Rattle.lines.proofs.Splits.{full}
 use Rattle.lines.specs.Kinds.{kinds, kindAt, codeOf}
 use Rattle.lines.specs.Fields.{dash, fieldOf, isRight, held, kindCode}
 use Rattle.lines.specs.Lines.{rootLine, lineBad, formsRight, field}
-use Rattle.lines.specs.Steps.{lineFrom, Lined, FiveAt, operandsOf, operandsAt, rowBy, rowAt, rootRead, rowRead, decide, lineRead}
+use Rattle.lines.specs.Steps.{lineFrom, LineEndsAt, FiveAt, operandsOf, operandsAt, rowBy, rowAt, rootRead, rowRead, decide, lineRead}
 use Rattle.lines.specs.declared.Kind.{Kind}
 use Rattle.lines.specs.declared.Ends.{Ends}
 use Rattle.lines.specs.declared.Row.{Row}
@@ -67,10 +67,10 @@ module _ (n : ℕ) (s : List ℕ) (from : ℕ) (e : Ends) (f : FiveAt s from e) 
   code = kindCode (slice from (e .kind) s)
 
   end-inside : e .c ≤ length s
-  end-inside = omega (arith, f .lined .inside)
+  end-inside = omega (arith, f .ending .inside)
 
   line-is : lineFrom s from ≡ slice from (e .c) s
-  line-is = ap firstOf (f .lined .line)
+  line-is = ap firstOf (f .ending .line)
 
   end-is : from + length (lineFrom s from) ≡ e .c
   end-is = omega (arith, ap length line-is, length-slice from (e .c) s end-inside, f .wide0, f .wide1, f .wide2, f .wide3, f .wide4)

@@ -12,7 +12,7 @@ use Rattle.text.specs.Scans.{fieldEnd}
 use Rattle.text.proofs.Slices.{slice-at}
 use Rattle.text.proofs.Fields.{Spaced, Last, space-end, space-none, last-end, last-none}
 use Rattle.lines.specs.declared.Ends.{Ends}
-use Rattle.lines.specs.Steps.{Lined, FiveAt}
+use Rattle.lines.specs.Steps.{LineEndsAt, FiveAt}
 
 -- k fields of the line from `from` on are still to be found, from `at` on
 pub record Left (s : List ℕ) (from k at : ℕ) : Type 0 where
@@ -60,7 +60,7 @@ five s from e p q r t l =
       wide2 = r .wide;
       wide3 = t .wide;
       wide4 = l .wide;
-      lined = record {
+      ending = record {
         inside = l .inside;
         line = p .line (e .c) ps h0 (q .line (e .c) ps h1 (r .line (e .c) ps h2 (t .line (e .c) ps h3 (l .line))));
       };

@@ -31,7 +31,7 @@ abbrev pub lineFrom : List ℕ → ℕ → List ℕ
 lineFrom s from = firstOf (cut 10 (rest s from))
 
 -- it ends at `end`, and the lines after it begin behind that
-pub record Lined (s : List ℕ) (from end : ℕ) : Type 0 where
+pub record LineEndsAt (s : List ℕ) (from end : ℕ) : Type 0 where
   pub inside : end < length s
   pub line : cut 10 (rest s from) ≡ slice from end s ∷ cut 10 (rest s (end + 1))
 
@@ -42,7 +42,7 @@ pub record FiveAt (s : List ℕ) (from : ℕ) (e : Ends) : Type 0 where
   pub wide2 : e .name + 1 < e .a
   pub wide3 : e .a + 1 < e .b
   pub wide4 : e .b + 1 < e .c
-  pub lined : Lined s from (e .c)
+  pub ending : LineEndsAt s from (e .c)
   pub are : fieldsFrom s from ≡ slice from (e .kind) s ∷ slice (e .kind + 1) (e .name) s ∷ slice (e .name + 1) (e .a) s ∷ slice (e .a + 1) (e .b) s ∷ slice (e .b + 1) (e .c) s ∷ []
 
 abbrev pub SplitOf : List ℕ → ℕ → Split → Type 0

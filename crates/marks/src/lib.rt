@@ -8,7 +8,7 @@ ghost use lib.ListN.{length, take};
 ghost use Rattle.marks.specs.Marks.{mark, InSquare, Added, Dropped, places, Common, First};
 
 // A label as it stands in scratch arrays.
-pub fn wide(x: u16) -> usize
+pub fn widen(x: u16) -> usize
     ensures { λ r. ⌜ r ≡ x ⌝ }
 {
     x as usize

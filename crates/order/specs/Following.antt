@@ -8,6 +8,7 @@ use Prim.Native.Nat.{ℕ, zero, suc}
 use lib.IntN.{ℤ, pos}
 use lib.ListN.{length}
 use Rattle.cells.specs.Cells.{natOf}
+use Rattle.cells.specs.Lists.{orIfZero}
 use Rattle.cells.specs.Table.{kind}
 use Rattle.cells.specs.Reaches.{Reaches}
 use Rattle.order.specs.Lists.{_∈_, mem, any}
@@ -42,14 +43,9 @@ missing t n l = any (λ v. not (mem v l)) (values t n)
 abbrev pub early : List ℤ → ℕ → List ℕ → ℕ → Bool
 early t n seen v = any (λ w. reaches t n v w && not (mem w seen)) (values t n)
 
--- one place and, where there is none, the other
-abbrev pub placeOr : ℕ → ℕ → ℕ
-placeOr zero b = b
-placeOr (suc a) b = suc a
-
 -- row 17: "first position (from 1) that is no V label or repeats one; else, if a V is missing, length + 1"
 abbrev pub place17 : List ℤ → ℕ → List ℤ → ℕ
-place17 t n cells = placeOr (firstPosition (notNew t) [] 1 (labelsOf cells)) (cond (missing t n (labelsOf cells)) (suc (length cells)) 0)
+place17 t n cells = orIfZero (firstPosition (notNew t) [] 1 (labelsOf cells)) (cond (missing t n (labelsOf cells)) (suc (length cells)) 0)
 
 -- row 18: "first position whose label reaches a V not listed earlier"
 abbrev pub place18 : List ℤ → ℕ → List ℤ → ℕ

@@ -12,7 +12,7 @@ use Rattle.order.specs.Order.{isDefinition, hasPath}
 use Rattle.text.specs.Pieces.{firstOf}
 use Rattle.paths.specs.Names.{nameOf, isNamed, member}
 use Rattle.refusals.proofs.FirstBad.{first-same as same-found}
-use Rattle.paths.specs.Paths.{settled, headFrom, below, descended, namesOf, headOf, targetOf, headCell, targetBy, targetCell, duplicateBad, headBad, laterBad, targetBad, pathsBad}
+use Rattle.paths.specs.Paths.{settled, headFrom, below, descended, namesOf, headOf, targetOf, headCell, targetBy, targetCell, duplicateBad, pathHeadBad, laterBad, targetBad, pathsBad}
 use Rattle.paths.specs.Buckets.{bucketAt, inBucket, Rows, LinkedFrom, Linked}
 use Rattle.paths.proofs.FirstLabel.{first-same}
 
@@ -110,9 +110,9 @@ module _ (s : List ℕ) (t u : List ℤ) (a : Alike t u) where
   duplicate-alike l =
       rw (definition-alike l, a .owners l, name-alike l, first-same (isNamed s u (owner t l) (nameOf s t l)) (isNamed s t (owner t l) (nameOf s t l)) (l - 1) 1 (λ x p q. named-alike (owner t l) (nameOf s t l) x))
 
-  head-bad-alike : (n x : ℕ) → headBad s u n x ≡ headBad s t n x
-  unfolding headBad
-  head-bad-alike n x = rw (path-alike x, head-alike n x)
+  path-head-alike : (n x : ℕ) → pathHeadBad s u n x ≡ pathHeadBad s t n x
+  unfolding pathHeadBad
+  path-head-alike n x = rw (path-alike x, head-alike n x)
 
   later-bad-alike : (n x : ℕ) → laterBad s u n x ≡ laterBad s t n x
   unfolding laterBad
@@ -125,4 +125,4 @@ module _ (s : List ℕ) (t u : List ℤ) (a : Alike t u) where
   pub paths-alike : (n : ℕ) → pathsBad s u n ≡ pathsBad s t n
   unfolding pathsBad
   paths-alike n =
-      rw (same-found (duplicateBad s u) (duplicateBad s t) n 1 (λ x h g. duplicate-alike x), same-found (headBad s u n) (headBad s t n) n 1 (λ x h g. head-bad-alike n x), same-found (laterBad s u n) (laterBad s t n) n 1 (λ x h g. later-bad-alike n x), same-found (targetBad s u n) (targetBad s t n) n 1 (λ x h g. target-bad-alike n x))
+      rw (same-found (duplicateBad s u) (duplicateBad s t) n 1 (λ x h g. duplicate-alike x), same-found (pathHeadBad s u n) (pathHeadBad s t n) n 1 (λ x h g. path-head-alike n x), same-found (laterBad s u n) (laterBad s t n) n 1 (λ x h g. later-bad-alike n x), same-found (targetBad s u n) (targetBad s t n) n 1 (λ x h g. target-bad-alike n x))

@@ -8,7 +8,7 @@ use native.Mathlib.Numerals.{add-one}
 use native.Mathlib.Omega.{arith}
 use Rattle.text.proofs.Bytes.{true-false}
 use Rattle.paths.specs.Names.{firstLabel}
-use Rattle.paths.specs.Paths.{labelOr}
+use Rattle.cells.specs.Lists.{orIfZero}
 
 -- the first that passes of the labels from x to n; of no label 0
 abbrev pub fromLabel : (ℕ → Bool) → ℕ → ℕ → ℕ
@@ -53,12 +53,12 @@ module _ (p : ℕ → Bool) where
   none-passes (suc m) l x h f k g e = none-go l m x h k e (λ z q. none-passes m (suc l) x (omega arith) q z (omega arith) e) (p l) refl f
 
   -- the first k labels, and those behind them
-  split-go : (b : Bool) (l : ℕ) (x y : ℕ) → 1 ≤ l → cond b l (labelOr x y) ≡ labelOr (cond b l x) y
+  split-go : (b : Bool) (l : ℕ) (x y : ℕ) → 1 ≤ l → cond b l (orIfZero x y) ≡ orIfZero (cond b l x) y
   split-go true zero x y h = absurd (omega arith)
   split-go true (suc l) x y h = refl
   split-go false l x y h = refl
 
-  pub first-split : (k m l : ℕ) → 1 ≤ l → firstLabel p l (k + m) ≡ labelOr (firstLabel p l k) (firstLabel p (l + k) m)
+  pub first-split : (k m l : ℕ) → 1 ≤ l → firstLabel p l (k + m) ≡ orIfZero (firstLabel p l k) (firstLabel p (l + k) m)
   first-split zero m l h = let a : 0 + m ≡ m = omega arith in let c : l + 0 ≡ l = omega arith in rw (a, c)
   first-split (suc k) m l h =
       let a : suc k + m ≡ suc (k + m) = omega arith in

@@ -18,7 +18,8 @@ use Rattle.refusals.proofs.FirstBad.{first-none, none-first}
 use Rattle.text.specs.Pieces.{firstOf}
 use Rattle.text.proofs.Bytes.{true-false, and-left, and-right, same-eq}
 use Rattle.paths.specs.Names.{nameOf, sameName, firstLabel, isNamed, member}
-use Rattle.paths.specs.Paths.{labelOr, settled, headFrom, descended, namesOf, headOf, targetOf, wanted, duplicateBad, headBad, laterBad, targetBad, laterRows, headRows, pathsBad}
+use Rattle.cells.specs.Lists.{orIfZero}
+use Rattle.paths.specs.Paths.{settled, headFrom, descended, namesOf, headOf, targetOf, wanted, duplicateBad, pathHeadBad, laterBad, targetBad, laterRows, headRows, pathsBad}
 use Rattle.paths.specs.Leads.{IsMember, Heads, here, outward, Descends, ended, inward, HeadSettles, Leads, NamesApart, PathsKept}
 use Rattle.paths.proofs.FirstLabel.{Passing, first-found, none-passes}
 use Rattle.paths.proofs.Members.{same-self}
@@ -124,11 +125,11 @@ module _ (s : List ℕ) (t : List ℤ) (n : ℕ) where
   -- ---- the head
 
   module _ (w : List ℕ) where
-    settled-at : (k g : ℕ) → 1 ≤ g → settled s t n w (suc k) g ≡ labelOr (member s t n g w) (settled s t n w k (owner t g))
+    settled-at : (k g : ℕ) → 1 ≤ g → settled s t n w (suc k) g ≡ orIfZero (member s t n g w) (settled s t n w k (owner t g))
     settled-at k g h = rw (ne-eqb g 0 (λ e. omega arith))
 
     head-go : (k g h : ℕ) → 1 ≤ g → (settled s t n w k (owner t g) ≡ h → Heads s t n w (owner t g) h)
-        → (x : ℕ) → member s t n g w ≡ x → labelOr x (settled s t n w k (owner t g)) ≡ h → (h ≡ 0 → ⊥) → Heads s t n w g h
+        → (x : ℕ) → member s t n g w ≡ x → orIfZero x (settled s t n w k (owner t g)) ≡ h → (h ≡ 0 → ⊥) → Heads s t n w g h
     head-go k g h low rest zero q e f = outward low (member-none g w q) (rest e)
     head-go k g h low rest (suc x) q e f = here (member-found g w low h (q ∙ e) f)
 
@@ -149,7 +150,7 @@ module _ (s : List ℕ) (t : List ℤ) (n : ℕ) where
       heads-one {g} {h} {x} (outward low none r) (here q) = absurd (none x q)
       heads-one (outward low none r) (outward low′ none′ r′) = heads-one r r′
 
-      or-own : (h b : ℕ) → 1 ≤ h → labelOr h b ≡ h
+      or-own : (h b : ℕ) → 1 ≤ h → orIfZero h b ≡ h
       or-own zero b e = absurd (omega arith)
       or-own (suc h) b e = refl
 
@@ -228,12 +229,12 @@ module _ (s : List ℕ) (t : List ℤ) (n : ℕ) where
       head-some x h k p = rw (heads-head x h k p) (above h (heads-low (firstOf (namesOf s t x)) p))
 
       -- row 13 refuses exactly where no Group outward has the head: this, and the law after it
-      pub heads-kept : (x h : ℕ) → x ≤ n → HeadSettles s t n x h → headBad s t n x ≡ 0
-      unfolding headBad
+      pub heads-kept : (x h : ℕ) → x ≤ n → HeadSettles s t n x h → pathHeadBad s t n x ≡ 0
+      unfolding pathHeadBad
       heads-kept x h k p = keeps-quiet (hasPath t x) (eqb (headOf s t n x) 0) headRow (λ e. head-some x h k p)
 
-  pub kept-heads : (x : ℕ) → hasPath t x ≡ true → headBad s t n x ≡ 0 → (h : ℕ) × HeadSettles s t n x h
-  unfolding headBad
+  pub kept-heads : (x : ℕ) → hasPath t x ≡ true → pathHeadBad s t n x ≡ 0 → (h : ℕ) × HeadSettles s t n x h
+  unfolding pathHeadBad
   kept-heads x p e = (headOf s t n x, head-heads x (headOf s t n x) refl (eqb-false (headOf s t n x) 0 (quiet (hasPath t x) (eqb (headOf s t n x) 0) headRow (omega arith) e p)))
 
   -- ---- rows 12 to 15
@@ -242,7 +243,7 @@ module _ (s : List ℕ) (t : List ℤ) (n : ℕ) where
   unfolding pathsBad laterBad targetBad
   paths-kept e =
       let a = both-fine (firstBad (duplicateBad s t) 1 n) (headRows s t n) e in
-      let b = both-fine (firstBad (headBad s t n) 1 n) (laterRows s t n) (a .1) in
+      let b = both-fine (firstBad (pathHeadBad s t n) 1 n) (laterRows s t n) (a .1) in
       let c = both-fine (firstBad (laterBad s t n) 1 n) (firstBad (targetBad s t n) 1 n) (b .1) in
       record { apart = fine-apart (a .0); targets = λ x low high p. (targetOf s t n x, ends x p (first-none (laterBad s t n) n 1 (c .0) x low (omega arith)), fits x p (first-none (targetBad s t n) n 1 (c .1) x low (omega arith))) }
     where
@@ -259,8 +260,8 @@ module _ (s : List ℕ) (t : List ℤ) (n : ℕ) where
       led : hasPath t x ≡ true → (m : ℕ) × Leads s t n x m × (targetOf s t n x ≡ m) × (kind t m ≡ wanted (kind t x))
       led p = let r = k .targets x low high p in (r .0, r .1, leads-target (k .apart) falls x (r .0) high (r .1), r .2)
 
-      head-kept : headBad s t n x ≡ 0
-      unfolding headBad
+      head-kept : pathHeadBad s t n x ≡ 0
+      unfolding pathHeadBad
       head-kept = keeps-quiet (hasPath t x) (eqb (headOf s t n x) 0) headRow (λ p. let l = led p .1 in head-some (k .apart) falls x (l .head) high (l .settles))
 
       later-kept : laterBad s t n x ≡ 0
@@ -276,5 +277,5 @@ module _ (s : List ℕ) (t : List ℤ) (n : ℕ) where
     pub kept-paths : PathsKept s t n → pathsBad s t n ≡ Fine
     unfolding pathsBad
     kept-paths k =
-        rw (apart-fine (k .apart), none-first (headBad s t n) n 1 (λ x low high. head-kept k x low (omega arith)), none-first (laterBad s t n) n 1 (λ x low high. later-kept k x low (omega arith)))
+        rw (apart-fine (k .apart), none-first (pathHeadBad s t n) n 1 (λ x low high. head-kept k x low (omega arith)), none-first (laterBad s t n) n 1 (λ x low high. later-kept k x low (omega arith)))
         (none-first (targetBad s t n) n 1 (λ x low high. target-kept k x low (omega arith)))

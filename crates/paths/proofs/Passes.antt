@@ -18,7 +18,7 @@ use Rattle.refusals.proofs.FirstBad.{first-start, first-fine, first-bad, first-
 use Rattle.text.specs.Pieces.{firstOf}
 use Rattle.paths.proofs.Alike.{Alike, column-alike}
 use Rattle.paths.proofs.Resolving.{head-out, out-high}
-use Rattle.paths.specs.Paths.{descended, namesOf, headOf, targetOf, headCell, targetBy, targetCell, headBad, laterBad}
+use Rattle.paths.specs.Paths.{descended, namesOf, headOf, targetOf, headCell, targetBy, targetCell, pathHeadBad, laterBad}
 
 -- one label more of a column
 pub column-next : (j : ℕ) (f : ℕ → ℕ) (l : ℕ) (t : List ℤ) → 1 ≤ l → set (withColumn j f (l - 1) t) (8 * (l - 1) + j) (pos (f l)) ≡ withColumn j f l t
@@ -31,18 +31,18 @@ column-later f k zero t h = absurd (omega arith)
 column-later f k (suc l) t h = ap natOf (column-keeps 7 f (omega arith) k t (8 * l + 7) (λ i m q. omega arith))
 
 -- a row that asks whether a line with a path came to nothing
-lost-go : (row v : ℕ) (h : Bool) → cond (h && eqb (cond h v 0) 0) row 0 ≡ cond (h && eqb v 0) row 0
-lost-go row v true = refl
-lost-go row v false = refl
+unresolved-go : (row v : ℕ) (h : Bool) → cond (h && eqb (cond h v 0) 0) row 0 ≡ cond (h && eqb v 0) row 0
+unresolved-go row v true = refl
+unresolved-go row v false = refl
 
 module _ (s : List ℕ) (t : List ℤ) (n x : ℕ) where
-  pub head-lost : (b : Bool) → (hasPath t x && eqb (headCell s t n x) 0) ≡ b → headBad s t n x ≡ cond b 13 0
-  unfolding headBad
-  head-lost b e = sym (lost-go 13 (headOf s t n x) (hasPath t x)) ∙ ap (λ (y : Bool). cond y 13 0) e
+  pub head-unresolved : (b : Bool) → (hasPath t x && eqb (headCell s t n x) 0) ≡ b → pathHeadBad s t n x ≡ cond b 13 0
+  unfolding pathHeadBad
+  head-unresolved b e = sym (unresolved-go 13 (headOf s t n x) (hasPath t x)) ∙ ap (λ (y : Bool). cond y 13 0) e
 
-  pub later-lost : (b : Bool) → (hasPath t x && eqb (targetCell s t n x) 0) ≡ b → laterBad s t n x ≡ cond b 14 0
+  pub later-unresolved : (b : Bool) → (hasPath t x && eqb (targetCell s t n x) 0) ≡ b → laterBad s t n x ≡ cond b 14 0
   unfolding laterBad
-  later-lost b e = sym (lost-go 14 (targetOf s t n x) (hasPath t x)) ∙ ap (λ (y : Bool). cond y 14 0) e
+  later-unresolved b e = sym (unresolved-go 14 (targetOf s t n x) (hasPath t x)) ∙ ap (λ (y : Bool). cond y 14 0) e
 
   -- from the head that the cell holds
   from-go : (h : Bool) (head : ℕ) (ws : List (List ℕ)) → cond h (descended s t n (cond h head 0) ws) 0 ≡ cond h (descended s t n head ws) 0

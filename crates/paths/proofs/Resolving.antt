@@ -18,7 +18,8 @@ use Rattle.text.proofs.Bytes.{run-le, run-fails}
 use Rattle.text.proofs.Slices.{take-slice, drop-slice}
 use Rattle.text.proofs.Cuts.{cut-more, cut-last}
 use Rattle.paths.specs.Names.{nameOf, sameName, firstLabel, isNamed, member}
-use Rattle.paths.specs.Paths.{labelOr, settled, headFrom, descended, namesOf, headOf, headCell, targetBy, duplicateBad, wrongTarget}
+use Rattle.cells.specs.Lists.{orIfZero}
+use Rattle.paths.specs.Paths.{settled, headFrom, descended, namesOf, headOf, headCell, targetBy, duplicateBad, wrongTarget}
 use Rattle.paths.specs.Buckets.{notDot, Rows, outward}
 use Rattle.paths.proofs.Members.{same-self}
 use Rattle.paths.proofs.FirstLabel.{first-hit, first-split, first-high}
@@ -81,7 +82,7 @@ module _ (s : List ℕ) (t : List ℤ) (n : ℕ) where
   unfolding member
   member-high g w = omega (arith, first-high (isNamed s t g w) n 1 (omega arith))
 
-  or-high : (a b : ℕ) → a ≤ n → b ≤ n → labelOr a b ≤ n
+  or-high : (a b : ℕ) → a ≤ n → b ≤ n → orIfZero a b ≤ n
   or-high zero b h g = g
   or-high (suc a) b h g = h
 
@@ -94,7 +95,7 @@ module _ (s : List ℕ) (t : List ℤ) (n : ℕ) where
   out-high w stop (suc k) g = cond-high (ltb stop g) _ (or-high (member s t n g w) (outward s t n w stop k (owner t g)) (member-high g w) (out-high w stop k (owner t g)))
 
   -- above the Group around it, one Group is looked into
-  or-zero : (a : ℕ) → labelOr a 0 ≡ a
+  or-zero : (a : ℕ) → orIfZero a 0 ≡ a
   or-zero zero = refl
   or-zero (suc a) = refl
 
@@ -169,14 +170,14 @@ module _ (s : List ℕ) (t : List ℤ) (n : ℕ) where
     itself : named l ≡ true
     itself = rw (d, eq-eqb (owner t l) (owner t l) refl) (same-self (nameOf s t l))
 
-    split : member s t n (owner t l) (nameOf s t l) ≡ labelOr (firstLabel named 1 (l - 1)) l
+    split : member s t n (owner t l) (nameOf s t l) ≡ orIfZero (firstLabel named 1 (l - 1)) l
     unfolding member
     split =
         let a : n ≡ l - 1 + (n + 1 - l) = omega arith in
         let c : 1 + (l - 1) ≡ l = omega arith in
         ap (firstLabel named 1) a ∙ first-split named (l - 1) (n + 1 - l) 1 (omega arith)
-        ∙ ap (λ (x : ℕ). labelOr (firstLabel named 1 (l - 1)) (firstLabel named x (n + 1 - l))) c
-        ∙ ap (labelOr (firstLabel named 1 (l - 1))) (first-hit named l (n + 1 - l) (omega arith) itself)
+        ∙ ap (λ (x : ℕ). orIfZero (firstLabel named 1 (l - 1)) (firstLabel named x (n + 1 - l))) c
+        ∙ ap (orIfZero (firstLabel named 1 (l - 1))) (first-hit named l (n + 1 - l) (omega arith) itself)
 
     smaller : firstLabel named 1 (l - 1) < l
     smaller = omega (arith, first-high named (l - 1) 1 (omega arith))
@@ -187,14 +188,14 @@ module _ (s : List ℕ) (t : List ℤ) (n : ℕ) where
       where
         go : (x : ℕ) → firstLabel named 1 (l - 1) ≡ x → _≡_ {A = ℕ} 0 (cond (isDefinition t l && not (eqb (firstLabel named 1 (l - 1)) 0)) 12 0)
         go zero q = rw (q, d)
-        go (suc x) q = absurd (omega (arith, smaller, sym e ∙ split ∙ ap (λ (y : ℕ). labelOr y l) q))
+        go (suc x) q = absurd (omega (arith, smaller, sym e ∙ split ∙ ap (λ (y : ℕ). orIfZero y l) q))
 
     pub duplicate-some : (member s t n (owner t l) (nameOf s t l) ≡ l → ⊥) → 12 ≡ duplicateBad s t l
     unfolding duplicateBad
     duplicate-some f = go (firstLabel named 1 (l - 1)) refl
       where
         go : (x : ℕ) → firstLabel named 1 (l - 1) ≡ x → _≡_ {A = ℕ} 12 (cond (isDefinition t l && not (eqb (firstLabel named 1 (l - 1)) 0)) 12 0)
-        go zero q = absurd (f (split ∙ ap (λ (y : ℕ). labelOr y l) q))
+        go zero q = absurd (f (split ∙ ap (λ (y : ℕ). orIfZero y l) q))
         go (suc x) q = rw (q, d, ne-eqb (suc x) 0 (λ z. omega arith))
 
   pub duplicate-root : (l : ℕ) → l ≡ 1 → 0 ≡ duplicateBad s t l

@@ -7,10 +7,10 @@ use lib.Dec.{eqb, ltb}
 use lib.IntN.{ℤ, pos}
 use lib.ListN.{length, getD}
 use Rattle.cells.specs.Cells.{intAt}
+use Rattle.cells.specs.Lists.{orIfZero}
 use Rattle.cells.specs.Table.{kind, nameStart, nameLength, owner}
 use Rattle.order.specs.Order.{isDefinition}
 use Rattle.paths.specs.Names.{nameOf, firstLabel, member}
-use Rattle.paths.specs.Paths.{labelOr}
 
 -- a byte of a name, in a path: no dot
 abbrev pub notDot : ℕ → Bool
@@ -63,4 +63,4 @@ pub record Linked (s : List ℕ) (t : List ℤ) (n : ℕ) (first next : List ℕ
 -- the first member named w, from Group g outward, above `stop`, through at most k Groups
 abbrev pub outward : List ℕ → List ℤ → ℕ → List ℕ → ℕ → ℕ → ℕ → ℕ
 outward s t n w stop zero g = 0
-outward s t n w stop (suc k) g = cond (ltb stop g) (labelOr (member s t n g w) (outward s t n w stop k (owner t g))) 0
+outward s t n w stop (suc k) g = cond (ltb stop g) (orIfZero (member s t n g w) (outward s t n w stop k (owner t g))) 0

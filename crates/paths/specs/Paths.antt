@@ -5,6 +5,7 @@ use Prim.Native.Nat.{ℕ, zero, suc, _-_}
 use lib.Dec.{eqb}
 use lib.IntN.{ℤ}
 use lib.ListN.{drop}
+use Rattle.cells.specs.Lists.{orIfZero}
 use Rattle.cells.specs.Table.{kind, owner, target}
 use Rattle.order.specs.Order.{isDefinition, hasPath}
 use Rattle.refusals.specs.Rows.{duplicateRow, headRow, laterRow, targetRow}
@@ -18,16 +19,11 @@ unfoldable pub duplicateBad : List ℕ → List ℤ → ℕ → ℕ
 duplicateBad s t l =
     cond (isDefinition t l && not (eqb (firstLabel (isNamed s t (owner t l) (nameOf s t l)) 1 (l - 1)) 0)) duplicateRow 0
 
--- one label and, where it is 0, the other
-abbrev pub labelOr : ℕ → ℕ → ℕ
-labelOr zero b = b
-labelOr (suc a) b = suc a
-
 -- "The head is looked for among that Group's members, then in the Group around it, outward; the first Group with such a member settles
 -- the head": from Group g, at most k Groups; 0 where none has such a member
 abbrev pub settled : List ℕ → List ℤ → ℕ → List ℕ → ℕ → ℕ → ℕ
 settled s t n w zero g = 0
-settled s t n w (suc k) g = cond (eqb g 0) 0 (labelOr (member s t n g w) (settled s t n w k (owner t g)))
+settled s t n w (suc k) g = cond (eqb g 0) 0 (orIfZero (member s t n g w) (settled s t n w k (owner t g)))
 
 -- g Groups are enough, since a Group's label is above that of the Group around it
 unfoldable pub headFrom : List ℕ → List ℤ → ℕ → List ℕ → ℕ → ℕ
@@ -57,8 +53,8 @@ abbrev pub wanted : ℕ → ℕ
 wanted k = cond (eqb k 6) 2 3
 
 -- rows 13 to 15
-unfoldable pub headBad : List ℕ → List ℤ → ℕ → ℕ → ℕ
-headBad s t n x = cond (hasPath t x && eqb (headOf s t n x) 0) headRow 0
+unfoldable pub pathHeadBad : List ℕ → List ℤ → ℕ → ℕ → ℕ
+pathHeadBad s t n x = cond (hasPath t x && eqb (headOf s t n x) 0) headRow 0
 
 unfoldable pub laterBad : List ℕ → List ℤ → ℕ → ℕ → ℕ
 laterBad s t n x = cond (hasPath t x && eqb (targetOf s t n x) 0) laterRow 0
@@ -71,7 +67,7 @@ abbrev pub laterRows : List ℕ → List ℤ → ℕ → Verdict
 laterRows s t n = orElse (firstBad (laterBad s t n) 1 n) (firstBad (targetBad s t n) 1 n)
 
 abbrev pub headRows : List ℕ → List ℤ → ℕ → Verdict
-headRows s t n = orElse (firstBad (headBad s t n) 1 n) (laterRows s t n)
+headRows s t n = orElse (firstBad (pathHeadBad s t n) 1 n) (laterRows s t n)
 
 unfoldable pub pathsBad : List ℕ → List ℤ → ℕ → Verdict
 pathsBad s t n = orElse (firstBad (duplicateBad s t) 1 n) (headRows s t n)

@@ -15,7 +15,7 @@ ghost use Rattle.text.specs.Pieces.{cut};
 ghost use Rattle.text.specs.Scans.{runEnd};
 ghost use Rattle.paths.specs.Names.{sameName, isNamed};
 ghost use Rattle.paths.specs.Buckets.{notDot, hashOf, bucketOf, bucketAt, Placed, Rows, Linked, LinkedFrom, outward};
-ghost use Rattle.paths.specs.Paths.{descended, headCell, targetBy, targetCell, duplicateBad, headBad, laterBad, wrongTarget, laterRows, headRows, pathsBad};
+ghost use Rattle.paths.specs.Paths.{descended, headCell, targetBy, targetCell, duplicateBad, pathHeadBad, laterBad, wrongTarget, laterRows, headRows, pathsBad};
 use refusals::Verdict;
 
 // ---- names
@@ -388,7 +388,7 @@ fn settle_target(
 }
 
 // Whether a line that has a path has come to nothing.
-fn is_lost(table: &[i64], label: usize, found: usize) -> bool
+fn is_unresolved(table: &[i64], label: usize, found: usize) -> bool
     ensures { λ r. ⌜ r ≡ (hasPath (now (table .entry)) label && eqb found 0) ⌝ }
 {
     if has_path(table, label) {
@@ -400,13 +400,13 @@ fn is_lost(table: &[i64], label: usize, found: usize) -> bool
 // Row 13. The heads stand in the target cells.
 fn settle_heads(text: &[u8], table: &mut [i64], n: usize, first: &[u16], next: &[u16]) -> Verdict
     requires { ⌜ Rows (now text) (now table) n × Linked (now text) (now table) n (now first) (now next) ⌝ }
-    ensures { λ r. ⌜ r ≡ firstBad (headBad (now (text .entry)) (now (table .entry)) n) 1 n ⌝ }
+    ensures { λ r. ⌜ r ≡ firstBad (pathHeadBad (now (text .entry)) (now (table .entry)) n) 1 n ⌝ }
     ensures { λ r. ⌜ (r ≡ Verdict.Fine → now (table .exit) ≡ withColumn 7 (headCell (now (text .entry)) (now (table .entry)) n) n (now (table .entry))) ⌝ }
 {
     let mut label: usize = 1;
     while label <= n {
         let head = settle_head(text, table, n, first, next, label);
-        if is_lost(table, label, head) {
+        if is_unresolved(table, label, head) {
             return Verdict::Refused(refusals::HEAD, label as u64);
         }
         label += 1;
@@ -424,7 +424,7 @@ fn settle_targets(text: &[u8], table: &mut [i64], n: usize, first: &[u16], next:
     let mut label: usize = 1;
     while label <= n {
         let end = settle_target(text, table, n, first, next, label);
-        if is_lost(table, label, end) {
+        if is_unresolved(table, label, end) {
             return Verdict::Refused(refusals::LATER, label as u64);
         }
         label += 1;

@@ -29,7 +29,7 @@ fn raise(list: &[u16], m: usize, unmet: &mut [u16])
 {
     let mut i = 0;
     while i < m {
-        let p = marks::wide(list[i]);
+        let p = marks::widen(list[i]);
         unmet[p] = unmet[p] + 1;
         i += 1;
     }
@@ -43,7 +43,7 @@ fn lower(list: &[u16], m: usize, w: usize, unmet: &mut [u16], ready: &mut [u64])
 {
     let mut i = 0;
     while i < m {
-        let p = marks::wide(list[i]);
+        let p = marks::widen(list[i]);
         unmet[p] = unmet[p] - 1;
         if unmet[p] == 0 {
             marks::put_mark(ready, w, 0, p);
@@ -58,7 +58,7 @@ fn clear_counts(items: &[u16], unmet: &mut [u16])
 {
     let mut i = 0;
     while i < items.len() {
-        let p = marks::wide(items[i]);
+        let p = marks::widen(items[i]);
         unmet[p] = 0;
         i += 1;
     }
@@ -79,7 +79,7 @@ fn count_needs(
 {
     let mut i = 0;
     while i < items.len() {
-        let q = marks::wide(items[i]);
+        let q = marks::widen(items[i]);
         let m = needed_by(square, w, mask, q, list);
         raise(list, m, unmet);
         i += 1;
@@ -94,7 +94,7 @@ fn mark_ready(items: &[u16], w: usize, unmet: &[u16], ready: &mut [u64])
 {
     let mut i = 0;
     while i < items.len() {
-        let p = marks::wide(items[i]);
+        let p = marks::widen(items[i]);
         if unmet[p] == 0 {
             marks::put_mark(ready, w, 0, p);
         }

@@ -38,7 +38,7 @@ fn list_group(
     let mut to = at;
     let mut x = next[group];
     while x != 0 {
-        let p = marks::wide(x);
+        let p = marks::widen(x);
         x = next[n + p];
         let k = reach::kind_of(table, n, p);
         if k == 2 {
@@ -58,7 +58,7 @@ fn put_all(order: &[u16], r: usize, plan: &mut [i64])
 {
     let mut i = 0;
     while i < r {
-        plan[i] = marks::wide(order[i]) as i64;
+        plan[i] = marks::widen(order[i]) as i64;
         i += 1;
     }
 }

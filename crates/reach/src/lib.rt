@@ -160,11 +160,11 @@ fn grow(
     ensures { λ r. ⌜ Grown (now (table .entry)) n j d e (now (square .entry)) top (now (square .exit)) (now (stack .exit)) r × (r ≤ n) ⌝ }
 {
     let mut height = top;
-    let mut x = marks::wide(chains[e]);
+    let mut x = marks::widen(chains[e]);
     while x != 0 {
         let f = cell_of(table, n, x, j);
         height = meet(table, n, state, square, stack, d, f, height);
-        x = marks::wide(chains[n + x]);
+        x = marks::widen(chains[n + x]);
     }
     height
 }
@@ -191,7 +191,7 @@ fn fill(
     let mut visits = 1;
     let mut top = grow(table, n, j, chains, state, square, stack, d, d, 0);
     while 0 < top {
-        let e = marks::wide(stack[top - 1]);
+        let e = marks::widen(stack[top - 1]);
         top = grow(table, n, j, chains, state, square, stack, d, e, top - 1);
         visits += 1;
     }
@@ -237,7 +237,7 @@ fn visit(
     }
     state[d] = 1;
     let mut visits = 0;
-    let mut x = marks::wide(chains[d]);
+    let mut x = marks::widen(chains[d]);
     while x != 0 {
         let e = cell_of(table, n, x, j);
         if state[e] == 0 {
@@ -247,7 +247,7 @@ fn visit(
             state[d] = 2;
             return visits;
         }
-        x = marks::wide(chains[n + x]);
+        x = marks::widen(chains[n + x]);
     }
     visits += fill(table, n, j, chains, state, square, stack, d);
     state[d] = 2;

@@ -23,11 +23,11 @@ use Rattle.order.specs.Order.{hasPath}
 use Rattle.lines.specs.Lines.{labels, headBad, linesBad}
 use Rattle.tree.specs.Tree.{ownerOf, treeBad}
 use Rattle.tree.proofs.Codes.{label-low, label-high}
-use Rattle.paths.specs.Paths.{targetOf, targetCell, wanted, duplicateBad, headBad as noHead, laterBad, targetBad, pathsBad}
+use Rattle.paths.specs.Paths.{targetOf, targetCell, wanted, duplicateBad, pathHeadBad, laterBad, targetBad, pathsBad}
 use Rattle.lines.specs.Lined.{Lined, linedTable}
-use Rattle.reading.specs.Read.{tableShort, ownedTable, tiedTable, tiedBad, sheetBad, sheetTable, readBad}
+use Rattle.reading.specs.Read.{tableShort, ownedTable, resolvedTable, resolvedBad, sheetBad, sheetTable, readBad}
 use Rattle.lines.proofs.Lined.{lined, names-short}
-use Rattle.reading.proofs.Tied.{formed, accepted}
+use Rattle.reading.proofs.Resolved.{formed, accepted}
 
 -- a cell that is some natural number is its own natural number
 natural-cell : (w : List ℤ) (i x : ℕ) → intAt w i ≡ pos x → intAt w i ≡ pos (natOf (intAt w i))
@@ -38,11 +38,11 @@ module _ (s : List ℕ) (t : List ℤ) (n : ℕ) (is : Lined s t n) (tree : tree
   u = ownedTable t n
 
   abbrev w : List ℤ
-  w = tiedTable s t n
+  w = resolvedTable s t n
 
-  tied-length : length w ≡ length t
-  unfolding tiedTable ownedTable
-  tied-length = column-length 7 (targetCell s u n) n u ∙ column-length 6 (ownerOf t n) n t
+  resolved-length : length w ≡ length t
+  unfolding resolvedTable ownedTable
+  resolved-length = column-length 7 (targetCell s u n) n u ∙ column-length 6 (ownerOf t n) n t
 
   owned-length : length u ≡ length t
   unfolding ownedTable
@@ -51,7 +51,7 @@ module _ (s : List ℕ) (t : List ℤ) (n : ℕ) (is : Lined s t n) (tree : tree
   -- ---- cells
 
   keeps : (i : ℕ) → ((k : ℕ) → k < n → i ≡ 8 * k + 7 → ⊥) → intAt w i ≡ intAt u i
-  unfolding tiedTable
+  unfolding resolvedTable
   keeps i h = column-keeps 7 (targetCell s u n) (omega arith) n u i h
 
   keeps-lines : (i : ℕ) → ((k : ℕ) → k < n → i ≡ 8 * k + 6 → ⊥) → intAt u i ≡ intAt t i
@@ -59,7 +59,7 @@ module _ (s : List ℕ) (t : List ℤ) (n : ℕ) (is : Lined s t n) (tree : tree
   keeps-lines i h = column-keeps 6 (ownerOf t n) (omega arith) n t i h
 
   same : (l j : ℕ) → j < 7 → cell w l j ≡ cell u l j
-  unfolding tiedTable
+  unfolding resolvedTable
   same l j h = column-other 7 (targetCell s u n) (omega arith) n u l j (omega arith) (λ e. omega arith)
 
   same-lines : (l j : ℕ) → j < 6 → cell w l j ≡ cell t l j
@@ -71,7 +71,7 @@ module _ (s : List ℕ) (t : List ℤ) (n : ℕ) (is : Lined s t n) (tree : tree
 
   -- by column: the target, the owner, or what the line wrote
   last-natural : (l j : ℕ) → l ≤ n → 1 ≤ l → j ≡ 7 → (x : ℕ) × (intAt w (8 * (l - 1) + j) ≡ pos x)
-  unfolding tiedTable
+  unfolding resolvedTable
   last-natural l j g h q = (targetCell s u n (suc (l - 1)), rw q (column-has 7 (targetCell s u n) (omega arith) n u (l - 1) (omega arith) (omega (arith, owned-length, is .room))))
 
   owner-natural : (l j : ℕ) → l ≤ n → 1 ≤ l → j ≡ 6 → (x : ℕ) × (intAt w (8 * (l - 1) + j) ≡ pos x)
@@ -110,7 +110,7 @@ module _ (s : List ℕ) (t : List ℤ) (n : ℕ) (is : Lined s t n) (tree : tree
 
   found : (firstBad (targetBad s u n) 1 n ≡ Fine)
   unfolding pathsBad
-  found = both-fine (firstBad (laterBad s u n) 1 n) (firstBad (targetBad s u n) 1 n) (both-fine (firstBad (noHead s u n) 1 n) _ (both-fine (firstBad (duplicateBad s u) 1 n) _ paths .1) .1) .1
+  found = both-fine (firstBad (laterBad s u n) 1 n) (firstBad (targetBad s u n) 1 n) (both-fine (firstBad (pathHeadBad s u n) 1 n) _ (both-fine (firstBad (duplicateBad s u) 1 n) _ paths .1) .1) .1
 
   aimed : (l : ℕ) → 1 ≤ l → l ≤ n → hasPath u l ≡ true → kind u (targetOf s u n l) ≡ wanted (kind u l)
   unfolding targetBad
@@ -121,7 +121,7 @@ module _ (s : List ℕ) (t : List ℤ) (n : ℕ) (is : Lined s t n) (tree : tree
       go false q z = let y : _≡_ {A = ℕ} 15 0 = rw (e, q) at z in absurd (omega arith)
 
   target-own : (l : ℕ) → 1 ≤ l → l ≤ n → target w l ≡ targetCell s u n l
-  unfolding tiedTable
+  unfolding resolvedTable
   target-own l h g = column-own 7 (targetCell s u n) (omega arith) n u l h g (omega (arith, owned-length, is .room))
 
   target-found : (l k : ℕ) → kind w l ≡ k → (eqb k 6 || eqb k 7) ≡ true → 1 ≤ k → kind w (target w l) ≡ wanted k
@@ -144,16 +144,16 @@ module _ (s : List ℕ) (t : List ℤ) (n : ℕ) (is : Lined s t n) (tree : tree
       go (suc k) false q x y = ap natOf (unused (8 * k + 7) (omega (arith, leb-false (suc k) n q)))
 
   number-same : (l : ℕ) → numberOf w l ≡ numberOf t l
-  unfolding tiedTable ownedTable
+  unfolding resolvedTable ownedTable
   number-same l = column-number 7 (targetCell s u n) (omega arith) n u l (λ e. omega arith) ∙ column-number 6 (ownerOf t n) (omega arith) n t l (λ e. omega arith)
 
-  pub tied-accepted : Accepted w n
-  tied-accepted =
+  pub resolved-accepted : Accepted w n
+  resolved-accepted =
       let a = accepted s t n is tree in
       record {
         some = is .some;
         few = is .few;
-        room = omega (arith, tied-length, is .room);
+        room = omega (arith, resolved-length, is .room);
         unused = unused;
         natural = natural;
         kinds = λ l h g. rw (same-lines l 0 (omega arith)) (is .kinds l h g);
@@ -173,19 +173,19 @@ module _ (s : List ℕ) (t : List ℤ) (n : ℕ) (is : Lined s t n) (tree : tree
         number = λ l e. rw (number-same l) (is .number l (sym (same-lines l 0 (omega arith)) ∙ e));
       }
 
-  pub tied-names : (l : ℕ) → nameStart w l + nameLength w l ≤ length s
-  tied-names l = omega (arith, same-lines l 1 (omega arith), same-lines l 2 (omega arith), is .names l)
+  pub resolved-names : (l : ℕ) → nameStart w l + nameLength w l ≤ length s
+  resolved-names l = omega (arith, same-lines l 1 (omega arith), same-lines l 2 (omega arith), is .names l)
 
 -- ---- Read's table, where it answers
 
 -- what rows 5 to 15 found nothing in
 module _ (s : List ℕ) (m : ℕ) (h : headBad s ≡ Fine) (room : 8 * labels s ≤ m) (e : sheetBad s m ≡ Fine) where
-  lines-fine : (linesBad s (labels s) ≡ Fine) × (tiedBad s (linedTable s m) (labels s) ≡ Fine)
+  lines-fine : (linesBad s (labels s) ≡ Fine) × (resolvedBad s (linedTable s m) (labels s) ≡ Fine)
   unfolding sheetBad
-  lines-fine = both-fine (linesBad s (labels s)) (tiedBad s (linedTable s m) (labels s)) e
+  lines-fine = both-fine (linesBad s (labels s)) (resolvedBad s (linedTable s m) (labels s)) e
 
   tree-fine : (treeBad (linedTable s m) (labels s) ≡ Fine) × (pathsBad s (ownedTable (linedTable s m) (labels s)) (labels s) ≡ Fine)
-  unfolding tiedBad
+  unfolding resolvedBad
   tree-fine = both-fine (treeBad (linedTable s m) (labels s)) (pathsBad s (ownedTable (linedTable s m) (labels s)) (labels s)) (lines-fine .1)
 
   is-lined : Lined s (linedTable s m) (labels s)
@@ -193,11 +193,11 @@ module _ (s : List ℕ) (m : ℕ) (h : headBad s ≡ Fine) (room : 8 * labels s 
 
   pub sheet-accepted : Accepted (sheetTable s m) (labels s)
   unfolding sheetTable
-  sheet-accepted = tied-accepted s (linedTable s m) (labels s) is-lined (tree-fine .0) (tree-fine .1)
+  sheet-accepted = resolved-accepted s (linedTable s m) (labels s) is-lined (tree-fine .0) (tree-fine .1)
 
   pub sheet-names : (l : ℕ) → nameStart (sheetTable s m) l + nameLength (sheetTable s m) l ≤ length s
   unfolding sheetTable
-  sheet-names = tied-names s (linedTable s m) (labels s) is-lined (tree-fine .0) (tree-fine .1)
+  sheet-names = resolved-names s (linedTable s m) (labels s) is-lined (tree-fine .0) (tree-fine .1)
 
   -- a value's name has at most 16 bytes
   pub sheet-short : (v : ℕ) → kind (sheetTable s m) v ≡ 2 → nameLength (sheetTable s m) v ≤ 16

@@ -8,6 +8,7 @@ use lib.Dec.{leb, eqb}
 use lib.IntN.{ℤ}
 use lib.ListN.{length, getD}
 use borrow.Author.Tests.{leb-true, le-leb, lt-ltb, le-ltb, eqb-true, eqb-false, eq-eqb, ne-eqb}
+use Rattle.cells.specs.Lists.{count, all}
 use Rattle.cells.specs.Table.{kind, fieldA}
 use Rattle.refusals.specs.declared.Verdict.the-variants.{Fine}
 use Rattle.refusals.proofs.FirstBad.{first-none, none-first}
@@ -20,7 +21,7 @@ use Rattle.lines.specs.Lines.{isText, line, labels, firstLine, headBad, rootLin
 use Rattle.lines.specs.Lined.{Lined, linedTable}
 use Rattle.lines.proofs.Heads.{headed}
 use Rattle.lines.proofs.Lined.{lined, fine-fields, fine-forms, known, root-is}
-use Rattle.tree.specs.Tree.{isDefinition, isExpression, parts, every, groupRight, partRight, structureBad, times, usesBad, Level, ownerOf, levelOf, argumentBad, levelBad, treeBad}
+use Rattle.tree.specs.Tree.{isDefinition, isExpression, parts, groupRight, partRight, structureBad, usesBad, Level, ownerOf, levelOf, argumentBad, levelBad, treeBad}
 use Rattle.tree.specs.Treed.{Formed, Treed}
 use Rattle.tree.specs.Steps.{UsedOnce}
 use Rattle.tree.proofs.Codes.{expression-kind, expression-high, not-expression, label-low, label-high}
@@ -29,11 +30,11 @@ use Rattle.tree.proofs.Treed.{treed}
 use Rattle.paths.specs.Leads.{PathsKept}
 use Rattle.paths.specs.Paths.{pathsBad}
 use Rattle.paths.proofs.Leads.{paths-kept, kept-paths}
-use Rattle.reading.specs.Read.{ownedTable, tableShort, tiedBad, sheetBad, bodyBad, readBad}
+use Rattle.reading.specs.Read.{ownedTable, tableShort, resolvedBad, sheetBad, bodyBad, readBad}
 use Rattle.reading.specs.Keeps.{TextKept, LineKept, TreeKept, sheetRows, Keeps}
-use Rattle.reading.proofs.Tied.{formed, accepted}
+use Rattle.reading.proofs.Resolved.{formed, accepted}
 use Rattle.refusals.proofs.OrElse.{both-fine}
-use Rattle.reading.proofs.Padding.{rows-lined, tied-padded, table-long}
+use Rattle.reading.proofs.Padding.{rows-lined, resolved-padded, table-long}
 
 -- ---- the text
 
@@ -70,11 +71,11 @@ module _ (s : List ℕ) (n l : ℕ) where
 
 -- ---- the tree
 
-every-all : (test : ℕ → Bool) (xs : List ℕ) → ((x : ℕ) → 1 ≤ times x xs → test x ≡ true) → every test xs ≡ true
-every-all test [] h = refl
-every-all test (y ∷ ys) h =
-    let own : 1 ≤ times y (y ∷ ys) = rw (eq-eqb y y refl) (omega arith) in
-    rw (h y own, every-all test ys (λ x g. h x (omega arith)))
+all-so : (test : ℕ → Bool) (xs : List ℕ) → ((x : ℕ) → 1 ≤ count x xs → test x ≡ true) → all test xs ≡ true
+all-so test [] h = refl
+all-so test (y ∷ ys) h =
+    let own : 1 ≤ count y (y ∷ ys) = rw (eq-eqb y y refl) (omega arith) in
+    rw (h y own, all-so test ys (λ x g. h x (omega arith)))
 
 module _ (t : List ℤ) (n : ℕ) (s : Formed t n) where
   module _ (e : treeBad t n ≡ Fine) where
@@ -104,7 +105,7 @@ module _ (t : List ℤ) (n : ℕ) (s : Formed t n) where
 
     kept-structure : (l : ℕ) → l ≤ n → structureBad t l ≡ 0
     unfolding structureBad
-    kept-structure l g = rw (group (leb 2 l && isDefinition t l) refl, every-all (partRight t l) (parts t l) part)
+    kept-structure l g = rw (group (leb 2 l && isDefinition t l) refl, all-so (partRight t l) (parts t l) part)
       where
         group : (b : Bool) → (leb 2 l && isDefinition t l) ≡ b → cond b (groupRight t l (fieldA t l)) true ≡ true
         group true e =
@@ -112,7 +113,7 @@ module _ (t : List ℤ) (n : ℕ) (s : Formed t n) where
             rw (lt-ltb (fieldA t l) l (r .0), eq-eqb (kind t (fieldA t l)) 1 (r .1))
         group false e = refl
 
-        part : (x : ℕ) → 1 ≤ times x (parts t l) → partRight t l x ≡ true
+        part : (x : ℕ) → 1 ≤ count x (parts t l) → partRight t l x ≡ true
         part x p = rw (lt-ltb l x (k .part l x p .0)) (k .part l x p .1)
 
     kept-uses : (x : ℕ) → usesBad t n x ≡ 0
@@ -148,15 +149,15 @@ module _ (t : List ℤ) (n : ℕ) (s : Formed t n) where
 -- ---- the tree, and names and paths
 
 module _ (s : List ℕ) (t : List ℤ) (n : ℕ) (is : Lined s t n) where
-  tied-kept : tiedBad s t n ≡ Fine → TreeKept t n × PathsKept s (ownedTable t n) n
-  unfolding tiedBad
-  tied-kept e =
+  resolved-kept : resolvedBad s t n ≡ Fine → TreeKept t n × PathsKept s (ownedTable t n) n
+  unfolding resolvedBad
+  resolved-kept e =
       let a = both-fine (treeBad t n) (pathsBad s (ownedTable t n) n) e in
       (tree-kept t n (formed s t n is) (a .0), paths-kept s (ownedTable t n) n (a .1))
 
-  kept-tied : TreeKept t n → PathsKept s (ownedTable t n) n → tiedBad s t n ≡ Fine
-  unfolding tiedBad
-  kept-tied k p =
+  kept-resolved : TreeKept t n → PathsKept s (ownedTable t n) n → resolvedBad s t n ≡ Fine
+  unfolding resolvedBad
+  kept-resolved k p =
       let e = kept-tree t n (formed s t n is) k in
       rw e (kept-paths s (ownedTable t n) n (accepted s t n is e .falls) p)
 
@@ -180,7 +181,7 @@ module _ (s : List ℕ) where
   keeps-read m room k =
       let h = kept-text s (k .text) in
       let e = kept-lines k in
-      rw (h, table-long s m room, e, tied-padded s m room) (kept-tied s (sheetRows s) (labels s) (rows-are h e) (k .tree) (k .paths))
+      rw (h, table-long s m room, e, resolved-padded s m room) (kept-resolved s (sheetRows s) (labels s) (rows-are h e) (k .tree) (k .paths))
 
   -- and a sheet that it does not refuse keeps them
   pub read-keeps : (m : ℕ) → 8 * labels s ≤ m → readBad s m ≡ Fine → Keeps s
@@ -188,6 +189,6 @@ module _ (s : List ℕ) where
   read-keeps m room e =
       let a = both-fine (headBad s) (bodyBad s m) e in
       let b = both-fine (tableShort s m) (sheetBad s m) (a .1) in
-      let c = both-fine (linesBad s (labels s)) (tiedBad s (linedTable s m) (labels s)) (b .1) in
-      let d = tied-kept s (sheetRows s) (labels s) (rows-are (a .0) (c .0)) (sym (tied-padded s m room) ∙ c .1) in
+      let c = both-fine (linesBad s (labels s)) (resolvedBad s (linedTable s m) (labels s)) (b .1) in
+      let d = resolved-kept s (sheetRows s) (labels s) (rows-are (a .0) (c .0)) (sym (resolved-padded s m room) ∙ c .1) in
       record { text = text-kept s (a .0); lines = lines-kept (c .0); tree = d .0; paths = d .1 }

@@ -1,4 +1,4 @@
-pub mod Tied
+pub mod Resolved
 pub mod Accepted
 pub mod Stage
 pub mod Named

@@ -9,6 +9,7 @@ use lib.IntN.{ℤ, pos}
 use lib.ListN.{length}
 use borrow.Author.Tests.{leb-true, leb-false, le-leb}
 use Rattle.cells.specs.Cells.{natOf, intAt, zeros}
+use Rattle.cells.specs.Lists.{all}
 use Rattle.cells.specs.Table.{cell, fieldA, owner}
 use Rattle.cells.proofs.Stores.{intAt-zeros}
 use Rattle.cells.proofs.Columns.{column-has, column-keeps, column-other}
@@ -18,17 +19,17 @@ use Rattle.lines.specs.Lines.{labels, rows}
 use Rattle.lines.specs.Lined.{linedTable}
 use Rattle.lines.proofs.Lined.{lined-length}
 use Rattle.lines.proofs.Pass.{rows-length}
-use Rattle.tree.specs.Tree.{parts, every, partRight, structureBad, usesBad, ownerOf, argumentBad, levelBad, treeBad}
+use Rattle.tree.specs.Tree.{parts, partRight, structureBad, usesBad, ownerOf, argumentBad, levelBad, treeBad}
 use Rattle.tree.proofs.Parts.{Alike, alike-expression, alike-definition, alike-parts}
 use Rattle.tree.proofs.Users.{alike-uses}
 use Rattle.tree.proofs.Owners.{alike-level, alike-owner}
 use Rattle.paths.proofs.Alike as paths
-use Rattle.reading.specs.Read.{tableShort, ownedTable, tiedBad, sheetBad, readBad}
+use Rattle.reading.specs.Read.{tableShort, ownedTable, resolvedBad, sheetBad, readBad}
 use Rattle.reading.specs.Keeps.{sheetRows}
 
-every-same : (f g : ℕ → Bool) → ((x : ℕ) → f x ≡ g x) → (xs : List ℕ) → every f xs ≡ every g xs
-every-same f g h [] = refl
-every-same f g h (x ∷ xs) = rw (h x, every-same f g h xs)
+all-same : (f g : ℕ → Bool) → ((x : ℕ) → f x ≡ g x) → (xs : List ℕ) → all f xs ≡ all g xs
+all-same f g h [] = refl
+all-same f g h (x ∷ xs) = rw (h x, all-same f g h xs)
 
 -- ---- tables with the same cells
 
@@ -43,7 +44,7 @@ module _ (t w : List ℤ) (same : (i : ℕ) → intAt w i ≡ intAt t i) (n : �
   structure-same : (l : ℕ) → structureBad w l ≡ structureBad t l
   unfolding structureBad
   structure-same l =
-      rw (alike-definition t w alike l, alike-parts t w alike l, cell-same l 3, cell-same (fieldA t l) 0, every-same (partRight w l) (partRight t l) (λ x. rw (alike-expression t w alike x)) (parts t l))
+      rw (alike-definition t w alike l, alike-parts t w alike l, cell-same l 3, cell-same (fieldA t l) 0, all-same (partRight w l) (partRight t l) (λ x. rw (alike-expression t w alike x)) (parts t l))
 
   uses-same : (x : ℕ) → usesBad w n x ≡ usesBad t n x
   uses-same x = rw (alike-expression t w alike x, alike-uses t w alike x n)
@@ -97,9 +98,9 @@ module _ (t w : List ℤ) (same : (i : ℕ) → intAt w i ≡ intAt t i) (n : �
       owned = λ l h. owned-same (l - 1);
     }
 
-    tied-same : (s : List ℕ) → tiedBad s w n ≡ tiedBad s t n
-    unfolding tiedBad
-    tied-same s = rw (tree-same, paths.paths-alike s (ownedTable t n) (ownedTable w n) owned-alike n)
+    resolved-same : (s : List ℕ) → resolvedBad s w n ≡ resolvedBad s t n
+    unfolding resolvedBad
+    resolved-same s = rw (tree-same, paths.paths-alike s (ownedTable t n) (ownedTable w n) owned-alike n)
 
 -- ---- zeros behind a table
 
@@ -114,15 +115,15 @@ module _ (s : List ℕ) where
   rows-lined = let q : 8 * labels s - 8 * labels s ≡ 0 = omega arith in rw q (append-nil (rows s (labels s) (labels s)))
 
   module _ (m : ℕ) (room : 8 * labels s ≤ m) where
-    pub tied-padded : tiedBad s (linedTable s m) (labels s) ≡ tiedBad s (sheetRows s) (labels s)
+    pub resolved-padded : resolvedBad s (linedTable s m) (labels s) ≡ resolvedBad s (sheetRows s) (labels s)
     unfolding linedTable sheetRows
-    tied-padded =
+    resolved-padded =
         let n = labels s in
-        tied-same (rows s n n) (rows s n n ++ zeros (m - 8 * n)) (padded (rows s n n) (m - 8 * n)) n (omega (arith, rows-length s n n)) (omega (arith, lined-length s m room)) s
+        resolved-same (rows s n n) (rows s n n ++ zeros (m - 8 * n)) (padded (rows s n n) (m - 8 * n)) n (omega (arith, rows-length s n n)) (omega (arith, lined-length s m room)) s
 
     sheet-padded : sheetBad s m ≡ sheetBad s (8 * labels s)
     unfolding sheetBad
-    sheet-padded = rw (tied-padded, rows-lined)
+    sheet-padded = rw (resolved-padded, rows-lined)
 
     -- row 4 finds nothing
     pub table-long : tableShort s m ≡ Fine

@@ -16,7 +16,7 @@ use Rattle.refusals.specs.declared.Reply.the-variants as reply
 use Rattle.lines.specs.Lines.{labels, headBad, linesBad, rows, linesWritten}
 use Rattle.lines.proofs.Pass.{rows-length, written-length}
 use Rattle.lines.specs.Lined.{linedTable, Lined}
-use Rattle.reading.specs.Read.{tableShort, tiedBad, tiedTable, sheetBad, sheetTable, bodyBad, readBad, readReply, readTable, tableOf}
+use Rattle.reading.specs.Read.{tableShort, resolvedBad, resolvedTable, sheetBad, sheetTable, bodyBad, readBad, readReply, readTable, tableOf}
 use Rattle.lines.proofs.Lined.{lined, lined-length}
 
 -- ---- what a reply says of the verdict behind it
@@ -49,10 +49,10 @@ module _ (s : List ℕ) (n : ℕ) (t u : List ℤ) (v : Verdict) (is : n ≡ lab
   pub lined-left : (x : List ℤ) → headBad s ≡ Fine → v ≡ Fine → u ≡ linesWritten s n (passed v n) t → x ≡ clearFrom (8 * n) u → Lined s x n
   lined-left x h f w e = rw (e ∙ table-lined f w, is) (lined s (length t) h (lines-are ∙ f) (omega arith))
 
-  pub sheet-tied : (x y : List ℤ) (r : Verdict) → v ≡ Fine → u ≡ linesWritten s n (passed v n) t → x ≡ clearFrom (8 * n) u
-      → r ≡ tiedBad s x n → (r ≡ Fine → y ≡ tiedTable s x n) → (r ≡ sheetBad s (length t)) × (r ≡ Fine → y ≡ sheetTable s (length t))
+  pub sheet-resolved : (x y : List ℤ) (r : Verdict) → v ≡ Fine → u ≡ linesWritten s n (passed v n) t → x ≡ clearFrom (8 * n) u
+      → r ≡ resolvedBad s x n → (r ≡ Fine → y ≡ resolvedTable s x n) → (r ≡ sheetBad s (length t)) × (r ≡ Fine → y ≡ sheetTable s (length t))
   unfolding sheetBad sheetTable
-  sheet-tied x y r f w e b g =
+  sheet-resolved x y r f w e b g =
       let q = sym (e ∙ table-lined f w) in
       (rw (lines-are ∙ f, q, ← is) b, λ z. rw (q, ← is) (g z))
 

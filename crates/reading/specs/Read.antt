@@ -24,19 +24,19 @@ tableShort s m = cond (leb (8 * labels s) m) Fine (Refused buffersRow 1)
 unfoldable pub ownedTable : List ℤ → ℕ → List ℤ
 ownedTable t n = withColumn 6 (ownerOf t n) n t
 
-unfoldable pub tiedTable : List ℕ → List ℤ → ℕ → List ℤ
-tiedTable s t n = withColumn 7 (targetCell s (ownedTable t n) n) n (ownedTable t n)
+unfoldable pub resolvedTable : List ℕ → List ℤ → ℕ → List ℤ
+resolvedTable s t n = withColumn 7 (targetCell s (ownedTable t n) n) n (ownedTable t n)
 
 -- rows 8 to 15, of a table t of n lines
-unfoldable pub tiedBad : List ℕ → List ℤ → ℕ → Verdict
-tiedBad s t n = orElse (treeBad t n) (pathsBad s (ownedTable t n) n)
+unfoldable pub resolvedBad : List ℕ → List ℤ → ℕ → Verdict
+resolvedBad s t n = orElse (treeBad t n) (pathsBad s (ownedTable t n) n)
 
 -- rows 5 to 15, and the table of a sheet that they let pass
 unfoldable pub sheetBad : List ℕ → ℕ → Verdict
-sheetBad s m = orElse (linesBad s (labels s)) (tiedBad s (linedTable s m) (labels s))
+sheetBad s m = orElse (linesBad s (labels s)) (resolvedBad s (linedTable s m) (labels s))
 
 unfoldable pub sheetTable : List ℕ → ℕ → List ℤ
-sheetTable s m = tiedTable s (linedTable s m) (labels s)
+sheetTable s m = resolvedTable s (linedTable s m) (labels s)
 
 -- rows 1 to 15, in the order of the paper's table
 abbrev pub bodyBad : List ℕ → ℕ → Verdict

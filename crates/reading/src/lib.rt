@@ -7,16 +7,16 @@ ghost use Rattle.cells.specs.Cells.{natOf};
 ghost use Rattle.refusals.specs.Refusal.{replyOf};
 ghost use Rattle.lines.specs.Lines.{labels, headBad};
 ghost use Rattle.lines.specs.Lined.{Lined};
-ghost use Rattle.reading.specs.Read.{tiedBad, tiedTable, sheetBad, sheetTable, bodyBad, tableOf, readReply, readTable};
+ghost use Rattle.reading.specs.Read.{resolvedBad, resolvedTable, sheetBad, sheetTable, bodyBad, tableOf, readReply, readTable};
 ghost use Rattle.reading.specs.Name.{labelIn, nameBegin, nameSize, namePart};
 use refusals::Reply;
 use refusals::Verdict;
 
 // Rows 8 to 15, and owners and targets in a table of lines.
-fn tie(text: &[u8], table: &mut [i64], n: usize) -> Verdict
+fn resolve(text: &[u8], table: &mut [i64], n: usize) -> Verdict
     requires { ⌜ Lined (now text) (now table) n ⌝ }
-    ensures { λ r. ⌜ r ≡ tiedBad (now (text .entry)) (now (table .entry)) n ⌝ }
-    ensures { λ r. ⌜ (r ≡ Verdict.Fine → now (table .exit) ≡ tiedTable (now (text .entry)) (now (table .entry)) n) ⌝ }
+    ensures { λ r. ⌜ r ≡ resolvedBad (now (text .entry)) (now (table .entry)) n ⌝ }
+    ensures { λ r. ⌜ (r ≡ Verdict.Fine → now (table .exit) ≡ resolvedTable (now (text .entry)) (now (table .entry)) n) ⌝ }
 {
     match tree::read_tree(table, n) {
         Verdict::Fine => paths::read_paths(text, table, n),
@@ -33,7 +33,7 @@ pub fn read_sheet(text: &[u8], n: usize, table: &mut [i64]) -> Verdict
     match lines::read_lines(text, n, table) {
         Verdict::Fine => {
             cells::clear_from(table, 8 * n);
-            tie(text, table, n)
+            resolve(text, table, n)
         }
         Verdict::Refused(row, label) => Verdict::Refused(row, label),
     }

@@ -14,7 +14,7 @@ use Rattle.lines.specs.Lined.{linedTable}
 use Rattle.tree.specs.Tree.{isDefinition, isExpression, parts, structureBad, definitionOf, ownerOf, levelOf, treeBad}
 use Rattle.paths.specs.Names.{sameName, member}
 use Rattle.paths.specs.Paths as paths
-use Rattle.reading.specs.Read.{tableShort, ownedTable, tiedTable, tiedBad, sheetBad, sheetTable, readBad, readReply, readTable}
+use Rattle.reading.specs.Read.{tableShort, ownedTable, resolvedTable, resolvedBad, sheetBad, sheetTable, readBad, readReply, readTable}
 use Rattle.reading.specs.Name.{nameBegin, nameSize, namePart}
 use Rattle.order.specs.Rows.{cycleBad, orderBad}
 use Rattle.evaluation.specs.Evaluation.{onNumber, answerAt, outcomeOf, kindOf, bodyBy, callBy, operationBy, choiceBy, enteredBy, stepBy, within, outcome, valueOutcome}
@@ -27,5 +27,5 @@ use Rattle.samples.specs.Sample.{given, said}
 use Rattle.samples.specs.Samples.{samples}
 
 pub samples-hold : map given samples ≡ map said samples
-unfolding samples isText isAllowed line labels firstLine headBad linedTable rowOf kinds kindAt codeOf fieldOf labelOf numberOf decimalOf digitsOf value allDigits linesBad lineBad rootLine isName isPath isLetter isAlphanumeric isDefinition isExpression parts structureBad definitionOf ownerOf levelOf treeBad sameName member paths.duplicateBad paths.headFrom paths.headOf paths.targetOf paths.headBad paths.laterBad paths.targetBad paths.pathsBad tableShort ownedTable tiedTable tiedBad sheetBad sheetTable readBad readReply readTable nameBegin nameSize namePart cycleBad planShort resultsShort openBad plannedBad planOf planBad planReply planCells runBad runReply runPlan runResults orderBad followBad followReply followResults afterRounds rounded quotient rangedOf result calculated onNumber answerAt outcomeOf kindOf bodyBy callBy operationBy choiceBy enteredBy stepBy within outcome valueOutcome
+unfolding samples isText isAllowed line labels firstLine headBad linedTable rowOf kinds kindAt codeOf fieldOf labelOf numberOf decimalOf digitsOf value allDigits linesBad lineBad rootLine isName isPath isLetter isAlphanumeric isDefinition isExpression parts structureBad definitionOf ownerOf levelOf treeBad sameName member paths.duplicateBad paths.headFrom paths.headOf paths.targetOf paths.pathHeadBad paths.laterBad paths.targetBad paths.pathsBad tableShort ownedTable resolvedTable resolvedBad sheetBad sheetTable readBad readReply readTable nameBegin nameSize namePart cycleBad planShort resultsShort openBad plannedBad planOf planBad planReply planCells runBad runReply runPlan runResults orderBad followBad followReply followResults afterRounds rounded quotient rangedOf result calculated onNumber answerAt outcomeOf kindOf bodyBy callBy operationBy choiceBy enteredBy stepBy within outcome valueOutcome
 samples-hold = refl

@@ -10,7 +10,7 @@ use lib.Dec.{eqb, leb, ltb, eqb·suc-suc, eqb·zero-suc}
 use lib.ListN.{length, getD, drop, take}
 use lib.Seq.{slice, length-slice}
 use borrow.Author.Tests.{eq-eqb, ne-eqb, eqb-true, leb-true, ltb-true, lt-ltb, le-ltb}
-use Rattle.text.specs.Bytes.{all, one, countBy, oneMore, run, same, isAllowed, isBad, isNewline, isInk, endsLines}
+use Rattle.text.specs.Bytes.{all, one, countBy, oneMore, run, same, isAllowed, isBad, isNewline, isGraphic, endsLines}
 use Rattle.text.specs.Scans.{runEnd}
 use Rattle.text.proofs.Slices.{at-drop, past-drop, slice-at, slice-none}
 

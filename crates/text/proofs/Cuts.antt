@@ -10,7 +10,7 @@ use lib.Dec.{eqb, ltb}
 use lib.ListN.{length, getD, drop, take}
 use lib.Seq.{slice, getD-drop, drop-drop}
 use borrow.Author.Tests.{eq-eqb, ne-eqb}
-use Rattle.text.specs.Bytes.{one, countBy, run, oneMore, isInk, isNewline}
+use Rattle.text.specs.Bytes.{one, countBy, run, oneMore, isGraphic, isNewline}
 use Rattle.text.specs.Pieces.{cut, cutAt, onto, place, firstOf, fieldsAre}
 use Rattle.text.proofs.Bytes.{true-false}
 
@@ -65,43 +65,43 @@ abbrev fieldsOf : List ℕ → List (List ℕ)
 fieldsOf l = cut 32 (firstOf (cut 10 l))
 
 space-go : (x : ℕ) (xs : List ℕ)
-    → (run isInk xs < length xs → getD xs (run isInk xs) 0 ≡ 32 → fieldsOf xs ≡ take (run isInk xs) xs ∷ fieldsOf (drop (suc (run isInk xs)) xs))
-    → (t : Bool) → isInk x ≡ t → oneMore t (run isInk xs) < suc (length xs) → getD (x ∷ xs) (oneMore t (run isInk xs)) 0 ≡ 32
-    → fieldsOf (x ∷ xs) ≡ take (oneMore t (run isInk xs)) (x ∷ xs) ∷ fieldsOf (drop (suc (oneMore t (run isInk xs))) (x ∷ xs))
+    → (run isGraphic xs < length xs → getD xs (run isGraphic xs) 0 ≡ 32 → fieldsOf xs ≡ take (run isGraphic xs) xs ∷ fieldsOf (drop (suc (run isGraphic xs)) xs))
+    → (t : Bool) → isGraphic x ≡ t → oneMore t (run isGraphic xs) < suc (length xs) → getD (x ∷ xs) (oneMore t (run isGraphic xs)) 0 ≡ 32
+    → fieldsOf (x ∷ xs) ≡ take (oneMore t (run isGraphic xs)) (x ∷ xs) ∷ fieldsOf (drop (suc (oneMore t (run isGraphic xs))) (x ∷ xs))
 space-go x xs rest true e h g =
-    rw (differs isInk x 10 e refl, first-onto x (cut 10 xs), differs isInk x 32 e refl, rest (le-of-suc-le-suc h) g)
+    rw (differs isGraphic x 10 e refl, first-onto x (cut 10 xs), differs isGraphic x 32 e refl, rest (le-of-suc-le-suc h) g)
 space-go x xs rest false e h g =
     rw (ne-eqb x 10 (λ q. omega arith), first-onto x (cut 10 xs), eq-eqb x 32 g)
 
-space-suc : (l : List ℕ) → run isInk l < length l → getD l (run isInk l) 0 ≡ 32
-    → fieldsOf l ≡ take (run isInk l) l ∷ fieldsOf (drop (suc (run isInk l)) l)
+space-suc : (l : List ℕ) → run isGraphic l < length l → getD l (run isGraphic l) 0 ≡ 32
+    → fieldsOf l ≡ take (run isGraphic l) l ∷ fieldsOf (drop (suc (run isGraphic l)) l)
 space-suc [] h g = absurd (not-suc-le-zero h)
-space-suc (x ∷ xs) h g = space-go x xs (space-suc xs) (isInk x) refl h g
+space-suc (x ∷ xs) h g = space-go x xs (space-suc xs) (isGraphic x) refl h g
 
-pub fields-space : (l : List ℕ) → run isInk l < length l → getD l (run isInk l) 0 ≡ 32
-    → cut 32 (firstOf (cut 10 l)) ≡ take (run isInk l) l ∷ cut 32 (firstOf (cut 10 (drop (run isInk l + 1) l)))
+pub fields-space : (l : List ℕ) → run isGraphic l < length l → getD l (run isGraphic l) 0 ≡ 32
+    → cut 32 (firstOf (cut 10 l)) ≡ take (run isGraphic l) l ∷ cut 32 (firstOf (cut 10 (drop (run isGraphic l + 1) l)))
 fields-space l h g = rw add-one (space-suc l h g)
 
-pub fields-newline : (l : List ℕ) → run isInk l < length l → getD l (run isInk l) 0 ≡ 10
-    → cut 32 (firstOf (cut 10 l)) ≡ take (run isInk l) l ∷ []
-fields-newline l h g = rw (cut-more isInk 10 l refl h g) (cut-last isInk 32 (take (run isInk l) l) refl (take-run isInk l))
+pub fields-newline : (l : List ℕ) → run isGraphic l < length l → getD l (run isGraphic l) 0 ≡ 10
+    → cut 32 (firstOf (cut 10 l)) ≡ take (run isGraphic l) l ∷ []
+fields-newline l h g = rw (cut-more isGraphic 10 l refl h g) (cut-last isGraphic 32 (take (run isGraphic l) l) refl (take-run isGraphic l))
 
 -- the line that begins the list, where its first field is ended by a space: the line after that field is q
 line-go : (x : ℕ) (xs q : List ℕ) (ps : List (List ℕ))
-    → (run isInk xs < length xs → getD xs (run isInk xs) 0 ≡ 32 → cut 10 (drop (suc (run isInk xs)) xs) ≡ q ∷ ps → cut 10 xs ≡ (take (suc (run isInk xs)) xs ++ q) ∷ ps)
-    → (t : Bool) → isInk x ≡ t → oneMore t (run isInk xs) < suc (length xs) → getD (x ∷ xs) (oneMore t (run isInk xs)) 0 ≡ 32
-    → cut 10 (drop (suc (oneMore t (run isInk xs))) (x ∷ xs)) ≡ q ∷ ps
-    → cut 10 (x ∷ xs) ≡ (take (suc (oneMore t (run isInk xs))) (x ∷ xs) ++ q) ∷ ps
-line-go x xs q ps rest true e h g d = rw (differs isInk x 10 e refl, rest (le-of-suc-le-suc h) g d)
+    → (run isGraphic xs < length xs → getD xs (run isGraphic xs) 0 ≡ 32 → cut 10 (drop (suc (run isGraphic xs)) xs) ≡ q ∷ ps → cut 10 xs ≡ (take (suc (run isGraphic xs)) xs ++ q) ∷ ps)
+    → (t : Bool) → isGraphic x ≡ t → oneMore t (run isGraphic xs) < suc (length xs) → getD (x ∷ xs) (oneMore t (run isGraphic xs)) 0 ≡ 32
+    → cut 10 (drop (suc (oneMore t (run isGraphic xs))) (x ∷ xs)) ≡ q ∷ ps
+    → cut 10 (x ∷ xs) ≡ (take (suc (oneMore t (run isGraphic xs))) (x ∷ xs) ++ q) ∷ ps
+line-go x xs q ps rest true e h g d = rw (differs isGraphic x 10 e refl, rest (le-of-suc-le-suc h) g d)
 line-go x xs q ps rest false e h g d = rw (ne-eqb x 10 (λ z. omega arith), d)
 
-line-suc : (l q : List ℕ) (ps : List (List ℕ)) → run isInk l < length l → getD l (run isInk l) 0 ≡ 32
-    → cut 10 (drop (suc (run isInk l)) l) ≡ q ∷ ps → cut 10 l ≡ (take (suc (run isInk l)) l ++ q) ∷ ps
+line-suc : (l q : List ℕ) (ps : List (List ℕ)) → run isGraphic l < length l → getD l (run isGraphic l) 0 ≡ 32
+    → cut 10 (drop (suc (run isGraphic l)) l) ≡ q ∷ ps → cut 10 l ≡ (take (suc (run isGraphic l)) l ++ q) ∷ ps
 line-suc [] q ps h g d = absurd (not-suc-le-zero h)
-line-suc (x ∷ xs) q ps h g d = line-go x xs q ps (line-suc xs q ps) (isInk x) refl h g d
+line-suc (x ∷ xs) q ps h g d = line-go x xs q ps (line-suc xs q ps) (isGraphic x) refl h g d
 
-pub line-space : (l q : List ℕ) (ps : List (List ℕ)) → run isInk l < length l → getD l (run isInk l) 0 ≡ 32
-    → cut 10 (drop (run isInk l + 1) l) ≡ q ∷ ps → cut 10 l ≡ (take (run isInk l + 1) l ++ q) ∷ ps
+pub line-space : (l q : List ℕ) (ps : List (List ℕ)) → run isGraphic l < length l → getD l (run isGraphic l) 0 ≡ 32
+    → cut 10 (drop (run isGraphic l + 1) l) ≡ q ∷ ps → cut 10 l ≡ (take (run isGraphic l + 1) l ++ q) ∷ ps
 line-space l q ps h g d = rw add-one (line-suc l q ps h g (rw add-one at d))
 
 -- ---- pieces by their number

@@ -10,7 +10,7 @@ use lib.Dec.{eqb, ltb, leb}
 use lib.ListN.{length, getD, drop, take, take-append-drop}
 use lib.Seq.{slice, slice-empty, length-slice}
 use borrow.Author.Tests.{eq-eqb, ne-eqb, eqb-true, eqb-false, leb-true, ltb-true, ltb-false, lt-ltb, le-ltb, not-false}
-use Rattle.text.specs.Bytes.{all, run, isAllowed, isInk, endsLines}
+use Rattle.text.specs.Bytes.{all, run, isAllowed, isGraphic, endsLines}
 use Rattle.text.specs.Pieces.{cut, firstOf, rest, fieldsFrom, fieldsAre}
 use Rattle.text.specs.Scans.{runEnd, fieldEnd}
 use Rattle.text.proofs.Slices.{slice-at, getD-slice, drop-slice, take-slice}
@@ -48,8 +48,8 @@ too-many f [] h = absurd (omega arith)
 too-many [] (g ∷ fs) h = refl
 too-many (x ∷ f) (g ∷ fs) h = refl
 
--- a byte that row 1 allows and that is no ink
-allowed-gap : (x : ℕ) → isAllowed x ≡ true → isInk x ≡ false → (x ≡ 10) ⊎ (x ≡ 32)
+-- a byte that row 1 allows and that is not graphic
+allowed-gap : (x : ℕ) → isAllowed x ≡ true → isGraphic x ≡ false → (x ≡ 10) ⊎ (x ≡ 32)
 unfolding isAllowed
 allowed-gap x a i = go (eqb x 10) (leb 32 x) refl refl a
   where
@@ -124,22 +124,22 @@ module _ (s : List ℕ) (from : ℕ) (h : from < length s) (ends : endsLines s) 
   l = rest s from
 
   abbrev r : ℕ
-  r = run isInk l
+  r = run isGraphic l
 
   short′ : from + r < length s
-  short′ = short isInk refl s from h ends
+  short′ = short isGraphic refl s from h ends
 
   inner′ : r < length l
-  inner′ = inner isInk refl s from h ends
+  inner′ = inner isGraphic refl s from h ends
 
   at′ : getD l r 0 ≡ getD s (from + r) 0
-  at′ = at isInk refl s from h ends
+  at′ = at isGraphic refl s from h ends
 
   front′ : take r l ≡ slice from (from + r) s
-  front′ = front isInk refl s from h ends
+  front′ = front isGraphic refl s from h ends
 
   back′ : drop (r + 1) l ≡ rest s (from + r + 1)
-  back′ = back isInk refl s from h ends
+  back′ = back isGraphic refl s from h ends
 
   spaced : 0 < r → getD s (from + r) 0 ≡ 32 → Spaced s from (from + r)
   spaced w e =
@@ -164,12 +164,12 @@ module _ (s : List ℕ) (from : ℕ) (h : from < length s) (ends : endsLines s) 
         wide = omega arith;
         inside = short′;
         fields = fields-newline l k (at′ ∙ e) ∙ rw front′;
-        line = cut-more isInk 10 l refl k (at′ ∙ e) ∙ rw (front′, back′);
+        line = cut-more isGraphic 10 l refl k (at′ ∙ e) ∙ rw (front′, back′);
       }
 
   -- ---- what `fieldEnd` says
 
-  low : from ≤ runEnd isInk s from (length s)
+  low : from ≤ runEnd isGraphic s from (length s)
   unfolding runEnd
   low = omega arith
 
@@ -186,21 +186,21 @@ module _ (s : List ℕ) (from : ℕ) (h : from < length s) (ends : endsLines s) 
       go true false e f = inr (refl, inr (eqb-false (getD s (from + r) 0) stop f))
       go false y e f = inr (refl, inl (omega (arith, ltb-false from (from + r) e)))
 
-  pub end-inside : runEnd isInk s from (length s) < length s
+  pub end-inside : runEnd isGraphic s from (length s) < length s
   unfolding runEnd
   end-inside = short′
 
-  pub end-empty : (stop : ℕ) → runEnd isInk s from (length s) ≡ from → fieldEnd s from stop ≡ 0
+  pub end-empty : (stop : ℕ) → runEnd isGraphic s from (length s) ≡ from → fieldEnd s from stop ≡ 0
   unfolding fieldEnd
-  end-empty stop e = rw (le-ltb from (runEnd isInk s from (length s)) (omega arith))
+  end-empty stop e = rw (le-ltb from (runEnd isGraphic s from (length s)) (omega arith))
 
-  pub end-found : (stop : ℕ) → (runEnd isInk s from (length s) ≡ from → ⊥) → getD s (runEnd isInk s from (length s)) 0 ≡ stop → fieldEnd s from stop ≡ runEnd isInk s from (length s)
+  pub end-found : (stop : ℕ) → (runEnd isGraphic s from (length s) ≡ from → ⊥) → getD s (runEnd isGraphic s from (length s)) 0 ≡ stop → fieldEnd s from stop ≡ runEnd isGraphic s from (length s)
   unfolding fieldEnd
-  end-found stop f e = rw (lt-ltb from (runEnd isInk s from (length s)) (omega (arith, f, low)), eq-eqb (getD s (runEnd isInk s from (length s)) 0) stop e)
+  end-found stop f e = rw (lt-ltb from (runEnd isGraphic s from (length s)) (omega (arith, f, low)), eq-eqb (getD s (runEnd isGraphic s from (length s)) 0) stop e)
 
-  pub end-other : (stop : ℕ) → (getD s (runEnd isInk s from (length s)) 0 ≡ stop → ⊥) → fieldEnd s from stop ≡ 0
+  pub end-other : (stop : ℕ) → (getD s (runEnd isGraphic s from (length s)) 0 ≡ stop → ⊥) → fieldEnd s from stop ≡ 0
   unfolding fieldEnd
-  end-other stop f = rw (ne-eqb (getD s (runEnd isInk s from (length s)) 0) stop f, and-false (ltb from (runEnd isInk s from (length s))) false refl)
+  end-other stop f = rw (ne-eqb (getD s (runEnd isGraphic s from (length s)) 0) stop f, and-false (ltb from (runEnd isGraphic s from (length s))) false refl)
 
   pub space-end : (fieldEnd s from 32 ≡ 0 → ⊥) → Spaced s from (fieldEnd s from 32)
   space-end f = ⊎-elim (λ w. rw (w .0) (spaced (w .1) (w .2))) (λ w. absurd (f (w .0))) (cases 32)
@@ -209,11 +209,11 @@ module _ (s : List ℕ) (from : ℕ) (h : from < length s) (ends : endsLines s) 
   last-end f = ⊎-elim (λ w. rw (w .0) (last (w .1) (w .2))) (λ w. absurd (f (w .0))) (cases 10)
 
   module _ (allowed : all isAllowed s ≡ true) where
-    -- after row 1, what ends a run of ink is a space or the end of the line
+    -- after row 1, what ends a run of graphic bytes is a space or the end of the line
     gap : (getD s (from + r) 0 ≡ 10) ⊎ (getD s (from + r) 0 ≡ 32)
     gap =
         allowed-gap (getD s (from + r) 0) (all-at isAllowed s (from + r) allowed short′)
-        (ap isInk (sym at′) ∙ run-fails isInk l (inner′))
+        (ap isGraphic (sym at′) ∙ run-fails isGraphic l (inner′))
 
     by-newline : getD s (from + r) 0 ≡ 10 → fieldsFrom s from ≡ take r l ∷ []
     by-newline e = fields-newline l (inner′) (at′ ∙ e)

@@ -5,7 +5,7 @@ ghost use mathlib.Core.Path.{_≡_};
 ghost use Prim.Native.Nat.{_+_, _-_, _≤_, _<_};
 ghost use lib.ListN.{length, getD};
 ghost use lib.Seq.{slice};
-ghost use Rattle.text.specs.Bytes.{one, countBy, isBad, isNewline, isLetter, isAlphanumeric, isInk, same, endsLines};
+ghost use Rattle.text.specs.Bytes.{one, countBy, isBad, isNewline, isLetter, isAlphanumeric, isGraphic, same, endsLines};
 ghost use Rattle.text.specs.Forms.{isName, isPath, labelOf};
 ghost use Rattle.text.specs.Scans.{runEnd, fieldEnd, nameEnd};
 use numbers::Decimal;
@@ -79,9 +79,9 @@ pub fn same_bytes(text: &[u8], from: usize, to: usize, want: &[u8]) -> bool
 // ---- the fields of a line
 
 // Where the bytes above 32 end that begin at `from`. After row 1 that is at a byte 32 or 10.
-fn ink_end(text: &[u8], from: usize) -> usize
+fn graphic_end(text: &[u8], from: usize) -> usize
     requires { ⌜ (from < length (now text)) × endsLines (now text) × (length (now text) ≤ 65536) ⌝ }
-    ensures { λ r. ⌜ r ≡ runEnd isInk (now (text .entry)) from (length (now (text .entry))) ⌝ }
+    ensures { λ r. ⌜ r ≡ runEnd isGraphic (now (text .entry)) from (length (now (text .entry))) ⌝ }
 {
     let mut i = from;
     while 32 < text[i] {
@@ -96,7 +96,7 @@ pub fn field_end(text: &[u8], from: usize, stop: u8) -> usize
     requires { ⌜ (from < length (now text)) × endsLines (now text) × (length (now text) ≤ 65536) ⌝ }
     ensures { λ r. ⌜ r ≡ fieldEnd (now (text .entry)) from stop ⌝ }
 {
-    let end = ink_end(text, from);
+    let end = graphic_end(text, from);
     if end == from {
         return 0;
     }

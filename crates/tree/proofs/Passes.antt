@@ -11,18 +11,19 @@ use lib.Dec.{eqb}
 use lib.IntN.{ℤ, pos}
 use lib.ListN.{length, set}
 use Rattle.cells.specs.Cells.{natOf}
+use Rattle.cells.specs.Lists.{one, count}
 use Rattle.cells.specs.Table.{kind, fieldA, owner, target}
 use Rattle.cells.proofs.Signed.{clash}
 use Rattle.cells.proofs.Table.{cell-put, cell-other}
-use Rattle.tree.specs.Tree.{isDefinition, isExpression, parts, one, times, uses, IsPart, userOf, ownerOf, levelOf}
+use Rattle.tree.specs.Tree.{isDefinition, isExpression, parts, uses, IsPart, userOf, ownerOf, levelOf}
 use Rattle.tree.specs.Treed.{Plain}
-use Rattle.tree.specs.Steps.{nodeAt, counted, countedAll, given, givenAll, handed, Inside, Countable, Handable, Structured, UsedOnce, Natural, Over, Counted, turnOf, Handed, Cleared}
+use Rattle.tree.specs.Steps.{nodeAt, counted, countedAll, assigned, assignedAll, propagated, Inside, Countable, Propagable, Structured, UsedOnce, Natural, Over, Counted, turnOf, Propagated, Cleared}
 use Rattle.tree.specs.declared.Node.{Node}
 use Rattle.tree.proofs.Codes.{expression-kind, not-expression, either, label-high}
 use Rattle.tree.proofs.Users.{user-some, uses-most}
-use Rattle.tree.proofs.Labels.{node-definition, node-count, handed-definition, handed-expression}
+use Rattle.tree.proofs.Labels.{node-definition, node-count, propagated-definition, propagated-expression}
 use Rattle.tree.proofs.Owners as own
-use Rattle.tree.proofs.Writes.{plain-natural, over-start, over-alike, alike-node, none-or-some, over-set, counted-length, counted-target, over-counted, given-length, given-other, given-owner, given-level, over-given}
+use Rattle.tree.proofs.Writes.{plain-natural, over-start, over-alike, alike-node, none-or-some, over-set, counted-length, counted-target, over-counted, assigned-length, assigned-other, assigned-owner, assigned-level, over-assigned}
 
 -- ---- the parts of a line are labels
 
@@ -70,7 +71,7 @@ count-start t n p = record { over = over-start t n (plain-natural t n p); uses =
     blank zero h g = refl
     blank (suc k) h g = ap natOf (p .blank k 7 (omega arith) (omega arith) (omega arith))
 
-uses-step : (t : List ℤ) (l x : ℕ) → 1 ≤ l → uses t l x ≡ uses t (l - 1) x + times x (parts t l)
+uses-step : (t : List ℤ) (l x : ℕ) → 1 ≤ l → uses t l x ≡ uses t (l - 1) x + count x (parts t l)
 uses-step t zero x h = absurd (omega arith)
 uses-step t (suc k) x h = let e : suc k - 1 ≡ k = omega arith in rw e
 
@@ -125,25 +126,25 @@ Right t n w x = (owner w x ≡ ownerOf t n x) × (target w x ≡ levelOf t n x)
 
 -- a label that gets its owner and level has them, and no label that had them loses them
 module _ (t : List ℤ) (n : ℕ) where
-  given-right : (w : List ℤ) (x d v y m : ℕ) → 8 * x ≤ length w → (1 ≤ x → (d ≡ ownerOf t n x) × (v ≡ levelOf t n x)) → 1 ≤ y
-      → Right t n w y ⊎ (1 ≤ one (eqb x y) + m) → Right t n (given x d v w) y ⊎ (1 ≤ m)
-  given-right w x d v y m room right h c = go (eqb x y) refl c
+  assigned-right : (w : List ℤ) (x d v y m : ℕ) → 8 * x ≤ length w → (1 ≤ x → (d ≡ ownerOf t n x) × (v ≡ levelOf t n x)) → 1 ≤ y
+      → Right t n w y ⊎ (1 ≤ one (eqb y x) + m) → Right t n (assigned x d v w) y ⊎ (1 ≤ m)
+  assigned-right w x d v y m room right h c = go (eqb y x) refl c
     where
-      here : x ≡ y → Right t n (given x d v w) y
+      here : x ≡ y → Right t n (assigned x d v w) y
       here e =
           let p : 1 ≤ x = omega arith in
-          rw (sym e) (given-owner x d v w room p ∙ right p .0, given-level x d v w room p ∙ right p .1)
+          rw (sym e) (assigned-owner x d v w room p ∙ right p .0, assigned-level x d v w room p ∙ right p .1)
 
-      there : (x ≡ y → ⊥) → Right t n w y → Right t n (given x d v w) y
+      there : (x ≡ y → ⊥) → Right t n w y → Right t n (assigned x d v w) y
       there e q =
-          (given-other x d v w room y 6 (omega arith) (λ z. e (sym z)) ∙ q .0, given-other x d v w room y 7 (omega arith) (λ z. e (sym z)) ∙ q .1)
+          (assigned-other x d v w room y 6 (omega arith) (λ z. e (sym z)) ∙ q .0, assigned-other x d v w room y 7 (omega arith) (λ z. e (sym z)) ∙ q .1)
 
-      go : (b : Bool) → eqb x y ≡ b → Right t n w y ⊎ (1 ≤ one b + m) → Right t n (given x d v w) y ⊎ (1 ≤ m)
-      go true e q = inl (here (eqb-true x y e))
-      go false e q = ⊎-elim (λ z. inl (there (eqb-false x y e) z)) (λ z. inr (omega arith)) q
+      go : (b : Bool) → eqb y x ≡ b → Right t n w y ⊎ (1 ≤ one b + m) → Right t n (assigned x d v w) y ⊎ (1 ≤ m)
+      go true e q = inl (here (sym (eqb-true y x e)))
+      go false e q = ⊎-elim (λ z. inl (there (λ f. eqb-false y x e (sym f)) z)) (λ z. inr (omega arith)) q
 
-pub hand-start : (t : List ℤ) (n : ℕ) → UsedOnce t n → Natural t n → Handed t n 0 t
-hand-start t n s natural = record {
+pub propagate-start : (t : List ℤ) (n : ℕ) → UsedOnce t n → Natural t n → Propagated t n 0 t
+propagate-start t n s natural = record {
   over = over-start t n natural;
   owners = λ x h g e. absurd (late x h (isExpression t x) refl e);
   levels = λ x h g e. absurd (late x h (isExpression t x) refl e);
@@ -155,7 +156,7 @@ hand-start t n s natural = record {
         omega (arith, user-some t x n (omega (arith, s .once x e)) .low)
     late x h false e q = let z : x ≤ 0 = rw e at q in omega arith
 
-module _ (t : List ℤ) (n : ℕ) (s : UsedOnce t n) (w : List ℤ) (l : ℕ) (h : 1 ≤ l) (g : l ≤ n) (r : Handed t n (l - 1) w) where
+module _ (t : List ℤ) (n : ℕ) (s : UsedOnce t n) (w : List ℤ) (l : ℕ) (h : 1 ≤ l) (g : l ≤ n) (r : Propagated t n (l - 1) w) where
   line-kind : 1 ≤ kind t l
   line-kind = s .structure .formed .kinds l h g .0
 
@@ -183,8 +184,8 @@ module _ (t : List ℤ) (n : ℕ) (s : UsedOnce t n) (w : List ℤ) (l : ℕ) (h
   expression-else : nodeAt w l .definition ≡ false → isExpression t l ≡ true
   expression-else e = ⊎-elim (λ d. clash (sym d ∙ sym definition-over ∙ e)) (λ f. f) (either t l line-kind)
 
-  pub hand-ready : Handable w l
-  hand-ready =
+  pub propagate-ready : Propagable w l
+  propagate-ready =
       let k = kind-over t n (s .structure) w (r .over) l in
       let f = s .structure .formed .few in
       record {
@@ -213,39 +214,39 @@ module _ (t : List ℤ) (n : ℕ) (s : UsedOnce t n) (w : List ℤ) (l : ℕ) (h
     abbrev p : Node
     p = nodeAt t l
 
-    abbrev one-given : List ℤ
-    one-given = given (p .a) d v u
+    abbrev one-assigned : List ℤ
+    one-assigned = assigned (p .a) d v u
 
-    abbrev two-given : List ℤ
-    two-given = given (p .b) d v one-given
+    abbrev two-assigned : List ℤ
+    two-assigned = assigned (p .b) d v one-assigned
 
-    parts-over : Over t n (givenAll p d v u)
+    parts-over : Over t n (assignedAll p d v u)
     parts-over =
         let m = node-most t n (s .structure) l in
         let k = s .structure .formed .room in
-        over-given t two-given n k (over-given t one-given n k (over-given t u n k o (p .a) d v (m .0)) (p .b) d v (m .1)) (p .c) d v (m .2)
+        over-assigned t two-assigned n k (over-assigned t one-assigned n k (over-assigned t u n k o (p .a) d v (m .0)) (p .b) d v (m .1)) (p .c) d v (m .2)
 
-    parts-right : (y : ℕ) → 1 ≤ y → Right t n u y ⊎ IsPart t l y → Right t n (givenAll p d v u) y
+    parts-right : (y : ℕ) → 1 ≤ y → Right t n u y ⊎ IsPart t l y → Right t n (assignedAll p d v u) y
     parts-right y a c =
         let i = inside t n (s .structure) u o l in
-        let la = given-length (p .a) d v u (i .a) in
-        let ib : 8 * p .b ≤ length one-given = omega (arith, i .b) in
-        let lb = given-length (p .b) d v one-given ib in
-        let ic : 8 * p .c ≤ length two-given = omega (arith, i .c) in
-        let c0 : Right t n u y ⊎ (1 ≤ one (eqb (p .a) y) + (one (eqb (p .b) y) + (one (eqb (p .c) y) + 0))) = ⊎-elim (λ z. inl z) (λ z. inr (omega (arith, node-count t l y a))) c in
-        let c1 = given-right t n u (p .a) d v y (one (eqb (p .b) y) + (one (eqb (p .c) y) + 0)) (i .a) (λ z. right (p .a) (node-a t n (s .structure) l z)) a c0 in
-        let c2 = given-right t n one-given (p .b) d v y (one (eqb (p .c) y) + 0) ib (λ z. right (p .b) (node-b t n (s .structure) l z)) a c1 in
-        let c3 = given-right t n two-given (p .c) d v y 0 ic (λ z. right (p .c) (node-c t n (s .structure) l z)) a c2 in
+        let la = assigned-length (p .a) d v u (i .a) in
+        let ib : 8 * p .b ≤ length one-assigned = omega (arith, i .b) in
+        let lb = assigned-length (p .b) d v one-assigned ib in
+        let ic : 8 * p .c ≤ length two-assigned = omega (arith, i .c) in
+        let c0 : Right t n u y ⊎ (1 ≤ one (eqb y (p .a)) + (one (eqb y (p .b)) + (one (eqb y (p .c)) + 0))) = ⊎-elim (λ z. inl z) (λ z. inr (omega (arith, node-count t l y a))) c in
+        let c1 = assigned-right t n u (p .a) d v y (one (eqb y (p .b)) + (one (eqb y (p .c)) + 0)) (i .a) (λ z. right (p .a) (node-a t n (s .structure) l z)) a c0 in
+        let c2 = assigned-right t n one-assigned (p .b) d v y (one (eqb y (p .c)) + 0) ib (λ z. right (p .b) (node-b t n (s .structure) l z)) a c1 in
+        let c3 = assigned-right t n two-assigned (p .c) d v y 0 ic (λ z. right (p .c) (node-c t n (s .structure) l z)) a c2 in
         ⊎-elim (λ z. z) (λ z. absurd (omega arith)) c3
 
-    handed-so : ((y : ℕ) → 1 ≤ y → y ≤ n → (turnOf t n y ≤ l - 1) ⊎ ((y ≡ l) × (isExpression t y ≡ false)) → Right t n u y) → Handed t n l (givenAll p d v u)
-    handed-so before = record {
+    propagated-so : ((y : ℕ) → 1 ≤ y → y ≤ n → (turnOf t n y ≤ l - 1) ⊎ ((y ≡ l) × (isExpression t y ≡ false)) → Right t n u y) → Propagated t n l (assignedAll p d v u)
+    propagated-so before = record {
       over = parts-over;
       owners = λ y a b q. all y a b q .0;
       levels = λ y a b q. all y a b q .1;
     }
       where
-        all : (y : ℕ) → 1 ≤ y → y ≤ n → turnOf t n y ≤ l → Right t n (givenAll p d v u) y
+        all : (y : ℕ) → 1 ≤ y → y ≤ n → turnOf t n y ≤ l → Right t n (assignedAll p d v u) y
         all y a b q =
             ⊎-elim (λ z. parts-right y a (inl (before y a b (inl z))))
             (λ z. ⊎-elim (λ f. parts-right y a (inl (before y a b (inr f)))) (λ f. parts-right y a (inr f)) z) (due y q)
@@ -253,34 +254,34 @@ module _ (t : List ℤ) (n : ℕ) (s : UsedOnce t n) (w : List ℤ) (l : ℕ) (h
   before-right : (y : ℕ) → 1 ≤ y → y ≤ n → turnOf t n y ≤ l - 1 → Right t n w y
   before-right y a b q = (r .owners y a b q, r .levels y a b q)
 
-  turn-definition : isDefinition t l ≡ true → Handed t n l (givenAll (nodeAt t l) l 1 (given l (fieldA t l) 0 w))
+  turn-definition : isDefinition t l ≡ true → Propagated t n l (assignedAll (nodeAt t l) l 1 (assigned l (fieldA t l) 0 w))
   turn-definition d =
       let room : 8 * l ≤ length w = omega (arith, r .over .size, s .structure .formed .room) in
       let f = not-expression t l d in
       let right : (1 ≤ l → (fieldA t l ≡ ownerOf t n l) × (0 ≡ levelOf t n l)) = λ z. (sym (own.owner-group t n l f), sym (own.level-own t n l f)) in
-      handed-so l 1 (λ x q. (sym (own.body-owner t n s l x d q), sym (own.body-level t n s l x d q))) (given l (fieldA t l) 0 w) (over-given t w n (s .structure .formed .room) (r .over) l (fieldA t l) 0 g)
+      propagated-so l 1 (λ x q. (sym (own.body-owner t n s l x d q), sym (own.body-level t n s l x d q))) (assigned l (fieldA t l) 0 w) (over-assigned t w n (s .structure .formed .room) (r .over) l (fieldA t l) 0 g)
       (λ y a b c. settled room right y a b c)
     where
-      settled : 8 * l ≤ length w → (1 ≤ l → (fieldA t l ≡ ownerOf t n l) × (0 ≡ levelOf t n l)) → (y : ℕ) → 1 ≤ y → y ≤ n → (turnOf t n y ≤ l - 1) ⊎ ((y ≡ l) × (isExpression t y ≡ false)) → Right t n (given l (fieldA t l) 0 w) y
+      settled : 8 * l ≤ length w → (1 ≤ l → (fieldA t l ≡ ownerOf t n l) × (0 ≡ levelOf t n l)) → (y : ℕ) → 1 ≤ y → y ≤ n → (turnOf t n y ≤ l - 1) ⊎ ((y ≡ l) × (isExpression t y ≡ false)) → Right t n (assigned l (fieldA t l) 0 w) y
       settled room right y a b c =
           ⊎-elim (λ z. z) (λ z. absurd (omega arith))
-          (given-right t n w l (fieldA t l) 0 y 0 room right a (⊎-elim (λ z. inl (before-right y a b z)) (λ z. inr (this z)) c))
+          (assigned-right t n w l (fieldA t l) 0 y 0 room right a (⊎-elim (λ z. inl (before-right y a b z)) (λ z. inr (this z)) c))
         where
-          this : (y ≡ l) × (isExpression t y ≡ false) → 1 ≤ one (eqb l y) + 0
-          this z = rw (eq-eqb l y (sym (z .0))) (omega arith)
+          this : (y ≡ l) × (isExpression t y ≡ false) → 1 ≤ one (eqb y l) + 0
+          this z = rw (eq-eqb y l (z .0)) (omega arith)
 
-  turn-expression : isExpression t l ≡ true → Handed t n l (givenAll (nodeAt t l) (owner w l) (target w l + 1) w)
+  turn-expression : isExpression t l ≡ true → Propagated t n l (assignedAll (nodeAt t l) (owner w l) (target w l + 1) w)
   turn-expression e =
-      handed-so (owner w l) (target w l + 1)
+      propagated-so (owner w l) (target w l + 1)
       (λ x q. (owner-there e ∙ own.owner-standing t n l e ∙ sym (own.part-owner t n s l x q), omega (arith, level-there e, own.part-level t n s l x q))) w (r .over)
       (λ y a b c. ⊎-elim (λ z. before-right y a b z) (λ z. clash (sym e ∙ ap (isExpression t) (sym (z .0)) ∙ z .1)) c)
 
-  pub hand-turn : Handed t n l (handed l w)
-  hand-turn = go (isDefinition t l) refl
+  pub propagate-turn : Propagated t n l (propagated l w)
+  propagate-turn = go (isDefinition t l) refl
     where
-      go : (b : Bool) → isDefinition t l ≡ b → Handed t n l (handed l w)
-      go true d = rw (handed-definition l w (definition-over ∙ d), node-over t n (s .structure) w (r .over) l, group-over) (turn-definition d)
-      go false d = rw (handed-expression l w (definition-over ∙ d), node-over t n (s .structure) w (r .over) l) (turn-expression (expression-else (definition-over ∙ d)))
+      go : (b : Bool) → isDefinition t l ≡ b → Propagated t n l (propagated l w)
+      go true d = rw (propagated-definition l w (definition-over ∙ d), node-over t n (s .structure) w (r .over) l, group-over) (turn-definition d)
+      go false d = rw (propagated-expression l w (definition-over ∙ d), node-over t n (s .structure) w (r .over) l) (turn-expression (expression-else (definition-over ∙ d)))
 
 -- ---- clearing
 

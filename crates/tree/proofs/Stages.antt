@@ -18,7 +18,7 @@ use Rattle.refusals.specs.declared.Verdict.{Verdict}
 use Rattle.refusals.specs.declared.Verdict.the-variants.{Fine, Refused}
 use Rattle.tree.specs.Tree.{isExpression, usesBad, userOf, argumentBad, levelBad, ownerOf}
 use Rattle.tree.specs.Treed.{Formed, Plain, Written}
-use Rattle.tree.specs.Steps.{cellBad, UsedOnce, Over, Counted, turnOf, Handed, Cleared, Owning}
+use Rattle.tree.specs.Steps.{cellBad, UsedOnce, Over, Counted, turnOf, Propagated, Cleared, Owning}
 use Rattle.tree.specs.declared.Rule.the-variants as rule
 use Rattle.tree.proofs.Parts.{Alike, alike-expression}
 use Rattle.tree.proofs.Owners as own
@@ -41,7 +41,7 @@ turn-most t n s x h = go (isExpression t x) refl
     go true e = own.user t n s x e .high
     go false e = h
 
-pub late-rows : (t : List ℤ) (n : ℕ) → UsedOnce t n → (w : List ℤ) → Handed t n n w
+pub late-rows : (t : List ℤ) (n : ℕ) → UsedOnce t n → (w : List ℤ) → Propagated t n n w
     → orElse (firstBad (cellBad rule.Argument w) 1 n) (firstBad (cellBad rule.Level w) 1 n) ≡ lateRows t n
 late-rows t n s w r = rw (arguments, levels)
   where
@@ -82,7 +82,7 @@ over-formed t n w s o = alike-formed t w (over-alike t w n o) n (o .size) s
 pub over-used : (t : List ℤ) (n : ℕ) (w : List ℤ) → UsedOnce t n → Over t n w → UsedOnce w n
 over-used t n w s o = alike-used t w (over-alike t w n o) n (o .size) s
 
-pub owning : (t : List ℤ) (n : ℕ) → UsedOnce t n → (u w : List ℤ) → Handed t n n u → Cleared u n n w → Owning t n w
+pub owning : (t : List ℤ) (n : ℕ) → UsedOnce t n → (u w : List ℤ) → Propagated t n n u → Cleared u n n w → Owning t n w
 owning t n s u w r c = record {
   over = over-then t u w n (r .over) (c .over);
   owners = λ x h g. c .owners x ∙ r .owners x h g (turn-most t n s x g);

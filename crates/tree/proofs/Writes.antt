@@ -10,16 +10,17 @@ use lib.Dec.{eqb}
 use lib.IntN.{ℤ, pos}
 use lib.ListN.{length, set, length-set}
 use Rattle.cells.specs.Cells.{natOf, intAt}
+use Rattle.cells.specs.Lists.{one, count}
 use Rattle.cells.specs.Table.{cell, kind, fieldA, owner, target}
 use Rattle.cells.proofs.Stores.{intAt-put, intAt-other}
 use Rattle.cells.proofs.Table.{cell-put, cell-other}
-use Rattle.tree.specs.Tree.{isExpression, one, times, IsPart}
+use Rattle.tree.specs.Tree.{isExpression, IsPart}
 use Rattle.tree.specs.Treed.{Formed, Plain}
-use Rattle.tree.specs.Steps.{nodeAt, counted, given, Inside, Countable, Structured, UsedOnce, Natural, Over}
+use Rattle.tree.specs.Steps.{nodeAt, counted, assigned, Inside, Countable, Structured, UsedOnce, Natural, Over}
 use Rattle.tree.specs.declared.Node.{Node}
 use Rattle.tree.proofs.Parts.{Alike, alike-expression, alike-definition, alike-parts}
 use Rattle.tree.proofs.Users.{alike-uses}
-use Rattle.tree.proofs.Labels.{counted-none, counted-some, given-none, given-some}
+use Rattle.tree.proofs.Labels.{counted-none, counted-some, assigned-none, assigned-some}
 
 -- ---- tables that agree in the fields
 
@@ -59,7 +60,7 @@ module _ (t w : List ℤ) (same : Alike t w) where
       room = omega (arith, s .room);
       kinds = λ l h g. rw (same l 0 (omega arith)) (s .kinds l h g);
       unused = λ l h. same l 0 (omega arith) ∙ s .unused l h;
-      labels = λ l h g. ap (times 0) (alike-parts t w same l) ∙ s .labels l h g;
+      labels = λ l h g. ap (count 0) (alike-parts t w same l) ∙ s .labels l h g;
       top = same 1 3 (omega arith) ∙ s .top;
     }
 
@@ -116,21 +117,21 @@ module _ (x : ℕ) (t : List ℤ) (room : 8 * x ≤ length t) where
       ⊎-elim (λ e. ap length (counted-none x t e))
       (λ h. ap length (counted-some x t (λ e. omega arith)) ∙ length-set t (8 * (x - 1) + 7) (pos (target t x + 1))) (none-or-some x)
 
-  pub counted-target : (y : ℕ) → 1 ≤ y → target (counted x t) y ≡ target t y + one (eqb x y)
+  pub counted-target : (y : ℕ) → 1 ≤ y → target (counted x t) y ≡ target t y + one (eqb y x)
   counted-target y h = ⊎-elim none some (none-or-some x)
     where
-      none : x ≡ 0 → target (counted x t) y ≡ target t y + one (eqb x y)
-      none e = rw (counted-none x t e, ne-eqb x y (λ q. omega arith)) (omega arith)
+      none : x ≡ 0 → target (counted x t) y ≡ target t y + one (eqb y x)
+      none e = rw (counted-none x t e, ne-eqb y x (λ q. omega arith)) (omega arith)
 
-      go : 1 ≤ x → (b : Bool) → eqb x y ≡ b → target (set t (8 * (x - 1) + 7) (pos (target t x + 1))) y ≡ target t y + one b
-      go g true q = rw (sym (eqb-true x y q)) (cell-put t x 7 (target t x + 1) g room (omega arith))
-      go g false q = cell-other t x 7 y 7 (pos (target t x + 1)) g (omega arith) (omega arith) (λ e f. eqb-false x y q (sym e)) ∙ omega arith
+      go : 1 ≤ x → (b : Bool) → eqb y x ≡ b → target (set t (8 * (x - 1) + 7) (pos (target t x + 1))) y ≡ target t y + one b
+      go g true q = rw (eqb-true y x q) (cell-put t x 7 (target t x + 1) g room (omega arith))
+      go g false q = cell-other t x 7 y 7 (pos (target t x + 1)) g (omega arith) (omega arith) (λ e f. eqb-false y x q e) ∙ omega arith
 
-      some : 1 ≤ x → target (counted x t) y ≡ target t y + one (eqb x y)
-      some g = rw (counted-some x t (λ e. omega arith)) (go g (eqb x y) refl)
+      some : 1 ≤ x → target (counted x t) y ≡ target t y + one (eqb y x)
+      some g = rw (counted-some x t (λ e. omega arith)) (go g (eqb y x) refl)
 
   pub counted-most : (y : ℕ) → target (counted x t) y ≤ target t y + 1
-  counted-most y = ⊎-elim (λ e. zero-case e) (λ h. some-case h (eqb x y) (counted-target y h)) (none-or-some y)
+  counted-most y = ⊎-elim (λ e. zero-case e) (λ h. some-case h (eqb y x) (counted-target y h)) (none-or-some y)
     where
       zero-case : y ≡ 0 → target (counted x t) y ≤ target t y + 1
       zero-case e = rw e (omega arith)
@@ -177,35 +178,35 @@ inside-same t w p e i = record { a = omega (arith, i .a); b = omega (arith, i .b
 -- ---- owner and level of a label
 
 module _ (x d v : ℕ) (t : List ℤ) (room : 8 * x ≤ length t) where
-  pub given-length : length (given x d v t) ≡ length t
-  given-length =
-      ⊎-elim (λ e. ap length (given-none x t d v e))
-      (λ h. ap length (given-some x t d v (λ e. omega arith)) ∙ length-set (set t (8 * (x - 1) + 6) (pos d)) (8 * (x - 1) + 7) (pos v) ∙ length-set t (8 * (x - 1) + 6) (pos d))
+  pub assigned-length : length (assigned x d v t) ≡ length t
+  assigned-length =
+      ⊎-elim (λ e. ap length (assigned-none x t d v e))
+      (λ h. ap length (assigned-some x t d v (λ e. omega arith)) ∙ length-set (set t (8 * (x - 1) + 6) (pos d)) (8 * (x - 1) + 7) (pos v) ∙ length-set t (8 * (x - 1) + 6) (pos d))
       (none-or-some x)
 
   -- another label
-  pub given-other : (y j : ℕ) → j < 8 → (y ≡ x → ⊥) → cell (given x d v t) y j ≡ cell t y j
-  given-other y j h g =
-      ⊎-elim (λ e. ap (λ (w : List ℤ). cell w y j) (given-none x t d v e))
-      (λ m. rw (given-some x t d v (λ e. omega arith))
+  pub assigned-other : (y j : ℕ) → j < 8 → (y ≡ x → ⊥) → cell (assigned x d v t) y j ≡ cell t y j
+  assigned-other y j h g =
+      ⊎-elim (λ e. ap (λ (w : List ℤ). cell w y j) (assigned-none x t d v e))
+      (λ m. rw (assigned-some x t d v (λ e. omega arith))
       (cell-other (set t (8 * (x - 1) + 6) (pos d)) x 7 y j (pos v) m (omega arith) h (λ e f. g e)
       ∙ cell-other t x 6 y j (pos d) m (omega arith) h (λ e f. g e)))
       (none-or-some x)
 
   module _ (h : 1 ≤ x) where
-    pub given-owner : owner (given x d v t) x ≡ d
-    given-owner =
-        rw (given-some x t d v (λ e. omega arith))
+    pub assigned-owner : owner (assigned x d v t) x ≡ d
+    assigned-owner =
+        rw (assigned-some x t d v (λ e. omega arith))
         (cell-other (set t (8 * (x - 1) + 6) (pos d)) x 7 x 6 (pos v) h (omega arith) (omega arith) (λ e f. omega arith) ∙ cell-put t x 6 d h room (omega arith))
 
-    pub given-level : target (given x d v t) x ≡ v
-    given-level =
-        rw (given-some x t d v (λ e. omega arith))
+    pub assigned-level : target (assigned x d v t) x ≡ v
+    assigned-level =
+        rw (assigned-some x t d v (λ e. omega arith))
         (cell-put (set t (8 * (x - 1) + 6) (pos d)) x 7 v h (omega (arith, length-set t (8 * (x - 1) + 6) (pos d))) (omega arith))
 
-pub over-given : (t w : List ℤ) (n : ℕ) → 8 * n ≤ length t → Over t n w → (x d v : ℕ) → x ≤ n → Over t n (given x d v w)
-over-given t w n room o x d v g =
-    ⊎-elim (λ e. rw (given-none x w d v e) o)
-    (λ h. rw (given-some x w d v (λ e. omega arith))
+pub over-assigned : (t w : List ℤ) (n : ℕ) → 8 * n ≤ length t → Over t n w → (x d v : ℕ) → x ≤ n → Over t n (assigned x d v w)
+over-assigned t w n room o x d v g =
+    ⊎-elim (λ e. rw (assigned-none x w d v e) o)
+    (λ h. rw (assigned-some x w d v (λ e. omega arith))
     (over-set t (set w (8 * (x - 1) + 6) (pos d)) n room (over-set t w n room o x 6 d h g (omega arith) (omega arith)) x 7 v h g (omega arith) (omega arith)))
     (none-or-some x)

@@ -8,10 +8,11 @@ use lib.Dec.{leb, eqb}
 use lib.IntN.{ℤ, pos}
 use lib.ListN.{length, set}
 use Rattle.cells.specs.Cells.{intAt}
+use Rattle.cells.specs.Lists.{count}
 use Rattle.cells.specs.Table.{cell, kind, fieldA, fieldB, fieldC, owner, target}
 use Rattle.lines.specs.Kinds.{kindAt}
 use Rattle.lines.specs.declared.Form.{Form}
-use Rattle.tree.specs.Tree.{isGroup, isOperand, isDefinition, isExpression, parts, groupRight, partRight, structureBad, times, uses, notOnce, IsPart, userOf, ownerOf, levelOf, argumentIn, tooDeep}
+use Rattle.tree.specs.Tree.{isGroup, isOperand, isDefinition, isExpression, parts, groupRight, partRight, structureBad, uses, notOnce, IsPart, userOf, ownerOf, levelOf, argumentIn, tooDeep}
 use Rattle.tree.specs.Treed.{Formed}
 use Rattle.tree.specs.declared.Node.{Node}
 use Rattle.tree.specs.declared.Rule.{Rule}
@@ -35,7 +36,7 @@ nodeAt t l = record {
 pub record Readable (t : List ℤ) (l : ℕ) : Type 0 where
   pub low : 1 ≤ kind t l
   pub high : (x : ℕ) → kind t x ≤ 12
-  pub labels : times 0 (parts t l) ≡ 0
+  pub labels : count 0 (parts t l) ≡ 0
 
 -- row 8 by the node: a definition's Group, from label 2, and what may be a body or operand
 abbrev pub groupFits : List ℤ → ℕ → Bool → Bool
@@ -59,18 +60,18 @@ abbrev pub countedAll : Node → List ℤ → List ℤ
 countedAll p t = counted (p .c) (counted (p .b) (counted (p .a) t))
 
 -- the table in which x, if it is a label, has this owner and level
-abbrev pub given : ℕ → ℕ → ℕ → List ℤ → List ℤ
-given x d v t = cond (eqb x 0) t (set (set t (8 * (x - 1) + 6) (pos d)) (8 * (x - 1) + 7) (pos v))
+abbrev pub assigned : ℕ → ℕ → ℕ → List ℤ → List ℤ
+assigned x d v t = cond (eqb x 0) t (set (set t (8 * (x - 1) + 6) (pos d)) (8 * (x - 1) + 7) (pos v))
 
-abbrev pub givenAll : Node → ℕ → ℕ → List ℤ → List ℤ
-givenAll p d v t = given (p .c) d v (given (p .b) d v (given (p .a) d v t))
+abbrev pub assignedAll : Node → ℕ → ℕ → List ℤ → List ℤ
+assignedAll p d v t = assigned (p .c) d v (assigned (p .b) d v (assigned (p .a) d v t))
 
 -- the table in which line l has handed its owner and level on to its parts
-unfoldable pub handed : ℕ → List ℤ → List ℤ
-handed l t =
+unfoldable pub propagated : ℕ → List ℤ → List ℤ
+propagated l t =
     cond (nodeAt t l .definition)
-    (givenAll (nodeAt t l) l 1 (given l (fieldA t l) 0 t))
-    (givenAll (nodeAt t l) (owner t l) (target t l + 1) t)
+    (assignedAll (nodeAt t l) l 1 (assigned l (fieldA t l) 0 t))
+    (assignedAll (nodeAt t l) (owner t l) (target t l + 1) t)
 
 -- what these writes ask: the parts have rows in the table, and what is written fits
 pub record Inside (t : List ℤ) (p : Node) : Type 0 where
@@ -86,7 +87,7 @@ pub record Countable (t : List ℤ) (l : ℕ) : Type 0 where
   pub b : target t (nodeAt t l .b) ≤ 3072
   pub c : target t (nodeAt t l .c) ≤ 3072
 
-pub record Handable (t : List ℤ) (l : ℕ) : Type 0 where
+pub record Propagable (t : List ℤ) (l : ℕ) : Type 0 where
   pub low : 1 ≤ kind t l
   pub high : kind t l ≤ 12
   pub inside : Inside t (nodeAt t l)
@@ -130,7 +131,7 @@ abbrev pub turnOf : List ℤ → ℕ → ℕ → ℕ
 turnOf t n x = cond (isExpression t x) (userOf t n x) x
 
 -- the owners and levels that labels 1 to k write are written
-pub record Handed (t : List ℤ) (n k : ℕ) (w : List ℤ) : Type 0 where
+pub record Propagated (t : List ℤ) (n k : ℕ) (w : List ℤ) : Type 0 where
   pub over : Over t n w
   pub owners : (x : ℕ) → 1 ≤ x → x ≤ n → turnOf t n x ≤ k → owner w x ≡ ownerOf t n x
   pub levels : (x : ℕ) → 1 ≤ x → x ≤ n → turnOf t n x ≤ k → target w x ≡ levelOf t n x

@@ -4,11 +4,12 @@
 ghost use mathlib.Core.Path.{_≡_};
 ghost use Prim.Native.Nat.{_*_, _≤_, _<_};
 ghost use lib.ListN.{length};
+ghost use Rattle.cells.specs.Lists.{all};
 ghost use Rattle.cells.specs.Table.{cell, kind, target};
 ghost use Rattle.refusals.specs.Refusal.{firstBad, orElse};
-ghost use Rattle.tree.specs.Tree.{isGroup, isExpression, every, partRight, parts, structureBad, usesBad, argumentBad, levelBad, treeBad};
+ghost use Rattle.tree.specs.Tree.{isGroup, isExpression, partRight, parts, structureBad, usesBad, argumentBad, levelBad, treeBad};
 ghost use Rattle.tree.specs.Treed.{Formed, Plain, Written};
-ghost use Rattle.tree.specs.Steps.{partIn, nodeAt, Readable, groupFits, partFits, cellBad, counted, countedAll, given, givenAll, handed, Inside, Countable, Handable, Structured, UsedOnce, Natural, Counted, Handed, Cleared, Owning};
+ghost use Rattle.tree.specs.Steps.{partIn, nodeAt, Readable, groupFits, partFits, cellBad, counted, countedAll, assigned, assignedAll, propagated, Inside, Countable, Propagable, Structured, UsedOnce, Natural, Counted, Propagated, Cleared, Owning};
 use lines::Form;
 use refusals::Verdict;
 
@@ -120,7 +121,7 @@ fn part_right(table: &[i64], label: usize, x: usize) -> bool
 
 fn parts_right(table: &[i64], label: usize, node: Node) -> bool
     requires { ⌜ Readable (now table) label × (node ≡ nodeAt (now table) label) ⌝ }
-    ensures { λ r. ⌜ r ≡ every (partRight (now (table .entry)) label) (parts (now (table .entry)) label) ⌝ }
+    ensures { λ r. ⌜ r ≡ all (partRight (now (table .entry)) label) (parts (now (table .entry)) label) ⌝ }
 {
     if part_right(table, label, node.a) {
         if part_right(table, label, node.b) {
@@ -250,9 +251,9 @@ fn count_uses(table: &mut [i64], n: usize)
 // ---- owners and levels
 
 // Owner and level of x, if it is a label.
-fn give(table: &mut [i64], x: usize, owner: usize, level: usize)
+fn assign(table: &mut [i64], x: usize, owner: usize, level: usize)
     requires { ⌜ (8 * x ≤ length (now table)) × (owner ≤ 1024) × (level ≤ 1025) ⌝ }
-    ensures { λ _. ⌜ now (table .exit) ≡ given x owner level (now (table .entry)) ⌝ }
+    ensures { λ _. ⌜ now (table .exit) ≡ assigned x owner level (now (table .entry)) ⌝ }
 {
     if x != 0 {
         cells::put_cell(table, x, 6, owner);
@@ -260,39 +261,39 @@ fn give(table: &mut [i64], x: usize, owner: usize, level: usize)
     }
 }
 
-fn give_parts(table: &mut [i64], node: Node, owner: usize, level: usize)
+fn assign_parts(table: &mut [i64], node: Node, owner: usize, level: usize)
     requires { ⌜ Inside (now table) node × (owner ≤ 1024) × (level ≤ 1025) ⌝ }
-    ensures { λ _. ⌜ now (table .exit) ≡ givenAll node owner level (now (table .entry)) ⌝ }
+    ensures { λ _. ⌜ now (table .exit) ≡ assignedAll node owner level (now (table .entry)) ⌝ }
 {
-    give(table, node.a, owner, level);
-    give(table, node.b, owner, level);
-    give(table, node.c, owner, level);
+    assign(table, node.a, owner, level);
+    assign(table, node.b, owner, level);
+    assign(table, node.c, owner, level);
 }
 
 // A definition owns its body, at level 1, and has its Group as owner; an expression hands its owner on to its operands, one level deeper.
-fn hand_on(table: &mut [i64], label: usize)
-    requires { ⌜ Handable (now table) label ⌝ }
-    ensures { λ _. ⌜ now (table .exit) ≡ handed label (now (table .entry)) ⌝ }
+fn propagate(table: &mut [i64], label: usize)
+    requires { ⌜ Propagable (now table) label ⌝ }
+    ensures { λ _. ⌜ now (table .exit) ≡ propagated label (now (table .entry)) ⌝ }
 {
     let node = node_at(table, label);
     if node.definition {
         let group = cells::cell_at(table, label, 3);
-        give(table, label, group, 0);
-        give_parts(table, node, label, 1);
+        assign(table, label, group, 0);
+        assign_parts(table, node, label, 1);
         return;
     }
     let owner = cells::cell_at(table, label, 6);
     let level = cells::cell_at(table, label, 7);
-    give_parts(table, node, owner, level + 1);
+    assign_parts(table, node, owner, level + 1);
 }
 
-fn hand_all(table: &mut [i64], n: usize)
+fn propagate_all(table: &mut [i64], n: usize)
     requires { ⌜ UsedOnce (now table) n × Natural (now table) n ⌝ }
-    ensures { λ _. ⌜ Handed (now (table .entry)) n n (now (table .exit)) ⌝ }
+    ensures { λ _. ⌜ Propagated (now (table .entry)) n n (now (table .exit)) ⌝ }
 {
     let mut label: usize = 1;
     while label <= n {
-        hand_on(table, label);
+        propagate(table, label);
         label += 1;
     }
 }
@@ -328,7 +329,7 @@ fn read_owners(table: &mut [i64], n: usize) -> Verdict
     ensures { λ r. ⌜ r ≡ orElse (firstBad (argumentBad (now (table .entry)) n) 1 n) (firstBad (levelBad (now (table .entry)) n) 1 n) ⌝ }
     ensures { λ _. ⌜ Owning (now (table .entry)) n (now (table .exit)) ⌝ }
 {
-    hand_all(table, n);
+    propagate_all(table, n);
     let verdict = late_rows(table, n);
     clear_targets(table, n);
     verdict

@@ -4,7 +4,7 @@ use native.Mathlib.Omega.{arith}
 use lib.ListN.{length}
 use borrow.Author.Needs.{needs}
 use Rattle.calls.specs.Plan.{lengthOf}
-use Rattle.calls.proofs.Calls.{run-down-ready, results-worked, results-cleared}
+use Rattle.calls.proofs.Calls.{run-down-ready, results-evaluated, results-cleared}
 use Rattle.calls.proofs.Answers.{answers}
 use Rattle.calls.proofs.run_sheet.Statement.{statement}
 use Rattle.calls.proofs.run_sheet.Tie as tie
@@ -55,7 +55,7 @@ returns c =
     let p = c .before .before .before .before .before .before .before .before .before .before .before .before .before .before .pre in
     let e = c .before .before .before .before .before .before .count .given .1 in
     let k = c .before .before .before .before .before .before .before .before .before .before .plan-sheet .ensures in
-    (sym e ∙ k .0, (k .1 .0, (k .1 .1, results-worked (a .text .now) (length (a .table .now)) (length (a .plan .now)) _ _ _ _ (p .1) (p .0) (p .2) k _ (ap answers e) (ap lengthOf e) _ _ (c .before .run-down .ensures))))
+    (sym e ∙ k .0, (k .1 .0, (k .1 .1, results-evaluated (a .text .now) (length (a .table .now)) (length (a .plan .now)) _ _ _ _ (p .1) (p .0) (p .2) k _ (ap answers e) (ap lengthOf e) _ _ (c .before .run-down .ensures))))
 
 same-length-4 : tie.Need-same-length-4
 same-length-4 c = search needs
@@ -72,7 +72,7 @@ returns-2 c =
     let p = c .before .before .before .before .before .before .before .before .before .before .before .before .before .before .pre in
     let e = c .before .before .before .before .before .before .count2 .given .1 in
     let k = c .before .before .before .before .before .before .before .before .before .before .plan-sheet .ensures in
-    (sym e ∙ k .0, (k .1 .0, (k .1 .1, results-worked (a .text .now) (length (a .table .now)) (length (a .plan .now)) _ _ _ _ (p .1) (p .0) (p .2) k _ (ap answers e) (ap lengthOf e) _ _ (c .before .run-down2 .ensures))))
+    (sym e ∙ k .0, (k .1 .0, (k .1 .1, results-evaluated (a .text .now) (length (a .table .now)) (length (a .plan .now)) _ _ _ _ (p .1) (p .0) (p .2) k _ (ap answers e) (ap lengthOf e) _ _ (c .before .run-down2 .ensures))))
 
 same-length-7 : tie.Need-same-length-7
 same-length-7 c = search needs

@@ -54,17 +54,17 @@ slice-write-items c = omega (arith, room c, c .before .loop .inv .0)
 add-m : tie.Need-add-m Inv-loop μ-loop
 add-m c = omega (arith, room c, c .before .before .before .before .before .good)
 
-wide-requires : tie.Need-wide-requires Inv-loop μ-loop
-wide-requires c κs = search needs
+widen-requires : tie.Need-widen-requires Inv-loop μ-loop
+widen-requires c κs = search needs
 
 add-p : tie.Need-add-p Inv-loop μ-loop
-add-p c = omega (arith, label (c .before), c .wide .ensures, c .before .before .before .before .before .before .pre .0 .few)
+add-p c = omega (arith, label (c .before), c .widen .ensures, c .before .before .before .before .before .before .pre .0 .few)
 
 mul-p-2 : tie.Need-mul-p-2 Inv-loop μ-loop
-mul-p-2 c = omega (arith, label (c .before), c .wide .ensures, c .before .before .before .before .before .before .pre .0 .few)
+mul-p-2 c = omega (arith, label (c .before), c .widen .ensures, c .before .before .before .before .before .before .pre .0 .few)
 
 shared-slice-read-p-2 : tie.Need-shared-slice-read-p-2 Inv-loop μ-loop
-shared-slice-read-p-2 c = omega (arith, label (c .before .before), c .before .wide .ensures, c .before .before .before .before .before .before .before .pre .1 .0 .1)
+shared-slice-read-p-2 c = omega (arith, label (c .before .before), c .before .widen .ensures, c .before .before .before .before .before .before .before .pre .1 .0 .1)
 
 loop-less : tie.Need-loop-less Inv-loop μ-loop
 loop-less c = omega (arith, room (c .before .before))
@@ -72,7 +72,7 @@ loop-less c = omega (arith, room (c .before .before))
 loop-again : tie.Need-loop-again Inv-loop μ-loop
 loop-again c =
     let l = c .before .before .before in
-    rw (c .before .wide .ensures) (length-set (l .loop .items) _ _ ∙ l .loop .inv .0, walk-step _ _ _ _ _ _ (l .loop .inv .1) (c .before .before .loop-test .taken) (omega (arith, room (c .before .before), l .loop .inv .0)))
+    rw (c .before .widen .ensures) (length-set (l .loop .items) _ _ ∙ l .loop .inv .0, walk-step _ _ _ _ _ _ (l .loop .inv .1) (c .before .before .loop-test .taken) (omega (arith, room (c .before .before), l .loop .inv .0)))
 
 same-length : tie.Need-same-length Inv-loop μ-loop
 same-length c = c .before .loop .inv .0
@@ -92,7 +92,7 @@ gather-members-spec =
     mul-items
     slice-write-items
     add-m
-    wide-requires
+    widen-requires
     add-p
     mul-p-2
     shared-slice-read-p-2

@@ -25,12 +25,12 @@ Inv-loop table n items mask₀ w i₀ mask i = (length mask ≡ length mask₀) 
 abbrev μ-loop : tie.MeasureT-loop
 μ-loop table n items mask₀ w i₀ mask i = length items - i
 
-module _ (c : tie.After-wide Inv-loop μ-loop) where
-  here : c .wide .result ∈ c .before .before .before .before .before .before .before .before .before .before .args .items .now
-  here = subst (λ (x : ℕ). x ∈ c .before .before .before .before .before .before .before .before .before .before .args .items .now) (sym (c .wide .ensures)) (in-at (c .before .before .before .before .before .before .before .before .before .before .args .items .now) (c .before .before .before .loop .i) (c .before .before .loop-test .taken))
+module _ (c : tie.After-widen Inv-loop μ-loop) where
+  here : c .widen .result ∈ c .before .before .before .before .before .before .before .before .before .before .args .items .now
+  here = subst (λ (x : ℕ). x ∈ c .before .before .before .before .before .before .before .before .before .before .args .items .now) (sym (c .widen .ensures)) (in-at (c .before .before .before .before .before .before .before .before .before .before .args .items .now) (c .before .before .before .loop .i) (c .before .before .loop-test .taken))
 
-  label : (1 ≤ c .wide .result) × (c .wide .result ≤ c .before .before .before .before .before .before .before .before .before .before .args .n)
-  label = item-label _ _ (c .before .before .before .before .before .before .before .before .before .before .pre .0) _ (c .before .before .before .before .before .before .before .before .before .before .pre .1 .0) (c .wide .result) here
+  label : (1 ≤ c .widen .result) × (c .widen .result ≤ c .before .before .before .before .before .before .before .before .before .before .args .n)
+  label = item-label _ _ (c .before .before .before .before .before .before .before .before .before .before .pre .0) _ (c .before .before .before .before .before .before .before .before .before .before .pre .1 .0) (c .widen .result) here
 
 add-w : tie.Need-add-w Inv-loop μ-loop
 add-w c = search needs
@@ -42,14 +42,14 @@ loop-holds : tie.Need-loop-holds Inv-loop μ-loop
 loop-holds c =
     (refl, omega arith, λ p. (λ m. clash _ m (c .before .before .clear-marks .ensures p), λ y. absurd (omega (arith, y .0))))
 
-mul-wide : tie.Need-mul-wide Inv-loop μ-loop
-mul-wide c = search needs
+mul-widen : tie.Need-mul-widen Inv-loop μ-loop
+mul-widen c = search needs
 
-shared-slice-read-wide : tie.Need-shared-slice-read-wide Inv-loop μ-loop
-shared-slice-read-wide c = search needs
+shared-slice-read-widen : tie.Need-shared-slice-read-widen Inv-loop μ-loop
+shared-slice-read-widen c = search needs
 
-wide-requires : tie.Need-wide-requires Inv-loop μ-loop
-wide-requires c κs = search needs
+widen-requires : tie.Need-widen-requires Inv-loop μ-loop
+widen-requires c κs = search needs
 
 kind-of-requires : tie.Need-kind-of-requires Inv-loop μ-loop
 kind-of-requires c κs = (c .before .before .before .before .before .before .before .before .before .before .pre .0, label c)
@@ -71,16 +71,16 @@ loop-again c =
     let t = a .args .table .now in
     let h = c .before .before .before .before .loop-test .taken in
     let b = label q in
-    let k = a .pre .0 .kinds (q .wide .result) (b .0) (b .1) .0 in
+    let k = a .pre .0 .kinds (q .widen .result) (b .0) (b .1) .0 in
     ⊎-elim (λ w. rw (w .5) (
       w .2 .kept .0 ∙ l .loop .inv .0,
       omega arith,
-      mask-put t (a .args .n) (a .args .items .now) (l .loop .mask) (l .loop .i) _ (q .wide .ensures) h (l .loop .inv .2) (omega (arith, b)) (holder-of t (q .wide .result) k (omega (arith, c .before .kind-of .ensures, w .0 .taken))) _ (w .2 .ensures),
+      mask-put t (a .args .n) (a .args .items .now) (l .loop .mask) (l .loop .i) _ (q .widen .ensures) h (l .loop .inv .2) (omega (arith, b)) (holder-of t (q .widen .result) k (omega (arith, c .before .kind-of .ensures, w .0 .taken))) _ (w .2 .ensures),
     ))
     (λ w. rw (w .1) (
       l .loop .inv .0,
       omega arith,
-      mask-skip t (a .args .n) (a .args .items .now) (l .loop .mask) (l .loop .i) _ (q .wide .ensures) h (l .loop .inv .2) (no-holder t (q .wide .result) (omega (arith, c .before .kind-of .ensures, w .0 .left))),
+      mask-skip t (a .args .n) (a .args .items .now) (l .loop .mask) (l .loop .i) _ (q .widen .ensures) h (l .loop .inv .2) (no-holder t (q .widen .result) (omega (arith, c .before .kind-of .ensures, w .0 .left))),
     ))
     (c .if1 .came)
 
@@ -103,9 +103,9 @@ mask-items-spec =
     add-w
     clear-marks-requires
     loop-holds
-    mul-wide
-    shared-slice-read-wide
-    wide-requires
+    mul-widen
+    shared-slice-read-widen
+    widen-requires
     kind-of-requires
     put-mark-requires
     add-i

@@ -23,15 +23,15 @@ abbrev μ-loop : tie.MeasureT-loop
 μ-loop n next₀ group order r head₀ i₀ next head i = i
 
 -- in a turn: the label at hand
-module _ (c : tie.After-wide Inv-loop μ-loop) where
+module _ (c : tie.After-widen Inv-loop μ-loop) where
   before : c .before .before .before .loop .i - 1 < c .before .before .before .before .before .before .args .r
   before = omega (arith, c .before .before .loop-test .taken, c .before .before .before .loop .inv .1)
 
-  here : c .wide .result ∈ take (c .before .before .before .before .before .before .args .r) (c .before .before .before .before .before .before .args .order .now)
-  here = subst (λ (x : ℕ). x ∈ take (c .before .before .before .before .before .before .args .r) (c .before .before .before .before .before .before .args .order .now)) (sym (c .wide .ensures)) (in-take (c .before .before .before .before .before .before .args .order .now) _ (c .before .before .before .loop .i - 1) before (c .before .before .before .before .before .before .pre .0 .3))
+  here : c .widen .result ∈ take (c .before .before .before .before .before .before .args .r) (c .before .before .before .before .before .before .args .order .now)
+  here = subst (λ (x : ℕ). x ∈ take (c .before .before .before .before .before .before .args .r) (c .before .before .before .before .before .before .args .order .now)) (sym (c .widen .ensures)) (in-take (c .before .before .before .before .before .before .args .order .now) _ (c .before .before .before .loop .i - 1) before (c .before .before .before .before .before .before .pre .0 .3))
 
-  label : (1 ≤ c .wide .result) × (c .wide .result ≤ c .before .before .before .before .before .before .args .n)
-  label = c .before .before .before .before .before .before .pre .1 .0 (c .wide .result) here
+  label : (1 ≤ c .widen .result) × (c .widen .result ≤ c .before .before .before .before .before .before .args .n)
+  label = c .before .before .before .before .before .before .pre .1 .0 (c .widen .result) here
 
 loop-holds : tie.Need-loop-holds Inv-loop μ-loop
 loop-holds c = let p = c .before .before .pre in (refl, omega arith, relinking-none _ _ _ _ (omega (arith, length-take-le (c .before .before .args .r) (c .before .before .args .order .now) (p .0 .3))))
@@ -45,8 +45,8 @@ mul-x c = search needs
 shared-slice-read-x : tie.Need-shared-slice-read-x Inv-loop μ-loop
 shared-slice-read-x c = omega (arith, c .before .before .loop .inv .1, c .before .before .before .before .before .pre .0 .3, c .before .loop-test .taken)
 
-wide-requires : tie.Need-wide-requires Inv-loop μ-loop
-wide-requires c κs = search needs
+widen-requires : tie.Need-widen-requires Inv-loop μ-loop
+widen-requires c κs = search needs
 
 add-next : tie.Need-add-next Inv-loop μ-loop
 add-next c = omega (arith, label c, c .before .before .before .before .before .before .pre .0)
@@ -65,12 +65,12 @@ loop-again c =
     let l = c .before .before .before in
     let a = c .before .before .before .before .before .before in
     let b = label c in
-    let w = c .wide .ensures in (
+    let w = c .widen .ensures in (
       length-set (l .loop .next) _ _ ∙ l .loop .inv .0,
       omega arith,
-      subst (λ (x : ℕ). Relinking (a .args .n) (a .args .next .now) (take (a .args .r) (a .args .order .now)) (set (l .loop .next) (a .args .n + c .wide .result) (l .loop .head)) x (l .loop .i - 1)) w
-          (relinking-turn _ _ _ _ _ _ (l .loop .inv .2) (c .wide .result) (c .before .before .loop-test .taken) (omega (arith, l .loop .inv .1, length-take-le (a .args .r) (a .args .order .now) (a .pre .0 .3)))
-          (w ∙ sym (getD-take (a .args .r) (a .args .order .now) (l .loop .i - 1) 0 (before c))) (b .0) (omega (arith, b, a .pre .0 .2, l .loop .inv .0)) (a .pre .1 .1 (c .wide .result))),
+      subst (λ (x : ℕ). Relinking (a .args .n) (a .args .next .now) (take (a .args .r) (a .args .order .now)) (set (l .loop .next) (a .args .n + c .widen .result) (l .loop .head)) x (l .loop .i - 1)) w
+          (relinking-turn _ _ _ _ _ _ (l .loop .inv .2) (c .widen .result) (c .before .before .loop-test .taken) (omega (arith, l .loop .inv .1, length-take-le (a .args .r) (a .args .order .now) (a .pre .0 .3)))
+          (w ∙ sym (getD-take (a .args .r) (a .args .order .now) (l .loop .i - 1) 0 (before c))) (b .0) (omega (arith, b, a .pre .0 .2, l .loop .inv .0)) (a .pre .1 .1 (c .widen .result))),
     )
 
 mul-next-2 : tie.Need-mul-next-2 Inv-loop μ-loop
@@ -98,7 +98,7 @@ relink-spec =
     sub-i
     mul-x
     shared-slice-read-x
-    wide-requires
+    widen-requires
     add-next
     mul-next
     slice-write-next

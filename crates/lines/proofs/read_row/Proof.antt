@@ -19,7 +19,7 @@ few c = omega (arith, c .pre .1, kind-bound (slice (c .args .from) (c .args .e .
 inside : (c : tie.Start) → (c .args .e .name ≤ length (c .args .text .now)) × (c .args .e .name ≤ 65536)
 inside c =
     let f = c .pre .0 in
-    (omega (arith, f .wide2, f .wide3, f .wide4, f .lined .inside), omega (arith, f .wide2, f .wide3, f .wide4, f .lined .inside, c .pre .4))
+    (omega (arith, f .wide2, f .wide3, f .wide4, f .ending .inside), omega (arith, f .wide2, f .wide3, f .wide4, f .ending .inside, c .pre .4))
 
 kind-row-requires : tie.Need-kind-row-requires
 kind-row-requires c κs = (c .before .pre .2, few (c .before))

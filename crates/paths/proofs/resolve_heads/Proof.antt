@@ -1,6 +1,6 @@
 use mathlib.Core.Path.{_∙_, sym}
 use Rattle.refusals.specs.Refusal.{firstBad}
-use Rattle.paths.specs.Paths.{headBad, laterRows}
+use Rattle.paths.specs.Paths.{pathHeadBad, laterRows}
 use Rattle.refusals.proofs.OrElse.{refused-first, fine-then}
 use Rattle.paths.proofs.Joining.{heads-alike, heads-size, heads-held, heads-rows, heads-targets}
 use Rattle.paths.proofs.Alike.{rows-alike, linked-alike}
@@ -34,7 +34,7 @@ returns c =
     let e = c .before .before .before .before .before .before .settle-heads .ensures .1 f in
     let u = c .before .before .before .before .before .before .settle-heads .last .1 .0 in
     let r = c .before .resolve-later .ensures in
-    (r .0 ∙ heads-rows (c .before .before .before .before .before .before .before .before .before .before .before .args .text .now) (c .before .before .before .before .before .before .before .before .before .before .before .args .table .now) u (c .before .before .before .before .before .before .before .before .before .before .before .args .n) e (c .before .before .before .before .before .before .before .before .before .before .before .pre .0 .room) ∙ fine-then (firstBad (headBad (c .before .before .before .before .before .before .before .before .before .before .before .args .text .now) (c .before .before .before .before .before .before .before .before .before .before .before .args .table .now) (c .before .before .before .before .before .before .before .before .before .before .before .args .n)) 1 (c .before .before .before .before .before .before .before .before .before .before .before .args .n)) (laterRows (c .before .before .before .before .before .before .before .before .before .before .before .args .text .now) (c .before .before .before .before .before .before .before .before .before .before .before .args .table .now) (c .before .before .before .before .before .before .before .before .before .before .before .args .n)) (sym (c .before .before .before .before .before .before .settle-heads .ensures .0) ∙ f), λ z. r .1 z ∙ heads-targets (c .before .before .before .before .before .before .before .before .before .before .before .args .text .now) (c .before .before .before .before .before .before .before .before .before .before .before .args .table .now) u (c .before .before .before .before .before .before .before .before .before .before .before .args .n) e (c .before .before .before .before .before .before .before .before .before .before .before .pre .0 .room))
+    (r .0 ∙ heads-rows (c .before .before .before .before .before .before .before .before .before .before .before .args .text .now) (c .before .before .before .before .before .before .before .before .before .before .before .args .table .now) u (c .before .before .before .before .before .before .before .before .before .before .before .args .n) e (c .before .before .before .before .before .before .before .before .before .before .before .pre .0 .room) ∙ fine-then (firstBad (pathHeadBad (c .before .before .before .before .before .before .before .before .before .before .before .args .text .now) (c .before .before .before .before .before .before .before .before .before .before .before .args .table .now) (c .before .before .before .before .before .before .before .before .before .before .before .args .n)) 1 (c .before .before .before .before .before .before .before .before .before .before .before .args .n)) (laterRows (c .before .before .before .before .before .before .before .before .before .before .before .args .text .now) (c .before .before .before .before .before .before .before .before .before .before .before .args .table .now) (c .before .before .before .before .before .before .before .before .before .before .before .args .n)) (sym (c .before .before .before .before .before .before .settle-heads .ensures .0) ∙ f), λ z. r .1 z ∙ heads-targets (c .before .before .before .before .before .before .before .before .before .before .before .args .text .now) (c .before .before .before .before .before .before .before .before .before .before .before .args .table .now) u (c .before .before .before .before .before .before .before .before .before .before .before .args .n) e (c .before .before .before .before .before .before .before .before .before .before .before .pre .0 .room))
 
 same-length-2 : tie.Need-same-length-2
 same-length-2 c = search needs

@@ -10,7 +10,7 @@ use lib.ListN.{length, set}
 use Rattle.cells.specs.Table.{target, withColumn}
 use Rattle.paths.specs.Paths.{headCell, targetBy, targetCell, laterBad}
 use Rattle.paths.proofs.Alike.{column-alike, path-alike, target-by-alike, rows-alike, linked-alike}
-use Rattle.paths.proofs.Passes.{Settling, settle-start, settle-size, settle-alike, settle-put, settle-turn, settle-stop, settle-done, settle-all, later-lost, target-from, head-cell-high, column-later, not-fine}
+use Rattle.paths.proofs.Passes.{Settling, settle-start, settle-size, settle-alike, settle-put, settle-turn, settle-stop, settle-done, settle-all, later-unresolved, target-from, head-cell-high, column-later, not-fine}
 use Rattle.paths.proofs.settle_targets.Statement.{statement}
 use Rattle.paths.proofs.settle_targets.Tie as tie
 
@@ -40,25 +40,25 @@ settle-target-requires c κs =
     ((rows-alike (c .before .before .before .before .before .before .args .text .now) (c .before .before .before .before .before .before .args .table .now) (c .before .before .loop .table) (settle-alike (laterBad (c .before .before .before .before .before .before .args .text .now) (c .before .before .before .before .before .before .args .table .now) (c .before .before .before .before .before .before .args .n)) (targetCell (c .before .before .before .before .before .before .args .text .now) (c .before .before .before .before .before .before .args .table .now) (c .before .before .before .before .before .before .args .n)) (c .before .before .before .before .before .before .args .n) (c .before .before .before .before .before .before .args .table .now) (c .before .before .loop .label) (c .before .before .loop .table) (c .before .before .loop .inv)) (c .before .before .before .before .before .before .args .n) (settle-size (laterBad (c .before .before .before .before .before .before .args .text .now) (c .before .before .before .before .before .before .args .table .now) (c .before .before .before .before .before .before .args .n)) (targetCell (c .before .before .before .before .before .before .args .text .now) (c .before .before .before .before .before .before .args .table .now) (c .before .before .before .before .before .before .args .n)) (c .before .before .before .before .before .before .args .n) (c .before .before .before .before .before .before .args .table .now) (c .before .before .loop .label) (c .before .before .loop .table) (c .before .before .loop .inv)) (c .before .before .before .before .before .before .pre .0 .0), linked-alike (c .before .before .before .before .before .before .args .text .now) (c .before .before .before .before .before .before .args .table .now) (c .before .before .loop .table) (settle-alike (laterBad (c .before .before .before .before .before .before .args .text .now) (c .before .before .before .before .before .before .args .table .now) (c .before .before .before .before .before .before .args .n)) (targetCell (c .before .before .before .before .before .before .args .text .now) (c .before .before .before .before .before .before .args .table .now) (c .before .before .before .before .before .before .args .n)) (c .before .before .before .before .before .before .args .n) (c .before .before .before .before .before .before .args .table .now) (c .before .before .loop .label) (c .before .before .loop .table) (c .before .before .loop .inv)) (c .before .before .before .before .before .before .args .n) (c .before .before .before .before .before .before .args .first .now) (c .before .before .before .before .before .before .args .next .now) (c .before .before .before .before .before .before .pre .0 .1)), (l .inv .low, omega arith, headed c))
 
 -- the table with the label's cell
-written : (c : tie.After-is-lost-arg Inv-loop μ-loop) → (c .before .before .settle-target .last .1 .0) ≡ withColumn 7 (targetCell (c .before .before .before .before .before .before .before .before .before .args .text .now) (c .before .before .before .before .before .before .before .before .before .args .table .now) (c .before .before .before .before .before .before .before .before .before .args .n)) (c .before .before .before .before .before .loop .label) (c .before .before .before .before .before .before .before .before .before .args .table .now)
+written : (c : tie.After-is-unresolved-arg Inv-loop μ-loop) → (c .before .before .settle-target .last .1 .0) ≡ withColumn 7 (targetCell (c .before .before .before .before .before .before .before .before .before .args .text .now) (c .before .before .before .before .before .before .before .before .before .args .table .now) (c .before .before .before .before .before .before .before .before .before .args .n)) (c .before .before .before .before .before .loop .label) (c .before .before .before .before .before .before .before .before .before .args .table .now)
 written c =
     settle-put (laterBad (c .before .before .before .before .before .before .before .before .before .args .text .now) (c .before .before .before .before .before .before .before .before .before .args .table .now) (c .before .before .before .before .before .before .before .before .before .args .n)) (targetCell (c .before .before .before .before .before .before .before .before .before .args .text .now) (c .before .before .before .before .before .before .before .before .before .args .table .now) (c .before .before .before .before .before .before .before .before .before .args .n)) (c .before .before .before .before .before .before .before .before .before .args .n) (c .before .before .before .before .before .before .before .before .before .args .table .now) (c .before .before .before .before .before .loop .label) (c .before .before .before .before .before .loop .table) (c .before .before .before .before .before .loop .inv) (c .before .before .settle-target .last .1 .0)
     (c .before .before .settle-target .ensures .1 ∙ ap (λ v. set (c .before .before .before .before .before .loop .table) (8 * (c .before .before .before .before .before .loop .label - 1) + 7) (pos v)) ((target-by-alike (c .before .before .before .before .before .before .before .before .before .args .text .now) (c .before .before .before .before .before .before .before .before .before .args .table .now) (c .before .before .before .before .before .loop .table) (settle-alike (laterBad (c .before .before .before .before .before .before .before .before .before .args .text .now) (c .before .before .before .before .before .before .before .before .before .args .table .now) (c .before .before .before .before .before .before .before .before .before .args .n)) (targetCell (c .before .before .before .before .before .before .before .before .before .args .text .now) (c .before .before .before .before .before .before .before .before .before .args .table .now) (c .before .before .before .before .before .before .before .before .before .args .n)) (c .before .before .before .before .before .before .before .before .before .args .n) (c .before .before .before .before .before .before .before .before .before .args .table .now) (c .before .before .before .before .before .loop .label) (c .before .before .before .before .before .loop .table) (c .before .before .before .before .before .loop .inv)) (c .before .before .before .before .before .before .before .before .before .args .n) (c .before .before .before .before .before .loop .label) (target (c .before .before .before .before .before .loop .table) (c .before .before .before .before .before .loop .label)) ∙ ap (targetBy (c .before .before .before .before .before .before .before .before .before .args .text .now) (c .before .before .before .before .before .before .before .before .before .args .table .now) (c .before .before .before .before .before .before .before .before .before .args .n) (c .before .before .before .before .before .loop .label)) (held (c .before .before)) ∙ target-from (c .before .before .before .before .before .before .before .before .before .args .text .now) (c .before .before .before .before .before .before .before .before .before .args .table .now) (c .before .before .before .before .before .before .before .before .before .args .n) (c .before .before .before .before .before .loop .label))))
 
 -- what the row says of the label
-lost : (c : tie.After-is-lost Inv-loop μ-loop) → laterBad (c .before .before .before .before .before .before .before .before .before .before .args .text .now) (c .before .before .before .before .before .before .before .before .before .before .args .table .now) (c .before .before .before .before .before .before .before .before .before .before .args .n) (c .before .before .before .before .before .before .loop .label) ≡ cond (c .is-lost .result) 14 0
-lost c =
-    later-lost (c .before .before .before .before .before .before .before .before .before .before .args .text .now) (c .before .before .before .before .before .before .before .before .before .before .args .table .now) (c .before .before .before .before .before .before .before .before .before .before .args .n) (c .before .before .before .before .before .before .loop .label) (c .is-lost .result)
-    (sym (c .is-lost .ensures ∙ rw (written (c .before), path-alike (c .before .before .before .before .before .before .before .before .before .before .args .text .now) (c .before .before .before .before .before .before .before .before .before .before .args .table .now) (withColumn 7 (targetCell (c .before .before .before .before .before .before .before .before .before .before .args .text .now) (c .before .before .before .before .before .before .before .before .before .before .args .table .now) (c .before .before .before .before .before .before .before .before .before .before .args .n)) (c .before .before .before .before .before .before .loop .label) (c .before .before .before .before .before .before .before .before .before .before .args .table .now)) (column-alike (targetCell (c .before .before .before .before .before .before .before .before .before .before .args .text .now) (c .before .before .before .before .before .before .before .before .before .before .args .table .now) (c .before .before .before .before .before .before .before .before .before .before .args .n)) (c .before .before .before .before .before .before .loop .label) (c .before .before .before .before .before .before .before .before .before .before .args .table .now)) (c .before .before .before .before .before .before .loop .label), c .before .before .before .settle-target .ensures .0 ∙ (target-by-alike (c .before .before .before .before .before .before .before .before .before .before .args .text .now) (c .before .before .before .before .before .before .before .before .before .before .args .table .now) (c .before .before .before .before .before .before .loop .table) (settle-alike (laterBad (c .before .before .before .before .before .before .before .before .before .before .args .text .now) (c .before .before .before .before .before .before .before .before .before .before .args .table .now) (c .before .before .before .before .before .before .before .before .before .before .args .n)) (targetCell (c .before .before .before .before .before .before .before .before .before .before .args .text .now) (c .before .before .before .before .before .before .before .before .before .before .args .table .now) (c .before .before .before .before .before .before .before .before .before .before .args .n)) (c .before .before .before .before .before .before .before .before .before .before .args .n) (c .before .before .before .before .before .before .before .before .before .before .args .table .now) (c .before .before .before .before .before .before .loop .label) (c .before .before .before .before .before .before .loop .table) (c .before .before .before .before .before .before .loop .inv)) (c .before .before .before .before .before .before .before .before .before .before .args .n) (c .before .before .before .before .before .before .loop .label) (target (c .before .before .before .before .before .before .loop .table) (c .before .before .before .before .before .before .loop .label)) ∙ ap (targetBy (c .before .before .before .before .before .before .before .before .before .before .args .text .now) (c .before .before .before .before .before .before .before .before .before .before .args .table .now) (c .before .before .before .before .before .before .before .before .before .before .args .n) (c .before .before .before .before .before .before .loop .label)) (held (c .before .before .before)) ∙ target-from (c .before .before .before .before .before .before .before .before .before .before .args .text .now) (c .before .before .before .before .before .before .before .before .before .before .args .table .now) (c .before .before .before .before .before .before .before .before .before .before .args .n) (c .before .before .before .before .before .before .loop .label)))))
+unresolved : (c : tie.After-is-unresolved Inv-loop μ-loop) → laterBad (c .before .before .before .before .before .before .before .before .before .before .args .text .now) (c .before .before .before .before .before .before .before .before .before .before .args .table .now) (c .before .before .before .before .before .before .before .before .before .before .args .n) (c .before .before .before .before .before .before .loop .label) ≡ cond (c .is-unresolved .result) 14 0
+unresolved c =
+    later-unresolved (c .before .before .before .before .before .before .before .before .before .before .args .text .now) (c .before .before .before .before .before .before .before .before .before .before .args .table .now) (c .before .before .before .before .before .before .before .before .before .before .args .n) (c .before .before .before .before .before .before .loop .label) (c .is-unresolved .result)
+    (sym (c .is-unresolved .ensures ∙ rw (written (c .before), path-alike (c .before .before .before .before .before .before .before .before .before .before .args .text .now) (c .before .before .before .before .before .before .before .before .before .before .args .table .now) (withColumn 7 (targetCell (c .before .before .before .before .before .before .before .before .before .before .args .text .now) (c .before .before .before .before .before .before .before .before .before .before .args .table .now) (c .before .before .before .before .before .before .before .before .before .before .args .n)) (c .before .before .before .before .before .before .loop .label) (c .before .before .before .before .before .before .before .before .before .before .args .table .now)) (column-alike (targetCell (c .before .before .before .before .before .before .before .before .before .before .args .text .now) (c .before .before .before .before .before .before .before .before .before .before .args .table .now) (c .before .before .before .before .before .before .before .before .before .before .args .n)) (c .before .before .before .before .before .before .loop .label) (c .before .before .before .before .before .before .before .before .before .before .args .table .now)) (c .before .before .before .before .before .before .loop .label), c .before .before .before .settle-target .ensures .0 ∙ (target-by-alike (c .before .before .before .before .before .before .before .before .before .before .args .text .now) (c .before .before .before .before .before .before .before .before .before .before .args .table .now) (c .before .before .before .before .before .before .loop .table) (settle-alike (laterBad (c .before .before .before .before .before .before .before .before .before .before .args .text .now) (c .before .before .before .before .before .before .before .before .before .before .args .table .now) (c .before .before .before .before .before .before .before .before .before .before .args .n)) (targetCell (c .before .before .before .before .before .before .before .before .before .before .args .text .now) (c .before .before .before .before .before .before .before .before .before .before .args .table .now) (c .before .before .before .before .before .before .before .before .before .before .args .n)) (c .before .before .before .before .before .before .before .before .before .before .args .n) (c .before .before .before .before .before .before .before .before .before .before .args .table .now) (c .before .before .before .before .before .before .loop .label) (c .before .before .before .before .before .before .loop .table) (c .before .before .before .before .before .before .loop .inv)) (c .before .before .before .before .before .before .before .before .before .before .args .n) (c .before .before .before .before .before .before .loop .label) (target (c .before .before .before .before .before .before .loop .table) (c .before .before .before .before .before .before .loop .label)) ∙ ap (targetBy (c .before .before .before .before .before .before .before .before .before .before .args .text .now) (c .before .before .before .before .before .before .before .before .before .before .args .table .now) (c .before .before .before .before .before .before .before .before .before .before .args .n) (c .before .before .before .before .before .before .loop .label)) (held (c .before .before .before)) ∙ target-from (c .before .before .before .before .before .before .before .before .before .before .args .text .now) (c .before .before .before .before .before .before .before .before .before .before .args .table .now) (c .before .before .before .before .before .before .before .before .before .before .args .n) (c .before .before .before .before .before .before .loop .label)))))
 
-is-lost-requires : tie.Need-is-lost-requires Inv-loop μ-loop
-is-lost-requires c κs = search needs
+is-unresolved-requires : tie.Need-is-unresolved-requires Inv-loop μ-loop
+is-unresolved-requires c κs = search needs
 
 same-length : tie.Need-same-length Inv-loop μ-loop
 same-length c = ap length (written (c .before .before)) ∙ column-length 7 (targetCell (c .before .before .before .before .before .before .before .before .before .before .before .args .text .now) (c .before .before .before .before .before .before .before .before .before .before .before .args .table .now) (c .before .before .before .before .before .before .before .before .before .before .before .args .n)) (c .before .before .before .before .before .before .before .loop .label) (c .before .before .before .before .before .before .before .before .before .before .before .args .table .now)
 
 returns : tie.Need-returns Inv-loop μ-loop
-returns c = (settle-stop (laterBad (c .before .before .before .before .before .before .before .before .before .before .before .args .text .now) (c .before .before .before .before .before .before .before .before .before .before .before .args .table .now) (c .before .before .before .before .before .before .before .before .before .before .before .args .n)) (targetCell (c .before .before .before .before .before .before .before .before .before .before .before .args .text .now) (c .before .before .before .before .before .before .before .before .before .before .before .args .table .now) (c .before .before .before .before .before .before .before .before .before .before .before .args .n)) (c .before .before .before .before .before .before .before .before .before .before .before .args .n) (c .before .before .before .before .before .before .before .before .before .before .before .args .table .now) (c .before .before .before .before .before .before .before .loop .label) (c .before .before .before .before .before .before .before .loop .table) (c .before .before .before .before .before .before .before .loop .inv) 14 (omega arith) (lost (c .before) ∙ ap (λ y. cond y 14 0) (c .if1 .taken)) (λ z. omega arith), λ z. not-fine 14 (c .before .before .before .before .before .before .before .loop .label) z)
+returns c = (settle-stop (laterBad (c .before .before .before .before .before .before .before .before .before .before .before .args .text .now) (c .before .before .before .before .before .before .before .before .before .before .before .args .table .now) (c .before .before .before .before .before .before .before .before .before .before .before .args .n)) (targetCell (c .before .before .before .before .before .before .before .before .before .before .before .args .text .now) (c .before .before .before .before .before .before .before .before .before .before .before .args .table .now) (c .before .before .before .before .before .before .before .before .before .before .before .args .n)) (c .before .before .before .before .before .before .before .before .before .before .before .args .n) (c .before .before .before .before .before .before .before .before .before .before .before .args .table .now) (c .before .before .before .before .before .before .before .loop .label) (c .before .before .before .before .before .before .before .loop .table) (c .before .before .before .before .before .before .before .loop .inv) 14 (omega arith) (unresolved (c .before) ∙ ap (λ y. cond y 14 0) (c .if1 .taken)) (λ z. omega arith), λ z. not-fine 14 (c .before .before .before .before .before .before .before .loop .label) z)
 
 add-label : tie.Need-add-label Inv-loop μ-loop
 add-label c = omega (arith, c .before .before .before .before .before .before .before .before .before .before .before .pre .0 .0 .few)
@@ -67,7 +67,7 @@ loop-less : tie.Need-loop-less Inv-loop μ-loop
 loop-less c = omega arith
 
 loop-again : tie.Need-loop-again Inv-loop μ-loop
-loop-again c = settle-turn (laterBad (c .before .before .before .before .before .before .before .before .before .before .before .args .text .now) (c .before .before .before .before .before .before .before .before .before .before .before .args .table .now) (c .before .before .before .before .before .before .before .before .before .before .before .args .n)) (targetCell (c .before .before .before .before .before .before .before .before .before .before .before .args .text .now) (c .before .before .before .before .before .before .before .before .before .before .before .args .table .now) (c .before .before .before .before .before .before .before .before .before .before .before .args .n)) (c .before .before .before .before .before .before .before .before .before .before .before .args .n) (c .before .before .before .before .before .before .before .before .before .before .before .args .table .now) (c .before .before .before .before .before .before .before .loop .label) (c .before .before .before .before .before .before .before .loop .table) (c .before .before .before .before .before .before .before .loop .inv) (c .before .before .before .before .settle-target .last .1 .0) (omega arith) (lost (c .before) ∙ ap (λ y. cond y 14 0) (c .if1 .left)) (written (c .before .before))
+loop-again c = settle-turn (laterBad (c .before .before .before .before .before .before .before .before .before .before .before .args .text .now) (c .before .before .before .before .before .before .before .before .before .before .before .args .table .now) (c .before .before .before .before .before .before .before .before .before .before .before .args .n)) (targetCell (c .before .before .before .before .before .before .before .before .before .before .before .args .text .now) (c .before .before .before .before .before .before .before .before .before .before .before .args .table .now) (c .before .before .before .before .before .before .before .before .before .before .before .args .n)) (c .before .before .before .before .before .before .before .before .before .before .before .args .n) (c .before .before .before .before .before .before .before .before .before .before .before .args .table .now) (c .before .before .before .before .before .before .before .loop .label) (c .before .before .before .before .before .before .before .loop .table) (c .before .before .before .before .before .before .before .loop .inv) (c .before .before .before .before .settle-target .last .1 .0) (omega arith) (unresolved (c .before) ∙ ap (λ y. cond y 14 0) (c .if1 .left)) (written (c .before .before))
 
 same-length-2 : tie.Need-same-length-2 Inv-loop μ-loop
 same-length-2 c = settle-size (laterBad (c .before .before .before .before .before .args .text .now) (c .before .before .before .before .before .args .table .now) (c .before .before .before .before .before .args .n)) (targetCell (c .before .before .before .before .before .args .text .now) (c .before .before .before .before .before .args .table .now) (c .before .before .before .before .before .args .n)) (c .before .before .before .before .before .args .n) (c .before .before .before .before .before .args .table .now) (c .before .loop .label) (c .before .loop .table) (c .before .loop .inv)
@@ -83,7 +83,7 @@ settle-targets-spec =
     μ-loop
     loop-holds
     settle-target-requires
-    is-lost-requires
+    is-unresolved-requires
     same-length
     returns
     add-label

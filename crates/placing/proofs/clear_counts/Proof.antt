@@ -16,7 +16,7 @@ use Rattle.placing.proofs.clear_counts.Statement.{statement}
 use Rattle.placing.proofs.clear_counts.Tie as tie
 use Rattle.placing.proofs.clear_counts.Reads as reads
 use Rattle.placing.proofs.clear_counts.Lts as lts
-use Rattle.marks.proofs.wide.Reads as wide-reads
+use Rattle.marks.proofs.widen.Reads as widen-reads
 
 abbrev Inv-loop : tie.InvT-loop
 Inv-loop items unmet₀ i₀ unmet i = (length unmet ≡ length unmet₀) × (i ≤ length items) × ((p : ℕ) → p ∈ take i items → getD unmet p 0 ≡ 0)
@@ -24,25 +24,25 @@ Inv-loop items unmet₀ i₀ unmet i = (length unmet ≡ length unmet₀) × (i 
 abbrev μ-loop : tie.MeasureT-loop
 μ-loop items unmet₀ i₀ unmet i = length items - i
 
-inside : (c : tie.After-wide Inv-loop μ-loop) → c .wide .result < length (c .before .before .before .loop .unmet)
+inside : (c : tie.After-widen Inv-loop μ-loop) → c .widen .result < length (c .before .before .before .loop .unmet)
 inside c =
     let i = in-at (c .before .before .before .before .before .before .args .items .now) (c .before .before .before .loop .i) (c .before .before .loop-test .taken) in
-    omega (arith, c .wide .ensures, c .before .before .before .before .before .before .pre (getD (c .before .before .before .before .before .before .args .items .now) (c .before .before .before .loop .i) 0) i, c .before .before .before .loop .inv .0)
+    omega (arith, c .widen .ensures, c .before .before .before .before .before .before .pre (getD (c .before .before .before .before .before .before .args .items .now) (c .before .before .before .loop .i) 0) i, c .before .before .before .loop .inv .0)
 
 loop-holds : tie.Need-loop-holds Inv-loop μ-loop
 loop-holds c = (refl, omega arith, λ p m. absurd (omega arith))
 
-mul-wide : tie.Need-mul-wide Inv-loop μ-loop
-mul-wide c = search needs
+mul-widen : tie.Need-mul-widen Inv-loop μ-loop
+mul-widen c = search needs
 
-shared-slice-read-wide : tie.Need-shared-slice-read-wide Inv-loop μ-loop
-shared-slice-read-wide c = search needs
+shared-slice-read-widen : tie.Need-shared-slice-read-widen Inv-loop μ-loop
+shared-slice-read-widen c = search needs
 
-wide-requires : tie.Need-wide-requires Inv-loop μ-loop
-wide-requires c κs = search needs
+widen-requires : tie.Need-widen-requires Inv-loop μ-loop
+widen-requires c κs = search needs
 
 mul-unmet : tie.Need-mul-unmet Inv-loop μ-loop
-mul-unmet c = omega (arith, c .wide .ensures, c .before .shared-slice-known2 .given (c .before .before .before .loop .i))
+mul-unmet c = omega (arith, c .widen .ensures, c .before .shared-slice-known2 .given (c .before .before .before .loop .i))
 
 slice-write-unmet : tie.Need-slice-write-unmet Inv-loop μ-loop
 slice-write-unmet c = inside c
@@ -58,7 +58,7 @@ loop-again c =
     let l = c .before .before .before in (
       length-set (l .loop .unmet) _ _ ∙ l .loop .inv .0,
       omega (arith, c .before .before .loop-test .taken),
-      clear-turn (c .before .before .before .before .before .before .args .items .now) (l .loop .unmet) (l .loop .i) _ (c .before .before .loop-test .taken) (c .wide .ensures) (inside c) (l .loop .inv .2),
+      clear-turn (c .before .before .before .before .before .before .args .items .now) (l .loop .unmet) (l .loop .i) _ (c .before .before .loop-test .taken) (c .widen .ensures) (inside c) (l .loop .inv .2),
     )
 
 same-length : tie.Need-same-length Inv-loop μ-loop
@@ -76,9 +76,9 @@ clear-counts-spec =
     Inv-loop
     μ-loop
     loop-holds
-    mul-wide
-    shared-slice-read-wide
-    wide-requires
+    mul-widen
+    shared-slice-read-widen
+    widen-requires
     mul-unmet
     slice-write-unmet
     add-i

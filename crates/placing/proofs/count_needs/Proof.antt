@@ -15,7 +15,7 @@ use Rattle.placing.proofs.count_needs.Reads as reads
 use Rattle.placing.proofs.count_needs.Lts as lts
 use Rattle.placing.proofs.needed_by.Reads as needed-by-reads
 use Rattle.placing.proofs.raise.Reads as raise-reads
-use Rattle.marks.proofs.wide.Reads as wide-reads
+use Rattle.marks.proofs.widen.Reads as widen-reads
 
 abbrev Inv-loop : tie.InvT-loop
 Inv-loop items square w mask unmet₀ list₀ i₀ unmet list i =
@@ -25,8 +25,8 @@ Inv-loop items square w mask unmet₀ list₀ i₀ unmet list i =
 abbrev μ-loop : tie.MeasureT-loop
 μ-loop items square w mask unmet₀ list₀ i₀ unmet list i = length items - i
 
-here : (c : tie.After-wide Inv-loop μ-loop) → c .wide .result ∈ c .before .before .before .before .before .before .before .before .before .args .items .now
-here c = subst (λ (x : ℕ). x ∈ c .before .before .before .before .before .before .before .before .before .args .items .now) (sym (c .wide .ensures)) (in-at (c .before .before .before .before .before .before .before .before .before .args .items .now) (c .before .before .before .loop .i) (c .before .before .loop-test .taken))
+here : (c : tie.After-widen Inv-loop μ-loop) → c .widen .result ∈ c .before .before .before .before .before .before .before .before .before .args .items .now
+here c = subst (λ (x : ℕ). x ∈ c .before .before .before .before .before .before .before .before .before .args .items .now) (sym (c .widen .ensures)) (in-at (c .before .before .before .before .before .before .before .before .before .args .items .now) (c .before .before .before .loop .i) (c .before .before .loop-test .taken))
 
 -- those that need the item at hand
 item-of : (c : tie.After-needed-by Inv-loop μ-loop) → (p : ℕ) → p ∈ take (c .needed-by .result) (c .needed-by .last .1 .1 .1 .1 .0) → p ∈ c .before .before .before .before .before .before .before .before .before .before .before .args .items .now
@@ -35,14 +35,14 @@ item-of c = need-item _ _ _ _ _ _ (c .before .before .before .before .before .be
 loop-holds : tie.Need-loop-holds Inv-loop μ-loop
 loop-holds c = (refl, refl, omega arith, λ p m. c .before .before .before .before .before .pre .1 .1 p m)
 
-mul-wide : tie.Need-mul-wide Inv-loop μ-loop
-mul-wide c = omega (arith, c .loop-test .taken, c .before .before .before .before .before .before .before .pre .0 .few)
+mul-widen : tie.Need-mul-widen Inv-loop μ-loop
+mul-widen c = omega (arith, c .loop-test .taken, c .before .before .before .before .before .before .before .pre .0 .few)
 
-shared-slice-read-wide : tie.Need-shared-slice-read-wide Inv-loop μ-loop
-shared-slice-read-wide c = omega (arith, c .before .loop-test .taken)
+shared-slice-read-widen : tie.Need-shared-slice-read-widen Inv-loop μ-loop
+shared-slice-read-widen c = omega (arith, c .before .loop-test .taken)
 
-wide-requires : tie.Need-wide-requires Inv-loop μ-loop
-wide-requires c κs = search needs
+widen-requires : tie.Need-widen-requires Inv-loop μ-loop
+widen-requires c κs = search needs
 
 needed-by-requires : tie.Need-needed-by-requires Inv-loop μ-loop
 needed-by-requires c κs =
@@ -57,7 +57,7 @@ raise-requires c κs =
     let e = c .before .before .before .before .needed-by in (
       omega (arith, e .ensures .1, e .kept .1 .1 .1 .1 .0, l .loop .inv .1, a .pre .1 .0),
       λ p m. omega (arith, l .loop .inv .0, a .pre .0 .counted p (item-of (c .before .before .before .before) p m)),
-      λ p m. count-room _ _ _ _ (l .loop .i) _ (c .before .before .before .before .before .before .wide .ensures) (c .before .before .before .before .before .before .before .before .loop-test .taken) (l .loop .unmet) (e .last .1 .1 .1 .1 .0) (e .result) (e .ensures .0) (l .loop .inv .3) (a .pre .0 .few) p (item-of (c .before .before .before .before) p m),
+      λ p m. count-room _ _ _ _ (l .loop .i) _ (c .before .before .before .before .before .before .widen .ensures) (c .before .before .before .before .before .before .before .before .loop-test .taken) (l .loop .unmet) (e .last .1 .1 .1 .1 .0) (e .result) (e .ensures .0) (l .loop .inv .3) (a .pre .0 .few) p (item-of (c .before .before .before .before) p m),
     )
 
 add-i : tie.Need-add-i Inv-loop μ-loop
@@ -74,7 +74,7 @@ loop-again c =
       r .kept .1 .1 .0 ∙ l .loop .inv .0,
       e .kept .1 .1 .1 .1 .0 ∙ l .loop .inv .1,
       omega (arith, c .before .before .before .before .before .before .before .before .before .before .before .loop-test .taken),
-      count-turn _ _ _ _ (l .loop .i) _ (c .before .before .before .before .before .before .before .before .before .wide .ensures) (c .before .before .before .before .before .before .before .before .before .before .before .loop-test .taken) (l .loop .unmet) (e .last .1 .1 .1 .1 .0) (e .result) (e .ensures .0) (l .loop .inv .3) (r .last .1 .1 .0) (r .ensures),
+      count-turn _ _ _ _ (l .loop .i) _ (c .before .before .before .before .before .before .before .before .before .widen .ensures) (c .before .before .before .before .before .before .before .before .before .before .before .loop-test .taken) (l .loop .unmet) (e .last .1 .1 .1 .1 .0) (e .result) (e .ensures .0) (l .loop .inv .3) (r .last .1 .1 .0) (r .ensures),
     )
 
 same-length : tie.Need-same-length Inv-loop μ-loop
@@ -97,9 +97,9 @@ count-needs-spec =
     Inv-loop
     μ-loop
     loop-holds
-    mul-wide
-    shared-slice-read-wide
-    wide-requires
+    mul-widen
+    shared-slice-read-widen
+    widen-requires
     needed-by-requires
     raise-requires
     add-i

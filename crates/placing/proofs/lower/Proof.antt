@@ -16,7 +16,7 @@ use Rattle.placing.proofs.lower.Statement.{statement}
 use Rattle.placing.proofs.lower.Tie as tie
 use Rattle.placing.proofs.lower.Reads as reads
 use Rattle.placing.proofs.lower.Lts as lts
-use Rattle.marks.proofs.wide.Reads as wide-reads
+use Rattle.marks.proofs.widen.Reads as widen-reads
 
 abbrev Inv-loop : tie.InvT-loop
 Inv-loop list m w unmet₀ ready₀ i₀ unmet ready i = (length unmet ≡ length unmet₀) × (length ready ≡ length ready₀) × (i ≤ m) × Lowered list unmet₀ ready₀ unmet ready i w
@@ -25,46 +25,46 @@ abbrev μ-loop : tie.MeasureT-loop
 μ-loop list m w unmet₀ ready₀ i₀ unmet ready i = m - i
 
 -- in a turn: the label at hand is in the list, and has a count to lower
-module _ (c : tie.After-wide Inv-loop μ-loop) where
+module _ (c : tie.After-widen Inv-loop μ-loop) where
   in-list : c .before .before .before .loop .i < length (c .before .before .before .before .before .before .before .args .list .now)
   in-list = omega (arith, c .before .before .loop-test .taken, c .before .before .before .before .before .before .before .pre .0 .0)
 
-  here : c .wide .result ∈ take (c .before .before .before .before .before .before .before .args .m) (c .before .before .before .before .before .before .before .args .list .now)
-  here = subst (λ (x : ℕ). x ∈ take (c .before .before .before .before .before .before .before .args .m) (c .before .before .before .before .before .before .before .args .list .now)) (sym (c .wide .ensures)) (in-take (c .before .before .before .before .before .before .before .args .list .now) _ (c .before .before .before .loop .i) (c .before .before .loop-test .taken) (c .before .before .before .before .before .before .before .pre .0 .0))
+  here : c .widen .result ∈ take (c .before .before .before .before .before .before .before .args .m) (c .before .before .before .before .before .before .before .args .list .now)
+  here = subst (λ (x : ℕ). x ∈ take (c .before .before .before .before .before .before .before .args .m) (c .before .before .before .before .before .before .before .args .list .now)) (sym (c .widen .ensures)) (in-take (c .before .before .before .before .before .before .before .args .list .now) _ (c .before .before .before .loop .i) (c .before .before .loop-test .taken) (c .before .before .before .before .before .before .before .pre .0 .0))
 
-  inside : c .wide .result < length (c .before .before .before .loop .unmet)
-  inside = omega (arith, c .before .before .before .before .before .before .before .pre .0 .1 (c .wide .result) here, c .before .before .before .loop .inv .0)
+  inside : c .widen .result < length (c .before .before .before .loop .unmet)
+  inside = omega (arith, c .before .before .before .before .before .before .before .pre .0 .1 (c .widen .result) here, c .before .before .before .loop .inv .0)
 
   more : c .before .before .before .loop .i + 1 ≤ c .before .before .before .before .before .before .before .args .m
   more = omega (arith, c .before .before .loop-test .taken)
 
-  once : count (c .wide .result) (take (c .before .before .before .loop .i + 1) (c .before .before .before .before .before .before .before .args .list .now)) ≤ 1
-  once = omega (arith, c .before .before .before .before .before .before .before .pre .1 .0 (c .wide .result), count-take-le (c .wide .result) (c .before .before .before .before .before .before .before .args .list .now) (c .before .before .before .loop .i + 1) (c .before .before .before .before .before .before .before .args .m) more)
+  once : count (c .widen .result) (take (c .before .before .before .loop .i + 1) (c .before .before .before .before .before .before .before .args .list .now)) ≤ 1
+  once = omega (arith, c .before .before .before .before .before .before .before .pre .1 .0 (c .widen .result), count-take-le (c .widen .result) (c .before .before .before .before .before .before .before .args .list .now) (c .before .before .before .loop .i + 1) (c .before .before .before .before .before .before .before .args .m) more)
 
-  some : 1 ≤ getD (c .before .before .before .loop .unmet) (c .wide .result) 0
-  some = can-lower _ _ _ _ _ _ _ (c .before .before .before .loop .inv .3) _ (c .wide .ensures) in-list once inside (c .before .before .before .before .before .before .before .args .m) more (c .before .before .before .before .before .before .before .pre .1 .1 (c .wide .result))
+  some : 1 ≤ getD (c .before .before .before .loop .unmet) (c .widen .result) 0
+  some = can-lower _ _ _ _ _ _ _ (c .before .before .before .loop .inv .3) _ (c .widen .ensures) in-list once inside (c .before .before .before .before .before .before .before .args .m) more (c .before .before .before .before .before .before .before .pre .1 .1 (c .widen .result))
 
   -- the count after it is lowered
-  own : getD (set (c .before .before .before .loop .unmet) (c .wide .result) (getD (c .before .before .before .loop .unmet) (c .wide .result) 0 - 1)) (c .wide .result) 0 ≡ getD (c .before .before .before .loop .unmet) (c .wide .result) 0 - 1
-  own = getD-set-same (c .before .before .before .loop .unmet) (c .wide .result) (getD (c .before .before .before .loop .unmet) (c .wide .result) 0 - 1) 0 inside
+  own : getD (set (c .before .before .before .loop .unmet) (c .widen .result) (getD (c .before .before .before .loop .unmet) (c .widen .result) 0 - 1)) (c .widen .result) 0 ≡ getD (c .before .before .before .loop .unmet) (c .widen .result) 0 - 1
+  own = getD-set-same (c .before .before .before .loop .unmet) (c .widen .result) (getD (c .before .before .before .loop .unmet) (c .widen .result) 0 - 1) 0 inside
 
-  zero-of : getD (set (c .before .before .before .loop .unmet) (c .wide .result) (getD (c .before .before .before .loop .unmet) (c .wide .result) 0 - 1)) (c .wide .result) 0 ≡ 0 → getD (c .before .before .before .loop .unmet) (c .wide .result) 0 - 1 ≡ 0
+  zero-of : getD (set (c .before .before .before .loop .unmet) (c .widen .result) (getD (c .before .before .before .loop .unmet) (c .widen .result) 0 - 1)) (c .widen .result) 0 ≡ 0 → getD (c .before .before .before .loop .unmet) (c .widen .result) 0 - 1 ≡ 0
   zero-of z = sym own ∙ z
 
 loop-holds : tie.Need-loop-holds Inv-loop μ-loop
 loop-holds c = (refl, refl, omega arith, lowered-none _ _ _ _)
 
-mul-wide : tie.Need-mul-wide Inv-loop μ-loop
-mul-wide c = search needs
+mul-widen : tie.Need-mul-widen Inv-loop μ-loop
+mul-widen c = search needs
 
-shared-slice-read-wide : tie.Need-shared-slice-read-wide Inv-loop μ-loop
-shared-slice-read-wide c = omega (arith, c .before .loop-test .taken, c .before .before .before .before .before .before .pre .0 .0)
+shared-slice-read-widen : tie.Need-shared-slice-read-widen Inv-loop μ-loop
+shared-slice-read-widen c = omega (arith, c .before .loop-test .taken, c .before .before .before .before .before .before .pre .0 .0)
 
-wide-requires : tie.Need-wide-requires Inv-loop μ-loop
-wide-requires c κs = search needs
+widen-requires : tie.Need-widen-requires Inv-loop μ-loop
+widen-requires c κs = search needs
 
 mul-unmet : tie.Need-mul-unmet Inv-loop μ-loop
-mul-unmet c = omega (arith, c .wide .ensures, c .before .shared-slice-known2 .given (c .before .before .before .loop .i))
+mul-unmet c = omega (arith, c .widen .ensures, c .before .shared-slice-known2 .given (c .before .before .before .loop .i))
 
 slice-read-unmet : tie.Need-slice-read-unmet Inv-loop μ-loop
 slice-read-unmet c = inside (c .before)
@@ -73,13 +73,13 @@ sub-unmet : tie.Need-sub-unmet Inv-loop μ-loop
 sub-unmet c = some (c .before)
 
 mul-unmet-2 : tie.Need-mul-unmet-2 Inv-loop μ-loop
-mul-unmet-2 c = omega (arith, c .before .wide .ensures, c .before .before .shared-slice-known2 .given (c .before .before .before .before .loop .i))
+mul-unmet-2 c = omega (arith, c .before .widen .ensures, c .before .before .shared-slice-known2 .given (c .before .before .before .before .loop .i))
 
 slice-write-unmet : tie.Need-slice-write-unmet Inv-loop μ-loop
 slice-write-unmet c = inside (c .before)
 
 mul-if1 : tie.Need-mul-if1 Inv-loop μ-loop
-mul-if1 c = omega (arith, c .before .wide .ensures, c .before .before .shared-slice-known2 .given (c .before .before .before .before .loop .i))
+mul-if1 c = omega (arith, c .before .widen .ensures, c .before .before .shared-slice-known2 .given (c .before .before .before .before .loop .i))
 
 slice-read-if1 : tie.Need-slice-read-if1 Inv-loop μ-loop
 slice-read-if1 c = simp length-set (inside (c .before .before))
@@ -103,14 +103,14 @@ loop-again c =
       length-set (l .loop .unmet) _ _ ∙ l .loop .inv .0,
       w .2 .kept .0 ∙ l .loop .inv .1,
       k,
-      lowered-turn _ _ _ _ _ _ _ (l .loop .inv .3) _ (q .wide .ensures) (in-list q) (once q) (inside q) (some q) _ (w .2 .ensures .kept) (λ _. w .2 .ensures .new _ (a .pre .0 .2 _ (here q)) refl)
+      lowered-turn _ _ _ _ _ _ _ (l .loop .inv .3) _ (q .widen .ensures) (in-list q) (once q) (inside q) (some q) _ (w .2 .ensures .kept) (λ _. w .2 .ensures .new _ (a .pre .0 .2 _ (here q)) refl)
           (λ x e. ⊎-elim (λ y. inl y) (λ y. inr (y, zero-of q (w .0 .taken))) (w .2 .ensures .only x e)),
     ))
     (λ w. rw (w .1) (
       length-set (l .loop .unmet) _ _ ∙ l .loop .inv .0,
       l .loop .inv .1,
       k,
-      lowered-turn _ _ _ _ _ _ _ (l .loop .inv .3) _ (q .wide .ensures) (in-list q) (once q) (inside q) (some q) _ (λ x e. e) (λ z. absurd (w .0 .left (own q ∙ z))) (λ x e. inl e),
+      lowered-turn _ _ _ _ _ _ _ (l .loop .inv .3) _ (q .widen .ensures) (in-list q) (once q) (inside q) (some q) _ (λ x e. e) (λ z. absurd (w .0 .left (own q ∙ z))) (λ x e. inl e),
     ))
     (c .if1 .came)
 
@@ -134,9 +134,9 @@ lower-spec =
     Inv-loop
     μ-loop
     loop-holds
-    mul-wide
-    shared-slice-read-wide
-    wide-requires
+    mul-widen
+    shared-slice-read-widen
+    widen-requires
     mul-unmet
     slice-read-unmet
     sub-unmet

@@ -17,7 +17,7 @@ use Rattle.placing.proofs.mark_ready.Statement.{statement}
 use Rattle.placing.proofs.mark_ready.Tie as tie
 use Rattle.placing.proofs.mark_ready.Reads as reads
 use Rattle.placing.proofs.mark_ready.Lts as lts
-use Rattle.marks.proofs.wide.Reads as wide-reads
+use Rattle.marks.proofs.widen.Reads as widen-reads
 
 abbrev Inv-loop : tie.InvT-loop
 Inv-loop items w unmet ready₀ i₀ ready i =
@@ -26,24 +26,24 @@ Inv-loop items w unmet ready₀ i₀ ready i =
 abbrev μ-loop : tie.MeasureT-loop
 μ-loop items w unmet ready₀ i₀ ready i = length items - i
 
-module _ (c : tie.After-wide Inv-loop μ-loop) where
-  here : c .wide .result ∈ c .before .before .before .before .before .before .before .args .items .now
-  here = subst (λ (x : ℕ). x ∈ c .before .before .before .before .before .before .before .args .items .now) (sym (c .wide .ensures)) (in-at (c .before .before .before .before .before .before .before .args .items .now) (c .before .before .before .loop .i) (c .before .before .loop-test .taken))
+module _ (c : tie.After-widen Inv-loop μ-loop) where
+  here : c .widen .result ∈ c .before .before .before .before .before .before .before .args .items .now
+  here = subst (λ (x : ℕ). x ∈ c .before .before .before .before .before .before .before .args .items .now) (sym (c .widen .ensures)) (in-at (c .before .before .before .before .before .before .before .args .items .now) (c .before .before .before .loop .i) (c .before .before .loop-test .taken))
 
 loop-holds : tie.Need-loop-holds Inv-loop μ-loop
 loop-holds c = (refl, omega arith, λ p. (λ m. clash (mark (c .before .before .before .args .ready .now) (c .before .before .before .args .w) 0 p) m (c .before .before .before .pre .1 p), λ y. absurd (omega (arith, y .0))))
 
-mul-wide : tie.Need-mul-wide Inv-loop μ-loop
-mul-wide c = search needs
+mul-widen : tie.Need-mul-widen Inv-loop μ-loop
+mul-widen c = search needs
 
-shared-slice-read-wide : tie.Need-shared-slice-read-wide Inv-loop μ-loop
-shared-slice-read-wide c = search needs
+shared-slice-read-widen : tie.Need-shared-slice-read-widen Inv-loop μ-loop
+shared-slice-read-widen c = search needs
 
-wide-requires : tie.Need-wide-requires Inv-loop μ-loop
-wide-requires c κs = search needs
+widen-requires : tie.Need-widen-requires Inv-loop μ-loop
+widen-requires c κs = search needs
 
 mul-if1 : tie.Need-mul-if1 Inv-loop μ-loop
-mul-if1 c = omega (arith, c .wide .ensures, c .before .shared-slice-known3 .given (c .before .before .before .loop .i))
+mul-if1 c = omega (arith, c .widen .ensures, c .before .shared-slice-known3 .given (c .before .before .before .loop .i))
 
 shared-slice-read-if1 : tie.Need-shared-slice-read-if1 Inv-loop μ-loop
 shared-slice-read-if1 c = c .before .before .before .before .before .before .before .before .pre .0 .0 _ (here (c .before))
@@ -65,8 +65,8 @@ loop-again c =
     let h = c .before .before .before .before .loop-test .taken in
     let items = a .args .items .now in
     let unmet = a .args .unmet .now in
-    ⊎-elim (λ w. rw (w .5) (w .2 .kept .0 ∙ l .loop .inv .0, omega arith, ready-put items unmet (l .loop .ready) (l .loop .i) (a .args .w) _ (q .wide .ensures) h (l .loop .inv .2) (a .pre .0 .1 _ (here q)) (w .0 .taken) _ (w .2 .ensures)))
-    (λ w. rw (w .1) (l .loop .inv .0, omega arith, ready-skip items unmet (l .loop .ready) (l .loop .i) (a .args .w) _ (q .wide .ensures) h (l .loop .inv .2) (w .0 .left)))
+    ⊎-elim (λ w. rw (w .5) (w .2 .kept .0 ∙ l .loop .inv .0, omega arith, ready-put items unmet (l .loop .ready) (l .loop .i) (a .args .w) _ (q .widen .ensures) h (l .loop .inv .2) (a .pre .0 .1 _ (here q)) (w .0 .taken) _ (w .2 .ensures)))
+    (λ w. rw (w .1) (l .loop .inv .0, omega arith, ready-skip items unmet (l .loop .ready) (l .loop .i) (a .args .w) _ (q .widen .ensures) h (l .loop .inv .2) (w .0 .left)))
     (c .if1 .came)
 
 same-length : tie.Need-same-length Inv-loop μ-loop
@@ -86,9 +86,9 @@ mark-ready-spec =
     Inv-loop
     μ-loop
     loop-holds
-    mul-wide
-    shared-slice-read-wide
-    wide-requires
+    mul-widen
+    shared-slice-read-widen
+    widen-requires
     mul-if1
     shared-slice-read-if1
     put-mark-requires

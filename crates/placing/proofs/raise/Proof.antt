@@ -14,7 +14,7 @@ use Rattle.placing.proofs.raise.Statement.{statement}
 use Rattle.placing.proofs.raise.Tie as tie
 use Rattle.placing.proofs.raise.Reads as reads
 use Rattle.placing.proofs.raise.Lts as lts
-use Rattle.marks.proofs.wide.Reads as wide-reads
+use Rattle.marks.proofs.widen.Reads as widen-reads
 
 abbrev Inv-loop : tie.InvT-loop
 Inv-loop list m unmet₀ i₀ unmet i = (length unmet ≡ length unmet₀) × (i ≤ m) × ((p : ℕ) → getD unmet p 0 ≡ getD unmet₀ p 0 + count p (take i list))
@@ -23,27 +23,27 @@ abbrev μ-loop : tie.MeasureT-loop
 μ-loop list m unmet₀ i₀ unmet i = m - i
 
 -- in a turn: the label at hand is in the list
-module _ (c : tie.After-wide Inv-loop μ-loop) where
-  here : c .wide .result ∈ take (c .before .before .before .before .before .before .args .m) (c .before .before .before .before .before .before .args .list .now)
-  here = subst (λ (x : ℕ). x ∈ take (c .before .before .before .before .before .before .args .m) (c .before .before .before .before .before .before .args .list .now)) (sym (c .wide .ensures)) (in-take (c .before .before .before .before .before .before .args .list .now) _ (c .before .before .before .loop .i) (c .before .before .loop-test .taken) (c .before .before .before .before .before .before .pre .0))
+module _ (c : tie.After-widen Inv-loop μ-loop) where
+  here : c .widen .result ∈ take (c .before .before .before .before .before .before .args .m) (c .before .before .before .before .before .before .args .list .now)
+  here = subst (λ (x : ℕ). x ∈ take (c .before .before .before .before .before .before .args .m) (c .before .before .before .before .before .before .args .list .now)) (sym (c .widen .ensures)) (in-take (c .before .before .before .before .before .before .args .list .now) _ (c .before .before .before .loop .i) (c .before .before .loop-test .taken) (c .before .before .before .before .before .before .pre .0))
 
-  inside : c .wide .result < length (c .before .before .before .loop .unmet)
-  inside = omega (arith, c .before .before .before .before .before .before .pre .1 (c .wide .result) here, c .before .before .before .loop .inv .0)
+  inside : c .widen .result < length (c .before .before .before .loop .unmet)
+  inside = omega (arith, c .before .before .before .before .before .before .pre .1 (c .widen .result) here, c .before .before .before .loop .inv .0)
 
 loop-holds : tie.Need-loop-holds Inv-loop μ-loop
 loop-holds c = (refl, omega arith, λ p. omega arith)
 
-mul-wide : tie.Need-mul-wide Inv-loop μ-loop
-mul-wide c = search needs
+mul-widen : tie.Need-mul-widen Inv-loop μ-loop
+mul-widen c = search needs
 
-shared-slice-read-wide : tie.Need-shared-slice-read-wide Inv-loop μ-loop
-shared-slice-read-wide c = omega (arith, c .before .loop-test .taken, c .before .before .before .before .before .pre .0)
+shared-slice-read-widen : tie.Need-shared-slice-read-widen Inv-loop μ-loop
+shared-slice-read-widen c = omega (arith, c .before .loop-test .taken, c .before .before .before .before .before .pre .0)
 
-wide-requires : tie.Need-wide-requires Inv-loop μ-loop
-wide-requires c κs = search needs
+widen-requires : tie.Need-widen-requires Inv-loop μ-loop
+widen-requires c κs = search needs
 
 mul-unmet : tie.Need-mul-unmet Inv-loop μ-loop
-mul-unmet c = omega (arith, c .wide .ensures, c .before .shared-slice-known2 .given (c .before .before .before .loop .i))
+mul-unmet c = omega (arith, c .widen .ensures, c .before .shared-slice-known2 .given (c .before .before .before .loop .i))
 
 slice-read-unmet : tie.Need-slice-read-unmet Inv-loop μ-loop
 slice-read-unmet c = inside (c .before)
@@ -52,7 +52,7 @@ add-unmet : tie.Need-add-unmet Inv-loop μ-loop
 add-unmet c =
     let l = c .before .before .before .before in
     let a = c .before .before .before .before .before .before .before in
-    let p = c .before .wide .result in
+    let p = c .before .widen .result in
     let k : l .loop .i + 1 ≤ a .args .m = omega (arith, c .before .before .before .loop-test .taken) in
     let h : l .loop .i < length (a .args .list .now) = omega (arith, a .pre .0) in
     omega (
@@ -60,12 +60,12 @@ add-unmet c =
       l .loop .inv .2 p,
       a .pre .2 p (here (c .before)),
       count-more p (a .args .list .now) (l .loop .i) h,
-      eq-one p (getD (a .args .list .now) (l .loop .i) 0) (c .before .wide .ensures),
+      eq-one p (getD (a .args .list .now) (l .loop .i) 0) (c .before .widen .ensures),
       count-take-le p (a .args .list .now) (l .loop .i + 1) (a .args .m) k,
     )
 
 mul-unmet-2 : tie.Need-mul-unmet-2 Inv-loop μ-loop
-mul-unmet-2 c = omega (arith, c .before .wide .ensures, c .before .before .shared-slice-known2 .given (c .before .before .before .before .loop .i))
+mul-unmet-2 c = omega (arith, c .before .widen .ensures, c .before .before .shared-slice-known2 .given (c .before .before .before .before .loop .i))
 
 slice-write-unmet : tie.Need-slice-write-unmet Inv-loop μ-loop
 slice-write-unmet c = inside (c .before)
@@ -81,7 +81,7 @@ loop-again c =
     let l = c .before .before .before .before in (
       length-set (l .loop .unmet) _ _ ∙ l .loop .inv .0,
       omega (arith, c .before .before .before .loop-test .taken),
-      raise-turn (c .before .before .before .before .before .before .before .args .list .now) (c .before .before .before .before .before .before .before .args .unmet .now) (l .loop .unmet) (l .loop .i) _ _ (omega (arith, c .before .before .before .loop-test .taken, c .before .before .before .before .before .before .before .pre .0)) (c .before .wide .ensures) (inside (c .before)) refl (l .loop .inv .2),
+      raise-turn (c .before .before .before .before .before .before .before .args .list .now) (c .before .before .before .before .before .before .before .args .unmet .now) (l .loop .unmet) (l .loop .i) _ _ (omega (arith, c .before .before .before .loop-test .taken, c .before .before .before .before .before .before .before .pre .0)) (c .before .widen .ensures) (inside (c .before)) refl (l .loop .inv .2),
     )
 
 same-length : tie.Need-same-length Inv-loop μ-loop
@@ -100,9 +100,9 @@ raise-spec =
     Inv-loop
     μ-loop
     loop-holds
-    mul-wide
-    shared-slice-read-wide
-    wide-requires
+    mul-widen
+    shared-slice-read-widen
+    widen-requires
     mul-unmet
     slice-read-unmet
     add-unmet

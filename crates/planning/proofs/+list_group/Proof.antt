@@ -15,7 +15,7 @@ use borrow.Fn.PlainCycle.{Measures, is, falls, and}
 use Rattle.planning.proofs.list_group.Reads as list-group
 use Rattle.planning.proofs.list_group.Kinds as list-group-kinds
 use Rattle.planning.proofs.+list_group.Lts-list_group as list-group-lts
-use Rattle.marks.proofs.wide.Reads as wide-reads
+use Rattle.marks.proofs.widen.Reads as widen-reads
 use Rattle.reach.proofs.kind_of.Reads as kind-of-reads
 use Rattle.planning.proofs.+list_group.{statement}
 use Rattle.planning.proofs.+list_group.Tie.{close}
@@ -33,8 +33,8 @@ list-group-below t =
 
 abbrev claims : ℕ → list-group-lts.Claims
 claims t = (
-  wide-reads.Asked,
-  wide-reads.Learnt,
+  widen-reads.Asked,
+  widen-reads.Learnt,
   kind-of-reads.Asked,
   kind-of-reads.Learnt,
   list-group-below t,
@@ -54,7 +54,7 @@ label t c = turn-label _ _ (c .before .before .before .before .pre .1 .0) _ _ _ 
 -- where it is a value, there is room for it
 module _ (t : ℕ) (c : list-group-lts.Then1 (claims t) (list-group-at t) list-group.Post list-group-Inv-loop list-group-μ-loop) where
   value : kind (c .before .before .before .before .before .before .before .before .args .table .now) (c .before .before .before .before .before .loop .x) ≡ 2
-  value = ap (kind (c .before .before .before .before .before .before .before .before .args .table .now)) (sym (c .before .before .before .wide .ensures)) ∙ sym (c .before .kind-of .ensures) ∙ c .if1 .taken
+  value = ap (kind (c .before .before .before .before .before .before .before .before .args .table .now)) (sym (c .before .before .before .widen .ensures)) ∙ sym (c .before .kind-of .ensures) ∙ c .if1 .taken
 
   room : c .before .before .before .before .before .loop .to < length (c .before .before .before .before .before .loop .plan)
   room =
@@ -73,23 +73,23 @@ list-group-loop-holds t c =
     let g = p .1 .1 .0 in
     (refl, turn-start _ _ (p .0) _ _ _ _ _ (p .1 .0 .1 (c .before .before .args .group) (g .0) (g .1)))
 
-list-group-wide-requires : (t : ℕ) → list-group-lts.Need-wide-requires (claims t) (list-group-at t) list-group.Post list-group-Inv-loop list-group-μ-loop
-list-group-wide-requires t c κs = search needs
+list-group-widen-requires : (t : ℕ) → list-group-lts.Need-widen-requires (claims t) (list-group-at t) list-group.Post list-group-Inv-loop list-group-μ-loop
+list-group-widen-requires t c κs = search needs
 
 list-group-add-x : (t : ℕ) → list-group-lts.Need-add-x (claims t) (list-group-at t) list-group.Post list-group-Inv-loop list-group-μ-loop
-list-group-add-x t c = let b = label t (c .before) in omega (arith, b, c .wide .ensures, c .before .before .before .before .before .pre .1 .0 .few)
+list-group-add-x t c = let b = label t (c .before) in omega (arith, b, c .widen .ensures, c .before .before .before .before .before .pre .1 .0 .few)
 
 list-group-mul-x-2 : (t : ℕ) → list-group-lts.Need-mul-x-2 (claims t) (list-group-at t) list-group.Post list-group-Inv-loop list-group-μ-loop
-list-group-mul-x-2 t c = let b = label t (c .before) in omega (arith, b, c .wide .ensures, c .before .before .before .before .before .pre .1 .0 .few)
+list-group-mul-x-2 t c = let b = label t (c .before) in omega (arith, b, c .widen .ensures, c .before .before .before .before .before .pre .1 .0 .few)
 
 list-group-shared-slice-read-x-2 : (t : ℕ) → list-group-lts.Need-shared-slice-read-x-2 (claims t) (list-group-at t) list-group.Post list-group-Inv-loop list-group-μ-loop
-list-group-shared-slice-read-x-2 t c = let b = label t (c .before .before) in omega (arith, b, c .before .wide .ensures, c .before .before .before .before .before .before .pre .1 .1 .0 .0)
+list-group-shared-slice-read-x-2 t c = let b = label t (c .before .before) in omega (arith, b, c .before .widen .ensures, c .before .before .before .before .before .before .pre .1 .1 .0 .0)
 
 list-group-kind-of-requires : (t : ℕ) → list-group-lts.Need-kind-of-requires (claims t) (list-group-at t) list-group.Post list-group-Inv-loop list-group-μ-loop
-list-group-kind-of-requires t c κs = let b = label t (c .before .before) in (c .before .before .before .before .before .before .pre .1 .0, (omega (arith, b, c .before .wide .ensures), omega (arith, b, c .before .wide .ensures)))
+list-group-kind-of-requires t c κs = let b = label t (c .before .before) in (c .before .before .before .before .before .before .pre .1 .0, (omega (arith, b, c .before .widen .ensures), omega (arith, b, c .before .widen .ensures)))
 
 list-group-cast-plan : (t : ℕ) → list-group-lts.Need-cast-plan (claims t) (list-group-at t) list-group.Post list-group-Inv-loop list-group-μ-loop
-list-group-cast-plan t c = let b = label t (c .before .before .before .before) in record { sfits = omega (arith, b, c .before .before .before .wide .ensures, c .before .before .before .before .before .before .before .before .pre .1 .0 .few) }
+list-group-cast-plan t c = let b = label t (c .before .before .before .before) in record { sfits = omega (arith, b, c .before .before .before .widen .ensures, c .before .before .before .before .before .before .before .before .pre .1 .0 .few) }
 
 list-group-mul-t20 : (t : ℕ) → list-group-lts.Need-mul-t20 (claims t) (list-group-at t) list-group.Post list-group-Inv-loop list-group-μ-loop
 list-group-mul-t20 t c = omega (arith, room t c, c .before .before .before .before .before .before .before .before .good)
@@ -101,13 +101,13 @@ list-group-add-to : (t : ℕ) → list-group-lts.Need-add-to (claims t) (list-gr
 list-group-add-to t c = omega (arith, room t c, c .before .before .before .before .before .before .before .before .good)
 
 list-group-loop-less : (t : ℕ) → list-group-lts.Need-loop-less (claims t) (list-group-at t) list-group.Post list-group-Inv-loop list-group-μ-loop
-list-group-loop-less t c = rw (c .before .before .before .wide .ensures) (turn-less _ _ (c .before .before .before .before .before .before .before .before .pre .1 .0) _ _ _ _ _ _ _ (c .before .before .before .before .before .loop .inv .1) (c .before .before .before .before .loop-test .taken))
+list-group-loop-less t c = rw (c .before .before .before .widen .ensures) (turn-less _ _ (c .before .before .before .before .before .before .before .before .pre .1 .0) _ _ _ _ _ _ _ (c .before .before .before .before .before .loop .inv .1) (c .before .before .before .before .loop-test .taken))
 
 list-group-loop-again : (t : ℕ) → list-group-lts.Need-loop-again (claims t) (list-group-at t) list-group.Post list-group-Inv-loop list-group-μ-loop
 list-group-loop-again t c =
     let b = label t (c .before .before .before .before) in (
       length-set (c .before .before .before .before .before .loop .plan) _ _ ∙ c .before .before .before .before .before .loop .inv .0,
-      rw (c .before .before .before .wide .ensures) (value-turn _ _ (c .before .before .before .before .before .before .before .before .pre .1 .0) _ _ _ _ _ _ _ (c .before .before .before .before .before .loop .inv .1) (c .before .before .before .before .loop-test .taken) (value t c) _
+      rw (c .before .before .before .widen .ensures) (value-turn _ _ (c .before .before .before .before .before .before .before .before .pre .1 .0) _ _ _ _ _ _ _ (c .before .before .before .before .before .loop .inv .1) (c .before .before .before .before .loop-test .taken) (value t c) _
           (toZ-pos w64 {n = c .before .before .before .before .before .loop .x} (omega (arith, b, c .before .before .before .before .before .before .before .before .pre .1 .0 .few))) (room t c)),
     )
 
@@ -117,8 +117,8 @@ list-group-list-group-requires t c κs =
     let p = a .pre .1 in
     let l = c .before .before .before .before .before .before .before in
     let b = label t (c .before .before .before .before .before .before) in
-    let k = ap (kind (a .args .table .now)) (sym (c .before .before .before .before .before .wide .ensures)) ∙ sym (c .before .before .before .kind-of .ensures) ∙ c .before .if2 .taken in
-    rw (c .before .before .before .before .before .wide .ensures) (
+    let k = ap (kind (a .args .table .now)) (sym (c .before .before .before .before .before .widen .ensures)) ∙ sym (c .before .before .before .kind-of .ensures) ∙ c .before .if2 .taken in
+    rw (c .before .before .before .before .before .widen .ensures) (
       omega (arith, b, a .pre .0, p .1 .1 .0),
       (
         p .0,
@@ -133,24 +133,24 @@ list-group-list-group-requires t c κs =
     )
 
 list-group-loop-less-2 : (t : ℕ) → list-group-lts.Need-loop-less-2 (claims t) (list-group-at t) list-group.Post list-group-Inv-loop list-group-μ-loop
-list-group-loop-less-2 t c = rw (c .before .before .before .before .before .before .before .wide .ensures) (turn-less _ _ (c .before .before .before .before .before .before .before .before .before .before .before .before .pre .1 .0) _ _ _ _ _ _ _ (c .before .before .before .before .before .before .before .before .before .loop .inv .1) (c .before .before .before .before .before .before .before .before .loop-test .taken))
+list-group-loop-less-2 t c = rw (c .before .before .before .before .before .before .before .widen .ensures) (turn-less _ _ (c .before .before .before .before .before .before .before .before .before .before .before .before .pre .1 .0) _ _ _ _ _ _ _ (c .before .before .before .before .before .before .before .before .before .loop .inv .1) (c .before .before .before .before .before .before .before .before .loop-test .taken))
 
 list-group-loop-again-2 : (t : ℕ) → list-group-lts.Need-loop-again-2 (claims t) (list-group-at t) list-group.Post list-group-Inv-loop list-group-μ-loop
 list-group-loop-again-2 t c =
     let a = c .before .before .before .before .before .before .before .before .before .before .before .before in
-    let k = ap (kind (a .args .table .now)) (sym (c .before .before .before .before .before .before .before .wide .ensures)) ∙ sym (c .before .before .before .before .before .kind-of .ensures) ∙ c .before .before .before .if2 .taken in (
+    let k = ap (kind (a .args .table .now)) (sym (c .before .before .before .before .before .before .before .widen .ensures)) ∙ sym (c .before .before .before .before .before .kind-of .ensures) ∙ c .before .before .before .if2 .taken in (
       c .before .list-group .kept .1 .1 .1 .0 ∙ c .before .before .before .before .before .before .before .before .before .loop .inv .0,
-      rw (c .before .before .before .before .before .before .before .wide .ensures) (group-turn _ _ (a .pre .1 .0) _ _ _ _ _ _ _ (c .before .before .before .before .before .before .before .before .before .loop .inv .1) (c .before .before .before .before .before .before .before .before .loop-test .taken) k _ _
-          (subst (λ (q : ℕ). Put (listOf (a .args .table .now) (a .args .n) q) (c .before .before .before .before .before .before .before .before .before .loop .to) (c .before .before .before .before .before .before .before .before .before .loop .plan) (c .before .list-group .last .1 .1 .1 .0) (c .before .list-group .result)) (c .before .before .before .before .before .before .before .wide .ensures) (c .before .list-group .ensures))),
+      rw (c .before .before .before .before .before .before .before .widen .ensures) (group-turn _ _ (a .pre .1 .0) _ _ _ _ _ _ _ (c .before .before .before .before .before .before .before .before .before .loop .inv .1) (c .before .before .before .before .before .before .before .before .loop-test .taken) k _ _
+          (subst (λ (q : ℕ). Put (listOf (a .args .table .now) (a .args .n) q) (c .before .before .before .before .before .before .before .before .before .loop .to) (c .before .before .before .before .before .before .before .before .before .loop .plan) (c .before .list-group .last .1 .1 .1 .0) (c .before .list-group .result)) (c .before .before .before .before .before .before .before .widen .ensures) (c .before .list-group .ensures))),
     )
 
 list-group-loop-less-3 : (t : ℕ) → list-group-lts.Need-loop-less-3 (claims t) (list-group-at t) list-group.Post list-group-Inv-loop list-group-μ-loop
-list-group-loop-less-3 t c = rw (c .before .before .before .before .wide .ensures) (turn-less _ _ (c .before .before .before .before .before .before .before .before .before .pre .1 .0) _ _ _ _ _ _ _ (c .before .before .before .before .before .before .loop .inv .1) (c .before .before .before .before .before .loop-test .taken))
+list-group-loop-less-3 t c = rw (c .before .before .before .before .widen .ensures) (turn-less _ _ (c .before .before .before .before .before .before .before .before .before .pre .1 .0) _ _ _ _ _ _ _ (c .before .before .before .before .before .before .loop .inv .1) (c .before .before .before .before .before .loop-test .taken))
 
 list-group-loop-again-3 : (t : ℕ) → list-group-lts.Need-loop-again-3 (claims t) (list-group-at t) list-group.Post list-group-Inv-loop list-group-μ-loop
 list-group-loop-again-3 t c =
-    let e = c .before .before .kind-of .ensures ∙ ap (kind (c .before .before .before .before .before .before .before .before .before .args .table .now)) (c .before .before .before .before .wide .ensures) in
-    (c .before .before .before .before .before .before .loop .inv .0, rw (c .before .before .before .before .wide .ensures) (none-turn _ _ (c .before .before .before .before .before .before .before .before .before .pre .1 .0) _ _ _ _ _ _ _ (c .before .before .before .before .before .before .loop .inv .1) (c .before .before .before .before .before .loop-test .taken) (λ z. c .before .if1 .left (e ∙ z)) (λ z. c .if2 .left (e ∙ z))))
+    let e = c .before .before .kind-of .ensures ∙ ap (kind (c .before .before .before .before .before .before .before .before .before .args .table .now)) (c .before .before .before .before .widen .ensures) in
+    (c .before .before .before .before .before .before .loop .inv .0, rw (c .before .before .before .before .widen .ensures) (none-turn _ _ (c .before .before .before .before .before .before .before .before .before .pre .1 .0) _ _ _ _ _ _ _ (c .before .before .before .before .before .before .loop .inv .1) (c .before .before .before .before .before .loop-test .taken) (λ z. c .before .if1 .left (e ∙ z)) (λ z. c .if2 .left (e ∙ z))))
 
 list-group-same-length : (t : ℕ) → list-group-lts.Need-same-length (claims t) (list-group-at t) list-group.Post list-group-Inv-loop list-group-μ-loop
 list-group-same-length t c = c .before .loop .inv .0
@@ -167,7 +167,7 @@ pub +list-group-spec : {M : Type 1} → statement M
     (list-group-mul-x t)
     (list-group-shared-slice-read-x t)
     (list-group-loop-holds t)
-    (list-group-wide-requires t)
+    (list-group-widen-requires t)
     (list-group-add-x t)
     (list-group-mul-x-2 t)
     (list-group-shared-slice-read-x-2 t)

@@ -25,20 +25,20 @@ Inv-loop order r plan₀ i₀ plan i = (length plan ≡ length plan₀) × (i �
 abbrev μ-loop : tie.MeasureT-loop
 μ-loop order r plan₀ i₀ plan i = r - i
 
-small : (c : tie.After-wide Inv-loop μ-loop) → c .wide .result < 65536
-small c = omega (arith, c .wide .ensures, c .before .shared-slice-known2 .given (c .before .before .before .loop .i))
+small : (c : tie.After-widen Inv-loop μ-loop) → c .widen .result < 65536
+small c = omega (arith, c .widen .ensures, c .before .shared-slice-known2 .given (c .before .before .before .loop .i))
 
 loop-holds : tie.Need-loop-holds Inv-loop μ-loop
 loop-holds c = (refl, omega arith, put-none _ _)
 
-mul-wide : tie.Need-mul-wide Inv-loop μ-loop
-mul-wide c = search needs
+mul-widen : tie.Need-mul-widen Inv-loop μ-loop
+mul-widen c = search needs
 
-shared-slice-read-wide : tie.Need-shared-slice-read-wide Inv-loop μ-loop
-shared-slice-read-wide c = omega (arith, c .before .loop-test .taken, c .before .before .before .before .pre .0)
+shared-slice-read-widen : tie.Need-shared-slice-read-widen Inv-loop μ-loop
+shared-slice-read-widen c = omega (arith, c .before .loop-test .taken, c .before .before .before .before .pre .0)
 
-wide-requires : tie.Need-wide-requires Inv-loop μ-loop
-wide-requires c κs = search needs
+widen-requires : tie.Need-widen-requires Inv-loop μ-loop
+widen-requires c κs = search needs
 
 cast-plan : tie.Need-cast-plan Inv-loop μ-loop
 cast-plan c = record { sfits = omega (arith, small c) }
@@ -62,7 +62,7 @@ loop-again c =
       length-set (l .loop .plan) _ _ ∙ l .loop .inv .0,
       omega (arith, c .before .before .loop-test .taken),
       put-label (a .args .order .now) _ (l .loop .plan) (l .loop .i) (l .loop .inv .2) _ (omega (arith, c .before .before .loop-test .taken, a .pre .0)) (omega (arith, c .before .before .loop-test .taken, a .pre .1, l .loop .inv .0))
-          (toZ-pos w64 {n = c .wide .result} (omega (arith, small c)) ∙ ap pos (c .wide .ensures)),
+          (toZ-pos w64 {n = c .widen .result} (omega (arith, small c)) ∙ ap pos (c .widen .ensures)),
     )
 
 same-length : tie.Need-same-length Inv-loop μ-loop
@@ -82,9 +82,9 @@ put-all-spec =
     Inv-loop
     μ-loop
     loop-holds
-    mul-wide
-    shared-slice-read-wide
-    wide-requires
+    mul-widen
+    shared-slice-read-widen
+    widen-requires
     cast-plan
     mul-t11
     slice-set-from-plan

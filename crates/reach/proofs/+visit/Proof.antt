@@ -22,7 +22,7 @@ use Rattle.reach.proofs.+visit.Lts-visit as visit-lts
 use Rattle.reach.proofs.cell_of.Reads as cell-of-reads
 use Rattle.reach.proofs.share_row.Reads as share-row-reads
 use Rattle.reach.proofs.fill.Reads as fill-reads
-use Rattle.marks.proofs.wide.Reads as wide-reads
+use Rattle.marks.proofs.widen.Reads as widen-reads
 use Rattle.reach.proofs.+visit.{statement}
 use Rattle.reach.proofs.+visit.Tie.{close}
 
@@ -37,8 +37,8 @@ visit-below t = and 5 visit-kinds.ps (falls 5 visit-kinds.ps _<_ μ-visit t) vis
 
 abbrev claims : ℕ → visit-lts.Claims
 claims t = (
-  wide-reads.Asked,
-  wide-reads.Learnt,
+  widen-reads.Asked,
+  widen-reads.Learnt,
   cell-of-reads.Asked,
   cell-of-reads.Learnt,
   visit-below t,
@@ -114,14 +114,14 @@ visit-returns t c = let p = c .before .before .before .before .before .before .p
 visit-slice-write-state : (t : ℕ) → visit-lts.Need-slice-write-state (claims t) (visit-at t) visit.Post visit-Inv-loop visit-μ-loop
 visit-slice-write-state t c = let a = c .before .before .before .before .before .before in omega (arith, a .pre .1 .1 .1 .1 .0 .states, body-label _ _ (a .pre .1 .0) (a .args .d) (a .pre .1 .1 .1 .1 .1 .1))
 
-visit-mul-wide : (t : ℕ) → visit-lts.Need-mul-wide (claims t) (visit-at t) visit.Post visit-Inv-loop visit-μ-loop
-visit-mul-wide t c = let a = c .before .before .before .before .before .before in omega (arith, a .pre .1 .0 .few, body-label _ _ (a .pre .1 .0) (a .args .d) (a .pre .1 .1 .1 .1 .1 .1))
+visit-mul-widen : (t : ℕ) → visit-lts.Need-mul-widen (claims t) (visit-at t) visit.Post visit-Inv-loop visit-μ-loop
+visit-mul-widen t c = let a = c .before .before .before .before .before .before in omega (arith, a .pre .1 .0 .few, body-label _ _ (a .pre .1 .0) (a .args .d) (a .pre .1 .1 .1 .1 .1 .1))
 
-visit-shared-slice-read-wide : (t : ℕ) → visit-lts.Need-shared-slice-read-wide (claims t) (visit-at t) visit.Post visit-Inv-loop visit-μ-loop
-visit-shared-slice-read-wide t c = let a = c .before .before .before .before .before .before .before in omega (arith, a .pre .1 .1 .1 .0 .0, body-label _ _ (a .pre .1 .0) (a .args .d) (a .pre .1 .1 .1 .1 .1 .1))
+visit-shared-slice-read-widen : (t : ℕ) → visit-lts.Need-shared-slice-read-widen (claims t) (visit-at t) visit.Post visit-Inv-loop visit-μ-loop
+visit-shared-slice-read-widen t c = let a = c .before .before .before .before .before .before .before in omega (arith, a .pre .1 .1 .1 .0 .0, body-label _ _ (a .pre .1 .0) (a .args .d) (a .pre .1 .1 .1 .1 .1 .1))
 
-visit-wide-requires : (t : ℕ) → visit-lts.Need-wide-requires (claims t) (visit-at t) visit.Post visit-Inv-loop visit-μ-loop
-visit-wide-requires t c κs = search needs
+visit-widen-requires : (t : ℕ) → visit-lts.Need-widen-requires (claims t) (visit-at t) visit.Post visit-Inv-loop visit-μ-loop
+visit-widen-requires t c κs = search needs
 
 visit-loop-holds : (t : ℕ) → visit-lts.Need-loop-holds (claims t) (visit-at t) visit.Post visit-Inv-loop visit-μ-loop
 visit-loop-holds t c =
@@ -129,7 +129,7 @@ visit-loop-holds t c =
     let p = a .pre .1 in
     let b = body-label _ _ (p .0) (a .args .d) (p .1 .1 .1 .1 .1) in
     let l = p .1 .1 .0 .1 .heads (a .args .d) (b .1) in
-    rw (c .wide .ensures) (
+    rw (c .widen .ensures) (
       going-start _ _ (p .0) _ _ _ _ (begin _ _ (p .0) _ _ _ _ (omega (arith, p .1 .1 .1 .0 .states, b)) (c .before .before .if1 .left) (p .1 .1 .1 .1 .1) (p .1 .1 .1 .1 .0)),
       l .within,
       l .hangs,
@@ -194,20 +194,20 @@ visit-returns-2 t c =
     (shared _ _ (p .0) _ (p .1 .0) _ _ _ _ (p .1 .1 .1 .1 .1) (record { line = l .loop .x; path = h .path; from = h .from; to = sym (c .before .before .before .before .before .before .before .before .cell-of .ensures) })
     (g .rows .made _ (s .0)) (s .1) (g .rows .blank _ (not-made t w)) (s .2)) (omega arith)
 
-visit-add-wide : (t : ℕ) → visit-lts.Need-add-wide (claims t) (visit-at t) visit.Post visit-Inv-loop visit-μ-loop
-visit-add-wide t c = let l = line t (c .before .before .before .before .before .before .before .before .before) in omega (arith, l, c .before .before .before .before .before .before .before .before .before .before .before .before .before .before .before .before .before .before .before .pre .1 .0 .few)
+visit-add-widen : (t : ℕ) → visit-lts.Need-add-widen (claims t) (visit-at t) visit.Post visit-Inv-loop visit-μ-loop
+visit-add-widen t c = let l = line t (c .before .before .before .before .before .before .before .before .before) in omega (arith, l, c .before .before .before .before .before .before .before .before .before .before .before .before .before .before .before .before .before .before .before .pre .1 .0 .few)
 
-visit-mul-wide-2 : (t : ℕ) → visit-lts.Need-mul-wide-2 (claims t) (visit-at t) visit.Post visit-Inv-loop visit-μ-loop
-visit-mul-wide-2 t c = let l = line t (c .before .before .before .before .before .before .before .before .before) in omega (arith, l, c .before .before .before .before .before .before .before .before .before .before .before .before .before .before .before .before .before .before .before .pre .1 .0 .few)
+visit-mul-widen-2 : (t : ℕ) → visit-lts.Need-mul-widen-2 (claims t) (visit-at t) visit.Post visit-Inv-loop visit-μ-loop
+visit-mul-widen-2 t c = let l = line t (c .before .before .before .before .before .before .before .before .before) in omega (arith, l, c .before .before .before .before .before .before .before .before .before .before .before .before .before .before .before .before .before .before .before .pre .1 .0 .few)
 
-visit-shared-slice-read-wide-2 : (t : ℕ) → visit-lts.Need-shared-slice-read-wide-2 (claims t) (visit-at t) visit.Post visit-Inv-loop visit-μ-loop
-visit-shared-slice-read-wide-2 t c = let l = line t (c .before .before .before .before .before .before .before .before .before .before) in omega (arith, l, c .before .before .before .before .before .before .before .before .before .before .before .before .before .before .before .before .before .before .before .before .pre .1 .1 .1 .0 .0)
+visit-shared-slice-read-widen-2 : (t : ℕ) → visit-lts.Need-shared-slice-read-widen-2 (claims t) (visit-at t) visit.Post visit-Inv-loop visit-μ-loop
+visit-shared-slice-read-widen-2 t c = let l = line t (c .before .before .before .before .before .before .before .before .before .before) in omega (arith, l, c .before .before .before .before .before .before .before .before .before .before .before .before .before .before .before .before .before .before .before .before .pre .1 .1 .1 .0 .0)
 
-visit-wide-requires-2 : (t : ℕ) → visit-lts.Need-wide-requires-2 (claims t) (visit-at t) visit.Post visit-Inv-loop visit-μ-loop
-visit-wide-requires-2 t c κs = search needs
+visit-widen-requires-2 : (t : ℕ) → visit-lts.Need-widen-requires-2 (claims t) (visit-at t) visit.Post visit-Inv-loop visit-μ-loop
+visit-widen-requires-2 t c κs = search needs
 
 visit-loop-less : (t : ℕ) → visit-lts.Need-loop-less (claims t) (visit-at t) visit.Post visit-Inv-loop visit-μ-loop
-visit-loop-less t c = let l = line t (c .before .before .before .before .before .before .before .before .before .before .before) in omega (arith, l, c .wide2 .ensures, last t (c .before .before .before .before .before .before .before .before .before .before .before) .within)
+visit-loop-less t c = let l = line t (c .before .before .before .before .before .before .before .before .before .before .before) in omega (arith, l, c .widen2 .ensures, last t (c .before .before .before .before .before .before .before .before .before .before .before) .within)
 
 visit-loop-again : (t : ℕ) → visit-lts.Need-loop-again (claims t) (visit-at t) visit.Post visit-Inv-loop visit-μ-loop
 visit-loop-again t c =
@@ -216,7 +216,7 @@ visit-loop-again t c =
     let x = last t (c .before .before .before .before .before .before .before .before .before .before .before) in
     let k = c .before .before .before .before .before .share-row in
     let same = subst (Shared (a .args .n) (w .if2 .state) (a .args .d) (c .before .before .before .before .before .before .before .before .before .before .cell-of .result) (w .if2 .square) (k .last .1 .1 .0)) (c .before .before .if3 .left) (k .ensures) in
-    rw (c .wide2 .ensures) (going-still _ _ (a .pre .1 .0) _ _ _ _ _ _ _ _ (going t w) _ same, omega (arith, x .within, line t (c .before .before .before .before .before .before .before .before .before .before .before)), x .hangs)
+    rw (c .widen2 .ensures) (going-still _ _ (a .pre .1 .0) _ _ _ _ _ _ _ _ (going t w) _ same, omega (arith, x .within, line t (c .before .before .before .before .before .before .before .before .before .before .before)), x .hangs)
 
 -- after the loop
 module _ (t : ℕ) (l : visit-lts.At-loop (claims t) (visit-at t) visit.Post visit-Inv-loop visit-μ-loop) where
@@ -267,9 +267,9 @@ pub +visit-spec : {M : Type 1} → statement M
     (visit-slice-read-if1 t)
     (visit-returns t)
     (visit-slice-write-state t)
-    (visit-mul-wide t)
-    (visit-shared-slice-read-wide t)
-    (visit-wide-requires t)
+    (visit-mul-widen t)
+    (visit-shared-slice-read-widen t)
+    (visit-widen-requires t)
     (visit-loop-holds t)
     (visit-cell-of-requires t)
     (visit-slice-read-if2 t)
@@ -281,10 +281,10 @@ pub +visit-spec : {M : Type 1} → statement M
     (visit-same-length-2 t)
     (visit-same-length-3 t)
     (visit-returns-2 t)
-    (visit-add-wide t)
-    (visit-mul-wide-2 t)
-    (visit-shared-slice-read-wide-2 t)
-    (visit-wide-requires-2 t)
+    (visit-add-widen t)
+    (visit-mul-widen-2 t)
+    (visit-shared-slice-read-widen-2 t)
+    (visit-widen-requires-2 t)
     (visit-loop-less t)
     (visit-loop-again t)
     (visit-fill-requires t)

@@ -19,7 +19,7 @@ use Rattle.reach.proofs.fill.Tie as tie
 use Rattle.reach.proofs.fill.Reads as reads
 use Rattle.reach.proofs.fill.Lts as lts
 use Rattle.reach.proofs.grow.Reads as grow-reads
-use Rattle.marks.proofs.wide.Reads as wide-reads
+use Rattle.marks.proofs.widen.Reads as widen-reads
 
 abbrev Inv-loop : tie.InvT-loop
 Inv-loop table n j chains state square₀ stack₀ d visits₀ top₀ square stack visits top =
@@ -42,11 +42,11 @@ module _ (l : tie.At-loop Inv-loop μ-loop) where
   same a q z = l .loop .inv .5 a q z ∙ l .before .before .before .before .before .grow .ensures .0 .others a q z
 
 -- in a turn, what is at the top of the stack
-top-of : (c : tie.After-wide Inv-loop μ-loop) → Spread (c .before .before .before .before .before .before .before .before .before .before .before .before .before .before .before .args .table .now) (c .before .before .before .before .before .before .before .before .before .before .before .before .before .before .before .args .j) (c .before .before .before .before .before .before .before .before .before .before .before .before .before .before .before .args .d) (c .wide .result) (mark (c .before .before .before .loop .square) (width (c .before .before .before .before .before .before .before .before .before .before .before .before .before .before .before .args .n)) (c .before .before .before .before .before .before .before .before .before .before .before .before .before .before .before .args .d)) (take (c .before .before .before .loop .top - 1) (c .before .before .before .loop .stack))
-    × HasBody (c .before .before .before .before .before .before .before .before .before .before .before .before .before .before .before .args .table .now) (c .wide .result) × Links (c .before .before .before .before .before .before .before .before .before .before .before .before .before .before .before .args .table .now) (c .before .before .before .before .before .before .before .before .before .before .before .before .before .before .before .args .j) (c .before .before .before .before .before .before .before .before .before .before .before .before .before .before .before .args .d) (c .wide .result)
+top-of : (c : tie.After-widen Inv-loop μ-loop) → Spread (c .before .before .before .before .before .before .before .before .before .before .before .before .before .before .before .args .table .now) (c .before .before .before .before .before .before .before .before .before .before .before .before .before .before .before .args .j) (c .before .before .before .before .before .before .before .before .before .before .before .before .before .before .before .args .d) (c .widen .result) (mark (c .before .before .before .loop .square) (width (c .before .before .before .before .before .before .before .before .before .before .before .before .before .before .before .args .n)) (c .before .before .before .before .before .before .before .before .before .before .before .before .before .before .before .args .d)) (take (c .before .before .before .loop .top - 1) (c .before .before .before .loop .stack))
+    × HasBody (c .before .before .before .before .before .before .before .before .before .before .before .before .before .before .before .args .table .now) (c .widen .result) × Links (c .before .before .before .before .before .before .before .before .before .before .before .before .before .before .before .args .table .now) (c .before .before .before .before .before .before .before .before .before .before .before .before .before .before .before .args .j) (c .before .before .before .before .before .before .before .before .before .before .before .before .before .before .before .args .d) (c .widen .result)
 top-of c =
     let p = c .before .before .before .before .before .before .before .before .before .before .before .before .before .before .before .pre in
-    popped _ _ (p .0) _ (p .1 .0) _ _ (c .before .before .before .loop .stack) (c .before .before .before .loop .top) _ (c .wide .ensures) (c .before .before .loop-test .taken) (omega (arith, c .before .before .before .loop .inv .2, room (c .before .before .before) .heights)) (c .before .before .before .loop .inv .3)
+    popped _ _ (p .0) _ (p .1 .0) _ _ (c .before .before .before .loop .stack) (c .before .before .before .loop .top) _ (c .widen .ensures) (c .before .before .loop-test .taken) (omega (arith, c .before .before .before .loop .inv .2, room (c .before .before .before) .heights)) (c .before .before .before .loop .inv .3)
 
 grow-requires : tie.Need-grow-requires Inv-loop μ-loop
 grow-requires c κs =
@@ -73,17 +73,17 @@ loop-holds c =
     let g = c .before .before .before .before .grow .ensures in
     (refl, refl, g .1, g .0 .spread, g .0 .links, λ a q z. refl, omega (arith, g .0 .less))
 
-sub-wide : tie.Need-sub-wide Inv-loop μ-loop
-sub-wide c = omega (arith, c .loop-test .taken)
+sub-widen : tie.Need-sub-widen Inv-loop μ-loop
+sub-widen c = omega (arith, c .loop-test .taken)
 
-mul-wide : tie.Need-mul-wide Inv-loop μ-loop
-mul-wide c = omega (arith, c .before .loop .inv .2, c .before .before .before .before .before .before .before .before .before .before .before .before .before .pre .0 .few)
+mul-widen : tie.Need-mul-widen Inv-loop μ-loop
+mul-widen c = omega (arith, c .before .loop .inv .2, c .before .before .before .before .before .before .before .before .before .before .before .before .before .pre .0 .few)
 
-slice-read-wide : tie.Need-slice-read-wide Inv-loop μ-loop
-slice-read-wide c = omega (arith, c .before .before .loop .inv .2, room (c .before .before) .heights)
+slice-read-widen : tie.Need-slice-read-widen Inv-loop μ-loop
+slice-read-widen c = omega (arith, c .before .before .loop .inv .2, room (c .before .before) .heights)
 
-wide-requires : tie.Need-wide-requires Inv-loop μ-loop
-wide-requires c κs = search needs
+widen-requires : tie.Need-widen-requires Inv-loop μ-loop
+widen-requires c κs = search needs
 
 sub-grow : tie.Need-sub-grow Inv-loop μ-loop
 sub-grow c = omega (arith, c .before .before .before .before .loop-test .taken)
@@ -159,10 +159,10 @@ fill-spec =
     μ-loop
     grow-requires
     loop-holds
-    sub-wide
-    mul-wide
-    slice-read-wide
-    wide-requires
+    sub-widen
+    mul-widen
+    slice-read-widen
+    widen-requires
     sub-grow
     grow-requires-2
     add-visits

@@ -18,7 +18,7 @@ use Rattle.reach.proofs.grow.Reads as reads
 use Rattle.reach.proofs.grow.Lts as lts
 use Rattle.reach.proofs.cell_of.Reads as cell-of-reads
 use Rattle.reach.proofs.meet.Reads as meet-reads
-use Rattle.marks.proofs.wide.Reads as wide-reads
+use Rattle.marks.proofs.widen.Reads as widen-reads
 
 abbrev Inv-loop : tie.InvT-loop
 Inv-loop table n j chains state square₀ stack₀ d e top height₀ x₀ square stack height x =
@@ -53,14 +53,14 @@ module _ (c : tie.In-loop Inv-loop μ-loop) where
       go (inl z) = once (subst (λ (y : ℕ). Link (c .before .before .before .before .before .before .before .before .args .table .now) (c .before .before .before .before .before .before .before .before .args .j) y (cell (c .before .before .before .before .before .before .before .before .args .table .now) (c .before .loop .x) (c .before .before .before .before .before .before .before .before .args .j))) z link)
       go (inr r) = then r link
 
-mul-wide : tie.Need-mul-wide Inv-loop μ-loop
-mul-wide c = let p = c .before .before .before .before .pre in omega (arith, p .0 .few, body-label _ _ (p .0) (c .before .before .before .before .args .e) (p .1 .1 .1 .1 .0 .2))
+mul-widen : tie.Need-mul-widen Inv-loop μ-loop
+mul-widen c = let p = c .before .before .before .before .pre in omega (arith, p .0 .few, body-label _ _ (p .0) (c .before .before .before .before .args .e) (p .1 .1 .1 .1 .0 .2))
 
-shared-slice-read-wide : tie.Need-shared-slice-read-wide Inv-loop μ-loop
-shared-slice-read-wide c = let p = c .before .before .before .before .before .pre in omega (arith, p .1 .1 .0 .0, body-label _ _ (p .0) (c .before .before .before .before .before .args .e) (p .1 .1 .1 .1 .0 .2))
+shared-slice-read-widen : tie.Need-shared-slice-read-widen Inv-loop μ-loop
+shared-slice-read-widen c = let p = c .before .before .before .before .before .pre in omega (arith, p .1 .1 .0 .0, body-label _ _ (p .0) (c .before .before .before .before .before .args .e) (p .1 .1 .1 .1 .0 .2))
 
-wide-requires : tie.Need-wide-requires Inv-loop μ-loop
-wide-requires c κs = search needs
+widen-requires : tie.Need-widen-requires Inv-loop μ-loop
+widen-requires c κs = search needs
 
 loop-holds : tie.Need-loop-holds Inv-loop μ-loop
 loop-holds c =
@@ -68,7 +68,7 @@ loop-holds c =
     let p = a .pre in
     let s = p .1 .1 .1 .1 .1 .1 in
     let l = p .1 .1 .0 .1 .heads (a .args .e) (body-label _ _ (p .0) _ (p .1 .1 .1 .1 .0 .2) .1) in
-    rw (c .wide .ensures) (
+    rw (c .widen .ensures) (
       refl,
       refl,
       l .within,
@@ -92,20 +92,20 @@ meet-requires c κs =
     let made = rows-kept _ _ (p .0) _ (p .1 .0) (a .args .d) (a .args .state .now) (a .args .square .now) (l .loop .square) (p .1 .1 .1 .1 .0 .1) (p .1 .1 .1 .1 .1 .0) (l .loop .inv .5 .others) f in
     (p .0, (room, ((p .1 .1 .1 .1 .0 .0, l .loop .inv .4), (subst (HasBody (a .args .table .now)) (sym (c .before .before .cell-of .ensures)) (end (c .before .before .before)), (l .loop .inv .5 .spread .raised, λ two. row-above _ _ (p .0) _ (p .1 .0) f (l .loop .square) (made two))))))
 
-add-wide : tie.Need-add-wide Inv-loop μ-loop
-add-wide c = omega (arith, c .before .before .before .before .before .before .before .before .before .before .before .before .before .before .before .before .pre .0 .few, line (c .before .before .before .before .before .before .before .before))
+add-widen : tie.Need-add-widen Inv-loop μ-loop
+add-widen c = omega (arith, c .before .before .before .before .before .before .before .before .before .before .before .before .before .before .before .before .pre .0 .few, line (c .before .before .before .before .before .before .before .before))
 
-mul-wide-2 : tie.Need-mul-wide-2 Inv-loop μ-loop
-mul-wide-2 c = omega (arith, c .before .before .before .before .before .before .before .before .before .before .before .before .before .before .before .before .pre .0 .few, line (c .before .before .before .before .before .before .before .before))
+mul-widen-2 : tie.Need-mul-widen-2 Inv-loop μ-loop
+mul-widen-2 c = omega (arith, c .before .before .before .before .before .before .before .before .before .before .before .before .before .before .before .before .pre .0 .few, line (c .before .before .before .before .before .before .before .before))
 
-shared-slice-read-wide-2 : tie.Need-shared-slice-read-wide-2 Inv-loop μ-loop
-shared-slice-read-wide-2 c = omega (arith, c .before .before .before .before .before .before .before .before .before .before .before .before .before .before .before .before .before .pre .1 .1 .0 .0, line (c .before .before .before .before .before .before .before .before .before))
+shared-slice-read-widen-2 : tie.Need-shared-slice-read-widen-2 Inv-loop μ-loop
+shared-slice-read-widen-2 c = omega (arith, c .before .before .before .before .before .before .before .before .before .before .before .before .before .before .before .before .before .pre .1 .1 .0 .0, line (c .before .before .before .before .before .before .before .before .before))
 
-wide-requires-2 : tie.Need-wide-requires-2 Inv-loop μ-loop
-wide-requires-2 c κs = search needs
+widen-requires-2 : tie.Need-widen-requires-2 Inv-loop μ-loop
+widen-requires-2 c κs = search needs
 
 loop-less : tie.Need-loop-less Inv-loop μ-loop
-loop-less c = omega (arith, c .wide2 .ensures, last (c .before .before .before .before .before .before .before .before .before .before) .within, line (c .before .before .before .before .before .before .before .before .before .before))
+loop-less c = omega (arith, c .widen2 .ensures, last (c .before .before .before .before .before .before .before .before .before .before) .within, line (c .before .before .before .before .before .before .before .before .before .before))
 
 loop-again : tie.Need-loop-again Inv-loop μ-loop
 loop-again c =
@@ -119,7 +119,7 @@ loop-again c =
     let g = growing-turn _ _ (p .0) _ (p .1 .0) _ _ _ _ _ (take (l .loop .height) (l .loop .stack)) _ (l .loop .inv .5) _ (last q) (a .args .state .now) (l .loop .stack) (l .loop .height) refl
     (omega (arith, l .loop .inv .4, l .loop .inv .1, p .1 .1 .1 .0 .heights)) (way q)
     (rows-kept _ _ (p .0) _ (p .1 .0) (a .args .d) (a .args .state .now) (a .args .square .now) (l .loop .square) (p .1 .1 .1 .1 .0 .1) (p .1 .1 .1 .1 .1 .0) (l .loop .inv .5 .others) f) _ _ (m .result) k _ (c .before .before .before .before .before .before .before .before .before .cell-of .ensures) (m .ensures) in
-    rw (c .wide2 .ensures) (
+    rw (c .widen2 .ensures) (
       m .kept .1 .1 .1 .0 ∙ l .loop .inv .0,
       k ∙ l .loop .inv .1,
       omega (arith, last q .within, line q),
@@ -146,16 +146,16 @@ grow-spec =
     (tie.spec
     Inv-loop
     μ-loop
-    mul-wide
-    shared-slice-read-wide
-    wide-requires
+    mul-widen
+    shared-slice-read-widen
+    widen-requires
     loop-holds
     cell-of-requires
     meet-requires
-    add-wide
-    mul-wide-2
-    shared-slice-read-wide-2
-    wide-requires-2
+    add-widen
+    mul-widen-2
+    shared-slice-read-widen-2
+    widen-requires-2
     loop-less
     loop-again
     same-length

@@ -1,5 +1,5 @@
 -- The lines, zeros behind them, and the other rows.
-use Rattle.reading.proofs.Stage.{lined-left, sheet-tied, sheet-refused}
+use Rattle.reading.proofs.Stage.{lined-left, sheet-resolved, sheet-refused}
 use borrow.Author.Needs.{needs}
 use Rattle.reading.proofs.read_sheet.Statement.{statement}
 use Rattle.reading.proofs.read_sheet.Tie as tie
@@ -16,8 +16,8 @@ mul-clear-from c = search needs
 clear-from-requires : tie.Need-clear-from-requires
 clear-from-requires c κs = search needs
 
-tie-requires : tie.Need-tie-requires
-tie-requires c κs = lined-left (c .before .before .before .before .before .before .before .before .before .before .args .text .now) (c .before .before .before .before .before .before .before .before .before .before .args .n) (c .before .before .before .before .before .before .before .before .before .before .args .table .now) (c .before .before .before .before .before .before .before .read-lines .last .1 .1 .0) (c .before .before .before .before .before .before .before .read-lines .result) (c .before .before .before .before .before .before .before .before .before .before .pre .1) (c .before .before .before .before .before .before .before .before .before .before .pre .2) (c .before .before .before .before .before .before .before .read-lines .ensures .0) (c .before .before .clear-from .last .0) (c .before .before .before .before .before .before .before .before .before .before .pre .0) (c .before .before .before .before .enum-told .given .1) (c .before .before .before .before .before .before .before .read-lines .ensures .1) (c .before .before .clear-from .ensures)
+resolve-requires : tie.Need-resolve-requires
+resolve-requires c κs = lined-left (c .before .before .before .before .before .before .before .before .before .before .args .text .now) (c .before .before .before .before .before .before .before .before .before .before .args .n) (c .before .before .before .before .before .before .before .before .before .before .args .table .now) (c .before .before .before .before .before .before .before .read-lines .last .1 .1 .0) (c .before .before .before .before .before .before .before .read-lines .result) (c .before .before .before .before .before .before .before .before .before .before .pre .1) (c .before .before .before .before .before .before .before .before .before .before .pre .2) (c .before .before .before .before .before .before .before .read-lines .ensures .0) (c .before .before .clear-from .last .0) (c .before .before .before .before .before .before .before .before .before .before .pre .0) (c .before .before .before .before .enum-told .given .1) (c .before .before .before .before .before .before .before .read-lines .ensures .1) (c .before .before .clear-from .ensures)
 
 enum-known-row : tie.Need-enum-known-row
 enum-known-row c = search needs
@@ -26,7 +26,7 @@ same-length : tie.Need-same-length
 same-length c = search needs
 
 returns : tie.Need-returns
-returns c = sheet-tied (c .before .before .before .before .before .before .before .before .before .before .before .before .args .text .now) (c .before .before .before .before .before .before .before .before .before .before .before .before .args .n) (c .before .before .before .before .before .before .before .before .before .before .before .before .args .table .now) (c .before .before .before .before .before .before .before .before .before .read-lines .last .1 .1 .0) (c .before .before .before .before .before .before .before .before .before .read-lines .result) (c .before .before .before .before .before .before .before .before .before .before .before .before .pre .1) (c .before .before .before .before .before .before .before .before .before .before .before .before .pre .2) (c .before .before .before .before .before .before .before .before .before .read-lines .ensures .0) (c .before .before .before .before .clear-from .last .0) (c .before .tie .last .1 .0) (c .before .tie .result) (c .before .before .before .before .before .before .enum-told .given .1) (c .before .before .before .before .before .before .before .before .before .read-lines .ensures .1) (c .before .before .before .before .clear-from .ensures) (c .before .tie .ensures .0) (c .before .tie .ensures .1)
+returns c = sheet-resolved (c .before .before .before .before .before .before .before .before .before .before .before .before .args .text .now) (c .before .before .before .before .before .before .before .before .before .before .before .before .args .n) (c .before .before .before .before .before .before .before .before .before .before .before .before .args .table .now) (c .before .before .before .before .before .before .before .before .before .read-lines .last .1 .1 .0) (c .before .before .before .before .before .before .before .before .before .read-lines .result) (c .before .before .before .before .before .before .before .before .before .before .before .before .pre .1) (c .before .before .before .before .before .before .before .before .before .before .before .before .pre .2) (c .before .before .before .before .before .before .before .before .before .read-lines .ensures .0) (c .before .before .before .before .clear-from .last .0) (c .before .resolve .last .1 .0) (c .before .resolve .result) (c .before .before .before .before .before .before .enum-told .given .1) (c .before .before .before .before .before .before .before .before .before .read-lines .ensures .1) (c .before .before .before .before .clear-from .ensures) (c .before .resolve .ensures .0) (c .before .resolve .ensures .1)
 
 same-length-2 : tie.Need-same-length-2
 same-length-2 c = search needs
@@ -42,7 +42,7 @@ read-sheet-spec =
     enum-told
     mul-clear-from
     clear-from-requires
-    tie-requires
+    resolve-requires
     enum-known-row
     same-length
     returns

@@ -5,13 +5,13 @@ use borrow.Author.Needs.{needs}
 use Rattle.tree.proofs.read_owners.Statement.{statement}
 use Rattle.tree.proofs.read_owners.Tie as tie
 
-hand-all-requires : tie.Need-hand-all-requires
-hand-all-requires c κs = search needs
+propagate-all-requires : tie.Need-propagate-all-requires
+propagate-all-requires c κs = search needs
 
 late-rows-requires : tie.Need-late-rows-requires
 late-rows-requires c κs =
     let s = c .before .before .before .before in
-    let h = c .before .before .hand-all in
+    let h = c .before .before .propagate-all in
     over-formed (s .args .table .now) (s .args .n) (h .last .0) (s .pre .0 .structure .formed) (h .ensures .over)
 
 clear-targets-requires : tie.Need-clear-targets-requires
@@ -23,10 +23,10 @@ same-length c = search needs
 returns : tie.Need-returns
 returns c =
     let s = c .before .before .before .before .before .before .before .before in
-    let h = c .before .before .before .before .before .before .hand-all in
+    let h = c .before .before .before .before .before .before .propagate-all in
     (c .before .before .before .late-rows .ensures ∙ late-rows (s .args .table .now) (s .args .n) (s .pre .0) (h .last .0) (h .ensures), owning (s .args .table .now) (s .args .n) (s .pre .0) (h .last .0) (c .before .clear-targets .last .0) (h .ensures) (c .before .clear-targets .ensures))
 
 pub read-owners-spec : {M : Type 1} → statement M
 read-owners-spec =
     tie.close
-    (tie.spec hand-all-requires late-rows-requires clear-targets-requires same-length returns)
+    (tie.spec propagate-all-requires late-rows-requires clear-targets-requires same-length returns)

@@ -1,4 +1,4 @@
--- The last byte, 10, is no ink: the run of ink from `i` on is what is left of that from `from` on.
+-- The last byte, 10, is not graphic: the run of graphic bytes from `i` on is what is left of that from `from` on.
 use mathlib.Core.Path.{_∙_, sym, ap, _≡_}
 use Prim.Native.Nat.{ℕ, _-_, _≤_, _<_}
 use native.Mathlib.Nat.{le-refl}
@@ -7,13 +7,13 @@ use lib.ListN.{getD, length}
 use borrow.Author.Needs.{needs}
 use borrow.Author.Tests.{lt-ltb, le-ltb}
 use Rattle.text.proofs.Bytes.{run-more, run-stop}
-use Rattle.text.specs.Bytes.{isInk}
+use Rattle.text.specs.Bytes.{isGraphic}
 use Rattle.text.specs.Scans.{runEnd}
-use Rattle.text.proofs.ink_end.Statement.{statement}
-use Rattle.text.proofs.ink_end.Tie as tie
+use Rattle.text.proofs.graphic_end.Statement.{statement}
+use Rattle.text.proofs.graphic_end.Tie as tie
 
 abbrev Inv-loop : tie.InvT-loop
-Inv-loop text from i₀ i = (from ≤ i) × (i < length text) × (runEnd isInk text i (length text) ≡ runEnd isInk text from (length text))
+Inv-loop text from i₀ i = (from ≤ i) × (i < length text) × (runEnd isGraphic text i (length text) ≡ runEnd isGraphic text from (length text))
 
 abbrev μ-loop : tie.MeasureT-loop
 μ-loop text from i₀ i = length text - i
@@ -38,7 +38,7 @@ loop-again c =
     let apart : i ≡ length s - 1 → ⊥ = λ q. omega (arith, ap (λ (n : ℕ). getD s n 0) q ∙ c .before .before .before .pre .1) in (
       omega arith,
       omega (arith, apart),
-      run-more isInk s i (length s) h (le-refl (length s)) (lt-ltb _ _ (c .if1 .taken)) ∙ c .before .before .loop .inv .2,
+      run-more isGraphic s i (length s) h (le-refl (length s)) (lt-ltb _ _ (c .if1 .taken)) ∙ c .before .before .loop .inv .2,
     )
 
 cast-result : tie.Need-cast-result Inv-loop μ-loop
@@ -51,9 +51,9 @@ returns : tie.Need-returns Inv-loop μ-loop
 returns c =
     let s = c .before .before .before .args .text .now in
     let i = c .before .before .loop .i in
-    sym (run-stop isInk s i (length s) (omega arith) (le-refl (length s)) (le-ltb _ _ (c .if1 .left))) ∙ c .before .before .loop .inv .2
+    sym (run-stop isGraphic s i (length s) (omega arith) (le-refl (length s)) (le-ltb _ _ (c .if1 .left))) ∙ c .before .before .loop .inv .2
 
-pub ink-end-spec : {M : Type 1} → statement M
-ink-end-spec =
+pub graphic-end-spec : {M : Type 1} → statement M
+graphic-end-spec =
     tie.close
     (tie.spec Inv-loop μ-loop loop-holds shared-slice-read-if1 add-i loop-less loop-again cast-result cast-result-2 returns)

@@ -1,13 +1,13 @@
--- A definition and an expression, each a clause of `handed`.
+-- A definition and an expression, each a clause of `propagated`.
 use mathlib.Core.Path.{_∙_, sym, ap}
 use native.Mathlib.Omega.{arith}
 use lib.ListN.{length}
 use Rattle.tree.specs.declared.Node.{Node}
-use Rattle.tree.proofs.Labels.{handed-definition, handed-expression}
-use Rattle.tree.proofs.Writes.{given-length, inside-same}
+use Rattle.tree.proofs.Labels.{propagated-definition, propagated-expression}
+use Rattle.tree.proofs.Writes.{assigned-length, inside-same}
 use borrow.Author.Needs.{needs}
-use Rattle.tree.proofs.hand_on.Statement.{statement}
-use Rattle.tree.proofs.hand_on.Tie as tie
+use Rattle.tree.proofs.propagate.Statement.{statement}
+use Rattle.tree.proofs.propagate.Tie as tie
 
 node-at-requires : tie.Need-node-at-requires
 node-at-requires c κs = search needs
@@ -15,19 +15,19 @@ node-at-requires c κs = search needs
 cell-at-requires : tie.Need-cell-at-requires
 cell-at-requires c κs = search needs
 
-give-requires : tie.Need-give-requires
-give-requires c κs =
+assign-requires : tie.Need-assign-requires
+assign-requires c κs =
     let s = c .before .before .before .before .before .before in
     let n = c .before .before .before .before .node-at in
     let d = sym (ap (λ (p : Node). p .definition) (n .ensures)) ∙ c .before .before .before .if1 .taken in
     (s .pre .room, omega (arith, c .before .cell-at .ensures, s .pre .group d), omega arith)
 
-give-parts-requires : tie.Need-give-parts-requires
-give-parts-requires c κs =
+assign-parts-requires : tie.Need-assign-parts-requires
+assign-parts-requires c κs =
     let s = c .before .before .before .before .before .before .before .before .before in
     let n = c .before .before .before .before .before .before .before .node-at in
-    let g = c .before .before .give in
-    (inside-same (s .args .table .now) (g .last .0) (n .result) (ap length (g .ensures) ∙ given-length (s .args .label) (c .before .before .before .before .cell-at .result) 0 (s .args .table .now) (s .pre .room)) (rw (n .ensures) (s .pre .inside)), s .pre .few, omega arith)
+    let g = c .before .before .assign in
+    (inside-same (s .args .table .now) (g .last .0) (n .result) (ap length (g .ensures) ∙ assigned-length (s .args .label) (c .before .before .before .before .cell-at .result) 0 (s .args .table .now) (s .pre .room)) (rw (n .ensures) (s .pre .inside)), s .pre .few, omega arith)
 
 same-length : tie.Need-same-length
 same-length c = search needs
@@ -37,7 +37,7 @@ returns c =
     let s = c .before .before .before .before .before .before .before .before .before .before .before in
     let n = c .before .before .before .before .before .before .before .before .before .node-at in
     let d = sym (ap (λ (p : Node). p .definition) (n .ensures)) ∙ c .before .before .before .before .before .before .before .before .if1 .taken in
-    rw (c .before .give-parts .ensures, c .before .before .before .before .give .ensures, c .before .before .before .before .before .before .cell-at .ensures, n .ensures) (sym (handed-definition (s .args .label) (s .args .table .now) d))
+    rw (c .before .assign-parts .ensures, c .before .before .before .before .assign .ensures, c .before .before .before .before .before .before .cell-at .ensures, n .ensures) (sym (propagated-definition (s .args .label) (s .args .table .now) d))
 
 cell-at-requires-2 : tie.Need-cell-at-requires-2
 cell-at-requires-2 c κs = search needs
@@ -45,15 +45,15 @@ cell-at-requires-2 c κs = search needs
 cell-at-requires-3 : tie.Need-cell-at-requires-3
 cell-at-requires-3 c κs = search needs
 
-add-give-parts : tie.Need-add-give-parts
-add-give-parts c =
+add-assign-parts : tie.Need-add-assign-parts
+add-assign-parts c =
     let s = c .before .before .before .before .before .before .before .before in
     let n = c .before .before .before .before .before .before .node-at in
     let d = sym (ap (λ (p : Node). p .definition) (n .ensures)) ∙ c .before .before .before .before .before .if1 .left in
     omega (arith, c .before .cell-at3 .ensures, s .pre .level d)
 
-give-parts-requires-2 : tie.Need-give-parts-requires-2
-give-parts-requires-2 c κs =
+assign-parts-requires-2 : tie.Need-assign-parts-requires-2
+assign-parts-requires-2 c κs =
     let s = c .before .before .before .before .before .before .before .before in
     let n = c .before .before .before .before .before .before .node-at in
     let d = sym (ap (λ (p : Node). p .definition) (n .ensures)) ∙ c .before .before .before .before .before .if1 .left in
@@ -67,21 +67,21 @@ returns-2 c =
     let s = c .before .before .before .before .before .before .before .before .before .before in
     let n = c .before .before .before .before .before .before .before .before .node-at in
     let d = sym (ap (λ (p : Node). p .definition) (n .ensures)) ∙ c .before .before .before .before .before .before .before .if1 .left in
-    rw (c .before .give-parts2 .ensures, c .before .before .before .before .before .cell-at2 .ensures, c .before .before .before .cell-at3 .ensures, n .ensures) (sym (handed-expression (s .args .label) (s .args .table .now) d))
+    rw (c .before .assign-parts2 .ensures, c .before .before .before .before .before .cell-at2 .ensures, c .before .before .before .cell-at3 .ensures, n .ensures) (sym (propagated-expression (s .args .label) (s .args .table .now) d))
 
-pub hand-on-spec : {M : Type 1} → statement M
-hand-on-spec =
+pub propagate-spec : {M : Type 1} → statement M
+propagate-spec =
     tie.close
     (tie.spec
     node-at-requires
     cell-at-requires
-    give-requires
-    give-parts-requires
+    assign-requires
+    assign-parts-requires
     same-length
     returns
     cell-at-requires-2
     cell-at-requires-3
-    add-give-parts
-    give-parts-requires-2
+    add-assign-parts
+    assign-parts-requires-2
     same-length-2
     returns-2)

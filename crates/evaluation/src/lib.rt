@@ -49,6 +49,7 @@ pub struct Arguments {
     pub count: usize,
 }
 
+// How an expression is evaluated, by its kind. `Other` is what is no expression, and is never met in a table that Read accepts.
 pub enum Kind {
     Number,
     Argument,
@@ -66,10 +67,13 @@ pub struct Allowance {
 }
 
 impl Allowance {
+    // "A fresh allowance of 20,000 steps."
     pub const STEPS: u32 = 20000;
 
+    // How many calls may be around an expression.
     pub const DEPTH: u32 = 64;
 
+    // What each value starts with, at call depth 0.
     pub fn fresh() -> Self
         ensures { λ r. ⌜ (r .left ≡ stepLimit) × (r .depth ≡ 0) ⌝ }
     {
@@ -91,6 +95,7 @@ impl Allowance {
     }
 }
 
+// A number, with these steps left.
 fn success(number: i64, left: u32) -> Outcome
     ensures { λ r. ⌜ r ≡ gives number left ⌝ }
 {
@@ -101,6 +106,7 @@ fn success(number: i64, left: u32) -> Outcome
     }
 }
 
+// A state other than NUMBER, whose number is 0, with these steps left.
 fn failure(state: u32, left: u32) -> Outcome
     ensures { λ r. ⌜ r ≡ fails state left ⌝ }
 {
@@ -113,6 +119,7 @@ fn failure(state: u32, left: u32) -> Outcome
 
 // ---- cells
 
+// The kind of a line's code.
 fn kind_of(code: usize) -> Kind
     ensures { λ r. ⌜ r ≡ kindOf code ⌝ }
 {
@@ -130,7 +137,7 @@ fn kind_of(code: usize) -> Kind
     }
 }
 
-// Cell j of label's row.
+// Cell j of the label's row.
 fn field(table: &[i64], label: usize, j: usize) -> usize
     requires { ⌜ Cell (now table) label j ⌝ }
     ensures { λ r. ⌜ r ≡ cell (now (table .entry)) label j ⌝ }
@@ -180,6 +187,7 @@ fn read(table: &[i64], results: &[i64], label: usize, left: u32) -> Outcome
 
 // ---- arithmetic
 
+// What an operation gives, as a state and a number.
 fn outcome_of(c: Calculated, left: u32) -> Outcome
     ensures { λ r. ⌜ r ≡ outcomeOf c left ⌝ }
 {
@@ -190,6 +198,7 @@ fn outcome_of(c: Calculated, left: u32) -> Outcome
     }
 }
 
+// Two operands under A, S, M or D; halves go away from zero.
 fn combine(op: Operation, a: i64, b: i64, left: u32) -> Outcome
     requires { ⌜ (natAbs a ≤ limit) × (natAbs b ≤ limit) ⌝ }
     ensures { λ r. ⌜ r ≡ outcomeOf (calculated tieRule op a b) left ⌝ }

@@ -14,6 +14,7 @@ ghost use Rattle.groups.specs.Members.{Chain, Chained, Gathered, Items, 
 
 // ---- members
 
+// Chains the members of each Group, smaller labels first.
 pub fn link_members(table: &[i64], n: usize, next: &mut [u16])
     requires { ⌜ Accepted (now table) n ⌝ }
     requires { ⌜ (2 * n < length (now next)) × Empty n (now next) ⌝ }
@@ -30,6 +31,7 @@ pub fn link_members(table: &[i64], n: usize, next: &mut [u16])
     }
 }
 
+// Puts a Group's members in front of the items, in the order of its chain. Answers how many.
 fn gather_members(table: &[i64], n: usize, next: &[u16], group: usize, items: &mut [u16]) -> usize
     requires { ⌜ Accepted (now table) n ⌝ }
     requires { ⌜ (group ≤ n) × (2 * n < length (now next)) × (n < length (now items)) ⌝ }
@@ -46,6 +48,7 @@ fn gather_members(table: &[i64], n: usize, next: &[u16], group: usize, items: &m
     m
 }
 
+// Puts the values in front of the items, smaller labels first. Answers how many.
 pub fn gather_values(table: &[i64], n: usize, items: &mut [u16]) -> usize
     requires { ⌜ Accepted (now table) n ⌝ }
     requires { ⌜ n < length (now items) ⌝ }

@@ -25,6 +25,7 @@ fn lift(table: &[i64], n: usize, square: &mut [u64])
     }
 }
 
+// No row keeps the mark of its own label: a member needs another one.
 fn cut_diagonal(n: usize, square: &mut [u64])
     requires { ⌜ (n ≤ 1024) × ((n + 1) * width n ≤ length (now square)) ⌝ }
     ensures { λ _. ⌜ Cut n (n + 1) (now (square .entry)) (now (square .exit)) ⌝ }
@@ -39,6 +40,7 @@ fn cut_diagonal(n: usize, square: &mut [u64])
     }
 }
 
+// The square of needs: row q gets the marks of those that need q.
 pub fn needs_of(table: &[i64], n: usize, square: &mut [u64])
     requires { ⌜ Accepted (now table) n ⌝ }
     requires { ⌜ (n + 1) * width n ≤ length (now square) ⌝ }

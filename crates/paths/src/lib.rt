@@ -64,6 +64,7 @@ fn same_name(text: &[u8], a: usize, b: usize, size: usize) -> bool
     true
 }
 
+// Whether the line is a G, V or F.
 fn is_definition(table: &[i64], label: usize) -> bool
     ensures { λ r. ⌜ r ≡ isDefinition (now (table .entry)) label ⌝ }
 {
@@ -96,6 +97,7 @@ fn is_named(text: &[u8], table: &[i64], m: usize, group: usize, from: usize, to:
 
 // ---- buckets
 
+// The bucket of a Group and a name's hash.
 fn bucket(hash: usize, group: usize) -> usize
     requires { ⌜ (hash < 4294967296) × (group ≤ 1024) ⌝ }
     ensures { λ r. ⌜ r ≡ bucketOf hash group ⌝ }

@@ -18,6 +18,7 @@ ghost use Rattle.reach.specs.Turns.{Raised, Met, Spread, Grown, Filled, 
 
 // ---- cells of an accepted table
 
+// The label's kind code.
 pub fn kind_of(table: &[i64], n: usize, label: usize) -> usize
     requires { ⌜ Accepted (now table) n ⌝ }
     requires { ⌜ (1 ≤ label) × (label ≤ n) ⌝ }
@@ -26,7 +27,7 @@ pub fn kind_of(table: &[i64], n: usize, label: usize) -> usize
     table[8 * (label - 1)] as usize
 }
 
-// A cell from field b on.
+// Cell j, which is b or a later one.
 pub fn cell_of(table: &[i64], n: usize, label: usize, j: usize) -> usize
     requires { ⌜ Accepted (now table) n ⌝ }
     requires { ⌜ (1 ≤ label) × (label ≤ n) × (4 ≤ j) × (j < 8) ⌝ }
@@ -35,6 +36,7 @@ pub fn cell_of(table: &[i64], n: usize, label: usize, j: usize) -> usize
     table[8 * (label - 1) + j] as usize
 }
 
+// Whether the line has a path: R or C.
 fn has_path(table: &[i64], n: usize, label: usize) -> bool
     requires { ⌜ Accepted (now table) n ⌝ }
     requires { ⌜ (1 ≤ label) × (label ≤ n) ⌝ }

@@ -35,6 +35,7 @@ fn newline(b: u8) -> u32
     if b == 10 { 1 } else { 0 }
 }
 
+// How many bytes of a text row 1 does not allow, and how many lines it has.
 pub struct Counts {
     pub bad: u32,
     pub lines: u32,
@@ -108,6 +109,7 @@ pub fn field_end(text: &[u8], from: usize, stop: u8) -> usize
 
 // ---- names and paths
 
+// An ASCII letter.
 pub fn is_letter(b: u8) -> bool
     ensures { λ r. ⌜ r ≡ isLetter b ⌝ }
 {
@@ -123,6 +125,7 @@ pub fn is_letter(b: u8) -> bool
     b <= 122
 }
 
+// An ASCII letter or digit.
 pub fn is_alphanumeric(b: u8) -> bool
     ensures { λ r. ⌜ r ≡ isAlphanumeric b ⌝ }
 {

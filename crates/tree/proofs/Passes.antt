@@ -119,7 +119,7 @@ module _ (t : List ℤ) (n : ℕ) (s : Structured t n) (w : List ℤ) (l : ℕ) 
         uses = counted-uses;
       })
 
--- ---- handing on
+-- ---- propagating
 
 abbrev Right : List ℤ → ℕ → List ℤ → ℕ → Type 0
 Right t n w x = (owner w x ≡ ownerOf t n x) × (target w x ≡ levelOf t n x)

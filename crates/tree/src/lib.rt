@@ -1,5 +1,5 @@
 // The tree of a table: rows 8 to 11 of document 01's table of refusals, and the owner of each label. A user's label is below that of what
-// it uses, so that one pass upward through the labels hands owners and levels on; uses and levels stand in the target cells meanwhile.
+// it uses, so that one pass upward through the labels propagates owners and levels; uses and levels stand in the target cells meanwhile.
 
 ghost use mathlib.Core.Path.{_≡_};
 ghost use Prim.Native.Nat.{_*_, _≤_, _<_};
@@ -30,6 +30,7 @@ pub struct Node {
     pub c: usize,
 }
 
+// Whether a field holds the Group of a definition.
 fn is_group(form: Form) -> bool
     ensures { λ r. ⌜ r ≡ isGroup form ⌝ }
 {
@@ -50,6 +51,7 @@ fn part_at(table: &[i64], label: usize, j: usize, form: Form) -> usize
     }
 }
 
+// The line as a node, by the table of kinds.
 fn node_at(table: &[i64], label: usize) -> Node
     requires { ⌜ (1 ≤ kind (now table) label) × (kind (now table) label ≤ 12) ⌝ }
     ensures { λ r. ⌜ r ≡ nodeAt (now (table .entry)) label ⌝ }
@@ -70,6 +72,7 @@ fn node_at(table: &[i64], label: usize) -> Node
     }
 }
 
+// Whether the line is an expression; what is no label is none.
 fn is_expression(table: &[i64], label: usize) -> bool
     requires { ⌜ kind (now table) label ≤ 12 ⌝ }
     ensures { λ r. ⌜ r ≡ isExpression (now (table .entry)) label ⌝ }
@@ -119,6 +122,7 @@ fn part_right(table: &[i64], label: usize, x: usize) -> bool
     false
 }
 
+// Whether the body or operands of a line are expressions with larger labels.
 fn parts_right(table: &[i64], label: usize, node: Node) -> bool
     requires { ⌜ Readable (now table) label × (node ≡ nodeAt (now table) label) ⌝ }
     ensures { λ r. ⌜ r ≡ all (partRight (now (table .entry)) label) (parts (now (table .entry)) label) ⌝ }
@@ -131,6 +135,7 @@ fn parts_right(table: &[i64], label: usize, node: Node) -> bool
     false
 }
 
+// Row 8: the Group of a definition, and the body or operands of a line.
 fn structure_bad(table: &[i64], label: usize) -> u64
     requires { ⌜ Readable (now table) label ⌝ }
     ensures { λ r. ⌜ r ≡ structureBad (now (table .entry)) label ⌝ }
@@ -152,6 +157,7 @@ pub enum Rule {
     Level,
 }
 
+// Row 9, by the uses in the target cell: an expression is used by one field, once.
 fn uses_bad(table: &[i64], label: usize) -> u64
     requires { ⌜ kind (now table) label ≤ 12 ⌝ }
     ensures { λ r. ⌜ r ≡ cellBad Rule.Uses (now (table .entry)) label ⌝ }
@@ -164,7 +170,7 @@ fn uses_bad(table: &[i64], label: usize) -> u64
     0
 }
 
-// A P is in no V.
+// Row 10: no P is owned by a V.
 fn argument_bad(table: &[i64], label: usize) -> u64
     ensures { λ r. ⌜ r ≡ cellBad Rule.Argument (now (table .entry)) label ⌝ }
 {
@@ -177,6 +183,7 @@ fn argument_bad(table: &[i64], label: usize) -> u64
     0
 }
 
+// Row 11, by the level in the target cell: at most 32.
 fn level_bad(table: &[i64], label: usize) -> u64
     ensures { λ r. ⌜ r ≡ cellBad Rule.Level (now (table .entry)) label ⌝ }
 {
@@ -217,6 +224,7 @@ fn first_bad(table: &[i64], n: usize, rule: Rule) -> Verdict
 
 // ---- how often each label is used
 
+// One use of x more, if it is a label.
 fn count_part(table: &mut [i64], x: usize)
     requires { ⌜ (8 * x ≤ length (now table)) × (target (now table) x < 65536) ⌝ }
     ensures { λ _. ⌜ now (table .exit) ≡ counted x (now (table .entry)) ⌝ }
@@ -227,6 +235,7 @@ fn count_part(table: &mut [i64], x: usize)
     }
 }
 
+// One use more of each part of a line.
 fn count_parts(table: &mut [i64], label: usize)
     requires { ⌜ Countable (now table) label ⌝ }
     ensures { λ _. ⌜ now (table .exit) ≡ countedAll (nodeAt (now (table .entry)) label) (now (table .entry)) ⌝ }
@@ -237,6 +246,7 @@ fn count_parts(table: &mut [i64], label: usize)
     count_part(table, node.c);
 }
 
+// How often each label is used, in its target cell.
 fn count_uses(table: &mut [i64], n: usize)
     requires { ⌜ Plain (now table) n × Structured (now table) n ⌝ }
     ensures { λ _. ⌜ Counted (now (table .entry)) n n (now (table .exit)) ⌝ }
@@ -261,6 +271,7 @@ fn assign(table: &mut [i64], x: usize, owner: usize, level: usize)
     }
 }
 
+// Owner and level of the parts of a line.
 fn assign_parts(table: &mut [i64], node: Node, owner: usize, level: usize)
     requires { ⌜ Inside (now table) node × (owner ≤ 1024) × (level ≤ 1025) ⌝ }
     ensures { λ _. ⌜ now (table .exit) ≡ assignedAll node owner level (now (table .entry)) ⌝ }
@@ -270,7 +281,7 @@ fn assign_parts(table: &mut [i64], node: Node, owner: usize, level: usize)
     assign(table, node.c, owner, level);
 }
 
-// A definition owns its body, at level 1, and has its Group as owner; an expression hands its owner on to its operands, one level deeper.
+// A definition owns its body, at level 1, and has its Group as owner; an expression propagates its owner to its operands, one level deeper.
 fn propagate(table: &mut [i64], label: usize)
     requires { ⌜ Propagable (now table) label ⌝ }
     ensures { λ _. ⌜ now (table .exit) ≡ propagated label (now (table .entry)) ⌝ }
@@ -287,6 +298,7 @@ fn propagate(table: &mut [i64], label: usize)
     assign_parts(table, node, owner, level + 1);
 }
 
+// The owner of each label, and the level of each expression in its target cell.
 fn propagate_all(table: &mut [i64], n: usize)
     requires { ⌜ UsedOnce (now table) n × Natural (now table) n ⌝ }
     ensures { λ _. ⌜ Propagated (now (table .entry)) n n (now (table .exit)) ⌝ }
@@ -298,6 +310,7 @@ fn propagate_all(table: &mut [i64], n: usize)
     }
 }
 
+// The target cells are 0 again, for the paths to come.
 fn clear_targets(table: &mut [i64], n: usize)
     requires { ⌜ (8 * n ≤ length (now table)) × Natural (now table) n ⌝ }
     ensures { λ _. ⌜ Cleared (now (table .entry)) n n (now (table .exit)) ⌝ }

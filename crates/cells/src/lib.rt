@@ -65,13 +65,6 @@ pub fn put_nat(t: &mut [i64], i: usize, v: usize)
     t[i] = v as i64;
 }
 
-pub fn put_int(t: &mut [i64], i: usize, v: i64)
-    requires { ⌜ i < length (now t) ⌝ }
-    ensures { λ _. ⌜ now (t .exit) ≡ set (now (t .entry)) i v ⌝ }
-{
-    t[i] = v;
-}
-
 // Every cell from index start on becomes 0.
 pub fn clear_from(t: &mut [i64], start: usize)
     ensures { λ _. ⌜ now (t .exit) ≡ clearFrom start (now (t .entry)) ⌝ }

@@ -137,7 +137,7 @@ pub fn kind_row(code: usize) -> Kind
 }
 
 // The code of the kind with this letter, or 0.
-pub fn code_of(letter: u8) -> usize
+fn code_of(letter: u8) -> usize
     ensures { λ r. ⌜ r ≡ codeOf letter ⌝ }
 {
     let mut code: usize = 1;
@@ -200,7 +200,7 @@ fn number_field(text: &[u8], from: usize, to: usize) -> Field
 }
 
 // A field, read in the form that the table of kinds wants.
-pub fn read_field(text: &[u8], from: usize, to: usize, form: Form, n: usize) -> Field
+fn read_field(text: &[u8], from: usize, to: usize, form: Form, n: usize) -> Field
     requires { ⌜ (from < to) × (to ≤ length (now text)) × (n ≤ 1024) ⌝ }
     ensures { λ r. ⌜ r ≡ fieldOf form n (slice from to (now (text .entry))) ⌝ }
 {
@@ -243,7 +243,7 @@ pub enum Split {
 }
 
 // The five fields of the line that begins at `from`, if it has five and none is empty.
-pub fn split_line(text: &[u8], from: usize) -> Split
+fn split_line(text: &[u8], from: usize) -> Split
     requires { ⌜ (from < length (now text)) × endsLines (now text) × (all isAllowed (now text) ≡ true) × (length (now text) ≤ 65536) ⌝ }
     ensures { λ r. ⌜ SplitOf (now (text .entry)) from r ⌝ }
 {
@@ -413,7 +413,7 @@ fn read_five(text: &[u8], from: usize, e: Ends, n: usize, label: usize) -> Line
 }
 
 // The line that begins at `from`: rows 5 to 7, lowest number first.
-pub fn read_line(text: &[u8], from: usize, n: usize, label: usize) -> Line
+fn read_line(text: &[u8], from: usize, n: usize, label: usize) -> Line
     requires { ⌜ (from < length (now text)) × (n ≤ 1024) × (length (now text) ≤ 65536) × endsLines (now text) × (all isAllowed (now text) ≡ true) ⌝ }
     ensures { λ r. ⌜ r ≡ lineRead n label (now (text .entry)) from ⌝ }
 {

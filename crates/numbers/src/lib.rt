@@ -19,7 +19,7 @@ pub enum Tie {
 }
 
 // What rounding adds to the size q of a quotient with a remainder of size r, by a divisor of size d: 0 or 1.
-pub fn round_up(tie: Tie, q: u64, r: u64, d: u64) -> u64
+fn round_up(tie: Tie, q: u64, r: u64, d: u64) -> u64
     requires { ⌜ r < 2 ^ 62 ⌝ }
     ensures { λ x. ⌜ x ≡ roundUp tie q r d ⌝ }
 {
@@ -66,7 +66,7 @@ pub enum Calculated {
 }
 
 // x where it is a number of a sheet.
-pub fn ranged(x: i64) -> Calculated
+fn ranged(x: i64) -> Calculated
     ensures { λ r. ⌜ r ≡ rangedOf x ⌝ }
 {
     if x < -1000000000 {

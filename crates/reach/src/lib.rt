@@ -52,7 +52,7 @@ fn has_path(table: &[i64], n: usize, label: usize) -> bool
 // ---- chains of lines
 
 // The chains by which links by column j are followed.
-pub fn link(table: &[i64], n: usize, j: usize, chains: &mut [u16])
+fn link(table: &[i64], n: usize, j: usize, chains: &mut [u16])
     requires { ⌜ Accepted (now table) n ⌝ }
     requires { ⌜ Column j ⌝ }
     requires { ⌜ 2 * n < length (now chains) ⌝ }
@@ -259,7 +259,7 @@ fn visit(
 // ---- all rows
 
 // The row of every V, in a blank square. Answers how many visits of definitions that took.
-pub fn reach_rows(
+fn reach_rows(
     table: &[i64],
     n: usize,
     j: usize,
@@ -287,7 +287,7 @@ pub fn reach_rows(
 }
 
 // Row 16: the smallest V that reaches itself, or 0.
-pub fn first_cycle(table: &[i64], n: usize, j: usize, square: &[u64]) -> usize
+fn first_cycle(table: &[i64], n: usize, j: usize, square: &[u64]) -> usize
     requires { ⌜ Accepted (now table) n ⌝ }
     requires { ⌜ Column j ⌝ }
     requires { ⌜ (n + 1) * width n ≤ length (now square) ⌝ }

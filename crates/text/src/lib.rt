@@ -110,7 +110,7 @@ pub fn field_end(text: &[u8], from: usize, stop: u8) -> usize
 // ---- names and paths
 
 // An ASCII letter.
-pub fn is_letter(b: u8) -> bool
+fn is_letter(b: u8) -> bool
     ensures { λ r. ⌜ r ≡ isLetter b ⌝ }
 {
     if b < 65 {
@@ -126,7 +126,7 @@ pub fn is_letter(b: u8) -> bool
 }
 
 // An ASCII letter or digit.
-pub fn is_alphanumeric(b: u8) -> bool
+fn is_alphanumeric(b: u8) -> bool
     ensures { λ r. ⌜ r ≡ isAlphanumeric b ⌝ }
 {
     if is_letter(b) {
@@ -155,7 +155,7 @@ fn alphanumeric_end(text: &[u8], from: usize, to: usize) -> usize
 }
 
 // Where the letters and digits end that begin at `from`, if they are a name; else 0.
-pub fn name_end(text: &[u8], from: usize, to: usize) -> usize
+fn name_end(text: &[u8], from: usize, to: usize) -> usize
     requires { ⌜ (from < to) × (to ≤ length (now text)) ⌝ }
     ensures { λ r. ⌜ r ≡ nameEnd (now (text .entry)) from to ⌝ }
 {

@@ -8,6 +8,38 @@ ghost use lib.IntN.{pos, natAbs};
 ghost use Rattle.cells.specs.Cells.{isNegative, natOf, withSign, intAt, natAt, zeros, clearFrom};
 ghost use Rattle.cells.specs.Table.{cell};
 
+// ---- names for what cells hold
+
+// Kind codes of document 01's table of kinds: a Group, a value, a function, the argument P, a read, a call.
+pub const GROUP: usize = 1;
+
+pub const VALUE: usize = 2;
+
+pub const FUNCTION: usize = 3;
+
+pub const ARGUMENT: usize = 5;
+
+pub const READ: usize = 6;
+
+pub const CALL: usize = 7;
+
+// The eight cells of a label's row: kind code, byte start and length of the name field, a, b, c, owner, target.
+pub const KIND: usize = 0;
+
+pub const NAME_START: usize = 1;
+
+pub const NAME_LENGTH: usize = 2;
+
+pub const A: usize = 3;
+
+pub const B: usize = 4;
+
+pub const C: usize = 5;
+
+pub const OWNER: usize = 6;
+
+pub const TARGET: usize = 7;
+
 // ---- the sign and the size of a cell
 
 // Whether x is below 0.

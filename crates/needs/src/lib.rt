@@ -17,8 +17,8 @@ fn lift(table: &[i64], n: usize, square: &mut [u64])
 {
     let mut k = n;
     while 1 < k {
-        if reach::kind_of(table, n, k) <= 2 {
-            let o = reach::cell_of(table, n, k, 6);
+        if reach::kind_of(table, n, k) <= cells::VALUE {
+            let o = reach::cell_of(table, n, k, cells::OWNER);
             marks::merge_row(square, n / 64 + 1, k, o);
         }
         k -= 1;

@@ -161,8 +161,8 @@ fn put_name(text: &[u8], table: &[i64], label: usize, out: &mut [u8], at: usize)
     requires { ⌜ (at ≤ length (now out)) × NamesIn (now text) (now table) ⌝ }
     ensures { λ r. ⌜ Wrote (now (out .entry)) at (nameField (now (text .entry)) (now (table .entry)) label ++ (32 ∷ [])) (now (out .exit)) r ⌝ }
 {
-    let start = cells::cell_at(table, label, 1);
-    let end = start + cells::cell_at(table, label, 2);
+    let start = cells::cell_at(table, label, cells::NAME_START);
+    let end = start + cells::cell_at(table, label, cells::NAME_LENGTH);
     put_text(out, at, &text[start..end], b' ')
 }
 

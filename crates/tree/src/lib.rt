@@ -13,13 +13,6 @@ ghost use Rattle.tree.specs.Steps.{partIn, nodeAt, Readable, groupFits, 
 use lines::Form;
 use refusals::Verdict;
 
-// Codes of the kinds that these rows name.
-const G: usize = 1;
-
-const V: usize = 2;
-
-const P: usize = 5;
-
 // ---- one line
 
 // What a line is in the tree: whether it is a definition, and what its fields a, b and c hold as its body or operands, else 0.
@@ -56,14 +49,14 @@ fn node_at(table: &[i64], label: usize) -> Node
     requires { ⌜ (1 ≤ kind (now table) label) × (kind (now table) label ≤ 12) ⌝ }
     ensures { λ r. ⌜ r ≡ nodeAt (now (table .entry)) label ⌝ }
 {
-    let kind = lines::kind_row(cells::cell_at(table, label, 0));
+    let kind = lines::kind_row(cells::cell_at(table, label, cells::KIND));
     let form_a = kind.a;
     let form_b = kind.b;
     let form_c = kind.c;
     let definition = is_group(form_a);
-    let a = part_at(table, label, 3, form_a);
-    let b = part_at(table, label, 4, form_b);
-    let c = part_at(table, label, 5, form_c);
+    let a = part_at(table, label, cells::A, form_a);
+    let b = part_at(table, label, cells::B, form_b);
+    let c = part_at(table, label, cells::C, form_c);
     Node {
         definition,
         a,
@@ -77,7 +70,7 @@ fn is_expression(table: &[i64], label: usize) -> bool
     requires { ⌜ kind (now table) label ≤ 12 ⌝ }
     ensures { λ r. ⌜ r ≡ isExpression (now (table .entry)) label ⌝ }
 {
-    let code = cells::cell_at(table, label, 0);
+    let code = cells::cell_at(table, label, cells::KIND);
     if code == 0 {
         return false;
     }
@@ -99,9 +92,9 @@ fn group_right(table: &[i64], label: usize, definition: bool) -> bool
         return true;
     }
     if definition {
-        let group = cells::cell_at(table, label, 3);
+        let group = cells::cell_at(table, label, cells::A);
         if group < label {
-            return cells::cell_at(table, group, 0) == G;
+            return cells::cell_at(table, group, cells::KIND) == cells::GROUP;
         }
         return false;
     }
@@ -163,7 +156,7 @@ fn uses_bad(table: &[i64], label: usize) -> u64
     ensures { λ r. ⌜ r ≡ cellBad Rule.Uses (now (table .entry)) label ⌝ }
 {
     if is_expression(table, label) {
-        if cells::cell_at(table, label, 7) != 1 {
+        if cells::cell_at(table, label, cells::TARGET) != 1 {
             return refusals::USES;
         }
     }
@@ -174,9 +167,9 @@ fn uses_bad(table: &[i64], label: usize) -> u64
 fn argument_bad(table: &[i64], label: usize) -> u64
     ensures { λ r. ⌜ r ≡ cellBad Rule.Argument (now (table .entry)) label ⌝ }
 {
-    if cells::cell_at(table, label, 0) == P {
-        let owner = cells::cell_at(table, label, 6);
-        if cells::cell_at(table, owner, 0) == V {
+    if cells::cell_at(table, label, cells::KIND) == cells::ARGUMENT {
+        let owner = cells::cell_at(table, label, cells::OWNER);
+        if cells::cell_at(table, owner, cells::KIND) == cells::VALUE {
             return refusals::ARGUMENT;
         }
     }
@@ -187,7 +180,7 @@ fn argument_bad(table: &[i64], label: usize) -> u64
 fn level_bad(table: &[i64], label: usize) -> u64
     ensures { λ r. ⌜ r ≡ cellBad Rule.Level (now (table .entry)) label ⌝ }
 {
-    if 32 < cells::cell_at(table, label, 7) {
+    if 32 < cells::cell_at(table, label, cells::TARGET) {
         return refusals::LEVEL;
     }
     0
@@ -230,8 +223,8 @@ fn count_part(table: &mut [i64], x: usize)
     ensures { λ _. ⌜ now (table .exit) ≡ counted x (now (table .entry)) ⌝ }
 {
     if x != 0 {
-        let uses = cells::cell_at(table, x, 7);
-        cells::put_cell(table, x, 7, uses + 1);
+        let uses = cells::cell_at(table, x, cells::TARGET);
+        cells::put_cell(table, x, cells::TARGET, uses + 1);
     }
 }
 
@@ -266,8 +259,8 @@ fn assign(table: &mut [i64], x: usize, owner: usize, level: usize)
     ensures { λ _. ⌜ now (table .exit) ≡ assigned x owner level (now (table .entry)) ⌝ }
 {
     if x != 0 {
-        cells::put_cell(table, x, 6, owner);
-        cells::put_cell(table, x, 7, level);
+        cells::put_cell(table, x, cells::OWNER, owner);
+        cells::put_cell(table, x, cells::TARGET, level);
     }
 }
 
@@ -288,13 +281,13 @@ fn propagate(table: &mut [i64], label: usize)
 {
     let node = node_at(table, label);
     if node.definition {
-        let group = cells::cell_at(table, label, 3);
+        let group = cells::cell_at(table, label, cells::A);
         assign(table, label, group, 0);
         assign_parts(table, node, label, 1);
         return;
     }
-    let owner = cells::cell_at(table, label, 6);
-    let level = cells::cell_at(table, label, 7);
+    let owner = cells::cell_at(table, label, cells::OWNER);
+    let level = cells::cell_at(table, label, cells::TARGET);
     assign_parts(table, node, owner, level + 1);
 }
 
@@ -317,7 +310,7 @@ fn clear_targets(table: &mut [i64], n: usize)
 {
     let mut label: usize = 1;
     while label <= n {
-        cells::put_cell(table, label, 7, 0);
+        cells::put_cell(table, label, cells::TARGET, 0);
         label += 1;
     }
 }

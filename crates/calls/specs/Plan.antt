@@ -34,7 +34,7 @@ answerBy Fine (whole o) = reply.Whole (length o)
 answerBy Fine (mixed o) = reply.Mixed (length o)
 answerBy Fine (cycle v) = reply.Refused cycleRow v
 
--- the plan's labels in p cells, of which the unused ones are zero; zeros alone where the call refuses
+-- the plan's labels in p cells, of which the unused ones are zero; nothing but zeros where the call refuses
 abbrev pub listedBy : Verdict → Answer → ℕ → List ℤ
 listedBy Fine a p = map pos (orderOf a) ++ zeros (p - length (orderOf a))
 listedBy (Refused r l) a p = zeros p

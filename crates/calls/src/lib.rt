@@ -1,4 +1,4 @@
-// Plan, Run and Follow: document 01's rows of refusals in their order, and what each call writes. A refused call leaves zeros alone.
+// Plan, Run and Follow: document 01's rows of refusals in their order, and what each call writes. A refused call leaves nothing but zeros.
 
 ghost use mathlib.Core.Path.{_≡_};
 ghost use mathlib.Core.Logic.{_↔_};
@@ -41,6 +41,7 @@ fn with_room(n: u64, cells: usize, least: usize, place: u64) -> Reply
     Reply::Answered(n)
 }
 
+// Rows 1 to 4 of a call that is lent a table of so many cells.
 fn head_table(text: &[u8], table: usize) -> Reply
     ensures { λ r. ⌜ r ≡ replyOf (orElse (headBad (now (text .entry))) (tableShort (now (text .entry)) table)) (labels (now (text .entry))) ⌝ }
 {
@@ -50,6 +51,7 @@ fn head_table(text: &[u8], table: usize) -> Reply
     }
 }
 
+// Rows 1 to 4 of Plan: a table and a plan.
 fn head_plan(text: &[u8], table: usize, plan: usize) -> Reply
     ensures { λ r. ⌜ r ≡ replyOf (orElse (headBad (now (text .entry))) (planBuffers (now (text .entry)) table plan)) (labels (now (text .entry))) ⌝ }
 {
@@ -59,6 +61,7 @@ fn head_plan(text: &[u8], table: usize, plan: usize) -> Reply
     }
 }
 
+// Rows 1 to 4 of Run: a table, a plan and results.
 fn head_run(text: &[u8], table: usize, plan: usize, results: usize) -> Reply
     ensures { λ r. ⌜ r ≡ replyOf (orElse (headBad (now (text .entry))) (runBuffers (now (text .entry)) table plan results)) (labels (now (text .entry))) ⌝ }
 {
@@ -68,6 +71,7 @@ fn head_run(text: &[u8], table: usize, plan: usize, results: usize) -> Reply
     }
 }
 
+// Rows 1 to 4 of Follow: a table and results, and no plan.
 fn head_follow(text: &[u8], table: usize, results: usize) -> Reply
     ensures { λ r. ⌜ r ≡ replyOf (orElse (headBad (now (text .entry))) (followBuffers (now (text .entry)) table results)) (labels (now (text .entry))) ⌝ }
 {
@@ -79,6 +83,7 @@ fn head_follow(text: &[u8], table: usize, results: usize) -> Reply
 
 // ---- a refusal leaves zeros
 
+// Every cell of both buffers becomes 0.
 fn clear_both(first: &mut [i64], second: &mut [i64])
     ensures { λ _. ⌜ now (first .exit) ≡ zeros (length (now (first .entry))) ⌝ }
     ensures { λ _. ⌜ now (second .exit) ≡ zeros (length (now (second .entry))) ⌝ }
@@ -129,6 +134,8 @@ fn plan_sheet(text: &[u8], n: usize, table: &mut [i64], plan: &mut [i64]) -> Pla
     }
 }
 
+// Plan: writes the sheet's table and its plan, and answers the plan's length and whether it is whole or mixed; or gives the first
+// refusal that applies.
 pub fn plan(text: &[u8], table: &mut [i64], plan: &mut [i64]) -> PlanReply
     ensures { λ r. ⌜ r ≡ planReply (now (text .entry)) (length (now (table .entry))) (length (now (plan .entry))) ⌝ }
     ensures { λ _. ⌜ now (table .exit) ≡ planTable (now (text .entry)) (length (now (table .entry))) (length (now (plan .entry))) ⌝ }
@@ -176,6 +183,7 @@ fn run_sheet(
     }
 }
 
+// Run: works down the plan as well, and writes each value's state, number and steps. It answers as Plan does.
 pub fn run(text: &[u8], table: &mut [i64], plan: &mut [i64], results: &mut [i64]) -> PlanReply
     ensures { λ r. ⌜ r ≡ runReply (now (text .entry)) (length (now (table .entry))) (length (now (plan .entry))) (length (now (results .entry))) ⌝ }
     ensures { λ _. ⌜ now (table .exit) ≡ runTable (now (text .entry)) (length (now (table .entry))) (length (now (plan .entry))) (length (now (results .entry))) ⌝ }
@@ -232,6 +240,7 @@ fn follow_sheet(
     }
 }
 
+// Follow: works down an order list that it is lent, if that is a proper order of the sheet, and answers its length.
 pub fn follow(text: &[u8], order: &[i64], table: &mut [i64], results: &mut [i64]) -> Reply
     ensures { λ r. ⌜ r ≡ followReply (now (text .entry)) (now (order .entry)) (length (now (table .entry))) (length (now (results .entry))) ⌝ }
     ensures { λ _. ⌜ now (table .exit) ≡ followTable (now (text .entry)) (now (order .entry)) (length (now (table .entry))) (length (now (results .entry))) ⌝ }

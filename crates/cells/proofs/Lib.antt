@@ -3,3 +3,4 @@ pub mod Stores
 pub mod Clearing
 pub mod Table
 pub mod Columns
+pub mod Scratch

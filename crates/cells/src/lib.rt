@@ -8,8 +8,41 @@ ghost use lib.IntN.{pos, natAbs};
 ghost use Rattle.cells.specs.Cells.{isNegative, natOf, withSign, intAt, natAt, zeros, clearFrom};
 ghost use Rattle.cells.specs.Table.{cell};
 
+// ---- names for what cells hold
+
+// Kind codes of document 01's table of kinds: a Group, a value, a function, the argument P, a read, a call.
+pub const GROUP: usize = 1;
+
+pub const VALUE: usize = 2;
+
+pub const FUNCTION: usize = 3;
+
+pub const ARGUMENT: usize = 5;
+
+pub const READ: usize = 6;
+
+pub const CALL: usize = 7;
+
+// The eight cells of a label's row: kind code, byte start and length of the name field, a, b, c, owner, target.
+pub const KIND: usize = 0;
+
+pub const NAME_START: usize = 1;
+
+pub const NAME_LENGTH: usize = 2;
+
+pub const A: usize = 3;
+
+pub const B: usize = 4;
+
+pub const C: usize = 5;
+
+pub const OWNER: usize = 6;
+
+pub const TARGET: usize = 7;
+
 // ---- the sign and the size of a cell
 
+// Whether x is below 0.
 pub fn is_negative(x: i64) -> bool
     ensures { λ r. ⌜ r ≡ isNegative x ⌝ }
 {
@@ -42,30 +75,26 @@ pub fn with_sign(negative: bool, m: u64) -> i64
 
 // ---- cells by index
 
+// Cell i as it stands.
 pub fn int_at(t: &[i64], i: usize) -> i64
     ensures { λ r. ⌜ r ≡ intAt (now (t .entry)) i ⌝ }
 {
     if i < t.len() { t[i] } else { 0 }
 }
 
+// Cell i, or 0 where it is negative.
 pub fn nat_at(t: &[i64], i: usize) -> usize
     ensures { λ r. ⌜ r ≡ natAt (now (t .entry)) i ⌝ }
 {
     nat_of(int_at(t, i))
 }
 
+// Cell i becomes v.
 pub fn put_nat(t: &mut [i64], i: usize, v: usize)
     requires { ⌜ (i < length (now t)) × (v ≤ 65536) ⌝ }
     ensures { λ _. ⌜ now (t .exit) ≡ set (now (t .entry)) i (pos v) ⌝ }
 {
     t[i] = v as i64;
-}
-
-pub fn put_int(t: &mut [i64], i: usize, v: i64)
-    requires { ⌜ i < length (now t) ⌝ }
-    ensures { λ _. ⌜ now (t .exit) ≡ set (now (t .entry)) i v ⌝ }
-{
-    t[i] = v;
 }
 
 // Every cell from index start on becomes 0.
@@ -79,6 +108,7 @@ pub fn clear_from(t: &mut [i64], start: usize)
     }
 }
 
+// Every cell becomes 0.
 pub fn clear(t: &mut [i64])
     ensures { λ _. ⌜ now (t .exit) ≡ zeros (length (now (t .entry))) ⌝ }
 {
@@ -87,7 +117,7 @@ pub fn clear(t: &mut [i64])
 
 // ---- cells by label
 
-// Cell j of label's row.
+// Cell j of the label's row.
 pub fn cell_at(t: &[i64], label: usize, j: usize) -> usize
     requires { ⌜ j < 8 ⌝ }
     ensures { λ r. ⌜ r ≡ cell (now (t .entry)) label j ⌝ }
@@ -110,6 +140,7 @@ pub fn natural_cell(t: &[i64], label: usize, j: usize) -> usize
     t[8 * (label - 1) + j] as usize
 }
 
+// Cell j of the label's row becomes v.
 pub fn put_cell(t: &mut [i64], label: usize, j: usize, v: usize)
     requires { ⌜ (1 ≤ label) × (8 * label ≤ length (now t)) × (j < 8) × (v ≤ 65536) ⌝ }
     ensures { λ _. ⌜ now (t .exit) ≡ set (now (t .entry)) (8 * (label - 1) + j) (pos v) ⌝ }

@@ -49,6 +49,7 @@ pub struct Arguments {
     pub count: usize,
 }
 
+// How an expression is evaluated, by its kind. `Other` is what is no expression, and is never met in a table that Read accepts.
 pub enum Kind {
     Number,
     Argument,
@@ -66,10 +67,13 @@ pub struct Allowance {
 }
 
 impl Allowance {
+    // "A fresh allowance of 20,000 steps."
     pub const STEPS: u32 = 20000;
 
+    // How many calls may be around an expression.
     pub const DEPTH: u32 = 64;
 
+    // What each value starts with, at call depth 0.
     pub fn fresh() -> Self
         ensures { λ r. ⌜ (r .left ≡ stepLimit) × (r .depth ≡ 0) ⌝ }
     {
@@ -91,6 +95,7 @@ impl Allowance {
     }
 }
 
+// A number, with these steps left.
 fn success(number: i64, left: u32) -> Outcome
     ensures { λ r. ⌜ r ≡ gives number left ⌝ }
 {
@@ -101,6 +106,7 @@ fn success(number: i64, left: u32) -> Outcome
     }
 }
 
+// A state other than NUMBER, whose number is 0, with these steps left.
 fn failure(state: u32, left: u32) -> Outcome
     ensures { λ r. ⌜ r ≡ fails state left ⌝ }
 {
@@ -113,6 +119,7 @@ fn failure(state: u32, left: u32) -> Outcome
 
 // ---- cells
 
+// The kind of a line's code.
 fn kind_of(code: usize) -> Kind
     ensures { λ r. ⌜ r ≡ kindOf code ⌝ }
 {
@@ -130,7 +137,7 @@ fn kind_of(code: usize) -> Kind
     }
 }
 
-// Cell j of label's row.
+// Cell j of the label's row.
 fn field(table: &[i64], label: usize, j: usize) -> usize
     requires { ⌜ Cell (now table) label j ⌝ }
     ensures { λ r. ⌜ r ≡ cell (now (table .entry)) label j ⌝ }
@@ -143,7 +150,7 @@ fn number_of(table: &[i64], label: usize) -> i64
     requires { ⌜ (1 ≤ label) × (8 * label ≤ length (now table)) ⌝ }
     ensures { λ r. ⌜ r ≡ numberOf (now (table .entry)) label ⌝ }
 {
-    table[8 * (label - 1) + 3]
+    table[8 * (label - 1) + cells::A]
 }
 
 // The branch that a test of this number takes.
@@ -152,9 +159,9 @@ fn branch_of(table: &[i64], label: usize, test: i64) -> usize
     ensures { λ r. ⌜ r ≡ branchOf (now (table .entry)) label test ⌝ }
 {
     if test == 0 {
-        return field(table, label, 5);
+        return field(table, label, cells::C);
     }
-    field(table, label, 4)
+    field(table, label, cells::B)
 }
 
 // The stored answer of a label that has been evaluated.
@@ -175,11 +182,12 @@ fn read(table: &[i64], results: &[i64], label: usize, left: u32) -> Outcome
     requires { ⌜ Cell (now table) label 7 × Room (now results) (target (now table) label) × Settled 1 (now results) (target (now table) label) ⌝ }
     ensures { λ r. ⌜ r ≡ answerAt (now (results .entry)) (target (now (table .entry)) label) left ⌝ }
 {
-    answer_at(results, field(table, label, 7), left)
+    answer_at(results, field(table, label, cells::TARGET), left)
 }
 
 // ---- arithmetic
 
+// What an operation gives, as a state and a number.
 fn outcome_of(c: Calculated, left: u32) -> Outcome
     ensures { λ r. ⌜ r ≡ outcomeOf c left ⌝ }
 {
@@ -190,6 +198,7 @@ fn outcome_of(c: Calculated, left: u32) -> Outcome
     }
 }
 
+// Two operands under A, S, M or D; halves go away from zero.
 fn combine(op: Operation, a: i64, b: i64, left: u32) -> Outcome
     requires { ⌜ (natAbs a ≤ limit) × (natAbs b ≤ limit) ⌝ }
     ensures { λ r. ⌜ r ≡ outcomeOf (calculated tieRule op a b) left ⌝ }
@@ -215,7 +224,7 @@ fn expression(
         return failure(OUT_OF_STEPS, 0);
     }
     let rest = allowance.step();
-    let code = field(table, label, 0);
+    let code = field(table, label, cells::KIND);
     let kind = kind_of(code);
     match kind {
         Kind::Number => success(number_of(table, label), rest.left),
@@ -233,7 +242,7 @@ fn call(table: &[i64], results: &[i64], label: usize, given: Arguments, rest: Al
     requires { ⌜ Entered Kind.Call (now table) (now results) label given (rest .depth) ⌝ }
     ensures { λ r. ⌜ r ≡ callBy (outcome (now (table .entry)) (now (results .entry))) (now (table .entry)) label given (rest .left) (rest .depth) ⌝ }
 {
-    let argument = field(table, label, 3);
+    let argument = field(table, label, cells::A);
     let first = expression(table, results, argument, given, rest);
     if first.state != NUMBER {
         return failure(first.state, first.left);
@@ -242,8 +251,8 @@ fn call(table: &[i64], results: &[i64], label: usize, given: Arguments, rest: Al
     if depth == Allowance::DEPTH {
         return failure(TOO_DEEP, first.left);
     }
-    let target = field(table, label, 7);
-    let body = field(table, target, 4);
+    let target = field(table, label, cells::TARGET);
+    let body = field(table, target, cells::B);
     let passed = Arguments {
         first: first.number,
         count: 1,
@@ -267,12 +276,12 @@ fn operation(
     requires { ⌜ Entered (Kind.Operation op) (now table) (now results) label given (rest .depth) ⌝ }
     ensures { λ r. ⌜ r ≡ operationBy (outcome (now (table .entry)) (now (results .entry))) (now (table .entry)) op label given (rest .left) (rest .depth) ⌝ }
 {
-    let a = field(table, label, 3);
+    let a = field(table, label, cells::A);
     let first = expression(table, results, a, given, rest);
     if first.state != NUMBER {
         return failure(first.state, first.left);
     }
-    let b = field(table, label, 4);
+    let b = field(table, label, cells::B);
     let next = Allowance {
         left: first.left,
         depth: rest.depth,
@@ -295,7 +304,7 @@ fn choice(
     requires { ⌜ Entered Kind.Choice (now table) (now results) label given (rest .depth) ⌝ }
     ensures { λ r. ⌜ r ≡ choiceBy (outcome (now (table .entry)) (now (results .entry))) (now (table .entry)) label given (rest .left) (rest .depth) ⌝ }
 {
-    let tested = field(table, label, 3);
+    let tested = field(table, label, cells::A);
     let test = expression(table, results, tested, given, rest);
     if test.state != NUMBER {
         return failure(test.state, test.left);
@@ -315,7 +324,7 @@ pub fn evaluate(table: &[i64], results: &[i64], label: usize) -> Value
     requires { ⌜ Evaluable (now table) (now results) label ⌝ }
     ensures { λ r. ⌜ r ≡ evaluated (now (table .entry)) (now (results .entry)) label ⌝ }
 {
-    let body = field(table, label, 4);
+    let body = field(table, label, cells::B);
     let none = Arguments { first: 0, count: 0 };
     let o = expression(table, results, body, none, Allowance::fresh());
     Value {

@@ -14,6 +14,7 @@ ghost use Rattle.groups.specs.Members.{Chain, Chained, Gathered, Items, 
 
 // ---- members
 
+// Chains the members of each Group, smaller labels first.
 pub fn link_members(table: &[i64], n: usize, next: &mut [u16])
     requires { ⌜ Accepted (now table) n ⌝ }
     requires { ⌜ (2 * n < length (now next)) × Empty n (now next) ⌝ }
@@ -21,8 +22,8 @@ pub fn link_members(table: &[i64], n: usize, next: &mut [u16])
 {
     let mut l = n;
     while 0 < l {
-        if reach::kind_of(table, n, l) <= 3 {
-            let o = reach::cell_of(table, n, l, 6);
+        if reach::kind_of(table, n, l) <= cells::FUNCTION {
+            let o = reach::cell_of(table, n, l, cells::OWNER);
             next[n + l] = next[o];
             next[o] = l as u16;
         }
@@ -30,6 +31,7 @@ pub fn link_members(table: &[i64], n: usize, next: &mut [u16])
     }
 }
 
+// Puts a Group's members in front of the items, in the order of its chain. Answers how many.
 fn gather_members(table: &[i64], n: usize, next: &[u16], group: usize, items: &mut [u16]) -> usize
     requires { ⌜ Accepted (now table) n ⌝ }
     requires { ⌜ (group ≤ n) × (2 * n < length (now next)) × (n < length (now items)) ⌝ }
@@ -46,6 +48,7 @@ fn gather_members(table: &[i64], n: usize, next: &[u16], group: usize, items: &m
     m
 }
 
+// Puts the values in front of the items, smaller labels first. Answers how many.
 pub fn gather_values(table: &[i64], n: usize, items: &mut [u16]) -> usize
     requires { ⌜ Accepted (now table) n ⌝ }
     requires { ⌜ n < length (now items) ⌝ }
@@ -54,7 +57,7 @@ pub fn gather_values(table: &[i64], n: usize, items: &mut [u16]) -> usize
     let mut m = 0;
     let mut l = 1;
     while l <= n {
-        if reach::kind_of(table, n, l) == 2 {
+        if reach::kind_of(table, n, l) == cells::VALUE {
             items[m] = l as u16;
             m += 1;
         }
@@ -175,9 +178,7 @@ pub fn order_groups(
     order: &mut [u16],
 ) -> bool
     requires { ⌜ Accepted (now table) n ⌝ }
-    requires { ⌜ ((2 * n < length (now next)) × (n < length (now items))) × Scratch n (now mask) (now unmet) (now ready) (now list) (now order) ⌝ }
-    requires { ⌜ ((n + 1) * width n ≤ length (now square)) × NeedRows (now table) n (now square) ⌝ }
-    requires { ⌜ Chained (now table) n (now next) ⌝ }
+    requires { ⌜ (((2 * n < length (now next)) × (n < length (now items))) × Scratch n (now mask) (now unmet) (now ready) (now list) (now order)) × ((((n + 1) * width n ≤ length (now square)) × NeedRows (now table) n (now square)) × Chained (now table) n (now next)) ⌝ }
     ensures { λ r. ⌜ GroupOrders (now (table .entry)) n (now (next .exit)) r ⌝ }
 {
     let mut g = 1;

@@ -28,6 +28,7 @@ pub struct TextPart {
     pub length: u64,
 }
 
+// An answer: no refusal.
 fn answered(count: u64, order: u64) -> Answer
     ensures { λ r. ⌜ (r .refusal ≡ 0) × (r .place ≡ 0) × (r .count ≡ count) × (r .order ≡ order) ⌝ }
 {
@@ -39,6 +40,7 @@ fn answered(count: u64, order: u64) -> Answer
     }
 }
 
+// A refusal: no count and no order.
 fn refused(refusal: u64, place: u64) -> Answer
     ensures { λ r. ⌜ (r .refusal ≡ refusal) × (r .place ≡ place) × (r .count ≡ 0) × (r .order ≡ 0) ⌝ }
 {
@@ -50,6 +52,7 @@ fn refused(refusal: u64, place: u64) -> Answer
     }
 }
 
+// What Read and Follow answer.
 fn answer_of(reply: Reply) -> Answer
     ensures { λ r. ⌜ (r .refusal ≡ numberOf reply) × (r .place ≡ placeOf reply) × (r .count ≡ countOf reply) × (r .order ≡ 0) ⌝ }
 {
@@ -59,6 +62,7 @@ fn answer_of(reply: Reply) -> Answer
     }
 }
 
+// What Plan and Run answer: order 1 is whole, 2 mixed.
 fn plan_answer(reply: PlanReply) -> Answer
     ensures { λ r. ⌜ (r .refusal ≡ plans.numberOf reply) × (r .place ≡ plans.placeOf reply) × (r .count ≡ plans.lengthOf reply) × (r .order ≡ plans.wholeOrMixed reply) ⌝ }
 {

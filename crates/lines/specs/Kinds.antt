@@ -2,6 +2,7 @@
 use mathlib.Core.Bool.{cond}
 use mathlib.Core.List.{List, [], _∷_}
 use Prim.Native.Nat.{ℕ, suc, _-_}
+use Prim.Native.Char.{code}
 use lib.Dec.{eqb}
 use lib.ListN.{getD}
 use Rattle.lines.specs.declared.Form.{Form}
@@ -12,21 +13,21 @@ use Rattle.lines.specs.declared.Kind.{Kind}
 abbrev kind : ℕ → Form → Form → Form → Form → Kind
 kind letter name a b c = record { letter = letter; name = name; a = a; b = b; c = c }
 
--- G, V, F, N, P, R, C, A, S, M, D, I
+-- in the paper's order
 unfoldable pub kinds : List Kind
 kinds =
-    kind 71 Name Group Missing Missing
-    ∷ kind 86 Name Group Operand Missing
-    ∷ kind 70 Name Group Operand Missing
-    ∷ kind 78 Missing Number Missing Missing
-    ∷ kind 80 Missing Missing Missing Missing
-    ∷ kind 82 Path Missing Missing Missing
-    ∷ kind 67 Path Operand Missing Missing
-    ∷ kind 65 Missing Operand Operand Missing
-    ∷ kind 83 Missing Operand Operand Missing
-    ∷ kind 77 Missing Operand Operand Missing
-    ∷ kind 68 Missing Operand Operand Missing
-    ∷ kind 73 Missing Operand Operand Operand
+    kind (code "G") Name Group Missing Missing
+    ∷ kind (code "V") Name Group Operand Missing
+    ∷ kind (code "F") Name Group Operand Missing
+    ∷ kind (code "N") Missing Number Missing Missing
+    ∷ kind (code "P") Missing Missing Missing Missing
+    ∷ kind (code "R") Path Missing Missing Missing
+    ∷ kind (code "C") Path Operand Missing Missing
+    ∷ kind (code "A") Missing Operand Operand Missing
+    ∷ kind (code "S") Missing Operand Operand Missing
+    ∷ kind (code "M") Missing Operand Operand Missing
+    ∷ kind (code "D") Missing Operand Operand Missing
+    ∷ kind (code "I") Missing Operand Operand Operand
     ∷ []
 
 -- what no code has

@@ -7,6 +7,7 @@ use lib.IntN.{ℤ, pos}
 use lib.ListN.{length, getD, drop}
 use Rattle.text.specs.Bytes.{all, countBy, isAllowed, isNewline, same}
 use Rattle.text.specs.Pieces.{cut, place, fieldsAre}
+use Rattle.text.specs.Quoted.{bytesOf}
 use Rattle.refusals.specs.Rows.{textRow, firstLineRow, labelsRow, fieldsRow, kindRow, formRow}
 use Rattle.refusals.specs.Refusal.{firstBad, orElse}
 use Rattle.refusals.specs.declared.Verdict.{Verdict}
@@ -29,9 +30,9 @@ line s k = getD (cut 10 s) k []
 unfoldable pub labels : List ℕ → ℕ
 labels s = countBy isNewline s - 1
 
--- `kind name a b c`
+-- "Line one holds the column names"
 unfoldable pub firstLine : List ℕ
-firstLine = 107 ∷ 105 ∷ 110 ∷ 100 ∷ 32 ∷ 110 ∷ 97 ∷ 109 ∷ 101 ∷ 32 ∷ 97 ∷ 32 ∷ 98 ∷ 32 ∷ 99 ∷ []
+firstLine = bytesOf "kind name a b c"
 
 abbrev unless : Bool → ℕ → Verdict → Verdict
 unless ok row next = cond ok next (Refused row 0)
@@ -45,9 +46,9 @@ headBad s =
 
 -- ---- rows 5 to 7, one pass down the lines, the lowest number first in a line
 
--- `G - 0 - -`, which label 1 always is
+-- what label 1 always is
 unfoldable pub rootLine : List ℕ
-rootLine = 71 ∷ 32 ∷ 45 ∷ 32 ∷ 48 ∷ 32 ∷ 45 ∷ 32 ∷ 45 ∷ []
+rootLine = bytesOf "G - 0 - -"
 
 -- the field j of a line with the fields fs: 0 kind, 1 name, 2 a, 3 b, 4 c
 abbrev pub field : List (List ℕ) → ℕ → List ℕ

@@ -31,6 +31,7 @@ pub enum Form {
     Number,
 }
 
+// A row of the table: the letter of a kind, and what its fields hold.
 pub struct Kind {
     pub letter: u8,
     pub name: Form,
@@ -136,7 +137,7 @@ pub fn kind_row(code: usize) -> Kind
 }
 
 // The code of the kind with this letter, or 0.
-pub fn code_of(letter: u8) -> usize
+fn code_of(letter: u8) -> usize
     ensures { λ r. ⌜ r ≡ codeOf letter ⌝ }
 {
     let mut code: usize = 1;
@@ -169,12 +170,14 @@ fn is_dash(text: &[u8], from: usize, to: usize) -> bool
     text[from] == 45
 }
 
+// A field whose cell is 0, if it is of the right form.
 fn blank_if(right: bool) -> Field
     ensures { λ r. ⌜ r ≡ blankIf right ⌝ }
 {
     if right { Field::Holds(0) } else { Field::Wrong }
 }
 
+// A field that holds a label, 1 to n.
 fn label_field(text: &[u8], from: usize, to: usize, n: usize) -> Field
     requires { ⌜ (from < to) × (to ≤ length (now text)) × (n ≤ 1024) ⌝ }
     ensures { λ r. ⌜ r ≡ fromLabel (labelOf n (slice from to (now (text .entry)))) ⌝ }
@@ -185,6 +188,7 @@ fn label_field(text: &[u8], from: usize, to: usize, n: usize) -> Field
     }
 }
 
+// A field that holds a number.
 fn number_field(text: &[u8], from: usize, to: usize) -> Field
     requires { ⌜ (from < to) × (to ≤ length (now text)) ⌝ }
     ensures { λ r. ⌜ r ≡ fromNumber (numberOf (slice from to (now (text .entry)))) ⌝ }
@@ -196,7 +200,7 @@ fn number_field(text: &[u8], from: usize, to: usize) -> Field
 }
 
 // A field, read in the form that the table of kinds wants.
-pub fn read_field(text: &[u8], from: usize, to: usize, form: Form, n: usize) -> Field
+fn read_field(text: &[u8], from: usize, to: usize, form: Form, n: usize) -> Field
     requires { ⌜ (from < to) × (to ≤ length (now text)) × (n ≤ 1024) ⌝ }
     ensures { λ r. ⌜ r ≡ fieldOf form n (slice from to (now (text .entry))) ⌝ }
 {
@@ -232,13 +236,14 @@ pub struct Ends {
     pub c: usize,
 }
 
+// A line as five fields, none of them empty; or any other line, which row 5 refuses.
 pub enum Split {
     Five(Ends),
     Other,
 }
 
 // The five fields of the line that begins at `from`, if it has five and none is empty.
-pub fn split_line(text: &[u8], from: usize) -> Split
+fn split_line(text: &[u8], from: usize) -> Split
     requires { ⌜ (from < length (now text)) × endsLines (now text) × (all isAllowed (now text) ≡ true) × (length (now text) ≤ 65536) ⌝ }
     ensures { λ r. ⌜ SplitOf (now (text .entry)) from r ⌝ }
 {
@@ -302,6 +307,7 @@ pub enum Operands {
     Wrong,
 }
 
+// The fields a, b and c, each in the form that the kind wants.
 fn read_operands(text: &[u8], e: Ends, kind: Kind, n: usize) -> Operands
     requires { ⌜ (e .name + 1 < e .a) × (e .a + 1 < e .b) × (e .b + 1 < e .c) × (e .c ≤ length (now text)) × (n ≤ 1024) ⌝ }
     ensures { λ r. ⌜ r ≡ operandsAt (now (text .entry)) e kind n ⌝ }
@@ -407,7 +413,7 @@ fn read_five(text: &[u8], from: usize, e: Ends, n: usize, label: usize) -> Line
 }
 
 // The line that begins at `from`: rows 5 to 7, lowest number first.
-pub fn read_line(text: &[u8], from: usize, n: usize, label: usize) -> Line
+fn read_line(text: &[u8], from: usize, n: usize, label: usize) -> Line
     requires { ⌜ (from < length (now text)) × (n ≤ 1024) × (length (now text) ≤ 65536) × endsLines (now text) × (all isAllowed (now text) ≡ true) ⌝ }
     ensures { λ r. ⌜ r ≡ lineRead n label (now (text .entry)) from ⌝ }
 {

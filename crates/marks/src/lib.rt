@@ -14,6 +14,7 @@ pub fn widen(x: u16) -> usize
     x as usize
 }
 
+// Whether row p has mark q.
 pub fn has_mark(s: &[u64], w: usize, p: usize, q: usize) -> bool
     requires { ⌜ InSquare (now s) w p q ⌝ }
     ensures { λ r. ⌜ r ≡ mark (now (s .entry)) w p q ⌝ }
@@ -21,6 +22,7 @@ pub fn has_mark(s: &[u64], w: usize, p: usize, q: usize) -> bool
     (s[p * w + q / 64] >> (q % 64)) % 2 == 1
 }
 
+// Row p gains mark q.
 pub fn put_mark(s: &mut [u64], w: usize, p: usize, q: usize)
     requires { ⌜ InSquare (now s) w p q ⌝ }
     ensures { λ _. ⌜ Added (λ (b : ℕ). b ≡ q) (now (s .entry)) (now (s .exit)) w p ⌝ }
@@ -29,6 +31,7 @@ pub fn put_mark(s: &mut [u64], w: usize, p: usize, q: usize)
     s[i] = s[i] | (1 << (q % 64));
 }
 
+// Row p loses mark q, which it has.
 pub fn drop_mark(s: &mut [u64], w: usize, p: usize, q: usize)
     requires { ⌜ InSquare (now s) w p q ⌝ }
     requires { ⌜ mark (now s) w p q ≡ true ⌝ }

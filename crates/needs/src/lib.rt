@@ -17,14 +17,15 @@ fn lift(table: &[i64], n: usize, square: &mut [u64])
 {
     let mut k = n;
     while 1 < k {
-        if reach::kind_of(table, n, k) <= 2 {
-            let o = reach::cell_of(table, n, k, 6);
+        if reach::kind_of(table, n, k) <= cells::VALUE {
+            let o = reach::cell_of(table, n, k, cells::OWNER);
             marks::merge_row(square, n / 64 + 1, k, o);
         }
         k -= 1;
     }
 }
 
+// No row keeps the mark of its own label: a member needs another one.
 fn cut_diagonal(n: usize, square: &mut [u64])
     requires { ⌜ (n ≤ 1024) × ((n + 1) * width n ≤ length (now square)) ⌝ }
     ensures { λ _. ⌜ Cut n (n + 1) (now (square .entry)) (now (square .exit)) ⌝ }
@@ -39,6 +40,7 @@ fn cut_diagonal(n: usize, square: &mut [u64])
     }
 }
 
+// The square of needs: row q gets the marks of those that need q.
 pub fn needs_of(table: &[i64], n: usize, square: &mut [u64])
     requires { ⌜ Accepted (now table) n ⌝ }
     requires { ⌜ (n + 1) * width n ≤ length (now square) ⌝ }

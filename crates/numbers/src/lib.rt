@@ -19,7 +19,7 @@ pub enum Tie {
 }
 
 // What rounding adds to the size q of a quotient with a remainder of size r, by a divisor of size d: 0 or 1.
-pub fn round_up(tie: Tie, q: u64, r: u64, d: u64) -> u64
+fn round_up(tie: Tie, q: u64, r: u64, d: u64) -> u64
     requires { ⌜ r < 2 ^ 62 ⌝ }
     ensures { λ x. ⌜ x ≡ roundUp tie q r d ⌝ }
 {
@@ -50,6 +50,7 @@ pub fn nearest(tie: Tie, a: i64, b: i64) -> i64
 
 // ---- the four operations
 
+// A, S, M and D of document 01; the difference is a - b.
 pub enum Operation {
     Sum,
     Difference,
@@ -57,6 +58,7 @@ pub enum Operation {
     Quotient,
 }
 
+// What an operation gives: a number of a sheet, or why there is none.
 pub enum Calculated {
     Number(i64),
     OutOfRange,
@@ -64,7 +66,7 @@ pub enum Calculated {
 }
 
 // x where it is a number of a sheet.
-pub fn ranged(x: i64) -> Calculated
+fn ranged(x: i64) -> Calculated
     ensures { λ r. ⌜ r ≡ rangedOf x ⌝ }
 {
     if x < -1000000000 {
@@ -76,6 +78,7 @@ pub fn ranged(x: i64) -> Calculated
     Calculated::Number(x)
 }
 
+// a and b under an operation. A zero divisor comes before the range.
 pub fn calculate(tie: Tie, op: Operation, a: i64, b: i64) -> Calculated
     requires { ⌜ (natAbs a ≤ limit) × (natAbs b ≤ limit) ⌝ }
     ensures { λ r. ⌜ r ≡ calculated tie op a b ⌝ }
@@ -96,11 +99,13 @@ pub fn calculate(tie: Tie, op: Operation, a: i64, b: i64) -> Calculated
 
 // ---- decimal numbers
 
+// What a decimal in the text is, if it has the form asked for.
 pub enum Decimal {
     Is(u64),
     Not,
 }
 
+// What a number in the text is, with its sign, if it has the form of one.
 pub enum Number {
     Is(i64),
     Not,

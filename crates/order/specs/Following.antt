@@ -8,6 +8,7 @@ use Prim.Native.Nat.{ℕ, zero, suc}
 use lib.IntN.{ℤ, pos}
 use lib.ListN.{length}
 use Rattle.cells.specs.Cells.{natOf}
+use Rattle.cells.specs.Lists.{orIfZero}
 use Rattle.cells.specs.Table.{kind}
 use Rattle.cells.specs.Reaches.{Reaches}
 use Rattle.order.specs.Lists.{_∈_, mem, any}

@@ -4,18 +4,9 @@ use mathlib.Core.Bool.{Bool, true, false, cond, _||_}
 use mathlib.Core.Option.{Option, none, some}
 use Prim.Native.Nat.{ℕ, zero, suc, _+_, _<_}
 use lib.Dec.{eqb, ltb}
+pub use Rattle.cells.specs.Lists.{one, count}
 
 infix 50 _∈_
--- 1 where a test passes, else 0
-abbrev pub one : Bool → ℕ
-one true = 1
-one false = 0
-
--- how often x stands in l
-abbrev pub count : ℕ → List ℕ → ℕ
-count x [] = 0
-count x (y ∷ l) = one (eqb x y) + count x l
-
 -- x stands in l
 abbrev pub _∈_ : ℕ → List ℕ → Type 0
 x ∈ l = 0 < count x l

@@ -2,11 +2,11 @@
 use mathlib.Core.Path.{_≡_, refl, ap, sym, _∙_}
 use mathlib.Core.Bool.{Bool, true, false, cond, not, _&&_}
 use mathlib.Core.List.{List}
-use Prim.Native.Nat.{ℕ, zero, suc, _+_, _-_, _*_, _≤_}
+use Prim.Native.Nat.{ℕ, _+_, _-_, _*_, _≤_}
 use native.Mathlib.Omega.{arith}
 use lib.Dec.{eqb}
 use lib.IntN.{ℤ}
-use lib.ListN.{length, getD, replicate}
+use lib.ListN.{length, getD}
 use Rattle.cells.specs.Table.{kind, target, withColumn}
 use Rattle.cells.proofs.Columns.{column-own, column-same, column-over, column-length}
 use Rattle.order.specs.Order.{hasPath}
@@ -66,11 +66,6 @@ module _ (s : List ℕ) (t u : List ℤ) (n : ℕ) (e : u ≡ withColumn 7 (head
       column-same 7 (targetCell s u n) (targetCell s t n) n u (λ l h g. target-cell-alike s t u heads-alike n l)
       ∙ ap (withColumn 7 (targetCell s t n) n) e
       ∙ column-over 7 (headCell s t n) (targetCell s t n) n t (omega arith) room
-
-pub zeros-at : (n b : ℕ) → getD (replicate {0} {A = ℕ} n 0) b 0 ≡ 0
-zeros-at zero b = refl
-zeros-at (suc n) zero = refl
-zeros-at (suc n) (suc b) = zeros-at n b
 
 -- ---- chains before any label is linked
 

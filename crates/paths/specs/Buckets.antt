@@ -7,6 +7,7 @@ use lib.Dec.{eqb, ltb}
 use lib.IntN.{ℤ, pos}
 use lib.ListN.{length, getD}
 use Rattle.cells.specs.Cells.{intAt}
+use Rattle.cells.specs.Lists.{orIfZero}
 use Rattle.cells.specs.Table.{kind, nameStart, nameLength, owner}
 use Rattle.order.specs.Order.{isDefinition}
 use Rattle.paths.specs.Names.{nameOf, firstLabel, member}

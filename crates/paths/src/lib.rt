@@ -64,14 +64,15 @@ fn same_name(text: &[u8], a: usize, b: usize, size: usize) -> bool
     true
 }
 
+// Whether the line is a G, V or F.
 fn is_definition(table: &[i64], label: usize) -> bool
     ensures { λ r. ⌜ r ≡ isDefinition (now (table .entry)) label ⌝ }
 {
-    let kind = cells::cell_at(table, label, 0);
+    let kind = cells::cell_at(table, label, cells::KIND);
     if kind == 0 {
         return false;
     }
-    kind <= 3
+    kind <= cells::FUNCTION
 }
 
 // Whether definition m is a member of the Group with the name text[from..to].
@@ -79,14 +80,14 @@ fn is_named(text: &[u8], table: &[i64], m: usize, group: usize, from: usize, to:
     requires { ⌜ (from ≤ to) × (to ≤ length (now text)) × Placed (now text) (now table) m × (isDefinition (now table) m ≡ true) ⌝ }
     ensures { λ r. ⌜ r ≡ isNamed (now (text .entry)) (now (table .entry)) group (slice from to (now (text .entry))) m ⌝ }
 {
-    if cells::cell_at(table, m, 6) != group {
+    if cells::cell_at(table, m, cells::OWNER) != group {
         return false;
     }
-    let size = cells::cell_at(table, m, 2);
+    let size = cells::cell_at(table, m, cells::NAME_LENGTH);
     if size != to - from {
         return false;
     }
-    let start = cells::cell_at(table, m, 1);
+    let start = cells::cell_at(table, m, cells::NAME_START);
     // the very same bytes, as in row 12 where no other member is met
     if start == from {
         return true;
@@ -96,6 +97,7 @@ fn is_named(text: &[u8], table: &[i64], m: usize, group: usize, from: usize, to:
 
 // ---- buckets
 
+// The bucket of a Group and a name's hash.
 fn bucket(hash: usize, group: usize) -> usize
     requires { ⌜ (hash < 4294967296) × (group ≤ 1024) ⌝ }
     ensures { λ r. ⌜ r ≡ bucketOf hash group ⌝ }
@@ -108,9 +110,13 @@ fn bucket_at(text: &[u8], table: &[i64], label: usize) -> usize
     requires { ⌜ Placed (now text) (now table) label × (owner (now table) label ≤ 1024) ⌝ }
     ensures { λ r. ⌜ r ≡ bucketAt (now (text .entry)) (now (table .entry)) label ⌝ }
 {
-    let start = cells::cell_at(table, label, 1);
-    let hash = hash_name(text, start, start + cells::cell_at(table, label, 2));
-    bucket(hash, cells::cell_at(table, label, 6))
+    let start = cells::cell_at(table, label, cells::NAME_START);
+    let hash = hash_name(
+        text,
+        start,
+        start + cells::cell_at(table, label, cells::NAME_LENGTH),
+    );
+    bucket(hash, cells::cell_at(table, label, cells::OWNER))
 }
 
 // A label goes to the front of its bucket's chain, if it is a definition.
@@ -170,7 +176,7 @@ fn search(
             }
             m = next[m] as usize;
         }
-        g = cells::natural_cell(table, g, 6);
+        g = cells::natural_cell(table, g, cells::OWNER);
     }
     found
 }
@@ -195,7 +201,7 @@ fn descend(
     let mut m = head;
     let mut at = name_stop(text, from, to);
     while at < to {
-        if cells::cell_at(table, m, 0) != 1 {
+        if cells::cell_at(table, m, cells::KIND) != cells::GROUP {
             return 0;
         }
         let start = at + 1;
@@ -207,7 +213,7 @@ fn descend(
             first,
             next,
             m,
-            cells::cell_at(table, m, 6),
+            cells::cell_at(table, m, cells::OWNER),
             start,
             at,
         );
@@ -219,11 +225,11 @@ fn descend(
 fn has_path(table: &[i64], label: usize) -> bool
     ensures { λ r. ⌜ r ≡ hasPath (now (table .entry)) label ⌝ }
 {
-    let kind = cells::cell_at(table, label, 0);
-    if kind == 6 {
+    let kind = cells::cell_at(table, label, cells::KIND);
+    if kind == cells::READ {
         return true;
     }
-    kind == 7
+    kind == cells::CALL
 }
 
 // Where the head of a line's path is settled; 0 where it is settled nowhere, and of a line that has no path.
@@ -233,9 +239,17 @@ fn head_at(text: &[u8], table: &[i64], n: usize, first: &[u16], next: &[u16], la
     ensures { λ r. ⌜ (r ≡ headCell (now (text .entry)) (now (table .entry)) n label) × (r ≤ n) ⌝ }
 {
     if has_path(table, label) {
-        let from = cells::cell_at(table, label, 1);
-        let to = name_stop(text, from, from + cells::cell_at(table, label, 2));
-        let group = cells::cell_at(table, cells::cell_at(table, label, 6), 6);
+        let from = cells::cell_at(table, label, cells::NAME_START);
+        let to = name_stop(
+            text,
+            from,
+            from + cells::cell_at(table, label, cells::NAME_LENGTH),
+        );
+        let group = cells::cell_at(
+            table,
+            cells::cell_at(table, label, cells::OWNER),
+            cells::OWNER,
+        );
         return search(text, table, n, first, next, group, 0, from, to);
     }
     0
@@ -256,7 +270,7 @@ fn target_at(
     ensures { λ r. ⌜ (r ≡ targetBy (now (text .entry)) (now (table .entry)) n label head) × (r ≤ n) ⌝ }
 {
     if has_path(table, label) {
-        let from = cells::cell_at(table, label, 1);
+        let from = cells::cell_at(table, label, cells::NAME_START);
         return descend(
             text,
             table,
@@ -265,7 +279,7 @@ fn target_at(
             next,
             head,
             from,
-            from + cells::cell_at(table, label, 2),
+            from + cells::cell_at(table, label, cells::NAME_LENGTH),
         );
     }
     0
@@ -285,12 +299,12 @@ fn duplicate_at(
     ensures { λ r. ⌜ r ≡ duplicateBad (now (text .entry)) (now (table .entry)) label ⌝ }
 {
     if is_definition(table, label) {
-        let from = cells::cell_at(table, label, 1);
-        let group = cells::cell_at(table, label, 6);
+        let from = cells::cell_at(table, label, cells::NAME_START);
+        let group = cells::cell_at(table, label, cells::OWNER);
         if group == 0 {
             return 0;
         }
-        let around = cells::cell_at(table, group, 6);
+        let around = cells::cell_at(table, group, cells::OWNER);
         let m = search(
             text,
             table,
@@ -300,7 +314,7 @@ fn duplicate_at(
             group,
             around,
             from,
-            from + cells::cell_at(table, label, 2),
+            from + cells::cell_at(table, label, cells::NAME_LENGTH),
         );
         if m != label {
             return refusals::DUPLICATE;
@@ -313,16 +327,20 @@ fn duplicate_at(
 fn wrong_target_at(table: &[i64], label: usize) -> u64
     ensures { λ r. ⌜ r ≡ wrongTarget (now (table .entry)) label ⌝ }
 {
-    let kind = cells::cell_at(table, label, 0);
-    let found = cells::cell_at(table, cells::cell_at(table, label, 7), 0);
-    if kind == 6 {
-        if found == 2 {
+    let kind = cells::cell_at(table, label, cells::KIND);
+    let found = cells::cell_at(
+        table,
+        cells::cell_at(table, label, cells::TARGET),
+        cells::KIND,
+    );
+    if kind == cells::READ {
+        if found == cells::VALUE {
             return 0;
         }
         return refusals::TARGET;
     }
-    if kind == 7 {
-        if found == 3 {
+    if kind == cells::CALL {
+        if found == cells::FUNCTION {
             return 0;
         }
         return refusals::TARGET;
@@ -363,7 +381,7 @@ fn settle_head(
     ensures { λ _. ⌜ now (table .exit) ≡ set (now (table .entry)) (8 * (label - 1) + 7) (pos (headCell (now (text .entry)) (now (table .entry)) n label)) ⌝ }
 {
     let head = head_at(text, table, n, first, next, label);
-    cells::put_cell(table, label, 7, head);
+    cells::put_cell(table, label, cells::TARGET, head);
     head
 }
 
@@ -381,9 +399,9 @@ fn settle_target(
     ensures { λ r. ⌜ r ≡ targetBy (now (text .entry)) (now (table .entry)) n label (target (now (table .entry)) label) ⌝ }
     ensures { λ _. ⌜ now (table .exit) ≡ set (now (table .entry)) (8 * (label - 1) + 7) (pos (targetBy (now (text .entry)) (now (table .entry)) n label (target (now (table .entry)) label))) ⌝ }
 {
-    let head = cells::cell_at(table, label, 7);
+    let head = cells::cell_at(table, label, cells::TARGET);
     let end = target_at(text, table, n, first, next, label, head);
-    cells::put_cell(table, label, 7, end);
+    cells::put_cell(table, label, cells::TARGET, end);
     end
 }
 

@@ -15,6 +15,7 @@ ghost use Rattle.groups.specs.Members.{Ordered, Scratch};
 ghost use Rattle.planning.specs.Listing.{listOf, Put};
 ghost use Rattle.planning.specs.Plans.{PlanIs};
 
+// What planning finds: the smallest value that reaches itself, or the length of a whole or a mixed plan.
 pub enum Planned {
     Cycle(u64),
     Whole(u64),
@@ -52,7 +53,7 @@ fn list_group(
     to
 }
 
-// The first r labels of the order.
+// Puts the first r labels of the order into the plan.
 fn put_all(order: &[u16], r: usize, plan: &mut [i64])
     requires { ⌜ (r ≤ length (now order)) × (r ≤ length (now plan)) ⌝ }
     ensures { λ _. ⌜ Put (take r (now (order .entry))) 0 (now (plan .entry)) (now (plan .exit)) r ⌝ }

@@ -5,6 +5,7 @@ use lib.IntN.{ℤ}
 use lib.ListN.{take}
 use lib.Seq.{slice}
 use Rattle.cells.specs.Table.{nameStart, nameLength}
+use Rattle.text.specs.Quoted.{bytesOf}
 use Rattle.order.specs.Following.{labelsOf}
 use Rattle.evaluation.specs.Results.{stateAt, numberAt, stepsAt}
 use Rattle.calls.specs.Run.{runReply, runTable, runPlan, runResults}
@@ -20,20 +21,20 @@ lineOf [] = 10 ∷ []
 lineOf (f ∷ []) = f ++ 10 ∷ []
 lineOf (f ∷ g ∷ fs) = f ++ 32 ∷ lineOf (g ∷ fs)
 
--- the line `label name order state number steps`
+-- the line of column names
 unfoldable pub columnsLine : List ℕ
-columnsLine = 108 ∷ 97 ∷ 98 ∷ 101 ∷ 108 ∷ 32 ∷ 110 ∷ 97 ∷ 109 ∷ 101 ∷ 32 ∷ 111 ∷ 114 ∷ 100 ∷ 101 ∷ 114 ∷ 32 ∷ 115 ∷ 116 ∷ 97 ∷ 116 ∷ 101 ∷ 32 ∷ 110 ∷ 117 ∷ 109 ∷ 98 ∷ 101 ∷ 114 ∷ 32 ∷ 115 ∷ 116 ∷ 101 ∷ 112 ∷ 115 ∷ 10 ∷ []
+columnsLine = bytesOf "label name order state number steps\n"
 
--- the line `refusal place`
+-- what a refusal has in its place
 unfoldable pub refusalLine : List ℕ
-refusalLine = 114 ∷ 101 ∷ 102 ∷ 117 ∷ 115 ∷ 97 ∷ 108 ∷ 32 ∷ 112 ∷ 108 ∷ 97 ∷ 99 ∷ 101 ∷ 10 ∷ []
+refusalLine = bytesOf "refusal place\n"
 
--- `whole` and `mixed`
+-- what the print says of the plan
 unfoldable pub wholeWord : List ℕ
-wholeWord = 119 ∷ 104 ∷ 111 ∷ 108 ∷ 101 ∷ []
+wholeWord = bytesOf "whole"
 
 unfoldable pub mixedWord : List ℕ
-mixedWord = 109 ∷ 105 ∷ 120 ∷ 101 ∷ 100 ∷ []
+mixedWord = bytesOf "mixed"
 
 -- ---- one line per value: the text s, its table t, the results r, and the word for the plan
 

@@ -16,6 +16,7 @@ use calls::PlanReply;
 
 // ---- bytes, from index `at` of the buffer on. Each function answers the index behind what it wrote.
 
+// One byte.
 fn put(out: &mut [u8], at: usize, byte: u8) -> usize
     requires { ⌜ at ≤ length (now out) ⌝ }
     ensures { λ r. ⌜ Wrote (now (out .entry)) at (byte ∷ []) (now (out .exit)) r ⌝ }
@@ -27,6 +28,7 @@ fn put(out: &mut [u8], at: usize, byte: u8) -> usize
     at
 }
 
+// Several bytes.
 fn put_all(out: &mut [u8], at: usize, bytes: &[u8]) -> usize
     requires { ⌜ at ≤ length (now out) ⌝ }
     ensures { λ r. ⌜ Wrote (now (out .entry)) at (now (bytes .entry)) (now (out .exit)) r ⌝ }
@@ -54,6 +56,7 @@ fn put_digits(out: &mut [u8], at: usize, n: u64) -> usize
     put(out, end, b'0' + (n % 10) as u8)
 }
 
+// n in decimal, with no leading zeros.
 fn put_decimal(out: &mut [u8], at: usize, n: u64) -> usize
     requires { ⌜ at ≤ length (now out) ⌝ }
     ensures { λ r. ⌜ Wrote (now (out .entry)) at (decimal n) (now (out .exit)) r ⌝ }
@@ -74,6 +77,7 @@ fn size_of(x: i64) -> u64
     cells::nat_of(x) as u64
 }
 
+// x in decimal, with `-` before a negative number.
 fn put_integer(out: &mut [u8], at: usize, x: i64) -> usize
     requires { ⌜ at ≤ length (now out) ⌝ }
     ensures { λ r. ⌜ Wrote (now (out .entry)) at (integer x) (now (out .exit)) r ⌝ }
@@ -87,6 +91,7 @@ fn put_integer(out: &mut [u8], at: usize, x: i64) -> usize
 
 // ---- fields, each with the byte that ends it
 
+// A field of bytes as they stand.
 fn put_text(out: &mut [u8], at: usize, bytes: &[u8], after: u8) -> usize
     requires { ⌜ at ≤ length (now out) ⌝ }
     ensures { λ r. ⌜ Wrote (now (out .entry)) at (now (bytes .entry) ++ (after ∷ [])) (now (out .exit)) r ⌝ }
@@ -95,6 +100,7 @@ fn put_text(out: &mut [u8], at: usize, bytes: &[u8], after: u8) -> usize
     put(out, end, after)
 }
 
+// A field with a natural number.
 fn put_count(out: &mut [u8], at: usize, n: u64, after: u8) -> usize
     requires { ⌜ at ≤ length (now out) ⌝ }
     ensures { λ r. ⌜ Wrote (now (out .entry)) at (decimal n ++ (after ∷ [])) (now (out .exit)) r ⌝ }
@@ -103,6 +109,7 @@ fn put_count(out: &mut [u8], at: usize, n: u64, after: u8) -> usize
     put(out, end, after)
 }
 
+// A field with an integer.
 fn put_number(out: &mut [u8], at: usize, x: i64, after: u8) -> usize
     requires { ⌜ at ≤ length (now out) ⌝ }
     ensures { λ r. ⌜ Wrote (now (out .entry)) at (integer x ++ (after ∷ [])) (now (out .exit)) r ⌝ }
@@ -128,6 +135,7 @@ fn result_at(results: &[i64], label: usize, j: usize) -> i64
     cells::int_at(results, 3 * (label - 1) + j)
 }
 
+// Result j as a natural number: the state, or the steps.
 fn count_at(results: &[i64], label: usize, j: usize) -> u64
     requires { ⌜ j < 3 ⌝ }
     ensures { λ r. ⌜ r ≡ natOf (resultAt (now (results .entry)) label j) ⌝ }
@@ -135,6 +143,7 @@ fn count_at(results: &[i64], label: usize, j: usize) -> u64
     cells::nat_of(result_at(results, label, j)) as u64
 }
 
+// The end of the line: state, number, steps.
 fn put_results(results: &[i64], label: usize, out: &mut [u8], at: usize) -> usize
     requires { ⌜ at ≤ length (now out) ⌝ }
     ensures { λ r. ⌜ Wrote (now (out .entry)) at (lineOf (decimal (stateAt (now (results .entry)) label) ∷ integer (numberAt (now (results .entry)) label) ∷ decimal (stepsAt (now (results .entry)) label) ∷ [])) (now (out .exit)) r ⌝ }
@@ -147,15 +156,17 @@ fn put_results(results: &[i64], label: usize, out: &mut [u8], at: usize) -> usiz
     put_count(out, behind_number, steps, b'\n')
 }
 
+// The label's name, from the text.
 fn put_name(text: &[u8], table: &[i64], label: usize, out: &mut [u8], at: usize) -> usize
     requires { ⌜ (at ≤ length (now out)) × NamesIn (now text) (now table) ⌝ }
     ensures { λ r. ⌜ Wrote (now (out .entry)) at (nameField (now (text .entry)) (now (table .entry)) label ++ (32 ∷ [])) (now (out .exit)) r ⌝ }
 {
-    let start = cells::cell_at(table, label, 1);
-    let end = start + cells::cell_at(table, label, 2);
+    let start = cells::cell_at(table, label, cells::NAME_START);
+    let end = start + cells::cell_at(table, label, cells::NAME_LENGTH);
     put_text(out, at, &text[start..end], b' ')
 }
 
+// The whole line: label, name, whole or mixed, state, number, steps.
 fn put_line(
     text: &[u8],
     table: &[i64],
@@ -200,6 +211,7 @@ fn put_lines(
     end
 }
 
+// The print of a sheet that runs: the column names, then one line per value.
 fn put_answer(
     text: &[u8],
     table: &[i64],
@@ -216,6 +228,7 @@ fn put_answer(
     put_lines(text, table, plan, count, results, word, out, end)
 }
 
+// The print of a refused sheet: `refusal place`, then the two numbers.
 fn put_refusal(row: u64, place: u64, out: &mut [u8]) -> usize
     ensures { λ r. ⌜ Wrote (now (out .entry)) 0 (refusalLine ++ lineOf (decimal row ∷ decimal place ∷ [])) (now (out .exit)) r ⌝ }
 {

@@ -1,18 +1,14 @@
 -- Scratch arrays of zeros.
-use mathlib.Core.Path.{_≡_, refl}
+use mathlib.Core.Path.{_≡_}
 use mathlib.Core.List.{List}
-use Prim.Native.Nat.{ℕ, zero, suc, _+_, _*_, _≤_, _<_}
+use Prim.Native.Nat.{ℕ, _+_, _*_, _≤_, _<_}
 use native.Mathlib.Omega.{arith}
 use native.Mathlib.Nat.{mul-le-mul}
-use lib.ListN.{length, getD, replicate, length-replicate}
+use lib.ListN.{length, replicate, length-replicate}
+pub use Rattle.cells.proofs.Scratch.{zero-at}
 use Rattle.marks.proofs.Squares.{marks-none}
 use Rattle.reach.specs.Rows.{width, Blank, Room}
 use Rattle.reach.specs.Chains.{Empty}
-
-pub zero-at : (k i : ℕ) → getD (replicate {0} {A = ℕ} k 0) i 0 ≡ 0
-zero-at zero i = refl
-zero-at (suc k) zero = refl
-zero-at (suc k) (suc i) = zero-at k i
 
 pub long : (k : ℕ) → length (replicate {0} {A = ℕ} k 0) ≡ k
 long k = length-replicate {0} {A = ℕ} k 0

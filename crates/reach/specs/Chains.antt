@@ -1,5 +1,5 @@
--- Each definition's R and C lines in a chain, in one array: the line after which d's chain begins at index d, and the line before line l in
--- its chain at index n + l; 0 where there is none.
+-- Each definition's R and C lines in a chain, in one array: d's last line at index d, and at index n + l the line before l in its
+-- chain; 0 where there is none.
 use mathlib.Core.Path.{_≡_}
 use mathlib.Core.List.{List}
 use Prim.Native.Nat.{ℕ, _+_, _-_, _≤_, _<_}

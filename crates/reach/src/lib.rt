@@ -18,6 +18,7 @@ ghost use Rattle.reach.specs.Turns.{Raised, Met, Spread, Grown, Filled, 
 
 // ---- cells of an accepted table
 
+// The label's kind code.
 pub fn kind_of(table: &[i64], n: usize, label: usize) -> usize
     requires { ⌜ Accepted (now table) n ⌝ }
     requires { ⌜ (1 ≤ label) × (label ≤ n) ⌝ }
@@ -26,7 +27,7 @@ pub fn kind_of(table: &[i64], n: usize, label: usize) -> usize
     table[8 * (label - 1)] as usize
 }
 
-// A cell from field b on.
+// Cell j, which is b or a later one.
 pub fn cell_of(table: &[i64], n: usize, label: usize, j: usize) -> usize
     requires { ⌜ Accepted (now table) n ⌝ }
     requires { ⌜ (1 ≤ label) × (label ≤ n) × (4 ≤ j) × (j < 8) ⌝ }
@@ -35,6 +36,7 @@ pub fn cell_of(table: &[i64], n: usize, label: usize, j: usize) -> usize
     table[8 * (label - 1) + j] as usize
 }
 
+// Whether the line has a path: R or C.
 fn has_path(table: &[i64], n: usize, label: usize) -> bool
     requires { ⌜ Accepted (now table) n ⌝ }
     requires { ⌜ (1 ≤ label) × (label ≤ n) ⌝ }
@@ -50,7 +52,7 @@ fn has_path(table: &[i64], n: usize, label: usize) -> bool
 // ---- chains of lines
 
 // The chains by which links by column j are followed.
-pub fn link(table: &[i64], n: usize, j: usize, chains: &mut [u16])
+fn link(table: &[i64], n: usize, j: usize, chains: &mut [u16])
     requires { ⌜ Accepted (now table) n ⌝ }
     requires { ⌜ Column j ⌝ }
     requires { ⌜ 2 * n < length (now chains) ⌝ }
@@ -257,7 +259,7 @@ fn visit(
 // ---- all rows
 
 // The row of every V, in a blank square. Answers how many visits of definitions that took.
-pub fn reach_rows(
+fn reach_rows(
     table: &[i64],
     n: usize,
     j: usize,
@@ -285,7 +287,7 @@ pub fn reach_rows(
 }
 
 // Row 16: the smallest V that reaches itself, or 0.
-pub fn first_cycle(table: &[i64], n: usize, j: usize, square: &[u64]) -> usize
+fn first_cycle(table: &[i64], n: usize, j: usize, square: &[u64]) -> usize
     requires { ⌜ Accepted (now table) n ⌝ }
     requires { ⌜ Column j ⌝ }
     requires { ⌜ (n + 1) * width n ≤ length (now square) ⌝ }

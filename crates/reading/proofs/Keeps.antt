@@ -8,6 +8,7 @@ use lib.Dec.{leb, eqb}
 use lib.IntN.{ℤ}
 use lib.ListN.{length, getD}
 use borrow.Author.Tests.{leb-true, le-leb, lt-ltb, le-ltb, eqb-true, eqb-false, eq-eqb, ne-eqb}
+use Rattle.cells.specs.Lists.{count, all}
 use Rattle.cells.specs.Table.{kind, fieldA}
 use Rattle.refusals.specs.declared.Verdict.the-variants.{Fine}
 use Rattle.refusals.proofs.FirstBad.{first-none, none-first}
@@ -20,7 +21,7 @@ use Rattle.lines.specs.Lines.{isText, line, labels, firstLine, headBad, rootLin
 use Rattle.lines.specs.Lined.{Lined}
 use Rattle.lines.proofs.Heads.{headed}
 use Rattle.lines.proofs.Lined.{lined, fine-fields, fine-forms, known, root-is}
-use Rattle.tree.specs.Tree.{isDefinition, isExpression, parts, every, groupRight, partRight, structureBad, times, usesBad, Level, ownerOf, levelOf, argumentBad, levelBad, treeBad}
+use Rattle.tree.specs.Tree.{isDefinition, isExpression, parts, groupRight, partRight, structureBad, usesBad, Level, ownerOf, levelOf, argumentBad, levelBad, treeBad}
 use Rattle.tree.specs.Treed.{Formed, Treed}
 use Rattle.tree.specs.Steps.{UsedOnce}
 use Rattle.tree.proofs.Codes.{expression-kind, expression-high, not-expression, label-low, label-high}
@@ -70,11 +71,11 @@ module _ (s : List ℕ) (n l : ℕ) where
 
 -- ---- the tree
 
-every-all : (test : ℕ → Bool) (xs : List ℕ) → ((x : ℕ) → 1 ≤ times x xs → test x ≡ true) → every test xs ≡ true
-every-all test [] h = refl
-every-all test (y ∷ ys) h =
-    let own : 1 ≤ times y (y ∷ ys) = rw (eq-eqb y y refl) (omega arith) in
-    rw (h y own, every-all test ys (λ x g. h x (omega arith)))
+all-so : (test : ℕ → Bool) (xs : List ℕ) → ((x : ℕ) → 1 ≤ count x xs → test x ≡ true) → all test xs ≡ true
+all-so test [] h = refl
+all-so test (y ∷ ys) h =
+    let own : 1 ≤ count y (y ∷ ys) = rw (eq-eqb y y refl) (omega arith) in
+    rw (h y own, all-so test ys (λ x g. h x (omega arith)))
 
 module _ (t : List ℤ) (n : ℕ) (s : Formed t n) where
   module _ (e : treeBad t n ≡ Fine) where
@@ -104,7 +105,7 @@ module _ (t : List ℤ) (n : ℕ) (s : Formed t n) where
 
     kept-structure : (l : ℕ) → l ≤ n → structureBad t l ≡ 0
     unfolding structureBad
-    kept-structure l g = rw (group (leb 2 l && isDefinition t l) refl, every-all (partRight t l) (parts t l) part)
+    kept-structure l g = rw (group (leb 2 l && isDefinition t l) refl, all-so (partRight t l) (parts t l) part)
       where
         group : (b : Bool) → (leb 2 l && isDefinition t l) ≡ b → cond b (groupRight t l (fieldA t l)) true ≡ true
         group true e =
@@ -112,7 +113,7 @@ module _ (t : List ℤ) (n : ℕ) (s : Formed t n) where
             rw (lt-ltb (fieldA t l) l (r .0), eq-eqb (kind t (fieldA t l)) 1 (r .1))
         group false e = refl
 
-        part : (x : ℕ) → 1 ≤ times x (parts t l) → partRight t l x ≡ true
+        part : (x : ℕ) → 1 ≤ count x (parts t l) → partRight t l x ≡ true
         part x p = rw (lt-ltb l x (k .part l x p .0)) (k .part l x p .1)
 
     kept-uses : (x : ℕ) → usesBad t n x ≡ 0

@@ -17,7 +17,7 @@ use Rattle.refusals.proofs.FirstBad.{first-same}
 use Rattle.lines.specs.Lines.{labels, headBad, rows}
 use Rattle.lines.specs.Lined.{linedTable}
 use Rattle.lines.proofs.Pass.{rows-length}
-use Rattle.tree.specs.Tree.{parts, every, partRight, structureBad, usesBad, ownerOf, argumentBad, levelBad, treeBad}
+use Rattle.tree.specs.Tree.{parts, partRight, structureBad, usesBad, ownerOf, argumentBad, levelBad, treeBad}
 use Rattle.tree.proofs.Parts.{Alike, alike-expression, alike-definition, alike-parts}
 use Rattle.tree.proofs.Users.{alike-uses}
 use Rattle.tree.proofs.Owners.{alike-level, alike-owner}
@@ -25,9 +25,9 @@ use Rattle.paths.specs.Paths.{targetCell}
 use Rattle.paths.proofs.Alike as paths
 use Rattle.reading.specs.Read.{tableShort, ownedTable, resolvedTable, resolvedBad, sheetRows, sheetBad, readBad}
 
-every-same : (f g : ℕ → Bool) → ((x : ℕ) → f x ≡ g x) → (xs : List ℕ) → every f xs ≡ every g xs
-every-same f g h [] = refl
-every-same f g h (x ∷ xs) = rw (h x, every-same f g h xs)
+all-same : (f g : ℕ → Bool) → ((x : ℕ) → f x ≡ g x) → (xs : List ℕ) → all f xs ≡ all g xs
+all-same f g h [] = refl
+all-same f g h (x ∷ xs) = rw (h x, all-same f g h xs)
 
 -- ---- cells and columns
 

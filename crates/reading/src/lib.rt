@@ -99,8 +99,8 @@ pub fn name_part(text: &[u8], table: &mut [i64], label: i64) -> Part
         Reply::Answered(n) => {
             let l = label_in(label, n as usize);
             Part {
-                start: cells::cell_at(table, l, 1),
-                length: cells::cell_at(table, l, 2),
+                start: cells::cell_at(table, l, cells::NAME_START),
+                length: cells::cell_at(table, l, cells::NAME_LENGTH),
             }
         }
         Reply::Refused(_, _) => Part {

@@ -1,12 +1,8 @@
--- A sheet's bytes, from its lines as one reads them. A sheet is ASCII, where a character's code is its byte.
+-- A sheet's bytes, from its lines as one reads them.
 use mathlib.Core.List.{List, [], _∷_, _++_}
 use Prim.Native.Nat.{ℕ}
-use Prim.Native.Char.{code}
-use Prim.Native.String.{String, [] as end, _∷_ as _then_}
-
-abbrev pub bytesOf : String → List ℕ
-bytesOf end = []
-bytesOf (c then s) = code c ∷ bytesOf s
+use Prim.Native.String.{String}
+use Rattle.text.specs.Quoted.{bytesOf}
 
 -- "lines, each ended by byte 10"
 abbrev pub textOf : List String → List ℕ

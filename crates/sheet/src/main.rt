@@ -28,6 +28,7 @@ fn print_sheet(fd: i32) {
     }
 }
 
+// The sheet of a file.
 fn print_file(path: &[u8]) {
     let fd = os::open_read(path);
     if fd < 0 {
@@ -38,6 +39,7 @@ fn print_file(path: &[u8]) {
     libc::close(fd);
 }
 
+// The sheet of the file that argument i names.
 fn print_argument(i: usize) {
     let mut path = io::buffer();
     let n = os::arg(i, &mut path);

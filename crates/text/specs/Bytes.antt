@@ -6,26 +6,19 @@ use Prim.Native.Nat.{ℕ, zero, suc, _+_, _-_}
 use lib.Dec.{leb, ltb, eqb}
 use lib.ListN.{length, getD}
 use Rattle.numbers.specs.Decimal.{isDigit}
-
--- the test p passes at every byte
-abbrev pub all : (ℕ → Bool) → List ℕ → Bool
-all p [] = true
-all p (x ∷ xs) = p x && all p xs
-
-abbrev pub one : Bool → ℕ
-one true = 1
-one false = 0
+pub use Rattle.cells.specs.Lists.{one, all}
 
 -- how many bytes pass the test p
 abbrev pub countBy : (ℕ → Bool) → List ℕ → ℕ
 countBy p [] = 0
 countBy p (x ∷ xs) = one (p x) + countBy p xs
 
--- how many bytes at the front pass the test p
+-- one more than n where a test passes, else 0
 abbrev pub oneMore : Bool → ℕ → ℕ
 oneMore true n = suc n
 oneMore false n = 0
 
+-- how many bytes at the front pass the test p
 abbrev pub run : (ℕ → Bool) → List ℕ → ℕ
 run p [] = 0
 run p (x ∷ xs) = oneMore (p x) (run p xs)

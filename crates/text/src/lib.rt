@@ -35,6 +35,7 @@ fn newline(b: u8) -> u32
     if b == 10 { 1 } else { 0 }
 }
 
+// How many bytes of a text row 1 does not allow, and how many lines it has.
 pub struct Counts {
     pub bad: u32,
     pub lines: u32,
@@ -108,7 +109,8 @@ pub fn field_end(text: &[u8], from: usize, stop: u8) -> usize
 
 // ---- names and paths
 
-pub fn is_letter(b: u8) -> bool
+// An ASCII letter.
+fn is_letter(b: u8) -> bool
     ensures { λ r. ⌜ r ≡ isLetter b ⌝ }
 {
     if b < 65 {
@@ -123,7 +125,8 @@ pub fn is_letter(b: u8) -> bool
     b <= 122
 }
 
-pub fn is_alphanumeric(b: u8) -> bool
+// An ASCII letter or digit.
+fn is_alphanumeric(b: u8) -> bool
     ensures { λ r. ⌜ r ≡ isAlphanumeric b ⌝ }
 {
     if is_letter(b) {
@@ -152,7 +155,7 @@ fn alphanumeric_end(text: &[u8], from: usize, to: usize) -> usize
 }
 
 // Where the letters and digits end that begin at `from`, if they are a name; else 0.
-pub fn name_end(text: &[u8], from: usize, to: usize) -> usize
+fn name_end(text: &[u8], from: usize, to: usize) -> usize
     requires { ⌜ (from < to) × (to ≤ length (now text)) ⌝ }
     ensures { λ r. ⌜ r ≡ nameEnd (now (text .entry)) from to ⌝ }
 {

@@ -8,6 +8,7 @@ use native.Mathlib.Omega.{arith}
 use borrow.Author.Tests.{leb-true, leb-false, le-leb}
 use lib.Dec.{leb}
 use lib.IntN.{ℤ}
+use Rattle.cells.specs.Lists.{one, count}
 use Rattle.cells.specs.Table.{kind}
 use Rattle.cells.specs.Accepted.{HasBody}
 use Rattle.cells.proofs.Signed.{clash}
@@ -15,7 +16,7 @@ use Rattle.lines.specs.Kinds.{kinds, kindAt}
 use Rattle.refusals.specs.declared.Verdict.the-variants.{Fine}
 use Rattle.refusals.specs.Refusal.{firstBad}
 use Rattle.refusals.proofs.FirstBad.{first-none}
-use Rattle.tree.specs.Tree.{isGroup, isOperand, isDefinition, isExpression, parts, one, times, IsPart}
+use Rattle.tree.specs.Tree.{isGroup, isOperand, isDefinition, isExpression, parts, IsPart}
 use Rattle.tree.specs.Treed.{Formed}
 
 -- ---- tests
@@ -159,7 +160,7 @@ module _ (t : List ℤ) (l : ℕ) where
     where
       go : (b : Bool) → leb 2 (kind t l) ≡ b → 2 ≤ kind t l
       go true q = leb-true 2 (kind t l) q
-      go false q = absurd (omega (arith, ap (times x) (no-parts (omega (arith, leb-false 2 (kind t l) q)))))
+      go false q = absurd (omega (arith, ap (count x) (no-parts (omega (arith, leb-false 2 (kind t l) q)))))
 
   pub two-or-three : 2 ≤ kind t l → kind t l ≤ 3 → HasBody t l
   two-or-three h g = go (kind t l) h g

@@ -4,20 +4,21 @@ use mathlib.Core.Bool.{Bool, true, false, not, cond, _&&_, and-true}
 use mathlib.Core.List.{List, [], _∷_}
 use Prim.Native.Nat.{ℕ, _+_, _-_, _*_, _≤_, _<_}
 use native.Mathlib.Omega.{arith}
-use borrow.Author.Tests.{le-leb, lt-leb, lt-ltb, le-ltb, ne-eqb}
+use borrow.Author.Tests.{le-leb, lt-leb, lt-ltb, le-ltb, eqb-false, ne-eqb}
 use lib.Dec.{eqb}
 use lib.IntN.{ℤ, pos}
 use lib.ListN.{set}
+use Rattle.cells.specs.Lists.{one, count, all}
 use Rattle.cells.specs.Table.{kind, fieldA, fieldB, fieldC, owner, target}
 use Rattle.lines.specs.Kinds.{kindAt}
 use Rattle.lines.specs.declared.Form.{Form}
 use Rattle.lines.specs.declared.Kind.{Kind}
-use Rattle.tree.specs.Tree.{isGroup, isOperand, isDefinition, isExpression, operandIn, parts, every, partRight, structureBad, one, times, notOnce, argumentIn, tooDeep}
+use Rattle.tree.specs.Tree.{isGroup, isOperand, isDefinition, isExpression, operandIn, parts, partRight, structureBad, notOnce, argumentIn, tooDeep}
 use Rattle.tree.specs.Treed.{Formed}
 use Rattle.tree.specs.Steps.{partIn, nodeAt, Readable, groupFits, partFits, counted, assigned, assignedAll, propagated}
 use Rattle.tree.specs.declared.Node.{Node}
 use Rattle.tree.proofs.Codes.{definition-is, kind-high}
-use Rattle.tree.proofs.Parts.{times-parts, every-parts}
+use Rattle.tree.proofs.Parts.{count-parts, all-parts}
 
 pub readable : (t : List ℤ) (n l : ℕ) → Formed t n → 1 ≤ l → l ≤ n → Readable t l
 readable t n l s h g = record { low = s .kinds l h g .0; high = kind-high t n s; labels = s .labels l h g }
@@ -68,49 +69,49 @@ module _ (t : List ℤ) (l x : ℕ) where
     fits-low h = rw (ne-eqb x 0 d, le-ltb l x h)
 
 -- a field that holds no 0 as a body or operand
-pub field-every : (test : ℕ → Bool) (f : Form) (x : ℕ) → times 0 (operandIn f x) ≡ 0 → every test (operandIn f x) ≡ cond (eqb (partIn f x) 0) true (test (partIn f x))
-field-every test f x z = go (isOperand f) z
+pub field-all : (test : ℕ → Bool) (f : Form) (x : ℕ) → count 0 (operandIn f x) ≡ 0 → all test (operandIn f x) ≡ cond (eqb (partIn f x) 0) true (test (partIn f x))
+field-all test f x z = go (isOperand f) z
   where
     zero-free : (b : Bool) → one b + 0 ≡ 0 → b ≡ false
     zero-free true e = absurd (omega arith)
     zero-free false e = refl
 
-    go : (b : Bool) → times 0 (cond b (x ∷ []) []) ≡ 0 → every test (cond b (x ∷ []) []) ≡ cond (eqb (cond b x 0) 0) true (test (cond b x 0))
-    go true e = rw (zero-free (eqb x 0) e) (and-true (test x))
+    go : (b : Bool) → count 0 (cond b (x ∷ []) []) ≡ 0 → all test (cond b (x ∷ []) []) ≡ cond (eqb (cond b x 0) 0) true (test (cond b x 0))
+    go true e = rw (ne-eqb x 0 (λ q. eqb-false 0 x (zero-free (eqb 0 x) e) (sym q))) (and-true (test x))
     go false e = refl
 
 -- how often x, which is no 0, is the part in a field
-pub field-count : (f : Form) (x y : ℕ) → 1 ≤ x → times x (operandIn f y) ≡ one (eqb (partIn f y) x)
+pub field-count : (f : Form) (x y : ℕ) → 1 ≤ x → count x (operandIn f y) ≡ one (eqb x (partIn f y))
 field-count f x y h = go (isOperand f)
   where
-    go : (b : Bool) → times x (cond b (y ∷ []) []) ≡ one (eqb (cond b y 0) x)
+    go : (b : Bool) → count x (cond b (y ∷ []) []) ≡ one (eqb x (cond b y 0))
     go true = omega arith
-    go false = rw (ne-eqb 0 x (λ e. omega arith))
+    go false = rw (ne-eqb x 0 (λ e. omega arith))
 
 module _ (t : List ℤ) (l : ℕ) where
   pub node-definition : 1 ≤ kind t l → nodeAt t l .definition ≡ isDefinition t l
   unfolding nodeAt
   node-definition h = sym (definition-is t l h)
 
-  pub node-count : (x : ℕ) → 1 ≤ x → times x (parts t l) ≡ one (eqb (nodeAt t l .a) x) + one (eqb (nodeAt t l .b) x) + one (eqb (nodeAt t l .c) x)
+  pub node-count : (x : ℕ) → 1 ≤ x → count x (parts t l) ≡ one (eqb x (nodeAt t l .a)) + one (eqb x (nodeAt t l .b)) + one (eqb x (nodeAt t l .c))
   unfolding nodeAt
   node-count x h =
-      rw (times-parts t l x, field-count (kindAt (kind t l) .a) x (fieldA t l) h, field-count (kindAt (kind t l) .b) x (fieldB t l) h, field-count (kindAt (kind t l) .c) x (fieldC t l) h)
+      rw (count-parts t l x, field-count (kindAt (kind t l) .a) x (fieldA t l) h, field-count (kindAt (kind t l) .b) x (fieldB t l) h, field-count (kindAt (kind t l) .c) x (fieldC t l) h)
 
-  pub parts-fit : times 0 (parts t l) ≡ 0 → every (partRight t l) (parts t l) ≡ (partFits t l (nodeAt t l .a) && partFits t l (nodeAt t l .b) && partFits t l (nodeAt t l .c))
+  pub parts-fit : count 0 (parts t l) ≡ 0 → all (partRight t l) (parts t l) ≡ (partFits t l (nodeAt t l .a) && partFits t l (nodeAt t l .b) && partFits t l (nodeAt t l .c))
   unfolding nodeAt
   parts-fit z =
-      let a : times 0 (operandIn (kindAt (kind t l) .a) (fieldA t l)) ≡ 0 = omega (arith, times-parts t l 0) in
-      let b : times 0 (operandIn (kindAt (kind t l) .b) (fieldB t l)) ≡ 0 = omega (arith, times-parts t l 0) in
-      let c : times 0 (operandIn (kindAt (kind t l) .c) (fieldC t l)) ≡ 0 = omega (arith, times-parts t l 0) in
-      rw (every-parts t l (partRight t l), field-every (partRight t l) (kindAt (kind t l) .a) (fieldA t l) a, field-every (partRight t l) (kindAt (kind t l) .b) (fieldB t l) b, field-every (partRight t l) (kindAt (kind t l) .c) (fieldC t l) c)
+      let a : count 0 (operandIn (kindAt (kind t l) .a) (fieldA t l)) ≡ 0 = omega (arith, count-parts t l 0) in
+      let b : count 0 (operandIn (kindAt (kind t l) .b) (fieldB t l)) ≡ 0 = omega (arith, count-parts t l 0) in
+      let c : count 0 (operandIn (kindAt (kind t l) .c) (fieldC t l)) ≡ 0 = omega (arith, count-parts t l 0) in
+      rw (all-parts t l (partRight t l), field-all (partRight t l) (kindAt (kind t l) .a) (fieldA t l) a, field-all (partRight t l) (kindAt (kind t l) .b) (fieldB t l) b, field-all (partRight t l) (kindAt (kind t l) .c) (fieldC t l) c)
 
-  pub parts-right : times 0 (parts t l) ≡ 0 → (p : Node) → p ≡ nodeAt t l → (x y z : Bool) → x ≡ partFits t l (p .a) → y ≡ partFits t l (p .b) → z ≡ partFits t l (p .c)
-      → every (partRight t l) (parts t l) ≡ (x && y && z)
+  pub parts-right : count 0 (parts t l) ≡ 0 → (p : Node) → p ≡ nodeAt t l → (x y z : Bool) → x ≡ partFits t l (p .a) → y ≡ partFits t l (p .b) → z ≡ partFits t l (p .c)
+      → all (partRight t l) (parts t l) ≡ (x && y && z)
   parts-right w p e x y z f g h = rw (f, g, h, e) (parts-fit w)
 
   -- the row, by its two tests
-  pub structure-is : (d : Bool) (p q : Bool) → d ≡ isDefinition t l → p ≡ groupFits t l d → q ≡ every (partRight t l) (parts t l) → structureBad t l ≡ cond (p && q) 0 8
+  pub structure-is : (d : Bool) (p q : Bool) → d ≡ isDefinition t l → p ≡ groupFits t l d → q ≡ all (partRight t l) (parts t l) → structureBad t l ≡ cond (p && q) 0 8
   unfolding structureBad
   structure-is d p q e f g = rw (← e, f, g)
 

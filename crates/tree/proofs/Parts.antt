@@ -7,33 +7,34 @@ use native.Mathlib.Omega.{arith}
 use borrow.Author.Tests.{ltb-true, eqb-true, le-leb, eq-eqb, ne-eqb}
 use lib.Dec.{leb, ltb, eqb}
 use lib.IntN.{ℤ}
+use Rattle.cells.specs.Lists.{one, count, all}
 use Rattle.cells.specs.Table.{cell, kind, fieldA, fieldB, fieldC}
 use Rattle.lines.specs.Kinds.{kindAt}
 use Rattle.lines.specs.declared.Form.{Form}
 use Rattle.refusals.specs.declared.Verdict.the-variants.{Fine}
 use Rattle.refusals.specs.Refusal.{firstBad}
 use Rattle.refusals.proofs.FirstBad.{first-none}
-use Rattle.tree.specs.Tree.{isOperand, isDefinition, isExpression, operandIn, parts, every, groupRight, partRight, lineRight, structureBad, one, times, IsPart}
+use Rattle.tree.specs.Tree.{isOperand, isDefinition, isExpression, operandIn, parts, groupRight, partRight, lineRight, structureBad, IsPart}
 use Rattle.tree.specs.Treed.{Formed}
 use Rattle.tree.specs.Steps.{Structured}
 use Rattle.tree.proofs.Codes.{and-left, and-right, part-line, label-low, label-high}
 
 -- ---- lists of labels
 
-pub times-append : (x : ℕ) (xs ys : List ℕ) → times x (xs ++ ys) ≡ times x xs + times x ys
-times-append x [] ys = omega arith
-times-append x (y ∷ xs) ys = omega (arith, times-append x xs ys)
+pub count-append : (x : ℕ) (xs ys : List ℕ) → count x (xs ++ ys) ≡ count x xs + count x ys
+count-append x [] ys = omega arith
+count-append x (y ∷ xs) ys = omega (arith, count-append x xs ys)
 
-pub every-append : (test : ℕ → Bool) (xs ys : List ℕ) → every test (xs ++ ys) ≡ (every test xs && every test ys)
-every-append test [] ys = refl
-every-append test (x ∷ xs) ys = rw (every-append test xs ys) (sym (and-assoc (test x) (every test xs) (every test ys)))
+pub all-append : (test : ℕ → Bool) (xs ys : List ℕ) → all test (xs ++ ys) ≡ (all test xs && all test ys)
+all-append test [] ys = refl
+all-append test (x ∷ xs) ys = rw (all-append test xs ys) (sym (and-assoc (test x) (all test xs) (all test ys)))
 
-pub every-has : (test : ℕ → Bool) (xs : List ℕ) (x : ℕ) → every test xs ≡ true → 1 ≤ times x xs → test x ≡ true
-every-has test [] x e h = absurd (omega arith)
-every-has test (y ∷ ys) x e h = go (eqb y x) refl h (every-has test ys x (and-right (test y) (every test ys) e))
+pub all-has : (test : ℕ → Bool) (xs : List ℕ) (x : ℕ) → all test xs ≡ true → 1 ≤ count x xs → test x ≡ true
+all-has test [] x e h = absurd (omega arith)
+all-has test (y ∷ ys) x e h = go (eqb x y) refl h (all-has test ys x (and-right (test y) (all test ys) e))
   where
-    go : (b : Bool) → eqb y x ≡ b → 1 ≤ one b + times x ys → (1 ≤ times x ys → test x ≡ true) → test x ≡ true
-    go true q g rest = rw (eqb-true y x q) at (and-left (test y) (every test ys) e)
+    go : (b : Bool) → eqb x y ≡ b → 1 ≤ one b + count x ys → (1 ≤ count x ys → test x ≡ true) → test x ≡ true
+    go true q g rest = rw (sym (eqb-true x y q)) at (and-left (test y) (all test ys) e)
     go false q g rest = rest (omega arith)
 
 -- ---- over the three fields
@@ -48,41 +49,41 @@ module _ (t : List ℤ) (l : ℕ) where
   abbrev listC : List ℕ
   listC = operandIn (kindAt (kind t l) .c) (fieldC t l)
 
-  pub times-parts : (x : ℕ) → times x (parts t l) ≡ times x listA + times x listB + times x listC
+  pub count-parts : (x : ℕ) → count x (parts t l) ≡ count x listA + count x listB + count x listC
   unfolding parts
-  times-parts x = omega (arith, times-append x (listA ++ listB) listC, times-append x listA listB)
+  count-parts x = omega (arith, count-append x (listA ++ listB) listC, count-append x listA listB)
 
-  pub every-parts : (test : ℕ → Bool) → every test (parts t l) ≡ (every test listA && every test listB && every test listC)
+  pub all-parts : (test : ℕ → Bool) → all test (parts t l) ≡ (all test listA && all test listB && all test listC)
   unfolding parts
-  every-parts test =
-      every-append test (listA ++ listB) listC ∙ ap (λ (b : Bool). b && every test listC) (every-append test listA listB)
+  all-parts test =
+      all-append test (listA ++ listB) listC ∙ ap (λ (b : Bool). b && all test listC) (all-append test listA listB)
 
 one-most : (b : Bool) → one b ≤ 1
 one-most true = omega arith
 one-most false = omega arith
 
-pub field-most : (f : Form) (x y : ℕ) → times x (operandIn f y) ≤ 1
+pub field-most : (f : Form) (x y : ℕ) → count x (operandIn f y) ≤ 1
 field-most f x y = go (isOperand f)
   where
-    go : (b : Bool) → times x (cond b (y ∷ []) []) ≤ 1
-    go true = omega (arith, one-most (eqb y x))
+    go : (b : Bool) → count x (cond b (y ∷ []) []) ≤ 1
+    go true = omega (arith, one-most (eqb x y))
     go false = omega arith
 
 -- a field that is an operand holds a part
-pub field-part : (f : Form) (y : ℕ) → isOperand f ≡ true → 1 ≤ times y (operandIn f y)
+pub field-part : (f : Form) (y : ℕ) → isOperand f ≡ true → 1 ≤ count y (operandIn f y)
 field-part f y e = rw (e, eq-eqb y y refl) (omega arith)
 
 -- fields that hold no 0 as a body or operand
-field-zero : (f : Form) (x : ℕ) → (isOperand f ≡ true → 1 ≤ x) → times 0 (operandIn f x) ≡ 0
+field-zero : (f : Form) (x : ℕ) → (isOperand f ≡ true → 1 ≤ x) → count 0 (operandIn f x) ≡ 0
 field-zero f x h = go (isOperand f) h
   where
-    go : (b : Bool) → (b ≡ true → 1 ≤ x) → times 0 (cond b (x ∷ []) []) ≡ 0
-    go true g = rw (ne-eqb x 0 (λ e. omega (arith, g refl)))
+    go : (b : Bool) → (b ≡ true → 1 ≤ x) → count 0 (cond b (x ∷ []) []) ≡ 0
+    go true g = rw (ne-eqb 0 x (λ e. omega (arith, g refl)))
     go false g = refl
 
-pub parts-zero : (t : List ℤ) (l : ℕ) → (isOperand (kindAt (kind t l) .a) ≡ true → 1 ≤ fieldA t l) → (isOperand (kindAt (kind t l) .b) ≡ true → 1 ≤ fieldB t l) → (isOperand (kindAt (kind t l) .c) ≡ true → 1 ≤ fieldC t l) → times 0 (parts t l) ≡ 0
+pub parts-zero : (t : List ℤ) (l : ℕ) → (isOperand (kindAt (kind t l) .a) ≡ true → 1 ≤ fieldA t l) → (isOperand (kindAt (kind t l) .b) ≡ true → 1 ≤ fieldB t l) → (isOperand (kindAt (kind t l) .c) ≡ true → 1 ≤ fieldC t l) → count 0 (parts t l) ≡ 0
 parts-zero t l a b c =
-    omega (arith, times-parts t l 0, field-zero (kindAt (kind t l) .a) (fieldA t l) a, field-zero (kindAt (kind t l) .b) (fieldB t l) b, field-zero (kindAt (kind t l) .c) (fieldC t l) c)
+    omega (arith, count-parts t l 0, field-zero (kindAt (kind t l) .a) (fieldA t l) a, field-zero (kindAt (kind t l) .b) (fieldB t l) b, field-zero (kindAt (kind t l) .c) (fieldC t l) c)
 
 -- ---- row 8
 
@@ -98,13 +99,13 @@ module _ (t : List ℤ) (n : ℕ) (s : Formed t n) (fine : firstBad (structureBa
   right-group : (l : ℕ) → 2 ≤ l → l ≤ n → isDefinition t l ≡ true → groupRight t l (fieldA t l) ≡ true
   right-group l h g d =
       let e : (leb 2 l && isDefinition t l) ≡ true = rw (le-leb 2 l h, d) in
-      rw e at (and-left (cond (leb 2 l && isDefinition t l) (groupRight t l (fieldA t l)) true) (every (partRight t l) (parts t l)) (right-line l (omega arith) g))
+      rw e at (and-left (cond (leb 2 l && isDefinition t l) (groupRight t l (fieldA t l)) true) (all (partRight t l) (parts t l)) (right-line l (omega arith) g))
 
   right-part : (l x : ℕ) → IsPart t l x → partRight t l x ≡ true
   right-part l x p =
       let k : 1 ≤ kind t l = omega (arith, part-line t l x p) in
-      every-has (partRight t l) (parts t l) x
-      (and-right (cond (leb 2 l && isDefinition t l) (groupRight t l (fieldA t l)) true) (every (partRight t l) (parts t l)) (right-line l (label-low t l n s k) (label-high t l n s k))) p
+      all-has (partRight t l) (parts t l) x
+      (and-right (cond (leb 2 l && isDefinition t l) (groupRight t l (fieldA t l)) true) (all (partRight t l) (parts t l)) (right-line l (label-low t l n s k) (label-high t l n s k))) p
 
   pub structured : Structured t n
   structured = record {

@@ -11,10 +11,11 @@ use lib.Dec.{eqb}
 use lib.IntN.{ℤ, pos}
 use lib.ListN.{length, set}
 use Rattle.cells.specs.Cells.{natOf}
+use Rattle.cells.specs.Lists.{one, count}
 use Rattle.cells.specs.Table.{kind, fieldA, owner, target}
 use Rattle.cells.proofs.Signed.{clash}
 use Rattle.cells.proofs.Table.{cell-put, cell-other}
-use Rattle.tree.specs.Tree.{isDefinition, isExpression, parts, one, times, uses, IsPart, userOf, ownerOf, levelOf}
+use Rattle.tree.specs.Tree.{isDefinition, isExpression, parts, uses, IsPart, userOf, ownerOf, levelOf}
 use Rattle.tree.specs.Treed.{Plain}
 use Rattle.tree.specs.Steps.{nodeAt, counted, countedAll, assigned, assignedAll, propagated, Inside, Countable, Propagable, Structured, UsedOnce, Natural, Over, Counted, turnOf, Propagated, Cleared}
 use Rattle.tree.specs.declared.Node.{Node}
@@ -70,7 +71,7 @@ count-start t n p = record { over = over-start t n (plain-natural t n p); uses =
     blank zero h g = refl
     blank (suc k) h g = ap natOf (p .blank k 7 (omega arith) (omega arith) (omega arith))
 
-uses-step : (t : List ℤ) (l x : ℕ) → 1 ≤ l → uses t l x ≡ uses t (l - 1) x + times x (parts t l)
+uses-step : (t : List ℤ) (l x : ℕ) → 1 ≤ l → uses t l x ≡ uses t (l - 1) x + count x (parts t l)
 uses-step t zero x h = absurd (omega arith)
 uses-step t (suc k) x h = let e : suc k - 1 ≡ k = omega arith in rw e
 
@@ -118,7 +119,7 @@ module _ (t : List ℤ) (n : ℕ) (s : Structured t n) (w : List ℤ) (l : ℕ) 
         uses = counted-uses;
       })
 
--- ---- handing on
+-- ---- propagating
 
 abbrev Right : List ℤ → ℕ → List ℤ → ℕ → Type 0
 Right t n w x = (owner w x ≡ ownerOf t n x) × (target w x ≡ levelOf t n x)
@@ -266,8 +267,8 @@ module _ (t : List ℤ) (n : ℕ) (s : UsedOnce t n) (w : List ℤ) (l : ℕ) (h
           ⊎-elim (λ z. z) (λ z. absurd (omega arith))
           (assigned-right t n w l (fieldA t l) 0 y 0 room right a (⊎-elim (λ z. inl (before-right y a b z)) (λ z. inr (this z)) c))
         where
-          this : (y ≡ l) × (isExpression t y ≡ false) → 1 ≤ one (eqb l y) + 0
-          this z = rw (eq-eqb l y (sym (z .0))) (omega arith)
+          this : (y ≡ l) × (isExpression t y ≡ false) → 1 ≤ one (eqb y l) + 0
+          this z = rw (eq-eqb y l (z .0)) (omega arith)
 
   turn-expression : isExpression t l ≡ true → Propagated t n l (assignedAll (nodeAt t l) (owner w l) (target w l + 1) w)
   turn-expression e =

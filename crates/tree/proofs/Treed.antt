@@ -22,7 +22,7 @@ use Rattle.tree.specs.Tree.{isOperand, isDefinition, isExpression, IsPar
 use Rattle.tree.specs.Treed.{Formed, PartOf, Treed}
 use Rattle.tree.specs.Steps.{UsedOnce}
 use Rattle.tree.proofs.Codes.{expression-kind, not-expression, either, definition-low, expression-low, expression-high, body-code, first-code, second-code, third-code, label-low, label-high, kind-high}
-use Rattle.tree.proofs.Parts.{Alike, structured, times-parts, field-part}
+use Rattle.tree.proofs.Parts.{Alike, structured, count-parts, field-part}
 use Rattle.tree.proofs.Users.{tree}
 use Rattle.tree.proofs.Owners as own
 
@@ -147,13 +147,13 @@ module _ (t : List ℤ) (n : ℕ) (s : Formed t n) (r : Treed t n) where
       (r .standing l (expression-high t l (omega arith) (kind-high t n s l)) ∙ sym (owner-at l (omega arith)))
 
   first-part : (l : ℕ) → isOperand (kindAt (kind t l) .a) ≡ true → IsPart t l (fieldA t l)
-  first-part l e = omega (arith, times-parts t l (fieldA t l), field-part (kindAt (kind t l) .a) (fieldA t l) e)
+  first-part l e = omega (arith, count-parts t l (fieldA t l), field-part (kindAt (kind t l) .a) (fieldA t l) e)
 
   second-part : (l : ℕ) → isOperand (kindAt (kind t l) .b) ≡ true → IsPart t l (fieldB t l)
-  second-part l e = omega (arith, times-parts t l (fieldB t l), field-part (kindAt (kind t l) .b) (fieldB t l) e)
+  second-part l e = omega (arith, count-parts t l (fieldB t l), field-part (kindAt (kind t l) .b) (fieldB t l) e)
 
   third-part : (l : ℕ) → isOperand (kindAt (kind t l) .c) ≡ true → IsPart t l (fieldC t l)
-  third-part l e = omega (arith, times-parts t l (fieldC t l), field-part (kindAt (kind t l) .c) (fieldC t l) e)
+  third-part l e = omega (arith, count-parts t l (fieldC t l), field-part (kindAt (kind t l) .c) (fieldC t l) e)
 
   body-placed : (l : ℕ) → 2 ≤ kind t l → kind t l ≤ 3 → Part owned-table n l l (fieldB owned-table l)
   body-placed l h g =

@@ -9,20 +9,21 @@ use native.Mathlib.Nat.{eq-or-lt-of-le}
 use borrow.Author.Tests.{leb-true, leb-false, eqb-true}
 use lib.Dec.{leb, eqb}
 use lib.IntN.{ℤ}
+use Rattle.cells.specs.Lists.{count}
 use Rattle.cells.specs.Table.{kind, fieldA, fieldB, fieldC}
 use Rattle.lines.specs.Kinds.{kindAt}
 use Rattle.refusals.specs.declared.Verdict.the-variants.{Fine}
 use Rattle.refusals.specs.Refusal.{firstBad}
 use Rattle.refusals.proofs.FirstBad.{first-none}
-use Rattle.tree.specs.Tree.{isExpression, parts, times, uses, usesBad, IsPart, userOf}
+use Rattle.tree.specs.Tree.{isExpression, parts, uses, usesBad, IsPart, userOf}
 use Rattle.tree.specs.Steps.{Structured, UsedOnce}
 use Rattle.tree.proofs.Codes.{expression-kind, label-low, label-high}
-use Rattle.tree.proofs.Parts.{Alike, times-parts, field-most, alike-parts}
+use Rattle.tree.proofs.Parts.{Alike, count-parts, field-most, alike-parts}
 
 module _ (t : List ℤ) (x : ℕ) where
-  pub line-most : (l : ℕ) → times x (parts t l) ≤ 3
+  pub line-most : (l : ℕ) → count x (parts t l) ≤ 3
   line-most l =
-      omega (arith, times-parts t l x, field-most (kindAt (kind t l) .a) x (fieldA t l), field-most (kindAt (kind t l) .b) x (fieldB t l), field-most (kindAt (kind t l) .c) x (fieldC t l))
+      omega (arith, count-parts t l x, field-most (kindAt (kind t l) .a) x (fieldA t l), field-most (kindAt (kind t l) .b) x (fieldB t l), field-most (kindAt (kind t l) .c) x (fieldC t l))
 
   pub uses-most : (k : ℕ) → uses t k x ≤ 3 * k
   uses-most zero = omega arith
@@ -34,7 +35,7 @@ module _ (t : List ℤ) (x : ℕ) where
   part-used (suc k) l h g p = ⊎-elim (λ q. last q) (λ q. older (part-used k l h (omega arith) p)) (eq-or-lt-of-le g)
     where
       last : l ≡ suc k → 1 ≤ uses t (suc k) x
-      last q = let r : 1 ≤ times x (parts t (suc k)) = rw (sym q) p in omega arith
+      last q = let r : 1 ≤ count x (parts t (suc k)) = rw (sym q) p in omega arith
 
       older : 1 ≤ uses t k x → 1 ≤ uses t (suc k) x
       older r = omega arith
@@ -47,26 +48,26 @@ module _ (t : List ℤ) (x : ℕ) where
 
   pub user-some : (k : ℕ) → 1 ≤ uses t k x → User k (userOf t k x)
   user-some zero h = absurd (omega arith)
-  user-some (suc k) h = go (leb 1 (times x (parts t (suc k)))) refl (user-some k)
+  user-some (suc k) h = go (leb 1 (count x (parts t (suc k)))) refl (user-some k)
     where
-      go : (b : Bool) → leb 1 (times x (parts t (suc k))) ≡ b → (1 ≤ uses t k x → User k (userOf t k x)) → User (suc k) (cond b (suc k) (userOf t k x))
-      go true q older = record { low = omega arith; high = omega arith; part = leb-true 1 (times x (parts t (suc k))) q }
+      go : (b : Bool) → leb 1 (count x (parts t (suc k))) ≡ b → (1 ≤ uses t k x → User k (userOf t k x)) → User (suc k) (cond b (suc k) (userOf t k x))
+      go true q older = record { low = omega arith; high = omega arith; part = leb-true 1 (count x (parts t (suc k))) q }
       go false q older =
-          let r = older (omega (arith, leb-false 1 (times x (parts t (suc k))) q)) in
+          let r = older (omega (arith, leb-false 1 (count x (parts t (suc k))) q)) in
           record { low = r .low; high = omega (arith, r .high); part = r .part }
 
   -- and what is used once has one user
   pub user-only : (k l : ℕ) → uses t k x ≤ 1 → 1 ≤ l → l ≤ k → IsPart t l x → userOf t k x ≡ l
   user-only zero l m h g p = absurd (omega arith)
-  user-only (suc k) l m h g p = go (leb 1 (times x (parts t (suc k)))) refl (user-only k l)
+  user-only (suc k) l m h g p = go (leb 1 (count x (parts t (suc k)))) refl (user-only k l)
     where
-      go : (b : Bool) → leb 1 (times x (parts t (suc k))) ≡ b → (uses t k x ≤ 1 → 1 ≤ l → l ≤ k → IsPart t l x → userOf t k x ≡ l) → cond b (suc k) (userOf t k x) ≡ l
+      go : (b : Bool) → leb 1 (count x (parts t (suc k))) ≡ b → (uses t k x ≤ 1 → 1 ≤ l → l ≤ k → IsPart t l x → userOf t k x ≡ l) → cond b (suc k) (userOf t k x) ≡ l
       go true q older =
-          let r = leb-true 1 (times x (parts t (suc k))) q in
+          let r = leb-true 1 (count x (parts t (suc k))) q in
           ⊎-elim (λ e. sym e) (λ e. absurd (omega (arith, part-used k l h (omega arith) p))) (eq-or-lt-of-le g)
-      go false q older = ⊎-elim (λ e. absurd (omega (arith, leb-false 1 (times x (parts t (suc k))) q, there e))) (λ e. older (omega arith) h (omega arith) p) (eq-or-lt-of-le g)
+      go false q older = ⊎-elim (λ e. absurd (omega (arith, leb-false 1 (count x (parts t (suc k))) q, there e))) (λ e. older (omega arith) h (omega arith) p) (eq-or-lt-of-le g)
         where
-          there : l ≡ suc k → 1 ≤ times x (parts t (suc k))
+          there : l ≡ suc k → 1 ≤ count x (parts t (suc k))
           there e = rw (sym e) p
 
 -- ---- row 9

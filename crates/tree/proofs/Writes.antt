@@ -10,10 +10,11 @@ use lib.Dec.{eqb}
 use lib.IntN.{ℤ, pos}
 use lib.ListN.{length, set, length-set}
 use Rattle.cells.specs.Cells.{natOf, intAt}
+use Rattle.cells.specs.Lists.{one, count}
 use Rattle.cells.specs.Table.{cell, kind, fieldA, owner, target}
 use Rattle.cells.proofs.Stores.{intAt-put, intAt-other}
 use Rattle.cells.proofs.Table.{cell-put, cell-other}
-use Rattle.tree.specs.Tree.{isExpression, one, times, IsPart}
+use Rattle.tree.specs.Tree.{isExpression, IsPart}
 use Rattle.tree.specs.Treed.{Formed, Plain}
 use Rattle.tree.specs.Steps.{nodeAt, counted, assigned, Inside, Countable, Structured, UsedOnce, Natural, Over}
 use Rattle.tree.specs.declared.Node.{Node}
@@ -59,7 +60,7 @@ module _ (t w : List ℤ) (same : Alike t w) where
       room = omega (arith, s .room);
       kinds = λ l h g. rw (same l 0 (omega arith)) (s .kinds l h g);
       unused = λ l h. same l 0 (omega arith) ∙ s .unused l h;
-      labels = λ l h g. ap (times 0) (alike-parts t w same l) ∙ s .labels l h g;
+      labels = λ l h g. ap (count 0) (alike-parts t w same l) ∙ s .labels l h g;
       top = same 1 3 (omega arith) ∙ s .top;
     }
 
@@ -116,21 +117,21 @@ module _ (x : ℕ) (t : List ℤ) (room : 8 * x ≤ length t) where
       ⊎-elim (λ e. ap length (counted-none x t e))
       (λ h. ap length (counted-some x t (λ e. omega arith)) ∙ length-set t (8 * (x - 1) + 7) (pos (target t x + 1))) (none-or-some x)
 
-  pub counted-target : (y : ℕ) → 1 ≤ y → target (counted x t) y ≡ target t y + one (eqb x y)
+  pub counted-target : (y : ℕ) → 1 ≤ y → target (counted x t) y ≡ target t y + one (eqb y x)
   counted-target y h = ⊎-elim none some (none-or-some x)
     where
-      none : x ≡ 0 → target (counted x t) y ≡ target t y + one (eqb x y)
-      none e = rw (counted-none x t e, ne-eqb x y (λ q. omega arith)) (omega arith)
+      none : x ≡ 0 → target (counted x t) y ≡ target t y + one (eqb y x)
+      none e = rw (counted-none x t e, ne-eqb y x (λ q. omega arith)) (omega arith)
 
-      go : 1 ≤ x → (b : Bool) → eqb x y ≡ b → target (set t (8 * (x - 1) + 7) (pos (target t x + 1))) y ≡ target t y + one b
-      go g true q = rw (sym (eqb-true x y q)) (cell-put t x 7 (target t x + 1) g room (omega arith))
-      go g false q = cell-other t x 7 y 7 (pos (target t x + 1)) g (omega arith) (omega arith) (λ e f. eqb-false x y q (sym e)) ∙ omega arith
+      go : 1 ≤ x → (b : Bool) → eqb y x ≡ b → target (set t (8 * (x - 1) + 7) (pos (target t x + 1))) y ≡ target t y + one b
+      go g true q = rw (eqb-true y x q) (cell-put t x 7 (target t x + 1) g room (omega arith))
+      go g false q = cell-other t x 7 y 7 (pos (target t x + 1)) g (omega arith) (omega arith) (λ e f. eqb-false y x q e) ∙ omega arith
 
-      some : 1 ≤ x → target (counted x t) y ≡ target t y + one (eqb x y)
-      some g = rw (counted-some x t (λ e. omega arith)) (go g (eqb x y) refl)
+      some : 1 ≤ x → target (counted x t) y ≡ target t y + one (eqb y x)
+      some g = rw (counted-some x t (λ e. omega arith)) (go g (eqb y x) refl)
 
   pub counted-most : (y : ℕ) → target (counted x t) y ≤ target t y + 1
-  counted-most y = ⊎-elim (λ e. zero-case e) (λ h. some-case h (eqb x y) (counted-target y h)) (none-or-some y)
+  counted-most y = ⊎-elim (λ e. zero-case e) (λ h. some-case h (eqb y x) (counted-target y h)) (none-or-some y)
     where
       zero-case : y ≡ 0 → target (counted x t) y ≤ target t y + 1
       zero-case e = rw e (omega arith)

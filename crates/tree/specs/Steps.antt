@@ -8,10 +8,11 @@ use lib.Dec.{leb, eqb}
 use lib.IntN.{ℤ, pos}
 use lib.ListN.{length, set}
 use Rattle.cells.specs.Cells.{intAt}
+use Rattle.cells.specs.Lists.{count}
 use Rattle.cells.specs.Table.{cell, kind, fieldA, fieldB, fieldC, owner, target}
 use Rattle.lines.specs.Kinds.{kindAt}
 use Rattle.lines.specs.declared.Form.{Form}
-use Rattle.tree.specs.Tree.{isGroup, isOperand, isDefinition, isExpression, parts, groupRight, partRight, structureBad, times, uses, notOnce, IsPart, userOf, ownerOf, levelOf, argumentIn, tooDeep}
+use Rattle.tree.specs.Tree.{isGroup, isOperand, isDefinition, isExpression, parts, groupRight, partRight, structureBad, uses, notOnce, IsPart, userOf, ownerOf, levelOf, argumentIn, tooDeep}
 use Rattle.tree.specs.Treed.{Formed}
 use Rattle.tree.specs.declared.Node.{Node}
 use Rattle.tree.specs.declared.Rule.{Rule}
@@ -35,7 +36,7 @@ nodeAt t l = record {
 pub record Readable (t : List ℤ) (l : ℕ) : Type 0 where
   pub low : 1 ≤ kind t l
   pub high : (x : ℕ) → kind t x ≤ 12
-  pub labels : times 0 (parts t l) ≡ 0
+  pub labels : count 0 (parts t l) ≡ 0
 
 -- row 8 by the node: a definition's Group, from label 2, and what may be a body or operand
 abbrev pub groupFits : List ℤ → ℕ → Bool → Bool

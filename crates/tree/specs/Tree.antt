@@ -7,6 +7,7 @@ use Prim.Native.Nat.{ℕ, zero, suc, _+_, _≤_}
 use lib.Dec.{leb, ltb, eqb}
 use lib.IntN.{ℤ}
 use lib.ListN.{length}
+use Rattle.cells.specs.Lists.{count, all}
 use Rattle.cells.specs.Table.{kind, fieldA, fieldB, fieldC}
 use Rattle.lines.specs.Kinds.{kindAt}
 use Rattle.lines.specs.declared.Form.{Form}
@@ -52,10 +53,6 @@ parts t l =
 
 -- ---- row 8
 
-abbrev pub every : (ℕ → Bool) → List ℕ → Bool
-every test [] = true
-every test (x ∷ xs) = test x && every test xs
-
 -- g is a G with a label below l
 abbrev pub groupRight : List ℤ → ℕ → ℕ → Bool
 groupRight t l g = ltb g l && eqb (kind t g) 1
@@ -66,26 +63,17 @@ partRight t l x = ltb l x && isExpression t x
 
 -- the Group field is judged from label 2
 abbrev pub lineRight : List ℤ → ℕ → Bool
-lineRight t l = cond (leb 2 l && isDefinition t l) (groupRight t l (fieldA t l)) true && every (partRight t l) (parts t l)
+lineRight t l = cond (leb 2 l && isDefinition t l) (groupRight t l (fieldA t l)) true && all (partRight t l) (parts t l)
 
 unfoldable pub structureBad : List ℤ → ℕ → ℕ
 structureBad t l = cond (lineRight t l) 0 structureRow
 
 -- ---- row 9
 
-abbrev pub one : Bool → ℕ
-one true = 1
-one false = 0
-
--- how often x stands in a list
-abbrev pub times : ℕ → List ℕ → ℕ
-times x [] = 0
-times x (y ∷ ys) = one (eqb y x) + times x ys
-
 -- how often x is used by the fields of the labels from 1 to n
 abbrev pub uses : List ℤ → ℕ → ℕ → ℕ
 uses t zero x = 0
-uses t (suc k) x = uses t k x + times x (parts t (suc k))
+uses t (suc k) x = uses t k x + count x (parts t (suc k))
 
 -- an expression used u times
 abbrev pub notOnce : Bool → ℕ → ℕ
@@ -98,7 +86,7 @@ usesBad t n x = notOnce (isExpression t x) (uses t n x)
 
 -- x is the body or an operand of line l
 abbrev pub IsPart : List ℤ → ℕ → ℕ → Type 0
-IsPart t l x = 1 ≤ times x (parts t l)
+IsPart t l x = 1 ≤ count x (parts t l)
 
 -- an expression is owned by the definition whose body it is or stands in
 pub data Owned (t : List ℤ) : ℕ → ℕ → Type 0 where
@@ -113,7 +101,7 @@ pub data Level (t : List ℤ) : ℕ → ℕ → Type 0 where
 -- the last label from 1 to n that uses x; 0 where none does
 abbrev pub userOf : List ℤ → ℕ → ℕ → ℕ
 userOf t zero x = 0
-userOf t (suc k) x = cond (leb 1 (times x (parts t (suc k)))) (suc k) (userOf t k x)
+userOf t (suc k) x = cond (leb 1 (count x (parts t (suc k)))) (suc k) (userOf t k x)
 
 -- the lines above x: its user, that one's user and so on, up to a definition. A user's label is below that of what it uses, so that the
 -- label is fuel enough

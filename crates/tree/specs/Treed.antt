@@ -6,11 +6,12 @@ use Prim.Native.Nat.{ℕ, _+_, _*_, _≤_, _<_}
 use lib.IntN.{ℤ, pos}
 use lib.ListN.{length}
 use Rattle.cells.specs.Cells.{intAt}
+use Rattle.cells.specs.Lists.{count}
 use Rattle.cells.specs.Table.{kind, fieldA, withColumn}
 use Rattle.cells.specs.Accepted.{HasBody}
 use Rattle.refusals.specs.declared.Verdict.{Verdict}
 use Rattle.refusals.specs.declared.Verdict.the-variants.{Fine, Refused}
-use Rattle.tree.specs.Tree.{isDefinition, isExpression, parts, times, uses, IsPart, Owned, Level, definitionOf, ownerOf, levelOf}
+use Rattle.tree.specs.Tree.{isDefinition, isExpression, parts, uses, IsPart, Owned, Level, definitionOf, ownerOf, levelOf}
 
 -- the lines of a table of n labels that passed rows 1 to 7
 pub record Formed (t : List ℤ) (n : ℕ) : Type 0 where
@@ -19,7 +20,7 @@ pub record Formed (t : List ℤ) (n : ℕ) : Type 0 where
   pub kinds : (l : ℕ) → 1 ≤ l → l ≤ n → (1 ≤ kind t l) × (kind t l ≤ 12)
   pub unused : (l : ℕ) → n < l → kind t l ≡ 0
   -- a body or operand field holds a label, and label 1 has no Group
-  pub labels : (l : ℕ) → 1 ≤ l → l ≤ n → times 0 (parts t l) ≡ 0
+  pub labels : (l : ℕ) → 1 ≤ l → l ≤ n → count 0 (parts t l) ≡ 0
   pub top : fieldA t 1 ≡ 0
 
 -- and nothing is written of owners and targets yet

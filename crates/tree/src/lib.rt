@@ -1,23 +1,17 @@
 // The tree of a table: rows 8 to 11 of document 01's table of refusals, and the owner of each label. A user's label is below that of what
-// it uses, so that one pass upward through the labels hands owners and levels on; uses and levels stand in the target cells meanwhile.
+// it uses, so that one pass upward through the labels propagates owners and levels; uses and levels stand in the target cells meanwhile.
 
 ghost use mathlib.Core.Path.{_≡_};
 ghost use Prim.Native.Nat.{_*_, _≤_, _<_};
 ghost use lib.ListN.{length};
+ghost use Rattle.cells.specs.Lists.{all};
 ghost use Rattle.cells.specs.Table.{cell, kind, target};
 ghost use Rattle.refusals.specs.Refusal.{firstBad, orElse};
-ghost use Rattle.tree.specs.Tree.{isGroup, isExpression, every, partRight, parts, structureBad, usesBad, argumentBad, levelBad, treeBad};
+ghost use Rattle.tree.specs.Tree.{isGroup, isExpression, partRight, parts, structureBad, usesBad, argumentBad, levelBad, treeBad};
 ghost use Rattle.tree.specs.Treed.{Formed, Plain, Written};
 ghost use Rattle.tree.specs.Steps.{partIn, nodeAt, Readable, groupFits, partFits, cellBad, counted, countedAll, assigned, assignedAll, propagated, Inside, Countable, Propagable, Structured, UsedOnce, Natural, Counted, Propagated, Cleared, Owning};
 use lines::Form;
 use refusals::Verdict;
-
-// Codes of the kinds that these rows name.
-const G: usize = 1;
-
-const V: usize = 2;
-
-const P: usize = 5;
 
 // ---- one line
 
@@ -29,6 +23,7 @@ pub struct Node {
     pub c: usize,
 }
 
+// Whether a field holds the Group of a definition.
 fn is_group(form: Form) -> bool
     ensures { λ r. ⌜ r ≡ isGroup form ⌝ }
 {
@@ -49,18 +44,19 @@ fn part_at(table: &[i64], label: usize, j: usize, form: Form) -> usize
     }
 }
 
+// The line as a node, by the table of kinds.
 fn node_at(table: &[i64], label: usize) -> Node
     requires { ⌜ (1 ≤ kind (now table) label) × (kind (now table) label ≤ 12) ⌝ }
     ensures { λ r. ⌜ r ≡ nodeAt (now (table .entry)) label ⌝ }
 {
-    let kind = lines::kind_row(cells::cell_at(table, label, 0));
+    let kind = lines::kind_row(cells::cell_at(table, label, cells::KIND));
     let form_a = kind.a;
     let form_b = kind.b;
     let form_c = kind.c;
     let definition = is_group(form_a);
-    let a = part_at(table, label, 3, form_a);
-    let b = part_at(table, label, 4, form_b);
-    let c = part_at(table, label, 5, form_c);
+    let a = part_at(table, label, cells::A, form_a);
+    let b = part_at(table, label, cells::B, form_b);
+    let c = part_at(table, label, cells::C, form_c);
     Node {
         definition,
         a,
@@ -69,11 +65,12 @@ fn node_at(table: &[i64], label: usize) -> Node
     }
 }
 
+// Whether the line is an expression; what is no label is none.
 fn is_expression(table: &[i64], label: usize) -> bool
     requires { ⌜ kind (now table) label ≤ 12 ⌝ }
     ensures { λ r. ⌜ r ≡ isExpression (now (table .entry)) label ⌝ }
 {
-    let code = cells::cell_at(table, label, 0);
+    let code = cells::cell_at(table, label, cells::KIND);
     if code == 0 {
         return false;
     }
@@ -95,9 +92,9 @@ fn group_right(table: &[i64], label: usize, definition: bool) -> bool
         return true;
     }
     if definition {
-        let group = cells::cell_at(table, label, 3);
+        let group = cells::cell_at(table, label, cells::A);
         if group < label {
-            return cells::cell_at(table, group, 0) == G;
+            return cells::cell_at(table, group, cells::KIND) == cells::GROUP;
         }
         return false;
     }
@@ -118,9 +115,10 @@ fn part_right(table: &[i64], label: usize, x: usize) -> bool
     false
 }
 
+// Whether the body or operands of a line are expressions with larger labels.
 fn parts_right(table: &[i64], label: usize, node: Node) -> bool
     requires { ⌜ Readable (now table) label × (node ≡ nodeAt (now table) label) ⌝ }
-    ensures { λ r. ⌜ r ≡ every (partRight (now (table .entry)) label) (parts (now (table .entry)) label) ⌝ }
+    ensures { λ r. ⌜ r ≡ all (partRight (now (table .entry)) label) (parts (now (table .entry)) label) ⌝ }
 {
     if part_right(table, label, node.a) {
         if part_right(table, label, node.b) {
@@ -130,6 +128,7 @@ fn parts_right(table: &[i64], label: usize, node: Node) -> bool
     false
 }
 
+// Row 8: the Group of a definition, and the body or operands of a line.
 fn structure_bad(table: &[i64], label: usize) -> u64
     requires { ⌜ Readable (now table) label ⌝ }
     ensures { λ r. ⌜ r ≡ structureBad (now (table .entry)) label ⌝ }
@@ -151,35 +150,37 @@ pub enum Rule {
     Level,
 }
 
+// Row 9, by the uses in the target cell: an expression is used by one field, once.
 fn uses_bad(table: &[i64], label: usize) -> u64
     requires { ⌜ kind (now table) label ≤ 12 ⌝ }
     ensures { λ r. ⌜ r ≡ cellBad Rule.Uses (now (table .entry)) label ⌝ }
 {
     if is_expression(table, label) {
-        if cells::cell_at(table, label, 7) != 1 {
+        if cells::cell_at(table, label, cells::TARGET) != 1 {
             return refusals::USES;
         }
     }
     0
 }
 
-// A P is in no V.
+// Row 10: no P is owned by a V.
 fn argument_bad(table: &[i64], label: usize) -> u64
     ensures { λ r. ⌜ r ≡ cellBad Rule.Argument (now (table .entry)) label ⌝ }
 {
-    if cells::cell_at(table, label, 0) == P {
-        let owner = cells::cell_at(table, label, 6);
-        if cells::cell_at(table, owner, 0) == V {
+    if cells::cell_at(table, label, cells::KIND) == cells::ARGUMENT {
+        let owner = cells::cell_at(table, label, cells::OWNER);
+        if cells::cell_at(table, owner, cells::KIND) == cells::VALUE {
             return refusals::ARGUMENT;
         }
     }
     0
 }
 
+// Row 11, by the level in the target cell: at most 32.
 fn level_bad(table: &[i64], label: usize) -> u64
     ensures { λ r. ⌜ r ≡ cellBad Rule.Level (now (table .entry)) label ⌝ }
 {
-    if 32 < cells::cell_at(table, label, 7) {
+    if 32 < cells::cell_at(table, label, cells::TARGET) {
         return refusals::LEVEL;
     }
     0
@@ -216,16 +217,18 @@ fn first_bad(table: &[i64], n: usize, rule: Rule) -> Verdict
 
 // ---- how often each label is used
 
+// One use of x more, if it is a label.
 fn count_part(table: &mut [i64], x: usize)
     requires { ⌜ (8 * x ≤ length (now table)) × (target (now table) x < 65536) ⌝ }
     ensures { λ _. ⌜ now (table .exit) ≡ counted x (now (table .entry)) ⌝ }
 {
     if x != 0 {
-        let uses = cells::cell_at(table, x, 7);
-        cells::put_cell(table, x, 7, uses + 1);
+        let uses = cells::cell_at(table, x, cells::TARGET);
+        cells::put_cell(table, x, cells::TARGET, uses + 1);
     }
 }
 
+// One use more of each part of a line.
 fn count_parts(table: &mut [i64], label: usize)
     requires { ⌜ Countable (now table) label ⌝ }
     ensures { λ _. ⌜ now (table .exit) ≡ countedAll (nodeAt (now (table .entry)) label) (now (table .entry)) ⌝ }
@@ -236,6 +239,7 @@ fn count_parts(table: &mut [i64], label: usize)
     count_part(table, node.c);
 }
 
+// How often each label is used, in its target cell.
 fn count_uses(table: &mut [i64], n: usize)
     requires { ⌜ Plain (now table) n × Structured (now table) n ⌝ }
     ensures { λ _. ⌜ Counted (now (table .entry)) n n (now (table .exit)) ⌝ }
@@ -255,8 +259,8 @@ fn assign(table: &mut [i64], x: usize, owner: usize, level: usize)
     ensures { λ _. ⌜ now (table .exit) ≡ assigned x owner level (now (table .entry)) ⌝ }
 {
     if x != 0 {
-        cells::put_cell(table, x, 6, owner);
-        cells::put_cell(table, x, 7, level);
+        cells::put_cell(table, x, cells::OWNER, owner);
+        cells::put_cell(table, x, cells::TARGET, level);
     }
 }
 
@@ -297,13 +301,14 @@ fn propagate_all(table: &mut [i64], n: usize)
     }
 }
 
+// The target cells are 0 again, for the paths to come.
 fn clear_targets(table: &mut [i64], n: usize)
     requires { ⌜ (8 * n ≤ length (now table)) × Natural (now table) n ⌝ }
     ensures { λ _. ⌜ Cleared (now (table .entry)) n n (now (table .exit)) ⌝ }
 {
     let mut label: usize = 1;
     while label <= n {
-        cells::put_cell(table, label, 7, 0);
+        cells::put_cell(table, label, cells::TARGET, 0);
         label += 1;
     }
 }

@@ -1,6 +1,7 @@
 use native.Mathlib.Omega.{arith}
 use lib.ListN.{replicate}
-use Rattle.paths.proofs.Joining.{unlinked, zeros-at}
+use Rattle.cells.proofs.Scratch.{zero-at}
+use Rattle.paths.proofs.Joining.{unlinked}
 use borrow.Author.Needs.{needs}
 use Rattle.paths.proofs.read_paths.Statement.{statement}
 use Rattle.paths.proofs.read_paths.Tie as tie
@@ -12,7 +13,7 @@ slice-aggregate-link-2 : tie.Need-slice-aggregate-link-2
 slice-aggregate-link-2 c = search needs
 
 link-requires : tie.Need-link-requires
-link-requires c κs = ((c .before .before .before .before .pre, omega arith, omega arith), unlinked (c .before .before .before .before .args .text .now) (c .before .before .before .before .args .table .now) (c .before .before .before .before .args .n) (replicate 1024 0) (replicate 1025 0) (zeros-at 1024))
+link-requires c κs = ((c .before .before .before .before .pre, omega arith, omega arith), unlinked (c .before .before .before .before .args .text .now) (c .before .before .before .before .args .table .now) (c .before .before .before .before .args .n) (replicate 1024 0) (replicate 1025 0) (zero-at 1024))
 
 slice-aggregate-resolve : tie.Need-slice-aggregate-resolve
 slice-aggregate-resolve c = search needs

@@ -1,7 +1,8 @@
 -- Row 8 by its two tests.
 use mathlib.Core.Path.{_∙_, sym, ap, refl}
 use Rattle.tree.specs.declared.Node.{Node}
-use Rattle.tree.specs.Tree.{partRight, parts, every}
+use Rattle.cells.specs.Lists.{all}
+use Rattle.tree.specs.Tree.{partRight, parts}
 use Rattle.tree.proofs.Labels.{node-definition, structure-is}
 use borrow.Author.Needs.{needs}
 use Rattle.tree.proofs.structure_bad.Statement.{statement}
@@ -31,7 +32,7 @@ returns-2 c =
 returns-3 : tie.Need-returns-3
 returns-3 c =
     let s = c .before .before .before in
-    sym (structure-is (s .args .table .now) (s .args .label) (c .before .before .node-at .result .definition) (c .before .group-right .result) (every (partRight (s .args .table .now) (s .args .label)) (parts (s .args .table .now) (s .args .label))) (ap (λ (p : Node). p .definition) (c .before .before .node-at .ensures) ∙ node-definition (s .args .table .now) (s .args .label) (s .pre .low)) (c .before .group-right .ensures) refl
+    sym (structure-is (s .args .table .now) (s .args .label) (c .before .before .node-at .result .definition) (c .before .group-right .result) (all (partRight (s .args .table .now) (s .args .label)) (parts (s .args .table .now) (s .args .label))) (ap (λ (p : Node). p .definition) (c .before .before .node-at .ensures) ∙ node-definition (s .args .table .now) (s .args .label) (s .pre .low)) (c .before .group-right .ensures) refl
     ∙ rw (c .if1 .left))
 
 pub structure-bad-spec : {M : Type 1} → statement M

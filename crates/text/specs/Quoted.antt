@@ -1,0 +1,10 @@
+-- A text as one reads it. It is ASCII, where a character's code is its byte.
+use mathlib.Core.List.{List, [], _∷_}
+use Prim.Native.Nat.{ℕ}
+use Prim.Native.Char.{code}
+use Prim.Native.String.{String, [] as end, _∷_ as _then_}
+
+-- its bytes
+abbrev pub bytesOf : String → List ℕ
+bytesOf end = []
+bytesOf (c then s) = code c ∷ bytesOf s

@@ -55,7 +55,7 @@ fn mark_values(table: &[i64], n: usize, left: &mut [u64])
     marks::clear_marks(left, w);
     let mut v = 1;
     while v <= n {
-        if reach::kind_of(table, n, v) == 2 {
+        if reach::kind_of(table, n, v) == cells::VALUE {
             marks::put_mark(left, w, 0, v);
         }
         v += 1;
@@ -166,7 +166,7 @@ fn check_in(table: &[i64], n: usize, order: &[i64], square: &mut [u64]) -> Verdi
     requires { ⌜ ((n + 1) * width n ≤ length (now square)) × ((d : ℕ) → Blank n (now square) d) ⌝ }
     ensures { λ r. ⌜ r ≡ orElse (cycleBad (now (table .entry)) n) (orderBad (now (table .entry)) n (now (order .entry))) ⌝ }
 {
-    let v = reach::find_cycle(table, n, 7, square);
+    let v = reach::find_cycle(table, n, cells::TARGET, square);
     if v != 0 {
         return found_at(refusals::CYCLE, v);
     }

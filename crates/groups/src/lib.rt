@@ -79,7 +79,7 @@ fn mask_items(table: &[i64], n: usize, items: &[u16], mask: &mut [u64])
     let mut i = 0;
     while i < items.len() {
         let p = marks::widen(items[i]);
-        if reach::kind_of(table, n, p) <= 2 {
+        if reach::kind_of(table, n, p) <= cells::VALUE {
             marks::put_mark(mask, w, 0, p);
         }
         i += 1;

@@ -7,7 +7,7 @@ ghost use Prim.Native.Nat.{ℕ, _+_, _*_, _≤_, _<_};
 ghost use lib.ListN.{length, take};
 ghost use Rattle.marks.specs.Marks.{mark, InSquare, Added, Dropped, places, Common, First};
 
-// A label as it stands in scratch arrays.
+// A label that stands in a scratch array, as an index.
 pub fn widen(x: u16) -> usize
     ensures { λ r. ⌜ r ≡ x ⌝ }
 {

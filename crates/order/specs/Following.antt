@@ -43,11 +43,6 @@ missing t n l = any (λ v. not (mem v l)) (values t n)
 abbrev pub early : List ℤ → ℕ → List ℕ → ℕ → Bool
 early t n seen v = any (λ w. reaches t n v w && not (mem w seen)) (values t n)
 
--- one place and, where there is none, the other
-abbrev pub orIfZero : ℕ → ℕ → ℕ
-orIfZero zero b = b
-orIfZero (suc a) b = suc a
-
 -- row 17: "first position (from 1) that is no V label or repeats one; else, if a V is missing, length + 1"
 abbrev pub place17 : List ℤ → ℕ → List ℤ → ℕ
 place17 t n cells = orIfZero (firstPosition (notNew t) [] 1 (labelsOf cells)) (cond (missing t n (labelsOf cells)) (suc (length cells)) 0)

@@ -8,7 +8,7 @@ use native.Mathlib.Numerals.{add-one}
 use native.Mathlib.Omega.{arith}
 use Rattle.text.proofs.Bytes.{true-false}
 use Rattle.paths.specs.Names.{firstLabel}
-use Rattle.paths.specs.Paths.{orIfZero}
+use Rattle.cells.specs.Lists.{orIfZero}
 
 -- the first that passes of the labels from x to n; of no label 0
 abbrev pub fromLabel : (ℕ → Bool) → ℕ → ℕ → ℕ

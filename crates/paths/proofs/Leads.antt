@@ -18,7 +18,8 @@ use Rattle.refusals.proofs.FirstBad.{first-none, none-first}
 use Rattle.text.specs.Pieces.{firstOf}
 use Rattle.text.proofs.Bytes.{true-false, and-left, and-right, same-eq}
 use Rattle.paths.specs.Names.{nameOf, sameName, firstLabel, isNamed, member}
-use Rattle.paths.specs.Paths.{orIfZero, settled, headFrom, descended, namesOf, headOf, targetOf, wanted, duplicateBad, pathHeadBad, laterBad, targetBad, laterRows, headRows, pathsBad}
+use Rattle.cells.specs.Lists.{orIfZero}
+use Rattle.paths.specs.Paths.{settled, headFrom, descended, namesOf, headOf, targetOf, wanted, duplicateBad, pathHeadBad, laterBad, targetBad, laterRows, headRows, pathsBad}
 use Rattle.paths.specs.Leads.{IsMember, Heads, here, outward, Descends, ended, inward, HeadSettles, Leads, NamesApart, PathsKept}
 use Rattle.paths.proofs.FirstLabel.{Passing, first-found, none-passes}
 use Rattle.paths.proofs.Members.{same-self}

@@ -18,7 +18,8 @@ use Rattle.text.proofs.Bytes.{run-le, run-fails}
 use Rattle.text.proofs.Slices.{take-slice, drop-slice}
 use Rattle.text.proofs.Cuts.{cut-more, cut-last}
 use Rattle.paths.specs.Names.{nameOf, sameName, firstLabel, isNamed, member}
-use Rattle.paths.specs.Paths.{orIfZero, settled, headFrom, descended, namesOf, headOf, headCell, targetBy, duplicateBad, wrongTarget}
+use Rattle.cells.specs.Lists.{orIfZero}
+use Rattle.paths.specs.Paths.{settled, headFrom, descended, namesOf, headOf, headCell, targetBy, duplicateBad, wrongTarget}
 use Rattle.paths.specs.Buckets.{notDot, Rows, outward}
 use Rattle.paths.proofs.Members.{same-self}
 use Rattle.paths.proofs.FirstLabel.{first-hit, first-split, first-high}

@@ -11,7 +11,6 @@ use Rattle.cells.specs.Lists.{orIfZero}
 use Rattle.cells.specs.Table.{kind, nameStart, nameLength, owner}
 use Rattle.order.specs.Order.{isDefinition}
 use Rattle.paths.specs.Names.{nameOf, firstLabel, member}
-use Rattle.paths.specs.Paths.{orIfZero}
 
 -- a byte of a name, in a path: no dot
 abbrev pub notDot : ℕ → Bool

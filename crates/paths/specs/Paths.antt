@@ -19,11 +19,6 @@ unfoldable pub duplicateBad : List ℕ → List ℤ → ℕ → ℕ
 duplicateBad s t l =
     cond (isDefinition t l && not (eqb (firstLabel (isNamed s t (owner t l) (nameOf s t l)) 1 (l - 1)) 0)) duplicateRow 0
 
--- one label and, where it is 0, the other
-abbrev pub orIfZero : ℕ → ℕ → ℕ
-orIfZero zero b = b
-orIfZero (suc a) b = suc a
-
 -- "The head is looked for among that Group's members, then in the Group around it, outward; the first Group with such a member settles
 -- the head": from Group g, at most k Groups; 0 where none has such a member
 abbrev pub settled : List ℕ → List ℤ → ℕ → List ℕ → ℕ → ℕ → ℕ

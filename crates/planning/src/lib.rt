@@ -43,10 +43,10 @@ fn list_group(
         let p = marks::widen(x);
         x = next[n + p];
         let k = reach::kind_of(table, n, p);
-        if k == 2 {
+        if k == cells::VALUE {
             plan[to] = p as i64;
             to += 1;
-        } else if k == 1 {
+        } else if k == cells::GROUP {
             to = list_group(table, n, next, plan, to, p);
         }
     }
@@ -221,7 +221,7 @@ fn plan_in(table: &[i64], n: usize, plan: &mut [i64], square: &mut [u64]) -> Pla
     requires { ⌜ ((n + 1) * width n ≤ length (now square)) × ((d : ℕ) → Blank n (now square) d) ⌝ }
     ensures { λ r. ⌜ PlanIs (Order.plan (now (table .entry)) n) (now (plan .entry)) (now (plan .exit)) r ⌝ }
 {
-    let v = reach::find_cycle(table, n, 6, square);
+    let v = reach::find_cycle(table, n, cells::OWNER, square);
     if v != 0 {
         return Planned::Cycle(v as u64);
     }

@@ -4,7 +4,7 @@ use mathlib.Core.List.{List}
 use Prim.Native.Nat.{ℕ, _+_, _*_, _≤_, _<_}
 use native.Mathlib.Omega.{arith}
 use native.Mathlib.Nat.{mul-le-mul}
-use lib.ListN.{length, replicate, length-replicate}
+use lib.ListN.{length, getD, replicate, length-replicate}
 pub use Rattle.cells.proofs.Scratch.{zero-at}
 use Rattle.marks.proofs.Squares.{marks-none}
 use Rattle.reach.specs.Rows.{width, Blank, Room}

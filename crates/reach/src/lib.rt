@@ -43,10 +43,10 @@ fn has_path(table: &[i64], n: usize, label: usize) -> bool
     ensures { λ r. ⌜ r ≡ hasPath (now (table .entry)) label ⌝ }
 {
     let k = kind_of(table, n, label);
-    if k == 6 {
+    if k == cells::READ {
         return true;
     }
-    k == 7
+    k == cells::CALL
 }
 
 // ---- chains of lines
@@ -81,13 +81,13 @@ fn mark_groups(table: &[i64], n: usize, square: &mut [u64], d: usize, v: usize)
     ensures { λ _. ⌜ Added (λ (q : ℕ). (1 ≤ q) × Within (now (table .entry)) q (owner (now (table .entry)) v)) (now (square .entry)) (now (square .exit)) (width n) d ⌝ }
 {
     let w = n / 64 + 1;
-    let mut g = cell_of(table, n, v, 6);
+    let mut g = cell_of(table, n, v, cells::OWNER);
     while g != 0 {
         if marks::has_mark(square, w, d, g) {
             return;
         }
         marks::put_mark(square, w, d, g);
-        g = cell_of(table, n, g, 6);
+        g = cell_of(table, n, g, cells::OWNER);
     }
 }
 
@@ -100,7 +100,7 @@ fn mark_around(table: &[i64], n: usize, square: &mut [u64], d: usize, e: usize)
     ensures { λ _. ⌜ Added (λ (q : ℕ). Around (now (table .entry)) e q) (now (square .entry)) (now (square .exit)) (width n) d ⌝ }
 {
     marks::put_mark(square, n / 64 + 1, d, e);
-    if kind_of(table, n, e) == 2 {
+    if kind_of(table, n, e) == cells::VALUE {
         mark_groups(table, n, square, d, e);
     }
 }
@@ -278,7 +278,7 @@ fn reach_rows(
     let mut visits = 0;
     let mut v = 1;
     while v <= n {
-        if kind_of(table, n, v) == 2 {
+        if kind_of(table, n, v) == cells::VALUE {
             visits += visit(table, n, j, chains, state, square, stack, v);
         }
         v += 1;
@@ -296,7 +296,7 @@ fn first_cycle(table: &[i64], n: usize, j: usize, square: &[u64]) -> usize
 {
     let mut v = 1;
     while v <= n {
-        if kind_of(table, n, v) == 2 { // functions may reach themselves
+        if kind_of(table, n, v) == cells::VALUE { // functions may reach themselves
             if marks::has_mark(square, n / 64 + 1, v, v) {
                 return v;
             }

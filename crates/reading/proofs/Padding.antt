@@ -9,6 +9,7 @@ use lib.ListN.{length, set}
 use lib.Seq.{set-append-left}
 use borrow.Author.Tests.{le-leb}
 use Rattle.cells.specs.Cells.{natOf, intAt, zeros}
+use Rattle.cells.specs.Lists.{all}
 use Rattle.cells.specs.Table.{cell, fieldA, withColumn}
 use Rattle.cells.proofs.Stores.{intAt-zeros}
 use Rattle.cells.proofs.Columns.{column-length, column-same}
@@ -58,7 +59,7 @@ module _ (t : List ℤ) (k n : ℕ) (room : 8 * n ≤ length t) where
   structure-same : (l : ℕ) → structureBad w l ≡ structureBad t l
   unfolding structureBad
   structure-same l =
-      rw (alike-definition t w alike l, alike-parts t w alike l, cell-padded t k l 3, cell-padded t k (fieldA t l) 0, every-same (partRight w l) (partRight t l) (λ x. rw (alike-expression t w alike x)) (parts t l))
+      rw (alike-definition t w alike l, alike-parts t w alike l, cell-padded t k l 3, cell-padded t k (fieldA t l) 0, all-same (partRight w l) (partRight t l) (λ x. rw (alike-expression t w alike x)) (parts t l))
 
   uses-same : (x : ℕ) → usesBad w n x ≡ usesBad t n x
   uses-same x = rw (alike-expression t w alike x, alike-uses t w alike x n)

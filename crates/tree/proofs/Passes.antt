@@ -127,8 +127,8 @@ Right t n w x = (owner w x ≡ ownerOf t n x) × (target w x ≡ levelOf t n x)
 -- a label that gets its owner and level has them, and no label that had them loses them
 module _ (t : List ℤ) (n : ℕ) where
   assigned-right : (w : List ℤ) (x d v y m : ℕ) → 8 * x ≤ length w → (1 ≤ x → (d ≡ ownerOf t n x) × (v ≡ levelOf t n x)) → 1 ≤ y
-      → Right t n w y ⊎ (1 ≤ one (eqb x y) + m) → Right t n (assigned x d v w) y ⊎ (1 ≤ m)
-  assigned-right w x d v y m room right h c = go (eqb x y) refl c
+      → Right t n w y ⊎ (1 ≤ one (eqb y x) + m) → Right t n (assigned x d v w) y ⊎ (1 ≤ m)
+  assigned-right w x d v y m room right h c = go (eqb y x) refl c
     where
       here : x ≡ y → Right t n (assigned x d v w) y
       here e =
@@ -139,9 +139,9 @@ module _ (t : List ℤ) (n : ℕ) where
       there e q =
           (assigned-other x d v w room y 6 (omega arith) (λ z. e (sym z)) ∙ q .0, assigned-other x d v w room y 7 (omega arith) (λ z. e (sym z)) ∙ q .1)
 
-      go : (b : Bool) → eqb x y ≡ b → Right t n w y ⊎ (1 ≤ one b + m) → Right t n (assigned x d v w) y ⊎ (1 ≤ m)
-      go true e q = inl (here (eqb-true x y e))
-      go false e q = ⊎-elim (λ z. inl (there (eqb-false x y e) z)) (λ z. inr (omega arith)) q
+      go : (b : Bool) → eqb y x ≡ b → Right t n w y ⊎ (1 ≤ one b + m) → Right t n (assigned x d v w) y ⊎ (1 ≤ m)
+      go true e q = inl (here (sym (eqb-true y x e)))
+      go false e q = ⊎-elim (λ z. inl (there (λ f. eqb-false y x e (sym f)) z)) (λ z. inr (omega arith)) q
 
 pub propagate-start : (t : List ℤ) (n : ℕ) → UsedOnce t n → Natural t n → Propagated t n 0 t
 propagate-start t n s natural = record {
@@ -233,9 +233,9 @@ module _ (t : List ℤ) (n : ℕ) (s : UsedOnce t n) (w : List ℤ) (l : ℕ) (h
         let ib : 8 * p .b ≤ length one-assigned = omega (arith, i .b) in
         let lb = assigned-length (p .b) d v one-assigned ib in
         let ic : 8 * p .c ≤ length two-assigned = omega (arith, i .c) in
-        let c0 : Right t n u y ⊎ (1 ≤ one (eqb (p .a) y) + (one (eqb (p .b) y) + (one (eqb (p .c) y) + 0))) = ⊎-elim (λ z. inl z) (λ z. inr (omega (arith, node-count t l y a))) c in
-        let c1 = assigned-right t n u (p .a) d v y (one (eqb (p .b) y) + (one (eqb (p .c) y) + 0)) (i .a) (λ z. right (p .a) (node-a t n (s .structure) l z)) a c0 in
-        let c2 = assigned-right t n one-assigned (p .b) d v y (one (eqb (p .c) y) + 0) ib (λ z. right (p .b) (node-b t n (s .structure) l z)) a c1 in
+        let c0 : Right t n u y ⊎ (1 ≤ one (eqb y (p .a)) + (one (eqb y (p .b)) + (one (eqb y (p .c)) + 0))) = ⊎-elim (λ z. inl z) (λ z. inr (omega (arith, node-count t l y a))) c in
+        let c1 = assigned-right t n u (p .a) d v y (one (eqb y (p .b)) + (one (eqb y (p .c)) + 0)) (i .a) (λ z. right (p .a) (node-a t n (s .structure) l z)) a c0 in
+        let c2 = assigned-right t n one-assigned (p .b) d v y (one (eqb y (p .c)) + 0) ib (λ z. right (p .b) (node-b t n (s .structure) l z)) a c1 in
         let c3 = assigned-right t n two-assigned (p .c) d v y 0 ic (λ z. right (p .c) (node-c t n (s .structure) l z)) a c2 in
         ⊎-elim (λ z. z) (λ z. absurd (omega arith)) c3
 

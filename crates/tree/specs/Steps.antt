@@ -66,7 +66,7 @@ assigned x d v t = cond (eqb x 0) t (set (set t (8 * (x - 1) + 6) (pos d)) (8 * 
 abbrev pub assignedAll : Node → ℕ → ℕ → List ℤ → List ℤ
 assignedAll p d v t = assigned (p .c) d v (assigned (p .b) d v (assigned (p .a) d v t))
 
--- the table in which line l has handed its owner and level on to its parts
+-- the table in which line l has propagated its owner and level to its parts
 unfoldable pub propagated : ℕ → List ℤ → List ℤ
 propagated l t =
     cond (nodeAt t l .definition)

@@ -264,6 +264,7 @@ fn assign(table: &mut [i64], x: usize, owner: usize, level: usize)
     }
 }
 
+// Owner and level of the parts of a line.
 fn assign_parts(table: &mut [i64], node: Node, owner: usize, level: usize)
     requires { ⌜ Inside (now table) node × (owner ≤ 1024) × (level ≤ 1025) ⌝ }
     ensures { λ _. ⌜ now (table .exit) ≡ assignedAll node owner level (now (table .entry)) ⌝ }
@@ -273,23 +274,24 @@ fn assign_parts(table: &mut [i64], node: Node, owner: usize, level: usize)
     assign(table, node.c, owner, level);
 }
 
-// A definition owns its body, at level 1, and has its Group as owner; an expression hands its owner on to its operands, one level deeper.
+// A definition owns its body, at level 1, and has its Group as owner; an expression propagates its owner to its operands, one level deeper.
 fn propagate(table: &mut [i64], label: usize)
     requires { ⌜ Propagable (now table) label ⌝ }
     ensures { λ _. ⌜ now (table .exit) ≡ propagated label (now (table .entry)) ⌝ }
 {
     let node = node_at(table, label);
     if node.definition {
-        let group = cells::cell_at(table, label, 3);
+        let group = cells::cell_at(table, label, cells::A);
         assign(table, label, group, 0);
         assign_parts(table, node, label, 1);
         return;
     }
-    let owner = cells::cell_at(table, label, 6);
-    let level = cells::cell_at(table, label, 7);
+    let owner = cells::cell_at(table, label, cells::OWNER);
+    let level = cells::cell_at(table, label, cells::TARGET);
     assign_parts(table, node, owner, level + 1);
 }
 
+// The owner of each label, and the level of each expression in its target cell.
 fn propagate_all(table: &mut [i64], n: usize)
     requires { ⌜ UsedOnce (now table) n × Natural (now table) n ⌝ }
     ensures { λ _. ⌜ Propagated (now (table .entry)) n n (now (table .exit)) ⌝ }

@@ -27,7 +27,8 @@ plannedBad s b = orElse (openBad s b) (cycleBad (sheetTable s) (labels s))
 unfoldable pub planOf : List ℕ → Answer
 planOf s = plan (sheetTable s) (labels s)
 
--- what Plan and Run answer where their rows find v: the plan's length, and whole or mixed
+-- what Plan and Run answer where their rows find v: the plan's length, and whole or mixed. Where row 16 finds nothing the plan is no
+-- cycle, so the last line is never asked.
 abbrev pub answerBy : Verdict → Answer → PlanReply
 answerBy (Refused r l) a = reply.Refused r l
 answerBy Fine (whole o) = reply.Whole (length o)

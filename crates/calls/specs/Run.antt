@@ -12,7 +12,7 @@ use Rattle.calls.specs.Buffers.{runBuffers}
 use Rattle.calls.specs.Plan.{plannedBad, planOf, answerBy, listedBy}
 use Rattle.calls.specs.declared.PlanReply.{PlanReply}
 
--- results in q cells, those of Working out; zeros alone where the call refuses
+-- results in q cells, those of Working out; nothing but zeros where the call refuses
 abbrev pub resultsBy : Verdict → List ℕ → ℕ → List ℤ
 resultsBy Fine s q = resultCells (sheetTable s) (labels s) q
 resultsBy (Refused r l) s q = zeros q

@@ -1,4 +1,3 @@
-mod Samples
 pub mod Codes
 pub mod Steps
 pub mod Closure

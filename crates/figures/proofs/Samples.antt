@@ -1,9 +1,8 @@
--- Worked examples, which antt computes from the definition, with no order: document 01's first sample sheet, and one in which a value is
--- read inside a function and a failure is passed on.
+-- A worked example, which antt computes from the definition, with no order: a value is read inside a function, and a failure is passed on.
 use mathlib.Core.Path.{_≡_, refl}
 use mathlib.Core.List.{List, [], _∷_}
 use Prim.Native.Nat.{ℕ}
-use lib.IntN.{ℤ, pos, negℤ}
+use lib.IntN.{ℤ, pos}
 use Rattle.numbers.specs.Rounding.{rounded, quotient}
 use Rattle.numbers.specs.Arithmetic.{rangedOf, result, calculated}
 use Rattle.evaluation.specs.Evaluation.{onNumber, answerAt, outcomeOf, kindOf, bodyBy, callBy, operationBy, choiceBy, enteredBy, stepBy, within, outcome, valueOutcome}
@@ -20,27 +19,14 @@ has state number steps rest = pos state ∷ number ∷ pos steps ∷ rest
 abbrev no : List ℤ → List ℤ
 no = has 0 (pos 0) 0
 
-abbrev table₁ : List ℤ
-table₁ =
-    line 1 (pos 0) 0 0 0 (line 2 (pos 1) 6 1 0 (line 1 (pos 1) 0 1 0 (line 2 (pos 3) 9 3 0 (line 2 (pos 3) 14 3 0
-    (line 8 (pos 7) 8 2 0 (line 6 (pos 0) 0 2 4 (line 4 (pos 5) 0 2 0
-    (line 11 (pos 10) 13 4 0 (line 10 (pos 11) 12 4 0 (line 6 (pos 0) 0 4 5 (line 4 (pos 10) 0 4 0 (line 4 (pos 100) 0 4 0
-    (line 4 (negℤ (pos 325)) 0 5 0 [])))))))))))))
-
--- total -28 in 3 steps, prism -33 in 5, sphere -325 in 1; a cell is left over
-sample₁ : resultCells table₁ 14 43
-    ≡ no (has 1 (negℤ (pos 28)) 3 (no (has 1 (negℤ (pos 33)) 5 (has 1 (negℤ (pos 325)) 1 (no (no (no (no (no (no (no (no (no (pos 0 ∷ []))))))))))))))
-unfolding afterRounds rounded quotient rangedOf result calculated onNumber answerAt outcomeOf kindOf bodyBy callBy operationBy choiceBy enteredBy stepBy within outcome valueOutcome
-sample₁ = refl
-
 -- x (label 2) is 7 / 0; f (6) adds x to its argument; y (10) is f of 3
-abbrev table₂ : List ℤ
-table₂ =
+abbrev table : List ℤ
+table =
     line 1 (pos 0) 0 0 0 (line 2 (pos 1) 3 1 0 (line 11 (pos 4) 5 2 0 (line 4 (pos 7) 0 2 0 (line 4 (pos 0) 0 2 0
     (line 3 (pos 1) 7 1 0 (line 8 (pos 8) 9 6 0 (line 5 (pos 0) 0 6 0 (line 6 (pos 0) 0 6 2
     (line 2 (pos 1) 11 1 0 (line 7 (pos 12) 0 10 6 (line 4 (pos 3) 0 10 0 [])))))))))))
 
-failure-passed-on : resultCells table₂ 12 36
+failure-passed-on : resultCells table 12 36
     ≡ no (has 3 (pos 0) 3 (no (no (no (no (no (no (no (has 3 (pos 0) 5 (no (no [])))))))))))
 unfolding afterRounds rounded quotient rangedOf result calculated onNumber answerAt outcomeOf kindOf bodyBy callBy operationBy choiceBy enteredBy stepBy within outcome valueOutcome
 failure-passed-on = refl

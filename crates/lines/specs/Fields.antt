@@ -46,6 +46,7 @@ abbrev pub isRight : Field → Bool
 isRight (Holds x) = true
 isRight Wrong = false
 
+-- what its cell holds. Of a sheet that reads, one field alone is wrong by its form: label 1's a, `0`, whose cell is 0.
 abbrev pub held : Field → ℤ
 held (Holds x) = x
 held Wrong = pos 0

@@ -34,7 +34,7 @@ kinds =
 abbrev pub noKind : Kind
 noKind = kind 0 Missing Missing Missing Missing
 
--- the kind of a code, which is the place of its row from 1
+-- the kind of a code, which is the place of its row from 1; asked of codes 1 to 12 alone
 unfoldable pub kindAt : ℕ → Kind
 kindAt code = getD kinds (code - 1) noKind
 

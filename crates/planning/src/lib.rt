@@ -183,6 +183,7 @@ fn list_small(table: &[i64], n: usize, plan: &mut [i64], square: &[u64]) -> Plan
     )
 }
 
+// The same for every size.
 fn list_plan(table: &[i64], n: usize, plan: &mut [i64], square: &[u64]) -> Planned
     requires { ⌜ Accepted (now table) n ⌝ }
     requires { ⌜ (n ≤ length (now plan)) × (place16 (now table) n ≡ 0) ⌝ }
@@ -229,7 +230,7 @@ fn plan_in(table: &[i64], n: usize, plan: &mut [i64], square: &mut [u64]) -> Pla
     list_plan(table, n, plan, square)
 }
 
-// The square goes by the size of the sheet too.
+// Row 16, and the plan. The square goes by the size of the sheet too.
 pub fn plan_of(table: &[i64], n: usize, plan: &mut [i64]) -> Planned
     requires { ⌜ Accepted (now table) n ⌝ }
     requires { ⌜ n ≤ length (now plan) ⌝ }

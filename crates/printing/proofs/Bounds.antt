@@ -32,7 +32,7 @@ use Rattle.calls.specs.Run.{runReply, runTable, runPlan, runResults}
 use Rattle.calls.specs.declared.PlanReply.the-variants as reply
 use Rattle.calls.proofs.Answers.{answers}
 use Rattle.printing.specs.Decimal.{decimal, integer}
-use Rattle.printing.specs.Print.{lineOf, columnsLine, refusalLine, wholeWord, mixedWord, nameField, valueLine, valueLines, mostBytes, printWith}
+use Rattle.printing.specs.Print.{lineOf, columnsLine, refusalLine, wholeWord, mixedWord, nameField, valueLine, valueLines, printBound, printWith}
 use Rattle.printing.proofs.Sizes.{decimal-length, integer-length}
 use Rattle.printing.proofs.Runs.{run-fine, reads, results-fit, table-is, plan-proper}
 
@@ -120,7 +120,7 @@ module _ (s : List ℕ) (m p q : ℕ) (a : answers (runReply s m p q) ≡ true) 
       rw (table-is s m p q a, results-are)
       (value-short (sheetTable s) (labels s) q ok (proper-no-cycle o) (results-fit s m p q a) (tableOf Fine s m) v k name)
 
-  answer-length : (word : List ℕ) → length word ≤ 5 → length (columnsLine ++ valueLines s (runTable s m p q) (runResults s m p q) word order) ≤ mostBytes
+  answer-length : (word : List ℕ) → length word ≤ 5 → length (columnsLine ++ valueLines s (runTable s m p q) (runResults s m p q) word order) ≤ printBound
   unfolding columnsLine
   answer-length word w =
       omega (
@@ -133,7 +133,7 @@ module _ (s : List ℕ) (m p q : ℕ) (a : answers (runReply s m p q) ≡ true) 
 
 -- ---- the print of a refusal: two numbers of 64 bits
 
-refusal-length : (row place : ℕ) → row < 18446744073709551616 → place < 18446744073709551616 → length (refusalLine ++ lineOf (decimal row ∷ decimal place ∷ [])) ≤ mostBytes
+refusal-length : (row place : ℕ) → row < 18446744073709551616 → place < 18446744073709551616 → length (refusalLine ++ lineOf (decimal row ∷ decimal place ∷ [])) ≤ printBound
 unfolding refusalLine
 refusal-length row place h g =
     omega (
@@ -146,13 +146,13 @@ refusal-length row place h g =
 -- ---- any print, by Run's reply
 
 module _ (s : List ℕ) (m p q : ℕ) where
-  pub whole-length : (k : ℕ) → runReply s m p q ≡ reply.Whole k → length (printWith s m p q) ≤ mostBytes
+  pub whole-length : (k : ℕ) → runReply s m p q ≡ reply.Whole k → length (printWith s m p q) ≤ printBound
   unfolding wholeWord
   whole-length k e = rw e (rw e at (answer-length s m p q (ap answers e) wholeWord (omega arith)))
 
-  pub mixed-length : (k : ℕ) → runReply s m p q ≡ reply.Mixed k → length (printWith s m p q) ≤ mostBytes
+  pub mixed-length : (k : ℕ) → runReply s m p q ≡ reply.Mixed k → length (printWith s m p q) ≤ printBound
   unfolding mixedWord
   mixed-length k e = rw e (rw e at (answer-length s m p q (ap answers e) mixedWord (omega arith)))
 
-  pub refused-length : (row place : ℕ) → runReply s m p q ≡ reply.Refused row place → row < 18446744073709551616 → place < 18446744073709551616 → length (printWith s m p q) ≤ mostBytes
+  pub refused-length : (row place : ℕ) → runReply s m p q ≡ reply.Refused row place → row < 18446744073709551616 → place < 18446744073709551616 → length (printWith s m p q) ≤ printBound
   refused-length row place e h g = rw e (refusal-length row place h g)

@@ -15,7 +15,7 @@ use Rattle.printing.specs.Decimal.{decimal, integer}
 
 -- ---- lines
 
--- a line of fields
+-- a line of fields, of which a print's lines have one or more
 abbrev pub lineOf : List (List ℕ) → List ℕ
 lineOf [] = 10 ∷ []
 lineOf (f ∷ []) = f ++ 10 ∷ []
@@ -62,9 +62,9 @@ printBy s (reply.Refused row place) t p r = refusalLine ++ lineOf (decimal row �
 abbrev pub printWith : List ℕ → ℕ → ℕ → ℕ → List ℕ
 printWith s m p q = printBy s (runReply s m p q) (runTable s m p q) (runPlan s m p q) (runResults s m p q)
 
--- the most bytes that a print takes: 36 for the column names, and 48 for each of 1,024 values
-abbrev pub mostBytes : ℕ
-mostBytes = 49188
+-- a bound on the bytes of a print: 36 for the column names, and 48 for each of 1,024 labels
+abbrev pub printBound : ℕ
+printBound = 49188
 
 -- the program's print of the text s: with buffers for 1,024 labels, the most that a sheet has, so that they are long enough for every sheet
 unfoldable pub printOf : List ℕ → List ℕ

@@ -10,7 +10,7 @@ ghost use Rattle.cells.specs.Cells.{natOf};
 ghost use Rattle.order.specs.Following.{labelsOf};
 ghost use Rattle.evaluation.specs.Results.{stateAt, numberAt, stepsAt};
 ghost use Rattle.printing.specs.Decimal.{digits, decimal, integer};
-ghost use Rattle.printing.specs.Print.{lineOf, columnsLine, refusalLine, nameField, valueLine, valueLines, mostBytes, printWith, printOf};
+ghost use Rattle.printing.specs.Print.{lineOf, columnsLine, refusalLine, nameField, valueLine, valueLines, printBound, printWith, printOf};
 ghost use Rattle.printing.specs.Writing.{Wrote, NamesIn, resultAt};
 use calls::PlanReply;
 
@@ -246,7 +246,7 @@ fn print_with(
     out: &mut [u8],
 ) -> usize
     ensures { λ r. ⌜ Wrote (now (out .entry)) 0 (printWith (now (text .entry)) (length (now (table .entry))) (length (now (plan .entry))) (length (now (results .entry)))) (now (out .exit)) r ⌝ }
-    ensures { λ _. ⌜ length (printWith (now (text .entry)) (length (now (table .entry))) (length (now (plan .entry))) (length (now (results .entry)))) ≤ mostBytes ⌝ }
+    ensures { λ _. ⌜ length (printWith (now (text .entry)) (length (now (table .entry))) (length (now (plan .entry))) (length (now (results .entry)))) ≤ printBound ⌝ }
 {
     match calls::run(text, table, plan, results) {
         PlanReply::Whole(count) => {
@@ -264,7 +264,7 @@ fn print_with(
 pub fn write_print(text: &[u8], out: &mut [u8]) -> usize
     ensures { λ r. ⌜ r ≡ min (length (printOf (now (text .entry)))) (length (now (out .entry))) ⌝ }
     ensures { λ _. ⌜ now (out .exit) ≡ sets (now (out .entry)) 0 (printOf (now (text .entry))) ⌝ }
-    ensures { λ r. ⌜ (mostBytes ≤ length (now (out .entry)) → take r (now (out .exit)) ≡ printOf (now (text .entry))) ⌝ }
+    ensures { λ r. ⌜ (printBound ≤ length (now (out .entry)) → take r (now (out .exit)) ≡ printOf (now (text .entry))) ⌝ }
 {
     let mut table = [0i64; 8192];
     let mut plan = [0i64; 1024];

@@ -53,7 +53,7 @@ bodyBad s m = orElse (tableShort s m) (sheetBad s)
 unfoldable pub readBad : List ℕ → ℕ → Verdict
 readBad s m = orElse (headBad s) (bodyBad s m)
 
--- Read answers the number of labels, and leaves the sheet's table, whose unused cells are zero; where it refuses, zeros alone
+-- Read answers the number of labels, and leaves the sheet's table, whose unused cells are zero; where it refuses, nothing but zeros
 unfoldable pub readReply : List ℕ → ℕ → Reply
 readReply s m = replyOf (readBad s m) (labels s)
 

@@ -1,4 +1,4 @@
--- A refusal, and the shape that every row from 5 on shares: a check of one label, and the first label that fails it.
+-- A refusal, and the shape that rows 5 to 15 share: a check of one label, and the first label that fails it.
 use Prim.Native.Nat.{ℕ, zero, suc, _-_}
 use Rattle.refusals.specs.declared.Verdict.{Verdict}
 use Rattle.refusals.specs.declared.Verdict.the-variants.{Fine, Refused}

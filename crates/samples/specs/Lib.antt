@@ -1,4 +1,3 @@
--- Text holds how a sheet is written down here, Sample what is said of one and what the definitions give for it, Samples the table.
-pub mod Text
+-- Sample holds what is said of a sheet and what the definitions give for it, Samples the table.
 pub mod Sample
 pub mod Samples

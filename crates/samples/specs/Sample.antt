@@ -8,7 +8,7 @@ use Rattle.cells.specs.Cells.{zeros}
 use Rattle.cells.specs.Table.{kind, owner, target}
 use Rattle.refusals.specs.declared.Reply.{Reply}
 use Rattle.refusals.specs.declared.Reply.the-variants.{Answered, Refused}
-use Rattle.text.specs.Quoted.{bytesOf}
+use Rattle.text.specs.Quoted.{bytesOf, textOf}
 use Rattle.lines.specs.Lines.{labels}
 use Rattle.evaluation.specs.Results.{store}
 use Rattle.reading.specs.Read.{readReply, readTable}
@@ -18,7 +18,6 @@ use Rattle.calls.specs.Run.{runReply, runPlan, runResults}
 use Rattle.calls.specs.Follow.{followReply, followResults}
 use Rattle.calls.specs.declared.PlanReply.{PlanReply}
 use Rattle.calls.specs.declared.PlanReply.the-variants as planned
-use Rattle.samples.specs.Text.{textOf}
 
 -- ---- a sample
 

@@ -6,6 +6,7 @@ use lib.Dec.{eqb}
 use lib.ListN.{length, getD}
 use lib.Seq.{slice}
 
+-- a byte put before the first piece; `cut` always gives a piece
 abbrev pub onto : ℕ → List (List ℕ) → List (List ℕ)
 onto x [] = (x ∷ []) ∷ []
 onto x (p ∷ ps) = (x ∷ p) ∷ ps
@@ -19,13 +20,13 @@ abbrev pub cut : ℕ → List ℕ → List (List ℕ)
 cut b [] = [] ∷ []
 cut b (x ∷ xs) = cutAt (eqb x b) x (cut b xs)
 
--- where piece k begins in the list: past each piece before it, and the separator after that
+-- where piece k begins in the list: past each piece before it, and the separator after that; 0 past the last piece
 abbrev pub place : List (List ℕ) → ℕ → ℕ
 place [] k = 0
 place (p ∷ ps) zero = 0
 place (p ∷ ps) (suc k) = length p + 1 + place ps k
 
--- the first piece
+-- the first piece, which `cut` always gives
 abbrev pub firstOf : List (List ℕ) → List ℕ
 firstOf [] = []
 firstOf (p ∷ ps) = p

@@ -1,5 +1,5 @@
 -- A text as one reads it. It is ASCII, where a character's code is its byte.
-use mathlib.Core.List.{List, [], _∷_}
+use mathlib.Core.List.{List, [], _∷_, _++_}
 use Prim.Native.Nat.{ℕ}
 use Prim.Native.Char.{code}
 use Prim.Native.String.{String, [] as end, _∷_ as _then_}
@@ -8,3 +8,8 @@ use Prim.Native.String.{String, [] as end, _∷_ as _then_}
 abbrev pub bytesOf : String → List ℕ
 bytesOf end = []
 bytesOf (c then s) = code c ∷ bytesOf s
+
+-- the bytes of its lines: "lines, each ended by byte 10"
+abbrev pub textOf : List String → List ℕ
+textOf [] = []
+textOf (l ∷ ls) = bytesOf l ++ 10 ∷ textOf ls

@@ -20,11 +20,13 @@ use Rattle.evaluation.specs.Evaluation.{onNumber, answerAt, outcomeOf, kindOf, 
 use Rattle.figures.specs.Figures.{afterRounds}
 use Rattle.calls.specs.Buffers.{planShort, resultsShort}
 use Rattle.calls.specs.Plan.{openBad, plannedBad, planOf, planBad, planReply, planCells}
-use Rattle.calls.specs.Run.{runBad, runReply, runPlan, runResults}
+use Rattle.calls.specs.Run.{runBad, runReply, runTable, runPlan, runResults}
 use Rattle.calls.specs.Follow.{followBad, followReply, followResults}
+use Rattle.printing.specs.Decimal.{digits, decimal}
+use Rattle.printing.specs.Print.{columnsLine, refusalLine, wholeWord, mixedWord, valueLine, valueLines, printOf}
 use Rattle.samples.specs.Sample.{given, said}
 use Rattle.samples.specs.Samples.{samples}
 
 pub samples-hold : map given samples ≡ map said samples
-unfolding samples isText isAllowed line labels firstLine headBad rowOf kinds kindAt codeOf fieldOf labelOf numberOf decimalOf digitsOf value allDigits linesBad lineBad rootLine isName isPath isLetter isAlphanumeric isDefinition isExpression parts structureBad definitionOf ownerOf levelOf treeBad sameName member paths.duplicateBad paths.headFrom paths.headOf paths.targetOf paths.pathHeadBad paths.laterBad paths.targetBad paths.pathsBad tableShort ownedTable resolvedTable resolvedBad sheetRows sheetBad sheetTable readBad readReply readTable nameBegin nameSize namePart cycleBad planShort resultsShort openBad plannedBad planOf planBad planReply planCells runBad runReply runPlan runResults orderBad followBad followReply followResults afterRounds rounded quotient rangedOf result calculated onNumber answerAt outcomeOf kindOf bodyBy callBy operationBy choiceBy enteredBy stepBy within outcome valueOutcome
+unfolding samples isText isAllowed line labels firstLine headBad rowOf kinds kindAt codeOf fieldOf labelOf numberOf decimalOf digitsOf value allDigits linesBad lineBad rootLine isName isPath isLetter isAlphanumeric isDefinition isExpression parts structureBad definitionOf ownerOf levelOf treeBad sameName member paths.duplicateBad paths.headFrom paths.headOf paths.targetOf paths.pathHeadBad paths.laterBad paths.targetBad paths.pathsBad tableShort ownedTable resolvedTable resolvedBad sheetRows sheetBad sheetTable readBad readReply readTable nameBegin nameSize namePart cycleBad planShort resultsShort openBad plannedBad planOf planBad planReply planCells runBad runReply runTable runPlan runResults digits decimal columnsLine refusalLine wholeWord mixedWord valueLine valueLines printOf orderBad followBad followReply followResults afterRounds rounded quotient rangedOf result calculated onNumber answerAt outcomeOf kindOf bodyBy callBy operationBy choiceBy enteredBy stepBy within outcome valueOutcome
 samples-hold = refl

@@ -18,6 +18,7 @@ use Rattle.calls.specs.Run.{runReply, runPlan, runResults}
 use Rattle.calls.specs.Follow.{followReply, followResults}
 use Rattle.calls.specs.declared.PlanReply.{PlanReply}
 use Rattle.calls.specs.declared.PlanReply.the-variants as planned
+use Rattle.printing.specs.Print.{printOf}
 
 -- ---- a sample
 
@@ -53,6 +54,8 @@ pub record Sample : Type 0 where
   pub table : List Fact
   -- what Plan and Run come to
   pub outcome : Outcome
+  -- what the program prints, line by line
+  pub print : List String
 
 -- ---- what the calls give for a sheet
 
@@ -71,6 +74,8 @@ pub record Given : Type 0 where
   pub followResults : List ℤ
   -- Name's, for the label of each line
   pub names : List (List ℕ)
+  -- the program's print
+  pub print : List ℕ
 
 abbrev pub linesOf : Outcome → List Line
 linesOf (refusal r p) = []
@@ -107,6 +112,7 @@ givenFor s n ls = record {
   followReply = followReply s (orderOf ls) (8 * n) (3 * n);
   followResults = followResults s (orderOf ls) (8 * n) (3 * n);
   names = namesIn s (8 * n) ls;
+  print = printOf s;
 }
 
 abbrev pub given : Sample → Given
@@ -150,6 +156,7 @@ saidOf x n ls = record {
   followReply = followReplyBy (x .outcome);
   followResults = resultsBy (3 * n) ls;
   names = namesBy ls;
+  print = textOf (x .print);
 }
 
 -- every line of the sheet but the first has a label

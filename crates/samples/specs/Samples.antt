@@ -40,6 +40,12 @@ example = record {
       ∷ line 4 "prism" 1 (minus 33) 5
       ∷ line 2 "total" 1 (minus 28) 3
       ∷ []);
+  print =
+      "label name order state number steps"
+      ∷ "5 sphere whole 1 -325 1"
+      ∷ "4 prism whole 1 -33 5"
+      ∷ "2 total whole 1 -28 3"
+      ∷ [];
 }
 
 -- 2. "label 1 alone: empty whole plan"
@@ -52,6 +58,9 @@ outermostAlone = record {
   read = Answered 1;
   table = [];
   outcome = whole [];
+  print =
+      "label name order state number steps"
+      ∷ [];
 }
 
 -- 3. "Groups 2, 3; values 4, 5 in 2 and 6, 7 in 3; 4 reads 6, 7 reads 5, the others are numbers: mixed, 5 6 4 7"
@@ -79,12 +88,19 @@ mixedOrder = record {
       ∷ line 4 "prism" 1 (pos 30) 1
       ∷ line 7 "sphere" 1 (pos 20) 1
       ∷ []);
+  print =
+      "label name order state number steps"
+      ∷ "5 sphere mixed 1 20 1"
+      ∷ "6 prism mixed 1 30 1"
+      ∷ "4 prism mixed 1 30 1"
+      ∷ "7 sphere mixed 1 20 1"
+      ∷ [];
 }
 
 -- 4. "`even` (if the argument then `odd` of it less 1, else 1) and `odd` (likewise, else 0) in two Groups: `even` of 0 is 1 in 5 steps, of
 -- 1 is 0 in 11": the sheet whose last line is the argument, where `even` of it is a number in some steps
-abbrev pub evenOf : String → ℤ → ℕ → Sample
-evenOf argument number steps = record {
+abbrev pub evenOf : String → ℤ → ℕ → String → Sample
+evenOf argument number steps printed = record {
   sheet =
       "kind name a b c"
       ∷ "G - 0 - -"
@@ -113,6 +129,7 @@ evenOf argument number steps = record {
   read = Answered 22;
   table = group 2 1 ∷ group 3 1 ∷ function 4 2 ∷ function 5 3 ∷ calls 4 5 ∷ calls 5 4 ∷ value 20 1 ∷ calls 20 4 ∷ [];
   outcome = whole (line 20 "answer" 1 number steps ∷ []);
+  print = "label name order state number steps" ∷ printed ∷ [];
 }
 
 -- 6. "f calls f on its argument; a value calling f on a number: state 5, 130 steps"
@@ -131,6 +148,10 @@ endlessCalls = record {
   read = Answered 7;
   table = function 2 1 ∷ value 3 1 ∷ calls 2 2 ∷ calls 3 2 ∷ [];
   outcome = whole (line 3 "endless" 5 (pos 0) 130 ∷ []);
+  print =
+      "label name order state number steps"
+      ∷ "3 endless whole 5 0 130"
+      ∷ [];
 }
 
 -- 7. "-3250 / 100 is -33, 3249 / 100 is 32"
@@ -151,6 +172,11 @@ nearest = record {
   read = Answered 9;
   table = value 2 1 ∷ value 3 1 ∷ [];
   outcome = whole (line 2 "up" 1 (minus 33) 3 ∷ line 3 "down" 1 (pos 32) 3 ∷ []);
+  print =
+      "label name order state number steps"
+      ∷ "2 up whole 1 -33 3"
+      ∷ "3 down whole 1 32 3"
+      ∷ [];
 }
 
 -- 8. "a value reading itself: 16"; row 16 is "not Read", so Read answers
@@ -165,6 +191,10 @@ readsItself = record {
   read = Answered 3;
   table = value 2 1 ∷ reads 2 2 ∷ [];
   outcome = refusal 16 2;
+  print =
+      "refusal place"
+      ∷ "16 2"
+      ∷ [];
 }
 
 -- 9. "Label 2 a V with body 3, label 3 `A - 4 4 -`, label 4 an N: 9, place 4"
@@ -180,6 +210,10 @@ usedTwice = record {
   read = Refused 9 4;
   table = [];
   outcome = refusal 9 4;
+  print =
+      "refusal place"
+      ∷ "9 4"
+      ∷ [];
 }
 
 unfoldable pub samples : List Sample
@@ -187,8 +221,8 @@ samples =
     example
     ∷ outermostAlone
     ∷ mixedOrder
-    ∷ evenOf "N - 0 - -" (pos 1) 5
-    ∷ evenOf "N - 1 - -" (pos 0) 11
+    ∷ evenOf "N - 0 - -" (pos 1) 5 "20 answer whole 1 1 5"
+    ∷ evenOf "N - 1 - -" (pos 0) 11 "20 answer whole 1 0 11"
     ∷ endlessCalls
     ∷ nearest
     ∷ readsItself

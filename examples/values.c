@@ -15,6 +15,10 @@ int main(int count, char **words)
         return 2;
     }
     size_t length = fread(text, 1, sizeof text, file);
+    if (ferror(file)) { /* what was read may be a part of the sheet */
+        perror(words[1]);
+        return 2;
+    }
     fclose(file);
 
     lindypo_reply reply = lindypo_run(text, length, table, 8 * 1024, plan, 1024, results, 3 * 1024);

@@ -30,6 +30,14 @@ pub struct Plan {
     pub order: Order,
 }
 
+impl Plan {
+    /// The cells that the plan takes.
+    pub(crate) fn of_cells(cells: &[i64], order: Order) -> Self {
+        let labels = cells.iter().map(|&label| label as Label).collect();
+        Plan { labels, order }
+    }
+}
+
 /// What evaluating a value ends in. The number of a state is the paper's.
 #[derive(Debug, Clone, Copy, PartialEq, Eq, Hash)]
 pub enum State {

@@ -4,7 +4,8 @@ use std::error::Error;
 use std::fmt;
 
 /// Why a sheet or an order is refused: one case for each row of the paper's
-/// table, top to bottom; the first row that finds something is given.
+/// table, top to bottom; the first row that finds something is given. Row 4 has
+/// none: it is about buffers, and `Sheet` lends those that are long enough.
 #[derive(Debug, Clone, PartialEq, Eq, Hash)]
 pub enum Refusal {
     /// 1: the text's length, its last byte, or a byte that is not allowed.
@@ -13,9 +14,6 @@ pub enum Refusal {
     FirstLine(Fault),
     /// 3: no labels, or more than 1,024.
     Count(Fault),
-    /// 4: a buffer is too short. `Sheet` lends buffers that are long enough, so
-    /// this comes from [`raw`](crate::raw) alone, as a number.
-    Buffer(Fault),
     /// 5: not five fields, or an empty one.
     Fields(Fault),
     /// 6: an unknown kind.
@@ -50,8 +48,8 @@ pub enum Refusal {
 /// Where a refusal was found, and what is wrong.
 #[derive(Debug, Clone, PartialEq, Eq, Hash)]
 pub struct Fault {
-    /// The paper's place: 0 for the text as a whole (1 to 3), a buffer (4), a
-    /// label (5 to 16), a position in the order, from 1 (17 and 18).
+    /// The paper's place: 0 for the text as a whole (1 to 3), a label (5 to 16),
+    /// a position in the order, from 1 (17 and 18).
     pub place: u64,
     /// What to look at in the text, where it is in the text.
     pub mark: Option<Mark>,
@@ -69,13 +67,12 @@ pub struct Mark {
 }
 
 impl Refusal {
-    /// The case of a row of the paper's table; the library has no other rows.
+    /// The case of a row of the paper's table; no other row is found here.
     pub(crate) fn of_row(number: u64, fault: Fault) -> Refusal {
         let case = match number {
             1 => Refusal::Text,
             2 => Refusal::FirstLine,
             3 => Refusal::Count,
-            4 => Refusal::Buffer,
             5 => Refusal::Fields,
             6 => Refusal::Kind,
             7 => Refusal::Form,
@@ -101,7 +98,6 @@ impl Refusal {
             Refusal::Text(fault) => (1, fault),
             Refusal::FirstLine(fault) => (2, fault),
             Refusal::Count(fault) => (3, fault),
-            Refusal::Buffer(fault) => (4, fault),
             Refusal::Fields(fault) => (5, fault),
             Refusal::Kind(fault) => (6, fault),
             Refusal::Form(fault) => (7, fault),
@@ -119,7 +115,7 @@ impl Refusal {
         }
     }
 
-    /// The paper's number, 1 to 18.
+    /// The paper's number, 1 to 18 without 4.
     pub fn number(&self) -> u64 {
         self.parts().0
     }

@@ -150,8 +150,7 @@ impl<'text> Sheet<'text> {
         let (mut table, mut plan) = (self.spare_table(), vec![0; self.labels()]);
         let (length, order) = raw::plan(self.text, &mut table, &mut plan)
             .map_err(|refusal| diagnosis::of_order(self, &[], refusal))?;
-        let labels = plan[..length].iter().map(|&label| label as Label).collect();
-        Ok(Plan { labels, order })
+        Ok(Plan::of_cells(&plan[..length], order))
     }
 
     /// Run: settles the order and evaluates the values down it.
@@ -171,9 +170,8 @@ impl<'text> Sheet<'text> {
         let mut results = vec![0; RESULT_CELLS * self.labels()];
         let (length, order) = raw::run(self.text, &mut table, &mut plan, &mut results)
             .map_err(|refusal| diagnosis::of_order(self, &[], refusal))?;
-        let labels = plan[..length].iter().map(|&label| label as Label).collect();
         Ok(Run {
-            plan: Plan { labels, order },
+            plan: Plan::of_cells(&plan[..length], order),
             results: Results::of_cells(&results),
         })
     }

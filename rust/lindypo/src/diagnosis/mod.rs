@@ -27,7 +27,6 @@ pub fn of_text(text: &[u8], refusal: raw::Refusal) -> Refusal {
         1 => text::bytes(text),
         2 => text::first_line(text),
         3 => text::count(text),
-        4 => text::buffer(refusal.place),
         number => of_line(&Rows::new(text), number, refusal.place as Label),
     };
     say(refusal, finding)

@@ -1,4 +1,4 @@
-//! Rows 1 to 4: the text as a whole, and buffers.
+//! Rows 1 to 3: the text as a whole.
 
 use super::Finding;
 use crate::Mark;
@@ -70,16 +70,6 @@ pub fn count(text: &[u8]) -> Finding {
         lines => format!("there are {lines} lines after line one; at most 1024 are allowed"),
     };
     (None, sentence)
-}
-
-/// Row 4.
-pub fn buffer(place: u64) -> Finding {
-    let buffer = match place {
-        1 => "table",
-        2 => "plan",
-        _ => "results",
-    };
-    (None, format!("the buffer of the {buffer} is too short"))
 }
 
 /// One byte of the text.

@@ -31,14 +31,13 @@ use Rattle.text.proofs.Cuts.{pieces, piece-inside, fields-count}
 use Rattle.text.proofs.Labels.{label-least}
 use Rattle.lines.specs.Kinds.{kinds, kindAt, codeOf}
 use Rattle.lines.specs.Fields.{dash, blankIf, fromLabel, fromNumber, fieldOf, isRight, held, kindCode}
-use Rattle.lines.specs.Lines.{line, labels, headBad, rootLine, field, formsRight, lineBad, lineCheck, linesBad, rowOf, rows}
+use Rattle.lines.specs.Lines.{line, labels, rootLine, field, formsRight, lineBad, lineCheck, linesBad, rowOf, rows}
 use Rattle.lines.specs.Lined.{linedTable, Lined}
 use Rattle.lines.specs.declared.Kind.{Kind}
 use Rattle.lines.specs.declared.Form.{Form}
 use Rattle.lines.specs.declared.Form.the-variants as form
 use Rattle.lines.proofs.Codes.{kind-bound, isNumber, number-a, number-b, number-c, number-form}
 use Rattle.lines.proofs.Rows.{zero-label}
-use Rattle.lines.proofs.Heads.{headed}
 use Rattle.lines.proofs.Pass.{rows-length}
 
 -- ---- what a field holds, by its form
@@ -206,7 +205,7 @@ module _ (n p : ℕ) (fs : List (List ℕ)) where
 
 -- ---- the cells of all lines
 
-row-at : (s : List ℕ) (n i k j : ℕ) → k < i → j < 8 → intAt (rows s n i) (8 * k + j) ≡ intAt (rowOf n (place (cut 10 s) (suc k)) (cut 32 (line s (suc k)))) j
+pub row-at : (s : List ℕ) (n i k j : ℕ) → k < i → j < 8 → intAt (rows s n i) (8 * k + j) ≡ intAt (rowOf n (place (cut 10 s) (suc k)) (cut 32 (line s (suc k)))) j
 row-at s n zero k j h g = absurd (not-suc-le-zero h)
 row-at s n (suc i) k j h g = go (ltb k i) refl (λ m. row-at s n i k j m g)
   where
@@ -228,7 +227,7 @@ lined-length s m h =
     let n = labels s in
     omega (arith, length-append (rows s n n) (zeros (m - 8 * n)), rows-length s n n, length-replicate (m - 8 * n) (pos 0))
 
-module _ (s : List ℕ) (m : ℕ) (head : headBad s ≡ Fine) (fine : linesBad s (labels s) ≡ Fine) where
+module _ (s : List ℕ) (m : ℕ) (low : 1 ≤ labels s) (high : labels s ≤ 1024) (fine : linesBad s (labels s) ≡ Fine) where
   abbrev n : ℕ
   n = labels s
 
@@ -270,19 +269,16 @@ module _ (s : List ℕ) (m : ℕ) (head : headBad s ≡ Fine) (fine : linesBad s
   unfolding rowOf
   kind-at k h = ap natOf (cells-at k 0 h (omega arith))
 
-  some : 1 ≤ n
-  some = headed s head .low
-
   -- label 1
   root-line : line s 1 ≡ rootLine
-  root-line = root-is n 1 (line s 1) (line-fine 0 some) refl
+  root-line = root-is n 1 (line s 1) (line-fine 0 low) refl
 
   root-kind : kind t 1 ≡ 1
-  root-kind = kind-at 0 some ∙ ap (λ (x : List ℕ). kindCode (field (cut 32 x) 0)) root-line ∙ root-code
+  root-kind = kind-at 0 low ∙ ap (λ (x : List ℕ). kindCode (field (cut 32 x) 0)) root-line ∙ root-code
 
   root-top : fieldA t 1 ≡ 0
   unfolding rowOf rootLine codeOf kinds kindAt fieldOf
-  root-top = ap natOf (cells-at 0 3 some (omega arith)) ∙ rw (root-line, zero-label n)
+  root-top = ap natOf (cells-at 0 3 low (omega arith)) ∙ rw (root-line, zero-label n)
 
   naturals : (l j : ℕ) → 1 ≤ l → l ≤ n → j < 8 → (kind t l ≡ 4 → j ≡ 3 → ⊥) → intAt t (8 * (l - 1) + j) ≡ pos (cell t l j)
   naturals zero j h g a d = absurd (not-suc-le-zero h)
@@ -375,8 +371,8 @@ module _ (s : List ℕ) (m : ℕ) (head : headBad s ≡ Fine) (fine : linesBad s
   pub lined : 8 * labels s ≤ m → Lined s (linedTable s m) (labels s)
   unfolding rowOf
   lined room = record {
-    some = some;
-    few = headed s head .high;
+    some = low;
+    few = high;
     room = omega (arith, lined-length s m room);
     unused = unused-at;
     natural = naturals;

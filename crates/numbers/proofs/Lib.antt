@@ -3,4 +3,6 @@ pub mod Rounding
 pub mod Division
 pub mod Arithmetic
 pub mod Decimals
+pub mod Numerals
+pub mod ReadBack
 mod Samples

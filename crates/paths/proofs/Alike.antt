@@ -1,4 +1,5 @@
--- Rows 12 to 15 read every cell of a table but the targets: two tables that are alike but for those give the same.
+-- Rows 12 to 15 read of text and table the kinds, the owners and the bytes of the names alone: two texts with tables that agree in these
+-- give the same, wherever the names stand. Two tables over one text that are alike but for the targets are such.
 use mathlib.Core.Path.{_≡_, refl, ap, sym, _∙_}
 use mathlib.Core.List.{List, [], _∷_}
 use Prim.Native.Nat.{ℕ, zero, suc, _+_, _-_, _*_, _≤_}
@@ -32,51 +33,105 @@ column-alike f n t = record {
   owned = λ l h. column-keeps 7 f (omega arith) n t (8 * (l - 1) + 6) (λ k g e. omega arith);
 }
 
+-- the table u over the text r has the kinds, names and owners of the table t over the text s
+pub record Like (s : List ℕ) (t : List ℤ) (r : List ℕ) (u : List ℤ) : Type 0 where
+  pub kinds : (l : ℕ) → kind u l ≡ kind t l
+  pub names : (l : ℕ) → nameOf r u l ≡ nameOf s t l
+  pub owners : (l : ℕ) → owner u l ≡ owner t l
+
+module _ (s : List ℕ) (t : List ℤ) (r : List ℕ) (u : List ℤ) (a : Like s t r u) where
+  definition-like : (l : ℕ) → isDefinition u l ≡ isDefinition t l
+  definition-like l = rw (a .kinds l)
+
+  path-like : (l : ℕ) → hasPath u l ≡ hasPath t l
+  path-like l = rw (a .kinds l)
+
+  named-like : (g : ℕ) (w : List ℕ) (m : ℕ) → isNamed r u g w m ≡ isNamed s t g w m
+  named-like g w m = rw (definition-like m, a .owners m, a .names m)
+
+  member-like : (n g : ℕ) (w : List ℕ) → member r u n g w ≡ member s t n g w
+  unfolding member
+  member-like n g w = first-same (isNamed r u g w) (isNamed s t g w) n 1 (λ x l h. named-like g w x)
+
+  settled-like : (n : ℕ) (w : List ℕ) (k g : ℕ) → settled r u n w k g ≡ settled s t n w k g
+  settled-like n w zero g = refl
+  settled-like n w (suc k) g = rw (member-like n g w, a .owners g, settled-like n w k (owner t g))
+
+  descended-like : (n : ℕ) (ws : List (List ℕ)) (m : ℕ) → descended r u n m ws ≡ descended s t n m ws
+  descended-like n [] m = refl
+  descended-like n (w ∷ ws) m = rw (a .kinds m, member-like n m w) (descended-like n ws (below s t n m w))
+
+  head-like : (n x : ℕ) → headOf r u n x ≡ headOf s t n x
+  unfolding headOf headFrom
+  head-like n x =
+      rw (a .names x, a .owners x, a .owners (owner t x)) (settled-like n (firstOf (namesOf s t x)) (owner t (owner t x)) (owner t (owner t x)))
+
+  head-cell-like : (n x : ℕ) → headCell r u n x ≡ headCell s t n x
+  head-cell-like n x = rw (path-like x, head-like n x)
+
+  target-by-like : (n x head : ℕ) → targetBy r u n x head ≡ targetBy s t n x head
+  target-by-like n x head = rw (path-like x, a .names x, descended-like n (drop 1 (namesOf s t x)) head)
+
+  pub target-like : (n x : ℕ) → targetOf r u n x ≡ targetOf s t n x
+  unfolding targetOf
+  target-like n x = rw (head-like n x, a .names x) (descended-like n (drop 1 (namesOf s t x)) (headOf s t n x))
+
+  pub target-cell-like : (n x : ℕ) → targetCell r u n x ≡ targetCell s t n x
+  target-cell-like n x = rw (path-like x, target-like n x)
+
+  -- ---- rows 12 to 15
+
+  duplicate-like : (l : ℕ) → duplicateBad r u l ≡ duplicateBad s t l
+  unfolding duplicateBad
+  duplicate-like l =
+      rw (definition-like l, a .owners l, a .names l, first-same (isNamed r u (owner t l) (nameOf s t l)) (isNamed s t (owner t l) (nameOf s t l)) (l - 1) 1 (λ x p q. named-like (owner t l) (nameOf s t l) x))
+
+  path-head-like : (n x : ℕ) → pathHeadBad r u n x ≡ pathHeadBad s t n x
+  unfolding pathHeadBad
+  path-head-like n x = rw (path-like x, head-like n x)
+
+  later-bad-like : (n x : ℕ) → laterBad r u n x ≡ laterBad s t n x
+  unfolding laterBad
+  later-bad-like n x = rw (path-like x, target-like n x)
+
+  target-bad-like : (n x : ℕ) → targetBad r u n x ≡ targetBad s t n x
+  unfolding targetBad
+  target-bad-like n x = rw (path-like x, target-like n x, a .kinds (targetOf s t n x), a .kinds x)
+
+  pub paths-like : (n : ℕ) → pathsBad r u n ≡ pathsBad s t n
+  unfolding pathsBad
+  paths-like n =
+      rw (same-found (duplicateBad r u) (duplicateBad s t) n 1 (λ x h g. duplicate-like x), same-found (pathHeadBad r u n) (pathHeadBad s t n) n 1 (λ x h g. path-head-like n x), same-found (laterBad r u n) (laterBad s t n) n 1 (λ x h g. later-bad-like n x), same-found (targetBad r u n) (targetBad s t n) n 1 (λ x h g. target-bad-like n x))
+
+-- ---- two tables over one text
+
 module _ (s : List ℕ) (t u : List ℤ) (a : Alike t u) where
+  like : Like s t s u
+  like = record { kinds = a .kinds; names = λ l. rw (a .starts l, a .lengths l); owners = a .owners }
+
   pub definition-alike : (l : ℕ) → isDefinition u l ≡ isDefinition t l
-  definition-alike l = rw (a .kinds l)
+  definition-alike = definition-like s t s u like
 
   pub path-alike : (l : ℕ) → hasPath u l ≡ hasPath t l
-  path-alike l = rw (a .kinds l)
-
-  name-alike : (l : ℕ) → nameOf s u l ≡ nameOf s t l
-  name-alike l = rw (a .starts l, a .lengths l)
-
-  named-alike : (g : ℕ) (w : List ℕ) (m : ℕ) → isNamed s u g w m ≡ isNamed s t g w m
-  named-alike g w m = rw (definition-alike m, a .owners m, name-alike m)
-
-  member-alike : (n g : ℕ) (w : List ℕ) → member s u n g w ≡ member s t n g w
-  unfolding member
-  member-alike n g w = first-same (isNamed s u g w) (isNamed s t g w) n 1 (λ x l h. named-alike g w x)
-
-  settled-alike : (n : ℕ) (w : List ℕ) (k g : ℕ) → settled s u n w k g ≡ settled s t n w k g
-  settled-alike n w zero g = refl
-  settled-alike n w (suc k) g = rw (member-alike n g w, a .owners g, settled-alike n w k (owner t g))
-
-  descended-alike : (n : ℕ) (ws : List (List ℕ)) (m : ℕ) → descended s u n m ws ≡ descended s t n m ws
-  descended-alike n [] m = refl
-  descended-alike n (w ∷ ws) m = rw (a .kinds m, member-alike n m w) (descended-alike n ws (below s t n m w))
-
-  head-alike : (n x : ℕ) → headOf s u n x ≡ headOf s t n x
-  unfolding headOf headFrom
-  head-alike n x =
-      rw (name-alike x, a .owners x, a .owners (owner t x)) (settled-alike n (firstOf (namesOf s t x)) (owner t (owner t x)) (owner t (owner t x)))
+  path-alike = path-like s t s u like
 
   pub head-cell-alike : (n x : ℕ) → headCell s u n x ≡ headCell s t n x
-  head-cell-alike n x = rw (path-alike x, head-alike n x)
+  head-cell-alike = head-cell-like s t s u like
 
   pub target-by-alike : (n x head : ℕ) → targetBy s u n x head ≡ targetBy s t n x head
-  target-by-alike n x head = rw (path-alike x, name-alike x, descended-alike n (drop 1 (namesOf s t x)) head)
+  target-by-alike = target-by-like s t s u like
 
   pub target-alike : (n x : ℕ) → targetOf s u n x ≡ targetOf s t n x
-  unfolding targetOf
-  target-alike n x = rw (head-alike n x, name-alike x) (descended-alike n (drop 1 (namesOf s t x)) (headOf s t n x))
+  target-alike = target-like s t s u like
 
   pub target-cell-alike : (n x : ℕ) → targetCell s u n x ≡ targetCell s t n x
-  target-cell-alike n x = rw (path-alike x, target-alike n x)
+  target-cell-alike = target-cell-like s t s u like
+
+  pub paths-alike : (n : ℕ) → pathsBad s u n ≡ pathsBad s t n
+  paths-alike = paths-like s t s u like
 
   bucket-alike : (l : ℕ) → bucketAt s u l ≡ bucketAt s t l
-  bucket-alike l = rw (name-alike l, a .owners l)
+  bucket-alike l = rw (like .names l, a .owners l)
 
   in-bucket-alike : (b l : ℕ) → inBucket s u b l ≡ inBucket s t b l
   in-bucket-alike b l = rw (definition-alike l, bucket-alike l)
@@ -102,27 +157,3 @@ module _ (s : List ℕ) (t u : List ℤ) (a : Alike t u) where
 
   pub linked-alike : (n : ℕ) (first next : List ℕ) → Linked s t n first next → Linked s u n first next
   linked-alike n first next h = record { buckets = h .buckets; room = h .room; chains = chains-alike n 1 first next (h .chains) }
-
-  -- ---- rows 12 to 15
-
-  duplicate-alike : (l : ℕ) → duplicateBad s u l ≡ duplicateBad s t l
-  unfolding duplicateBad
-  duplicate-alike l =
-      rw (definition-alike l, a .owners l, name-alike l, first-same (isNamed s u (owner t l) (nameOf s t l)) (isNamed s t (owner t l) (nameOf s t l)) (l - 1) 1 (λ x p q. named-alike (owner t l) (nameOf s t l) x))
-
-  path-head-alike : (n x : ℕ) → pathHeadBad s u n x ≡ pathHeadBad s t n x
-  unfolding pathHeadBad
-  path-head-alike n x = rw (path-alike x, head-alike n x)
-
-  later-bad-alike : (n x : ℕ) → laterBad s u n x ≡ laterBad s t n x
-  unfolding laterBad
-  later-bad-alike n x = rw (path-alike x, target-alike n x)
-
-  target-bad-alike : (n x : ℕ) → targetBad s u n x ≡ targetBad s t n x
-  unfolding targetBad
-  target-bad-alike n x = rw (path-alike x, target-alike n x, a .kinds (targetOf s t n x), a .kinds x)
-
-  pub paths-alike : (n : ℕ) → pathsBad s u n ≡ pathsBad s t n
-  unfolding pathsBad
-  paths-alike n =
-      rw (same-found (duplicateBad s u) (duplicateBad s t) n 1 (λ x h g. duplicate-alike x), same-found (pathHeadBad s u n) (pathHeadBad s t n) n 1 (λ x h g. path-head-alike n x), same-found (laterBad s u n) (laterBad s t n) n 1 (λ x h g. later-bad-alike n x), same-found (targetBad s u n) (targetBad s t n) n 1 (λ x h g. target-bad-alike n x))

@@ -31,7 +31,7 @@ use Rattle.calls.specs.Plan.{lengthOf}
 use Rattle.calls.specs.Run.{runReply, runTable, runPlan, runResults}
 use Rattle.calls.specs.declared.PlanReply.the-variants as reply
 use Rattle.calls.proofs.Answers.{answers}
-use Rattle.printing.specs.Decimal.{decimal, integer}
+use Rattle.numbers.specs.Numerals.{decimal, integer}
 use Rattle.printing.specs.Print.{lineOf, columnsLine, refusalLine, wholeWord, mixedWord, nameField, valueLine, valueLines, printBound, printWith}
 use Rattle.printing.proofs.Sizes.{decimal-length, integer-length}
 use Rattle.printing.proofs.Runs.{run-fine, reads, results-fit, table-is, plan-proper}

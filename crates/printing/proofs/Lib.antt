@@ -1,6 +1,4 @@
 pub mod Writing
-pub mod Decimal
-pub mod ReadBack
 mod Sizes
 mod Lines
 pub mod Runs

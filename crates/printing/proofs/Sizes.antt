@@ -11,8 +11,8 @@ use mir.Val.{SFits}
 use Rattle.cells.specs.Cells.{isNegative}
 use Rattle.cells.proofs.Signed.{clash}
 use lib.ListN.{length, length-append}
-use Rattle.printing.specs.Decimal.{digits, decimal, integer}
-use Rattle.printing.proofs.Decimal.{digits-none, digits-last, decimal-zero, decimal-digits}
+use Rattle.numbers.specs.Numerals.{digits, decimal, integer}
+use Rattle.numbers.proofs.Numerals.{digits-none, digits-last, decimal-zero, decimal-digits}
 
 pub next-size : (x : ℤ) → isNegative x ≡ true → natAbs (x +ℤ pos 1) + 1 ≡ natAbs x
 next-size (pos n) e = clash (sym e)

@@ -1,4 +1,3 @@
--- Decimal holds numbers as bytes, Print what the program prints, Writing what the functions between promise.
-pub mod Decimal
+-- Print holds what the program prints, Writing what the functions between promise.
 pub mod Print
 pub mod Writing

@@ -11,7 +11,7 @@ use Rattle.evaluation.specs.Results.{stateAt, numberAt, stepsAt}
 use Rattle.calls.specs.Run.{runReply, runTable, runPlan, runResults}
 use Rattle.calls.specs.declared.PlanReply.{PlanReply}
 use Rattle.calls.specs.declared.PlanReply.the-variants as reply
-use Rattle.printing.specs.Decimal.{decimal, integer}
+use Rattle.numbers.specs.Numerals.{decimal, integer}
 
 -- ---- lines
 

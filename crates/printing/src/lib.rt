@@ -9,7 +9,7 @@ ghost use lib.IntN.{natAbs};
 ghost use Rattle.cells.specs.Cells.{natOf};
 ghost use Rattle.order.specs.Following.{labelsOf};
 ghost use Rattle.evaluation.specs.Results.{stateAt, numberAt, stepsAt};
-ghost use Rattle.printing.specs.Decimal.{digits, decimal, integer};
+ghost use Rattle.numbers.specs.Numerals.{digits, decimal, integer};
 ghost use Rattle.printing.specs.Print.{lineOf, columnsLine, refusalLine, nameField, valueLine, valueLines, printBound, printWith, printOf};
 ghost use Rattle.printing.specs.Writing.{Wrote, NamesIn, resultAt};
 use calls::PlanReply;

@@ -37,6 +37,7 @@ use Rattle.paths.proofs.Alike.{Alike, column-alike, paths-alike, target-alike}
 use Rattle.lines.specs.Lined.{Lined}
 use Rattle.lines.proofs.Pass.{rows-length}
 use Rattle.reading.specs.Read.{tableShort, ownedTable, resolvedTable, resolvedBad, sheetRows, sheetBad, sheetTable, Reads, readBad}
+use Rattle.lines.proofs.Heads.{headed}
 use Rattle.lines.proofs.Lined.{lined, names-short}
 use Rattle.reading.proofs.Resolved.{formed, accepted}
 use Rattle.reading.proofs.Padding.{rows-lined}
@@ -274,65 +275,102 @@ read-fine s m e =
     let h = both-fine (headBad s) (orElse (tableShort s m) (sheetBad s)) e in
     reads s (h .0) (both-fine (tableShort s m) (sheetBad s) (h .1) .1)
 
-module _ (s : List ℕ) (e : Reads s) where
+-- rows 5 to 15 find nothing in a sheet of 1 to 1,024 labels, of whatever length
+module _ (s : List ℕ) (low : 1 ≤ labels s) (high : labels s ≤ 1024) (e : sheetBad s ≡ Fine) where
   abbrev n : ℕ
   n = labels s
 
   abbrev rows : List ℤ
   rows = sheetRows s
 
-  head-fine : (headBad s ≡ Fine) × (sheetBad s ≡ Fine)
-  head-fine = both-fine (headBad s) (sheetBad s) e
-
   lines-fine : (linesBad s n ≡ Fine) × (resolvedBad s rows n ≡ Fine)
   unfolding sheetBad
-  lines-fine = both-fine (linesBad s n) (resolvedBad s rows n) (head-fine .1)
+  lines-fine = both-fine (linesBad s n) (resolvedBad s rows n) e
 
   tree-fine : (treeBad rows n ≡ Fine) × (pathsBad s (ownedTable rows n) n ≡ Fine)
   unfolding resolvedBad
   tree-fine = both-fine (treeBad rows n) (pathsBad s (ownedTable rows n) n) (lines-fine .1)
 
   is-lined : Lined s rows n
-  is-lined = rw (rows-lined s) at (lined s (8 * n) (head-fine .0) (lines-fine .0) (omega arith))
+  is-lined = rw (rows-lined s) at (lined s (8 * n) low high (lines-fine .0) (omega arith))
 
-  pub read-accepted : Accepted (sheetTable s) (labels s)
+  pub any-accepted : Accepted (sheetTable s) (labels s)
   unfolding sheetTable
-  read-accepted = resolved-accepted s rows n is-lined (tree-fine .0) (tree-fine .1)
+  any-accepted = resolved-accepted s rows n is-lined (tree-fine .0) (tree-fine .1)
 
-  pub read-names : (l : ℕ) → nameStart (sheetTable s) l + nameLength (sheetTable s) l ≤ length s
+  pub any-names : (l : ℕ) → nameStart (sheetTable s) l + nameLength (sheetTable s) l ≤ length s
   unfolding sheetTable
-  read-names = resolved-names s rows n is-lined (tree-fine .0) (tree-fine .1)
+  any-names = resolved-names s rows n is-lined (tree-fine .0) (tree-fine .1)
 
   -- a value's name has at most 16 bytes
-  pub read-short : (v : ℕ) → kind (sheetTable s) v ≡ 2 → nameLength (sheetTable s) v ≤ 16
+  pub any-short : (v : ℕ) → kind (sheetTable s) v ≡ 2 → nameLength (sheetTable s) v ≤ 16
   unfolding sheetTable
-  read-short v k =
+  any-short v k =
       let same = same-lines s rows n is-lined (tree-fine .0) (tree-fine .1) v in
-      let short : (kind rows v ≡ 2 → nameLength rows v ≤ 16) = rw (rows-lined s) at (names-short s (8 * n) (head-fine .0) (lines-fine .0) v) in
+      let short : (kind rows v ≡ 2 → nameLength rows v ≤ 16) = rw (rows-lined s) at (names-short s (8 * n) low high (lines-fine .0) v) in
       rw (same 2 (omega arith)) (short (sym (same 0 (omega arith)) ∙ k))
 
-  pub read-length : length (sheetTable s) ≡ 8 * labels s
+  pub any-length : length (sheetTable s) ≡ 8 * labels s
   unfolding sheetTable sheetRows
-  read-length = resolved-length s rows n is-lined (tree-fine .0) (tree-fine .1) ∙ rows-length s n n
+  any-length = resolved-length s rows n is-lined (tree-fine .0) (tree-fine .1) ∙ rows-length s n n
 
   -- the target of an R or C is where its path leads by "Paths", and that is one definition
-  pub read-targets : (x : ℕ) → hasPath (sheetTable s) x ≡ true → Leads s (sheetTable s) (labels s) x (target (sheetTable s) x)
+  pub any-targets : (x : ℕ) → hasPath (sheetTable s) x ≡ true → Leads s (sheetTable s) (labels s) x (target (sheetTable s) x)
   unfolding sheetTable
-  read-targets = resolved-leads s rows n is-lined (tree-fine .0) (tree-fine .1)
+  any-targets = resolved-leads s rows n is-lined (tree-fine .0) (tree-fine .1)
 
-  pub read-targets-only : (x m : ℕ) → hasPath (sheetTable s) x ≡ true → Leads s (sheetTable s) (labels s) x m → m ≡ target (sheetTable s) x
+  pub any-targets-only : (x m : ℕ) → hasPath (sheetTable s) x ≡ true → Leads s (sheetTable s) (labels s) x m → m ≡ target (sheetTable s) x
   unfolding sheetTable
-  read-targets-only = resolved-leads-only s rows n is-lined (tree-fine .0) (tree-fine .1)
+  any-targets-only = resolved-leads-only s rows n is-lined (tree-fine .0) (tree-fine .1)
 
   -- "owner (a definition's Group, an expression's definition)"; an expression is owned by one definition
-  pub read-owners : (x : ℕ) → isExpression (sheetTable s) x ≡ true → Owned (sheetTable s) (owner (sheetTable s) x) x
+  pub any-owners : (x : ℕ) → isExpression (sheetTable s) x ≡ true → Owned (sheetTable s) (owner (sheetTable s) x) x
   unfolding sheetTable
-  read-owners = resolved-owned s rows n is-lined (tree-fine .0) (tree-fine .1)
+  any-owners = resolved-owned s rows n is-lined (tree-fine .0) (tree-fine .1)
+
+  pub any-owners-only : (d x : ℕ) → Owned (sheetTable s) d x → d ≡ owner (sheetTable s) x
+  unfolding sheetTable
+  any-owners-only = resolved-owned-only s rows n is-lined (tree-fine .0) (tree-fine .1)
+
+  pub any-groups : (d : ℕ) → isDefinition (sheetTable s) d ≡ true → owner (sheetTable s) d ≡ fieldA (sheetTable s) d
+  unfolding sheetTable
+  any-groups = resolved-group s rows n is-lined (tree-fine .0) (tree-fine .1)
+
+-- ---- the same of a sheet that reads
+
+module _ (s : List ℕ) (e : Reads s) where
+  both : (headBad s ≡ Fine) × (sheetBad s ≡ Fine)
+  both = both-fine (headBad s) (sheetBad s) e
+
+  least : 1 ≤ labels s
+  least = headed s (both .0) .low
+
+  most : labels s ≤ 1024
+  most = headed s (both .0) .high
+
+  pub read-accepted : Accepted (sheetTable s) (labels s)
+  read-accepted = any-accepted s least most (both .1)
+
+  pub read-names : (l : ℕ) → nameStart (sheetTable s) l + nameLength (sheetTable s) l ≤ length s
+  read-names = any-names s least most (both .1)
+
+  pub read-short : (v : ℕ) → kind (sheetTable s) v ≡ 2 → nameLength (sheetTable s) v ≤ 16
+  read-short = any-short s least most (both .1)
+
+  pub read-length : length (sheetTable s) ≡ 8 * labels s
+  read-length = any-length s least most (both .1)
+
+  pub read-targets : (x : ℕ) → hasPath (sheetTable s) x ≡ true → Leads s (sheetTable s) (labels s) x (target (sheetTable s) x)
+  read-targets = any-targets s least most (both .1)
+
+  pub read-targets-only : (x m : ℕ) → hasPath (sheetTable s) x ≡ true → Leads s (sheetTable s) (labels s) x m → m ≡ target (sheetTable s) x
+  read-targets-only = any-targets-only s least most (both .1)
+
+  pub read-owners : (x : ℕ) → isExpression (sheetTable s) x ≡ true → Owned (sheetTable s) (owner (sheetTable s) x) x
+  read-owners = any-owners s least most (both .1)
 
   pub read-owners-only : (d x : ℕ) → Owned (sheetTable s) d x → d ≡ owner (sheetTable s) x
-  unfolding sheetTable
-  read-owners-only = resolved-owned-only s rows n is-lined (tree-fine .0) (tree-fine .1)
+  read-owners-only = any-owners-only s least most (both .1)
 
   pub read-groups : (d : ℕ) → isDefinition (sheetTable s) d ≡ true → owner (sheetTable s) d ≡ fieldA (sheetTable s) d
-  unfolding sheetTable
-  read-groups = resolved-group s rows n is-lined (tree-fine .0) (tree-fine .1)
+  read-groups = any-groups s least most (both .1)

@@ -165,7 +165,7 @@ module _ (s : List ℕ) (t : List ℤ) (n : ℕ) (is : Lined s t n) where
 
 module _ (s : List ℕ) where
   rows-are : headBad s ≡ Fine → linesBad s (labels s) ≡ Fine → Lined s (sheetRows s) (labels s)
-  rows-are h e = rw (rows-lined s) at (lined s (8 * labels s) h e (omega arith))
+  rows-are h e = rw (rows-lined s) at (lined s (8 * labels s) (headed s h .low) (headed s h .high) e (omega arith))
 
   kept-lines : Keeps s → linesBad s (labels s) ≡ Fine
   unfolding linesBad

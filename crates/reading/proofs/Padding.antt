@@ -1,6 +1,5 @@
 -- Zeros behind the rows of a table change nothing: rows 8 to 15 find what they find in the rows alone, and leave the same zeros behind.
 use mathlib.Core.Path.{_≡_, refl, ap, _∙_}
-use mathlib.Core.Bool.{Bool}
 use mathlib.Core.List.{List, [], _∷_, _++_, append-nil}
 use Prim.Native.Nat.{ℕ, zero, suc, _+_, _-_, _*_, _≤_, _<_}
 use native.Mathlib.Omega.{arith}
@@ -9,26 +8,20 @@ use lib.ListN.{length, set}
 use lib.Seq.{set-append-left}
 use borrow.Author.Tests.{le-leb}
 use Rattle.cells.specs.Cells.{natOf, intAt, zeros}
-use Rattle.cells.specs.Lists.{all}
-use Rattle.cells.specs.Table.{cell, fieldA, withColumn}
+use Rattle.cells.specs.Table.{cell, withColumn}
 use Rattle.cells.proofs.Stores.{intAt-zeros}
 use Rattle.cells.proofs.Columns.{column-length, column-same}
 use Rattle.refusals.specs.Refusal.{orElse}
-use Rattle.refusals.proofs.FirstBad.{first-same}
 use Rattle.lines.specs.Lines.{labels, headBad, rows}
 use Rattle.lines.specs.Lined.{linedTable}
 use Rattle.lines.proofs.Pass.{rows-length}
-use Rattle.tree.specs.Tree.{parts, partRight, structureBad, usesBad, ownerOf, argumentBad, levelBad, treeBad}
-use Rattle.tree.proofs.Parts.{Alike, alike-expression, alike-definition, alike-parts}
-use Rattle.tree.proofs.Users.{alike-uses}
-use Rattle.tree.proofs.Owners.{alike-level, alike-owner}
+use Rattle.tree.specs.Tree.{ownerOf}
+use Rattle.tree.proofs.Parts.{Like, like}
+use Rattle.tree.proofs.Owners.{like-owner}
+use Rattle.tree.proofs.Likes.{tree-like}
 use Rattle.paths.specs.Paths.{targetCell}
 use Rattle.paths.proofs.Alike as paths
 use Rattle.reading.specs.Read.{tableShort, ownedTable, resolvedTable, resolvedBad, sheetRows, sheetBad, readBad}
-
-all-same : (f g : ℕ → Bool) → ((x : ℕ) → f x ≡ g x) → (xs : List ℕ) → all f xs ≡ all g xs
-all-same f g h [] = refl
-all-same f g h (x ∷ xs) = rw (h x, all-same f g h xs)
 
 -- ---- cells and columns
 
@@ -53,31 +46,12 @@ module _ (t : List ℤ) (k n : ℕ) (room : 8 * n ≤ length t) where
   abbrev w : List ℤ
   w = t ++ zeros k
 
-  alike : Alike t w
-  alike l j h = cell-padded t k l j
-
-  structure-same : (l : ℕ) → structureBad w l ≡ structureBad t l
-  unfolding structureBad
-  structure-same l =
-      rw (alike-definition t w alike l, alike-parts t w alike l, cell-padded t k l 3, cell-padded t k (fieldA t l) 0, all-same (partRight w l) (partRight t l) (λ x. rw (alike-expression t w alike x)) (parts t l))
-
-  uses-same : (x : ℕ) → usesBad w n x ≡ usesBad t n x
-  uses-same x = rw (alike-expression t w alike x, alike-uses t w alike x n)
-
-  argument-same : (x : ℕ) → argumentBad w n x ≡ argumentBad t n x
-  argument-same x = rw (alike-owner t w n alike x, cell-padded t k (ownerOf t n x) 0, cell-padded t k x 0)
-
-  level-same : (x : ℕ) → levelBad w n x ≡ levelBad t n x
-  level-same x = rw (alike-level t w n alike x)
-
-  tree-same : treeBad w n ≡ treeBad t n
-  unfolding treeBad
-  tree-same =
-      rw (first-same (structureBad w) (structureBad t) n 1 (λ x h g. structure-same x), first-same (usesBad w n) (usesBad t n) n 1 (λ x h g. uses-same x), first-same (argumentBad w n) (argumentBad t n) n 1 (λ x h g. argument-same x), first-same (levelBad w n) (levelBad t n) n 1 (λ x h g. level-same x))
+  alike : Like t w
+  alike = like t w (λ l j h. cell-padded t k l j)
 
   owned-padded : ownedTable w n ≡ ownedTable t n ++ zeros k
   unfolding ownedTable
-  owned-padded = column-same 6 (ownerOf w n) (ownerOf t n) n w (λ l h g. alike-owner t w n alike l) ∙ column-padded 6 (omega arith) (ownerOf t n) n t (zeros k) room
+  owned-padded = column-same 6 (ownerOf w n) (ownerOf t n) n w (λ l h g. like-owner t w n alike l) ∙ column-padded 6 (omega arith) (ownerOf t n) n t (zeros k) room
 
   owned-long : 8 * n ≤ length (ownedTable t n)
   unfolding ownedTable
@@ -95,7 +69,7 @@ module _ (t : List ℤ) (k n : ℕ) (room : 8 * n ≤ length t) where
   module _ (s : List ℕ) where
     pub bad-padded : resolvedBad s w n ≡ resolvedBad s t n
     unfolding resolvedBad
-    bad-padded = rw (tree-same, owned-padded, paths.paths-alike s (ownedTable t n) (ownedTable t n ++ zeros k) owned-alike n)
+    bad-padded = rw (tree-like t w alike n, owned-padded, paths.paths-alike s (ownedTable t n) (ownedTable t n ++ zeros k) owned-alike n)
 
     pub resolved-padded : resolvedTable s w n ≡ resolvedTable s t n ++ zeros k
     unfolding resolvedTable

@@ -17,6 +17,7 @@ use Rattle.lines.specs.Lines.{labels, headBad, linesBad, rows, linesWritten}
 use Rattle.lines.proofs.Pass.{rows-length, written-length}
 use Rattle.lines.specs.Lined.{linedTable, Lined}
 use Rattle.reading.specs.Read.{tableShort, resolvedBad, resolvedTable, sheetBad, sheetTable, bodyBad, readBad, readReply, readTable, tableOf}
+use Rattle.lines.proofs.Heads.{headed}
 use Rattle.lines.proofs.Lined.{lined}
 use Rattle.reading.proofs.Padding.{sheet-bad, sheet-table}
 
@@ -48,7 +49,7 @@ module _ (s : List ℕ) (n : ℕ) (t u : List ℤ) (v : Verdict) (is : n ≡ lab
   table-lined e w = rw (← is) (ap (clearFrom (8 * n)) (w ∙ ap (λ (x : Verdict). linesWritten s n (passed x n) t) e) ∙ cleared s n t room)
 
   pub lined-left : (x : List ℤ) → headBad s ≡ Fine → v ≡ Fine → u ≡ linesWritten s n (passed v n) t → x ≡ clearFrom (8 * n) u → Lined s x n
-  lined-left x h f w e = rw (e ∙ table-lined f w, is) (lined s (length t) h (lines-are ∙ f) (omega arith))
+  lined-left x h f w e = rw (e ∙ table-lined f w, is) (lined s (length t) (headed s h .low) (headed s h .high) (lines-are ∙ f) (omega arith))
 
   pub sheet-resolved : (x y : List ℤ) (r : Verdict) → v ≡ Fine → u ≡ linesWritten s n (passed v n) t → x ≡ clearFrom (8 * n) u
       → r ≡ resolvedBad s x n → (r ≡ Fine → y ≡ resolvedTable s x n) → (r ≡ sheetBad s) × (r ≡ Fine → y ≡ tableOf Fine s (length t))

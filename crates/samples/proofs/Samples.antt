@@ -22,7 +22,7 @@ use Rattle.calls.specs.Buffers.{planShort, resultsShort}
 use Rattle.calls.specs.Plan.{openBad, plannedBad, planOf, planBad, planReply, planCells}
 use Rattle.calls.specs.Run.{runBad, runReply, runTable, runPlan, runResults}
 use Rattle.calls.specs.Follow.{followBad, followReply, followResults}
-use Rattle.printing.specs.Decimal.{digits, decimal}
+use Rattle.numbers.specs.Numerals.{digits, decimal}
 use Rattle.printing.specs.Print.{columnsLine, refusalLine, wholeWord, mixedWord, valueLine, valueLines, printOf}
 use Rattle.samples.specs.Sample.{given, said}
 use Rattle.samples.specs.Samples.{samples}

@@ -4,6 +4,7 @@ pub mod Parts
 pub mod Users
 pub mod Labels
 pub mod Owners
+pub mod Likes
 pub mod Writes
 pub mod Passes
 pub mod Stages

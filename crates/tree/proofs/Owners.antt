@@ -9,11 +9,12 @@ use lib.IntN.{ℤ}
 use lib.ListN.{length}
 use Rattle.cells.specs.Table.{kind, fieldA}
 use Rattle.cells.specs.Accepted.{HasBody}
+use Rattle.cells.proofs.Signed.{clash}
 use Rattle.tree.specs.Tree.{isDefinition, isExpression, IsPart, Owned, Level, userOf, climb, lastOf, definitionOf, ownerOf, levelOf}
 use Rattle.tree.specs.Steps.{UsedOnce}
-use Rattle.tree.proofs.Codes.{not-expression, either, part-line, definition-high, two-or-three, label-low, label-high, kind-high}
-use Rattle.tree.proofs.Parts.{Alike, alike-expression}
-use Rattle.tree.proofs.Users.{User, user-some, user-only, alike-user}
+use Rattle.tree.proofs.Codes.{not-expression, expression-high, either, part-line, definition-high, two-or-three, label-low, label-high, kind-high}
+use Rattle.tree.proofs.Parts.{Like, Alike, like, like-expression}
+use Rattle.tree.proofs.Users.{User, user-some, user-only, like-user}
 
 -- ---- climbing
 
@@ -171,17 +172,28 @@ module _ (t : List ℤ) (n : ℕ) (s : UsedOnce t n) where
   owned-body d x (Owned.body _ _ e p) = two-or-three t d (part-line t d x p) (definition-high t d (kind-high t n (s .structure .formed) d) e)
   owned-body d x (Owned.operand _ u _ o e p) = owned-body d u o
 
--- ---- the tree reads the cells before the owner only
+-- ---- of tables that the tree does not tell apart
+
+module _ (t w : List ℤ) (n : ℕ) (same : Like t w) where
+  like-climb : (m x : ℕ) → climb w n m x ≡ climb t n m x
+  like-climb zero x = refl
+  like-climb (suc m) x = rw (like-expression t w same x, like-user t w same x n, like-climb m (userOf t n x))
+
+  pub like-level : (x : ℕ) → levelOf w n x ≡ levelOf t n x
+  unfolding levelOf
+  like-level x = ap length (like-climb x x)
+
+  pub like-owner : (x : ℕ) → ownerOf w n x ≡ ownerOf t n x
+  unfolding ownerOf definitionOf
+  like-owner x = rw (like-expression t w same x, like-climb x x) (go (isExpression t x) refl)
+    where
+      go : (b : Bool) → isExpression t x ≡ b → cond b (lastOf x (climb t n x x)) (fieldA w x) ≡ cond b (lastOf x (climb t n x x)) (fieldA t x)
+      go true e = refl
+      go false e = same .a x (λ q. clash (sym (expression-high t x (omega arith) (omega arith)) ∙ e))
 
 module _ (t w : List ℤ) (n : ℕ) (same : Alike t w) where
-  alike-climb : (m x : ℕ) → climb w n m x ≡ climb t n m x
-  alike-climb zero x = refl
-  alike-climb (suc m) x = rw (alike-expression t w same x, alike-user t w same x n, alike-climb m (userOf t n x))
-
   pub alike-level : (x : ℕ) → levelOf w n x ≡ levelOf t n x
-  unfolding levelOf
-  alike-level x = ap length (alike-climb x x)
+  alike-level = like-level t w n (like t w same)
 
   pub alike-owner : (x : ℕ) → ownerOf w n x ≡ ownerOf t n x
-  unfolding ownerOf definitionOf
-  alike-owner x = rw (alike-expression t w same x, alike-climb x x, same x 3 (omega arith))
+  alike-owner = like-owner t w n (like t w same)

@@ -4,12 +4,12 @@ use mathlib.Core.Bool.{Bool, true, false, cond, _&&_, and-assoc}
 use mathlib.Core.List.{List, [], _∷_, _++_}
 use Prim.Native.Nat.{ℕ, _+_, _≤_, _<_}
 use native.Mathlib.Omega.{arith}
-use borrow.Author.Tests.{ltb-true, eqb-true, le-leb, eq-eqb, ne-eqb}
+use borrow.Author.Tests.{ltb-true, eqb-true, eqb-false, le-leb, eq-eqb, ne-eqb}
 use lib.Dec.{leb, ltb, eqb}
 use lib.IntN.{ℤ}
 use Rattle.cells.specs.Lists.{one, count, all}
 use Rattle.cells.specs.Table.{cell, kind, fieldA, fieldB, fieldC}
-use Rattle.lines.specs.Kinds.{kindAt}
+use Rattle.lines.specs.Kinds.{kinds, kindAt}
 use Rattle.lines.specs.declared.Form.{Form}
 use Rattle.refusals.specs.declared.Verdict.the-variants.{Fine}
 use Rattle.refusals.specs.Refusal.{firstBad}
@@ -116,23 +116,51 @@ module _ (t : List ℤ) (n : ℕ) (s : Formed t n) (fine : firstBad (structureBa
         (ltb-true l x (and-left (ltb l x) (isExpression t x) (right-part l x p)), and-right (ltb l x) (isExpression t x) (right-part l x p));
   }
 
--- ---- the tree reads the cells before the owner only
+-- ---- the tree reads the kinds and the fields a, b and c alone, and of an N line (code 4) no field
 
+pub record Like (t w : List ℤ) : Type 0 where
+  pub kinds : (l : ℕ) → kind w l ≡ kind t l
+  pub a : (l : ℕ) → (kind t l ≡ 4 → ⊥) → fieldA w l ≡ fieldA t l
+  pub b : (l : ℕ) → fieldB w l ≡ fieldB t l
+  pub c : (l : ℕ) → fieldC w l ≡ fieldC t l
+
+number-operand : isOperand (kindAt 4 .a) ≡ false
+unfolding kindAt kinds
+number-operand = refl
+
+operand-like : (k x y : ℕ) → ((k ≡ 4 → ⊥) → x ≡ y) → operandIn (kindAt k .a) x ≡ operandIn (kindAt k .a) y
+operand-like k x y h = go (eqb k 4) refl
+  where
+    go : (b : Bool) → eqb k 4 ≡ b → operandIn (kindAt k .a) x ≡ operandIn (kindAt k .a) y
+    go true e = rw (eqb-true k 4 e, number-operand)
+    go false e = ap (operandIn (kindAt k .a)) (h (eqb-false k 4 e))
+
+module _ (t w : List ℤ) (same : Like t w) (l : ℕ) where
+  pub like-expression : isExpression w l ≡ isExpression t l
+  unfolding isExpression
+  like-expression = rw (same .kinds l)
+
+  pub like-definition : isDefinition w l ≡ isDefinition t l
+  unfolding isDefinition
+  like-definition = rw (same .kinds l)
+
+  pub like-parts : parts w l ≡ parts t l
+  unfolding parts
+  like-parts = rw (same .kinds l, same .b l, same .c l, operand-like (kind t l) (fieldA w l) (fieldA t l) (same .a l))
+
+-- so it does not read the cells from the owner on
 abbrev pub Alike : List ℤ → List ℤ → Type 0
 Alike t w = (l j : ℕ) → j < 6 → cell w l j ≡ cell t l j
 
-module _ (t w : List ℤ) (same : Alike t w) (l : ℕ) where
-  same-kind : kind w l ≡ kind t l
-  same-kind = same l 0 (omega arith)
+pub like : (t w : List ℤ) → Alike t w → Like t w
+like t w same = record { kinds = λ l. same l 0 (omega arith); a = λ l d. same l 3 (omega arith); b = λ l. same l 4 (omega arith); c = λ l. same l 5 (omega arith) }
 
-  pub alike-expression : isExpression w l ≡ isExpression t l
-  unfolding isExpression
-  alike-expression = rw same-kind
+module _ (t w : List ℤ) (same : Alike t w) where
+  pub alike-expression : (l : ℕ) → isExpression w l ≡ isExpression t l
+  alike-expression = like-expression t w (like t w same)
 
-  pub alike-definition : isDefinition w l ≡ isDefinition t l
-  unfolding isDefinition
-  alike-definition = rw same-kind
+  pub alike-definition : (l : ℕ) → isDefinition w l ≡ isDefinition t l
+  alike-definition = like-definition t w (like t w same)
 
-  pub alike-parts : parts w l ≡ parts t l
-  unfolding parts
-  alike-parts = rw (same-kind, same l 3 (omega arith), same l 4 (omega arith), same l 5 (omega arith))
+  pub alike-parts : (l : ℕ) → parts w l ≡ parts t l
+  alike-parts = like-parts t w (like t w same)

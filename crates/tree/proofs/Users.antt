@@ -18,7 +18,7 @@ use Rattle.refusals.proofs.FirstBad.{first-none}
 use Rattle.tree.specs.Tree.{isExpression, parts, uses, usesBad, IsPart, userOf}
 use Rattle.tree.specs.Steps.{Structured, UsedOnce}
 use Rattle.tree.proofs.Codes.{expression-kind, label-low, label-high}
-use Rattle.tree.proofs.Parts.{Alike, count-parts, field-most, alike-parts}
+use Rattle.tree.proofs.Parts.{Like, Alike, like, count-parts, field-most, like-parts}
 
 module _ (t : List ℤ) (x : ℕ) where
   pub line-most : (l : ℕ) → count x (parts t l) ≤ 3
@@ -84,11 +84,14 @@ tree t n s fine = record { structure = s; once = λ x e. go x e (eqb (uses t n x
 
 -- ---- the tree reads the cells before the owner only
 
-module _ (t w : List ℤ) (same : Alike t w) (x : ℕ) where
-  pub alike-uses : (k : ℕ) → uses w k x ≡ uses t k x
-  alike-uses zero = refl
-  alike-uses (suc k) = rw (alike-uses k, alike-parts t w same (suc k))
+module _ (t w : List ℤ) (same : Like t w) (x : ℕ) where
+  pub like-uses : (k : ℕ) → uses w k x ≡ uses t k x
+  like-uses zero = refl
+  like-uses (suc k) = rw (like-uses k, like-parts t w same (suc k))
 
-  pub alike-user : (k : ℕ) → userOf w k x ≡ userOf t k x
-  alike-user zero = refl
-  alike-user (suc k) = rw (alike-user k, alike-parts t w same (suc k))
+  pub like-user : (k : ℕ) → userOf w k x ≡ userOf t k x
+  like-user zero = refl
+  like-user (suc k) = rw (like-user k, like-parts t w same (suc k))
+
+pub alike-uses : (t w : List ℤ) → Alike t w → (x k : ℕ) → uses w k x ≡ uses t k x
+alike-uses t w same = like-uses t w (like t w same)

@@ -5,7 +5,7 @@ use borrow.Author.Needs.{needs}
 use borrow.Fn.Kinds.{In}
 use borrow.Fn.PlainCycle.{Measures, is, falls, and}
 use Rattle.printing.proofs.Writing.{nothing, same-size, within, then}
-use Rattle.printing.proofs.Decimal.{digits-none, digits-last}
+use Rattle.numbers.proofs.Numerals.{digits-none, digits-last}
 use Rattle.printing.proofs.put_digits.Reads as put-digits
 use Rattle.printing.proofs.put_digits.Kinds as put-digits-kinds
 use Rattle.printing.proofs.+put_digits.Lts-put_digits as put-digits-lts

@@ -1,4 +1,4 @@
-use Rattle.printing.specs.Decimal.{decimal}
+use Rattle.numbers.specs.Numerals.{decimal}
 use Rattle.printing.specs.Print.{refusalLine}
 use Rattle.printing.proofs.Writing.{then, field-then}
 use borrow.Author.Needs.{needs}

@@ -1,5 +1,5 @@
 use Rattle.cells.proofs.Signed.{whole}
-use Rattle.printing.specs.Decimal.{decimal, integer}
+use Rattle.numbers.specs.Numerals.{decimal, integer}
 use Rattle.printing.proofs.Lines.{state-is, number-is, steps-is}
 use Rattle.printing.proofs.Writing.{field-then}
 use borrow.Author.Needs.{needs}

@@ -160,7 +160,7 @@ fn keep_apart(arrows: &[Arrow]) {
 }
 
 fn check(text: &[u8]) -> Option<usize> {
-    let svg = explain::picture(text, "x", "a < \"b\" & 'c'\u{7}").ok()?;
+    let svg = command::picture(text, "x", "a < \"b\" & 'c'\u{7}").ok()?;
     assert!(svg.contains(">a &lt; &quot;b&quot; &amp; &apos;c&apos;\u{fffd}</text>"));
     let sheet = Sheet::read(text).expect("a sheet that reads");
     let tags = tags(&svg);
@@ -203,7 +203,7 @@ fn everyday_pictures() {
 #[test]
 fn large_pictures() {
     for shape in generator::shapes() {
-        if let Ok(svg) = explain::picture(&shape.text, "x", shape.name) {
+        if let Ok(svg) = command::picture(&shape.text, "x", shape.name) {
             assert!(!tags(&svg).is_empty(), "{}", shape.name);
         }
     }

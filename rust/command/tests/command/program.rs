@@ -8,7 +8,7 @@ use crate::{read, read_text, top};
 
 /// The program with these words, at the top of the repository.
 fn command(words: &[&str]) -> Command {
-    let mut command = Command::new(env!("CARGO_BIN_EXE_explain"));
+    let mut command = Command::new(env!("CARGO_BIN_EXE_lindypo"));
     command.args(words).current_dir(top()).stdin(Stdio::null());
     command
 }
@@ -31,7 +31,7 @@ fn stderr(output: &Output) -> String {
 
 /// What the file of samples has for a sheet.
 fn on_file(sheet: &str) -> String {
-    let samples = read_text("rust/explain/tests/sheets.print");
+    let samples = read_text("rust/command/tests/sheets.print");
     let mut parts = samples.split("$ ./explain ");
     let part = parts.find_map(|part| part.strip_prefix(&format!("{sheet}\n")));
     part.expect("the sheet's part").to_string()
@@ -99,7 +99,7 @@ fn what_cannot_be_done_is_2() {
 fn help_is_no_mistake() {
     let output = output(&["--help"]);
     assert_eq!((status(&output), stderr(&output)), (0, String::new()));
-    assert_eq!(stdout(&output), explain::command::USAGE);
+    assert_eq!(stdout(&output), command::command::USAGE);
 }
 
 #[test]
@@ -133,7 +133,7 @@ fn a_batch_is_0_even_with_refusals() {
     let output = output(&["--batch", "sheets"]);
     assert_eq!((status(&output), stderr(&output)), (0, String::new()));
     let (words, time) = (stdout(&output), " sheets a second\n");
-    let summary = read_text("rust/explain/tests/batch.print");
+    let summary = read_text("rust/command/tests/batch.print");
     let rest = words.strip_prefix(&summary).expect("the summary first");
     assert!(rest.starts_with('\n') && rest.ends_with(time), "{rest:?}");
     assert_eq!(rest.lines().count(), 2);

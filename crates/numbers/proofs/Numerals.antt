@@ -3,7 +3,7 @@ use mathlib.Core.Path.{_≡_, refl, ap}
 use mathlib.Core.List.{List, [], _∷_, _++_}
 use Prim.Native.Nat.{ℕ, zero, suc, _+_, _/_, _%_, _≤_, _<_}
 use native.Mathlib.Omega.{arith}
-use Rattle.printing.specs.Decimal.{digits, decimal}
+use Rattle.numbers.specs.Numerals.{digits, decimal}
 
 -- more divisions than the number has digits bring out no more
 enough : (k m n : ℕ) → n ≤ k → n ≤ m → digits k n ≡ digits m n

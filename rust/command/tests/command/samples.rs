@@ -8,7 +8,7 @@ fn explained() -> String {
     let mut words = String::new();
     for path in sheets() {
         let file = path.display().to_string();
-        let said = explain::tree(&read(&path), &file).unwrap_or_else(|refusal| refusal);
+        let said = command::tree(&read(&path), &file).unwrap_or_else(|refusal| refusal);
         words += &format!("$ ./explain {file}\n{said}");
     }
     words
@@ -17,7 +17,7 @@ fn explained() -> String {
 /// The gate makes the same of `./explain`.
 #[test]
 fn every_sheet_is_explained_as_on_file() {
-    let wanted = read_text("rust/explain/tests/sheets.print");
+    let wanted = read_text("rust/command/tests/sheets.print");
     let given = explained();
     for (given, wanted) in given.lines().zip(wanted.lines()) {
         assert_eq!(given, wanted);
@@ -36,7 +36,7 @@ refusal 14: the Group `right` has no member `prism`
   |         ^^^^^
   = row 14: each later name of a path is a member of the Group that the names before it lead to
 ";
-    assert_eq!(explain::tree(&read(path), path), Err(wanted.to_string()));
+    assert_eq!(command::tree(&read(path), path), Err(wanted.to_string()));
 }
 
 #[test]
@@ -54,7 +54,7 @@ outermost Group      1       1-4                 Group
    └─ sphere         7         4      20      1  a number
 ";
     let text = read("sheets/03-mixed.sheet");
-    assert_eq!(explain::tree(&text, ""), Ok(wanted.to_string()));
+    assert_eq!(command::tree(&text, ""), Ok(wanted.to_string()));
 }
 
 /// Without a mark there is no line to show.
@@ -65,7 +65,7 @@ refusal 1: the text is empty
  --> x
   = row 1: a sheet is 1 to 65,536 bytes, printable ASCII in lines that each end with byte 10
 ";
-    assert_eq!(explain::tree(b"", "x"), Err(wanted.to_string()));
+    assert_eq!(command::tree(b"", "x"), Err(wanted.to_string()));
 }
 
 /// The pictures of the documents are what is drawn.
@@ -74,7 +74,7 @@ fn the_pictures_on_file() {
     for (sheet, picture) in [("01-example", "example"), ("03-mixed", "mixed")] {
         let (sheet, picture) = (format!("{sheet}.sheet"), format!("docs/{picture}.svg"));
         let path = format!("sheets/{sheet}");
-        let drawn = explain::picture(&read(&path), "", &sheet).expect("a picture");
+        let drawn = command::picture(&read(&path), "", &sheet).expect("a picture");
         let again = format!("to draw it anew: ./explain --svg {picture} {path}");
         assert!(drawn == read_text(&picture), "{again}");
     }

@@ -1,4 +1,4 @@
--- Numbers as the print has them, in bytes: decimal, no leading zeros, `-` before a negative number. 45 is `-`, 48 to 57 are the digits.
+-- Numbers as they are written, in bytes: decimal, no leading zeros, `-` before a negative number. 45 is `-`, 48 to 57 are the digits.
 use Prim.Native.Nat.{ℕ, zero, suc, _+_, _/_, _%_}
 use mathlib.Core.List.{List, [], _∷_, _++_}
 use lib.IntN.{ℤ, pos, negsuc}

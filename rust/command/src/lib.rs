@@ -8,13 +8,13 @@
 #![forbid(unsafe_code)]
 
 pub mod batch;
-pub mod command;
 mod excerpt;
 mod numerals;
 mod outline;
 mod rules;
 mod svg;
 mod tree;
+pub mod words;
 
 use lindypo::{Refusal, Run, Sheet};
 

@@ -8,12 +8,12 @@ use borrow.Author.Tests.{ne-eqb, eqb-true, eqb-false}
 use lib.Dec.{eqb}
 use lib.IntN.{ℤ, pos, negsuc, natAbs}
 use Rattle.cells.proofs.Signed.{clash}
 use Rattle.numbers.specs.Range.{limit}
 use Rattle.numbers.specs.Decimal.{isDigit, allDigits, value, noLeadingZero, decimalOf, numberOf}
 use Rattle.numbers.specs.declared.Decimal.the-variants as read
 use Rattle.numbers.specs.declared.Number.the-variants as number
 use Rattle.numbers.proofs.Decimals.{digit-is, Written, decimal-is, decimal-number}
-use Rattle.printing.specs.Decimal.{digits, decimal, integer}
+use Rattle.numbers.specs.Numerals.{digits, decimal, integer}
 
 -- ---- value and digits, with one digit more
 

@@ -2,7 +2,7 @@
 
 use std::path::{Path, PathBuf};
 
-use explain::batch::{self, Summary, Verdict};
+use command::batch::{self, Summary, Verdict};
 use lindypo::Order;
 
 use crate::{read_text, sheets, top};
@@ -80,7 +80,7 @@ fn the_sequence_does_not_matter() {
     };
     let forward = sum(&mut verdicts.iter());
     assert_eq!(forward, sum(&mut verdicts.iter().rev()));
-    assert_eq!(forward, read_text("rust/explain/tests/batch.print"));
+    assert_eq!(forward, read_text("rust/command/tests/batch.print"));
 }
 
 #[test]

@@ -8,19 +8,19 @@ use std::io::{self, IsTerminal, Read, Write};
 use std::path::{Path, PathBuf};
 use std::process::ExitCode;
 
-use explain::batch;
-use explain::command::{self, Picture, Task};
+use command::batch;
+use command::words::{self, Picture, Task};
 
 const REFUSED: u8 = 1;
 const FAILED: u8 = 2;
 
 fn main() -> ExitCode {
     let has_input = !io::stdin().is_terminal();
-    let status = match command::parse(env::args_os().skip(1), has_input) {
-        Ok(Task::Usage) => print(command::USAGE).map(|()| 0),
+    let status = match words::parse(env::args_os().skip(1), has_input) {
+        Ok(Task::Usage) => print(words::USAGE).map(|()| 0),
         Ok(Task::One { sheet, picture }) => one(sheet.as_deref(), picture),
         Ok(Task::Many { paths, folders }) => many(&paths, folders),
-        Err(message) => Err(format!("{message}\n{}", command::USAGE.trim_end())),
+        Err(message) => Err(format!("{message}\n{}", words::USAGE.trim_end())),
     };
     match status {
         Ok(status) => ExitCode::from(status),
@@ -42,8 +42,8 @@ fn one(sheet: Option<&Path>, picture: Option<Picture>) -> Result<u8, String> {
         .unwrap_or_default()
         .to_string_lossy();
     let explained = match picture {
-        Some(_) => explain::picture(&text, &file, &name),
-        None => explain::tree(&text, &file),
+        Some(_) => command::picture(&text, &file, &name),
+        None => command::tree(&text, &file),
     };
     match (explained, picture) {
         (Ok(svg), Some(Picture::File(path))) => {

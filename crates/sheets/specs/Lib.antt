@@ -1,0 +1,4 @@
+pub mod Sheet
+pub mod Right
+pub mod Shows
+pub mod NumberPut

@@ -1,14 +1,14 @@
 -- How a row grows to what its definition touches.
 use mathlib.Core.Path.{_≡_, refl, sym, ap, _∙_, subst}
-use mathlib.Core.Logic.{_⊎_, inl, inr, _↔_}
+use mathlib.Core.Logic.{_⊎_, inl, inr}
 use mathlib.Core.List.{List, [], _∷_, _++_}
 use mathlib.Core.Bool.{Bool, true, false}
-use Prim.Native.Nat.{ℕ, zero, suc, _+_, _-_, _*_, _/_, _≤_, _<_}
+use Prim.Native.Nat.{ℕ, suc, _+_, _-_, _≤_, _<_}
 use native.Mathlib.Omega.{arith}
 use native.Mathlib.Numerals.{add-one}
 use native.Mathlib.Decide.{ℕ-discrete, decLt}
 use lib.IntN.{ℤ}
-use lib.ListN.{length, getD, set, take, length-append}
+use lib.ListN.{length, getD, take, length-append}
 use lib.Seq.{take-suc, take-suc-set, length-take-le}
 use Rattle.cells.specs.Table.{cell, kind, owner}
 use Rattle.cells.specs.Accepted.{Accepted, HasBody}
@@ -22,7 +22,7 @@ use Rattle.reach.specs.Links.{Column, Link, Links, once, then, Around, T
 use Rattle.reach.specs.Rows.{width, Row, Blank}
 use Rattle.reach.specs.Chains.{Hangs, Last}
 use Rattle.reach.specs.Turns.{Raised, Met, marked, added, pushed, Spread, markCount, Grown, Filled}
-use Rattle.reach.proofs.Links.{body-label, links-body, in-row, path-label, end-body, link-body, around-body, around-owner, around-label, touch-label, touch-body, touch-on, touch-around, touch-owner}
+use Rattle.reach.proofs.Links.{body-label, links-body, in-row, path-label, around-body, around-owner, around-label, touch-label, touch-body, touch-on, touch-around, touch-owner}
 
 one-le : (t : Bool) → one t ≤ 1
 one-le true = omega arith

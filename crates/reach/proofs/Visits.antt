@@ -1,9 +1,8 @@
 -- The states of definitions while rows are made.
 use mathlib.Core.Path.{_≡_, refl, sym, ap, _∙_, subst}
-use mathlib.Core.Logic.{_⊎_, inl, inr}
+use mathlib.Core.Logic.{inl}
 use mathlib.Core.List.{List}
-use mathlib.Core.Bool.{true, false}
-use Prim.Native.Nat.{ℕ, _+_, _*_, _≤_, _<_}
+use Prim.Native.Nat.{ℕ, _+_, _≤_, _<_}
 use native.Mathlib.Omega.{arith}
 use native.Mathlib.Decide.{ℕ-discrete}
 use lib.Dec.{eqb}
@@ -18,8 +17,7 @@ use Rattle.order.specs.Lists.{filter}
 use Rattle.order.specs.Order.{labels}
 use Rattle.order.proofs.Lists.{tally-lt}
 use Rattle.order.proofs.Tables.{in-labels}
-use Rattle.marks.specs.Marks.{mark}
-use Rattle.reach.specs.Rows.{width, Row, Blank, AllRows, Rows, Room}
+use Rattle.reach.specs.Rows.{Row, Blank, AllRows, Rows, Room}
 use Rattle.reach.specs.Turns.{Filled, Since, Visited}
 use Rattle.reach.proofs.Links.{body-label, body-group}
 

@@ -1,9 +1,9 @@
 -- How a row grows: what holds between two steps, and what each step does.
 use mathlib.Core.Path.{_≡_}
 use mathlib.Core.Logic.{_⊎_}
-use mathlib.Core.List.{List, []}
+use mathlib.Core.List.{List}
 use mathlib.Core.Bool.{Bool, true, false}
-use Prim.Native.Nat.{ℕ, _+_, _≤_, _<_}
+use Prim.Native.Nat.{ℕ, _+_, _≤_}
 use lib.IntN.{ℤ}
 use lib.ListN.{length, getD, set, take}
 use Rattle.cells.specs.Table.{kind, owner}
@@ -11,7 +11,7 @@ use Rattle.cells.specs.Accepted.{HasBody}
 use Rattle.order.specs.Lists.{one, count, _∈_, filter}
 use Rattle.order.specs.Order.{labels}
 use Rattle.marks.specs.Marks.{mark, Added}
-use Rattle.reach.specs.Links.{Link, Links, Around, Touches}
+use Rattle.reach.specs.Links.{Link, Around, Touches}
 use Rattle.reach.specs.Rows.{width, Rows}
 
 -- with a Group, the Groups around it are marked

@@ -2,9 +2,8 @@
 // looked at twice for one value. With a V its row has the Groups around it, since Groups need what their values do.
 
 ghost use mathlib.Core.Path.{_≡_};
-ghost use mathlib.Core.Bool.{false};
 ghost use mathlib.Core.Logic.{_⊎_};
-ghost use Prim.Native.Nat.{ℕ, _+_, _*_, _/_, _≤_, _<_};
+ghost use Prim.Native.Nat.{ℕ, _+_, _*_, _≤_, _<_};
 ghost use lib.ListN.{length, getD, take};
 ghost use Rattle.cells.specs.Table.{cell, kind, owner};
 ghost use Rattle.cells.specs.Accepted.{Accepted, HasBody};

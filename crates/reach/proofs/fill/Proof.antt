@@ -1,23 +1,19 @@
-use mathlib.Core.Path.{_≡_, refl, sym, ap, _∙_, subst}
+use mathlib.Core.Path.{_≡_, refl, _∙_, subst}
 use mathlib.Core.Logic.{inl, inr}
 use mathlib.Core.Bool.{true}
-use Prim.Native.Nat.{ℕ, _+_, _-_, _*_, _≤_, _<_}
+use Prim.Native.Nat.{ℕ, _+_, _-_, _≤_}
 use native.Mathlib.Omega.{arith}
 use borrow.Author.Needs.{needs}
-use lib.ListN.{length, getD, take}
+use lib.ListN.{length, take}
 use Rattle.cells.specs.Accepted.{HasBody}
 use Rattle.marks.specs.Marks.{mark}
 use Rattle.reach.specs.Links.{Link, Links}
-use Rattle.reach.specs.Rows.{width, Row, Room}
+use Rattle.reach.specs.Rows.{width, Room}
 use Rattle.reach.specs.Turns.{Spread, markCount}
 use Rattle.reach.proofs.Links.{body-label}
 use Rattle.reach.proofs.Spread.{spread-none, popped, grown-less, rows-kept, filled}
 use Rattle.reach.proofs.fill.Statement.{statement}
 use Rattle.reach.proofs.fill.Tie as tie
-use Rattle.reach.proofs.fill.Reads as reads
-use Rattle.reach.proofs.fill.Lts as lts
-use Rattle.reach.proofs.grow.Reads as grow-reads
-use Rattle.marks.proofs.widen.Reads as widen-reads
 
 abbrev Inv-loop : tie.InvT-loop
 Inv-loop table n j chains state square₀ stack₀ d top₀ square stack top =

@@ -1,19 +1,14 @@
-use mathlib.Core.Path.{_≡_, refl, sym, ap, _∙_, subst}
+use mathlib.Core.Path.{_≡_, sym, _∙_}
 use mathlib.Core.Logic.{inl, ⊎-elim}
 use Prim.Native.Nat.{ℕ, _+_, _-_, _≤_, _<_}
 use native.Mathlib.Omega.{arith}
-use native.Mathlib.Decide.{ℕ-discrete}
 use borrow.Author.Needs.{needs}
 use borrow.Author.Count.{below-more}
-use lib.ListN.{length, getD}
+use lib.ListN.{getD}
 use Rattle.cells.specs.Table.{kind}
 use Rattle.reach.proofs.Visits.{Going, going-start, going-room, going-more, begun-more, rows-none, rows-all}
 use Rattle.reach.proofs.reach_rows.Statement.{statement}
 use Rattle.reach.proofs.reach_rows.Tie as tie
-use Rattle.reach.proofs.reach_rows.Reads as reads
-use Rattle.reach.proofs.reach_rows.Lts as lts
-use Rattle.reach.proofs.kind_of.Reads as kind-of-reads
-use Rattle.reach.proofs.visit.Reads as visit-reads
 
 abbrev Inv-loop : tie.InvT-loop
 Inv-loop table n j chains state₀ square₀ stack₀ v₀ state square stack v =

@@ -2,7 +2,7 @@
 
 use std::ffi::OsStr;
 
-use lindypo::{Run, Sheet};
+use lindypo::{Refusal, Run, Sheet};
 
 use crate::input::Source;
 use crate::json::Object;
@@ -14,7 +14,7 @@ use crate::status::Status;
 use crate::svg;
 use crate::tree::Node;
 use crate::values;
-use crate::words::Word;
+use crate::words::{Example, Word};
 
 pub const WORD: Word = Word {
     name: "explain",
@@ -43,7 +43,32 @@ has them whole.
             meaning: "write over PICTURE where it is there already",
         },
     ],
-    examples: &[],
+    examples: &[
+        Example {
+            words: "explain sheets/01-example.sheet",
+            print: "\
+3 of 3 values have a number; whole plan: the values of every Group stand together
+
+definition       label  position  number  steps  state     formula
+outermost Group      1       1-3                 Group
+├─ right             3       1-2                 Group
+│  ├─ sphere         5         1    -325      1  a number  = -325
+│  └─ prism          4         2     -33      5  a number  = sphere * 10 / 100
+└─ total             2         3     -28      3  a number  = right.prism + 5
+",
+        },
+        Example {
+            words: "explain sheets/refusal-14-later-name-not-found.sheet",
+            print: "\
+refusal 14: the Group `right` has no member `prism`
+ --> sheets/refusal-14-later-name-not-found.sheet:7:9 (label 6)
+  |
+7 | R right.prism - - -
+  |         ^^^^^
+  = rule: each later name of a path is a member of the Group that the names before it lead to
+",
+        },
+    ],
     fields: &[&sheets::FIELDS, &values::ORDER_FIELDS, &outline::FIELDS],
     call,
 };
@@ -62,7 +87,7 @@ fn call(call: &Call, out: &mut Output) -> Result<Status, String> {
     }
 }
 
-fn ask(text: &Text, is_list: bool) -> Asked<'_> {
+pub fn ask(text: &Text, is_list: bool) -> Asked<'_> {
     let (sheet, run) = sheets::ran(&text.bytes)?;
     Ok(Box::new(Explained {
         sheet,
@@ -105,12 +130,17 @@ impl Answer for Explained<'_> {
     }
 }
 
+/// The picture of a text that runs, with a caption.
+pub fn picture(text: &[u8], caption: &str) -> Result<(String, Status), Refusal> {
+    let (sheet, run) = sheets::ran(text)?;
+    let outermost = Node::outermost(&sheet, &run);
+    let svg = svg::picture(&sheet, &outermost, run.plan.order, caption);
+    Ok((svg, values::status(&values::of_run(&sheet, &run))))
+}
+
 /// Draws a sheet into a file, or says the picture itself.
 fn draw<'a>(text: &'a Text, file: &OsStr, force: bool) -> Asked<'a> {
-    let (sheet, run) = sheets::ran(&text.bytes)?;
-    let outermost = Node::outermost(&sheet, &run);
-    let svg = svg::picture(&sheet, &outermost, run.plan.order, &text.source.file_name());
-    let status = values::status(&values::of_run(&sheet, &run));
+    let (svg, status) = picture(&text.bytes, &text.source.file_name())?;
     let svg = match Source::of(file) {
         Source::Input => svg,
         Source::File(path) => {

@@ -35,15 +35,19 @@ are then those of `lindypo run`, whichever such list it is.
             print: "\
 3 of 3 values have a number
 
-position  label  name          number  steps  state
-       1      5  right.sphere    -325      1  a number
-       2      4  right.prism      -33      5  a number
-       3      2  total            -28      3  a number
+position  label  name          number  steps  state     formula
+       1      5  right.sphere    -325      1  a number  = -325
+       2      4  right.prism      -33      5  a number  = sphere * 10 / 100
+       3      2  total            -28      3  a number  = right.prism + 5
 ",
         },
         Example {
             words: "follow --order 4,5,2 sheets/01-example.sheet",
-            print: "",
+            print: "\
+refusal 18: `right.prism` reaches `right.sphere`, which is not listed earlier
+ --> sheets/01-example.sheet, position 1 of the order
+  = rule: an order lists a value after all that it reaches
+",
         },
     ],
     fields: &[
@@ -56,9 +60,12 @@ position  label  name          number  steps  state
 
 const ORDER: &str = "--order";
 
-/// The most bytes of a list that are read: as many as the longest names of all
-/// values of a sheet can take.
+/// The most bytes of a list: more than the longest names of all values of a
+/// sheet take.
 const MOST_BYTES: u64 = 1 << 24;
+
+/// The most letters of an entry that a sentence repeats.
+const QUOTED: usize = 40;
 
 fn call(call: &Call, out: &mut Output) -> Result<Status, String> {
     let word = call.value(ORDER).ok_or("--order is missing")?;
@@ -73,7 +80,7 @@ fn entries(word: &OsStr) -> Result<Vec<String>, String> {
     match word.strip_prefix('@') {
         Some(file) => {
             let source = Source::of(file.as_ref());
-            let list = source.read_up_to(MOST_BYTES);
+            let list = source.read_whole(MOST_BYTES);
             let list = list.map_err(|reason| format!("{ORDER}: {}: {reason}", source.title()))?;
             let lines = String::from_utf8_lossy(&list);
             Ok(lines
@@ -115,8 +122,10 @@ fn named(refusal: Refusal, list: &[String], labels: &[Label]) -> Refusal {
     match (&refusal, list.get(at), labels.get(at)) {
         (Refusal::Listed(fault), Some(entry), Some(0)) => {
             let mut fault = fault.clone();
-            let shown = input::shown(Path::new(entry));
-            fault.sentence = format!("`{shown}` is no label and no full name of the sheet");
+            let start: String = entry.chars().take(QUOTED).collect();
+            let rest = if start.len() < entry.len() { "..." } else { "" };
+            let entry = format!("`{}{rest}`", input::shown(Path::new(&start)));
+            fault.sentence = format!("{entry} is no label and no full name of the sheet");
             Refusal::Listed(fault)
         }
         _ => refusal,

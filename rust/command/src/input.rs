@@ -5,6 +5,8 @@ use std::fs::File;
 use std::io::{self, ErrorKind, Read};
 use std::path::{Path, PathBuf};
 
+use crate::numerals::grouped;
+
 /// One byte more than a sheet may have: of a longer one no more is read, which
 /// is enough to refuse it.
 const MOST_BYTES: u64 = 65_537;
@@ -55,14 +57,21 @@ impl Source {
         }
     }
 
-    /// The text, else why it cannot be read.
+    /// The text of a sheet, else why it cannot be read.
     pub fn read(&self) -> Result<Vec<u8>, String> {
-        self.read_up_to(MOST_BYTES)
+        self.bytes(MOST_BYTES).map_err(|error| match error.kind() {
+            ErrorKind::IsADirectory => "is a folder; `lindypo check` takes folders".to_string(),
+            _ => reason(&error),
+        })
     }
 
-    /// The first of its bytes.
-    pub fn read_up_to(&self, most: u64) -> Result<Vec<u8>, String> {
-        self.bytes(most).map_err(|error| reason(&error))
+    /// All of a file that has at most so many bytes.
+    pub fn read_whole(&self, most: u64) -> Result<Vec<u8>, String> {
+        let bytes = self.bytes(most + 1).map_err(|error| reason(&error))?;
+        match bytes.len() as u64 > most {
+            true => Err(format!("has more than {} bytes", grouped(most))),
+            false => Ok(bytes),
+        }
     }
 
     fn bytes(&self, most: u64) -> io::Result<Vec<u8>> {
@@ -100,8 +109,8 @@ pub fn shown(path: &Path) -> String {
 /// Why a file cannot be read or written.
 pub fn reason(error: &io::Error) -> String {
     match error.kind() {
-        ErrorKind::NotFound => "there is no such file".to_string(),
-        ErrorKind::IsADirectory => "is a folder; `lindypo check` takes folders".to_string(),
+        ErrorKind::NotFound => "there is no such file or folder".to_string(),
+        ErrorKind::IsADirectory => "is a folder".to_string(),
         _ => error.to_string(),
     }
 }

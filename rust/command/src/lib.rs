@@ -9,20 +9,20 @@
 
 pub mod check;
 mod excerpt;
-mod explain;
+pub mod explain;
 mod follow;
 mod formulas;
-mod input;
-mod json;
+pub mod input;
+pub mod json;
 mod numerals;
-mod options;
+pub mod options;
 mod outline;
-mod output;
+pub mod output;
 mod plan;
 mod print;
 mod rules;
 mod run;
-mod sheets;
+pub mod sheets;
 pub mod status;
 mod svg;
 mod table;

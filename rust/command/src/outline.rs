@@ -24,20 +24,41 @@ type Row = [Cell; COLUMNS.len()];
 
 /// The JSON of definitions.
 pub const FIELDS: [Field; 15] = [
-    ("definitions", "all definitions as the tree has them, a Group before its members:"),
+    (
+        "definitions",
+        "the definitions as the tree has them, a Group before its members:",
+    ),
     ("definitions.label", "its label"),
-    ("definitions.name", "its full name; empty for the outermost Group"),
+    (
+        "definitions.name",
+        "its full name; empty for the outermost Group",
+    ),
     ("definitions.line", "the line that it stands in, from 1"),
     ("definitions.kind", "Group, value or function"),
-    ("definitions.group", "the label of its Group; the outermost has none"),
-    ("definitions.first", "the first position in the plan of a value under it, from 1"),
+    (
+        "definitions.group",
+        "the label of its Group; the outermost has none",
+    ),
+    (
+        "definitions.first",
+        "the first position in the plan of a value under it, from 1",
+    ),
     ("definitions.last", "the last such position"),
-    ("definitions.mixed", "of a Group: whether values of others stand between its own"),
+    (
+        "definitions.mixed",
+        "of a Group: whether values of others stand between its own",
+    ),
     ("definitions.formula", "of a value or function: its formula"),
-    ("definitions.argument", "of a function: what its formula calls the argument"),
-    ("definitions.state", "of a value, as are the rest: 1 a number, 2 out of range, 3 a zero divisor, 4 out of steps, 5 too deep"),
+    (
+        "definitions.argument",
+        "of a function: what its formula calls the argument",
+    ),
+    ("definitions.state", "of a value: 1 a number, 2 to 5 none"),
     ("definitions.number", "the number, in state 1"),
-    ("definitions.failure", "why there is no number, in every other state"),
+    (
+        "definitions.failure",
+        "why there is no number, in every other state",
+    ),
     ("definitions.steps", "the steps that it took"),
 ];
 

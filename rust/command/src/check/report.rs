@@ -54,6 +54,8 @@ pub struct Report {
     is_json: bool,
     summary: Summary,
     status: Status,
+    /// Lines about files that are not taken: they follow all that is wrong.
+    skipped: String,
     /// Whether a line stands above the summary.
     has_lines: bool,
 }
@@ -64,6 +66,7 @@ impl Report {
             is_json,
             summary: Summary::default(),
             status: Status::Answered,
+            skipped: String::new(),
             has_lines: false,
         }
     }
@@ -74,30 +77,35 @@ impl Report {
         let file = source.title();
         self.summary.add(&file, verdict);
         self.status = self.status.max(verdict.status());
-        let said = match self.is_json {
-            true => format!("{}\n", object(&source, verdict)),
-            false => lines(&file, verdict, out.paint),
-        };
-        self.has_lines |= !said.is_empty();
-        out.print(&said);
+        match self.is_json {
+            true => out.print(&format!("{}\n", object(&source, verdict))),
+            false => self.add_lines(&file, verdict, out),
+        }
         if let Verdict::Unreadable(reason) = verdict {
             out.complain(&format!("{file}: {reason}"));
         }
     }
 
-    /// The summary.
+    fn add_lines(&mut self, file: &str, verdict: &Verdict, out: &mut Output) {
+        let lines = lines(file, verdict, out.paint);
+        self.has_lines |= !lines.is_empty();
+        match verdict {
+            Verdict::Skipped(_) => self.skipped += &lines,
+            _ => out.print(&lines),
+        }
+    }
+
+    /// What is said of all.
     pub fn end(self, out: &mut Output) -> Status {
-        let gap = if self.has_lines { "\n" } else { "" };
-        match self.is_json {
-            true => {
-                let status = u64::from(self.status.code());
-                let object = Object::new().with("status", status);
-                out.print(&format!(
-                    "{}\n",
-                    object.with("summary", self.summary.object())
-                ));
-            }
-            false => out.print(&format!("{gap}{}", self.summary.text())),
+        if self.is_json {
+            let object = Object::new()
+                .with("status", u64::from(self.status.code()))
+                .with("summary", self.summary.object());
+            out.print(&format!("{object}\n"));
+        } else {
+            let gap = if self.has_lines { "\n" } else { "" };
+            let skipped = out.paint.faint(&self.skipped);
+            out.print(&format!("{skipped}{gap}{}", self.summary.text()));
         }
         self.status
     }

@@ -76,8 +76,9 @@ impl Summary {
 
     /// The summary in words.
     pub fn text(&self) -> String {
-        let mut lines = Lines::default();
-        lines.text = format!("{}\n\n", self.headline());
+        let mut lines = Lines {
+            text: format!("{}\n\n", self.headline()),
+        };
         lines.add("answered, plan whole", self.whole, "");
         lines.add("answered, plan mixed", self.mixed, "");
         lines.add("refused", self.refusals(), "");
@@ -89,15 +90,11 @@ impl Summary {
         }
         lines.add("values", self.values(), "");
         for (state, count) in states().into_iter().zip(self.states) {
-            lines.add(&format!("  {state}"), count, "");
+            lines.add_some(&format!("  {state}"), count);
         }
         lines.add("steps", self.steps, "");
-        if self.skipped > 0 {
-            lines.add("not taken", self.skipped, "");
-        }
-        if !self.unreadable.is_empty() {
-            lines.add("cannot be read", self.unreadable.len() as u64, "");
-        }
+        lines.add_some("not taken", self.skipped);
+        lines.add_some("cannot be read", self.unreadable.len() as u64);
         for (file, reason) in &self.unreadable {
             lines.text += &format!("  {file}: {reason}\n");
         }
@@ -132,12 +129,18 @@ fn states() -> [String; 5] {
 }
 
 /// Lines of a name, a count and words.
-#[derive(Default)]
 struct Lines {
     text: String,
 }
 
 impl Lines {
+    /// None where there is nothing to count.
+    fn add_some(&mut self, name: &str, count: u64) {
+        if count > 0 {
+            self.add(name, count, "");
+        }
+    }
+
     fn add(&mut self, name: &str, count: u64, words: &str) {
         let line = format!("{name:<26}{:>9}  {words}", grouped(count));
         self.text += line.trim_end();

@@ -5,25 +5,47 @@ use crate::files::Folder;
 use crate::graph::{is_entry, Graph};
 
 /// A line of a document.
+#[derive(Clone, Debug)]
 pub struct Line {
     /// Where it stands, as `docs/RULES.md:12`.
     pub place: String,
     pub text: String,
+    /// In a table that has a column of tests: what stands there, which the text
+    /// then has not.
+    pub tests: String,
 }
 
 /// The lines of a document, those that show code left out.
 pub fn lines(name: &str, text: &str) -> Vec<Line> {
     let mut shows_code = false;
+    let mut column = None;
     let mut lines = vec![];
     for (number, line) in (1..).zip(text.lines()) {
         let fence = line.trim_start().starts_with("```");
         shows_code ^= fence;
-        if !fence && !shows_code {
-            lines.push(Line {
-                place: format!("{name}:{number}"),
-                text: line.to_string(),
-            });
+        if fence || shows_code {
+            continue;
         }
+        let mut row = cells(line).unwrap_or_default();
+        match row.iter().position(|cell| *cell == "test") {
+            Some(at) => column = Some(at),
+            None if row.is_empty() => column = None,
+            None => {}
+        }
+        let is_tested = column.is_some_and(|at| at < row.len());
+        let tests = match column {
+            Some(at) if is_tested => row.remove(at).to_string(),
+            _ => String::new(),
+        };
+        let text = match is_tested {
+            true => format!("| {} |", row.join(" | ")),
+            false => line.to_string(),
+        };
+        lines.push(Line {
+            place: format!("{name}:{number}"),
+            text,
+            tests,
+        });
     }
     lines
 }
@@ -49,32 +71,57 @@ fn is_about_edit(graph: &Graph, line: &str) -> bool {
     names.iter().any(|name| is_edit(&name))
 }
 
+/// A law that a line of a document quotes.
+#[derive(Clone, Copy, Debug, PartialEq, Eq)]
+pub struct Quote {
+    pub law: usize,
+    /// The place of the line among the lines.
+    pub line: usize,
+    /// Whether it stands in a column of tests.
+    pub is_test: bool,
+}
+
 /// The laws that documents quote, and the names that could be several.
-pub fn quotes(graph: &Graph, lines: &[Line]) -> (Vec<usize>, Vec<String>) {
-    let mut laws = vec![];
+pub fn quotes(graph: &Graph, lines: &[Line]) -> (Vec<Quote>, Vec<String>) {
+    let mut quotes = vec![];
     let mut unclear = vec![];
-    for line in lines.iter().filter(|line| !is_about_edit(graph, &line.text)) {
-        let names = quoted(&line.text);
-        let is_path = |name: &&&str| name.starts_with("crates/");
-        let paths: Vec<&str> = names.iter().filter(is_path).copied().collect();
-        for name in names.iter().filter(|name| !is_path(name)) {
-            match law(graph, name, &paths) {
-                Ok(found) => laws.extend(found),
-                Err(files) => {
-                    let place = &line.place;
-                    unclear.push(format!("{place}: which `{name}` is meant: {files}?"));
-                }
+    for (at, line) in lines.iter().enumerate() {
+        if is_about_edit(graph, &line.text) {
+            continue;
+        }
+        for (text, is_test) in [(&line.text, false), (&line.tests, true)] {
+            match laws(graph, text) {
+                Ok(found) => quotes.extend(found.into_iter().map(|law| Quote {
+                    law,
+                    line: at,
+                    is_test,
+                })),
+                Err(which) => unclear.push(format!("{}: {which}", line.place)),
             }
         }
     }
-    laws.sort_unstable();
-    laws.dedup();
-    (laws, unclear)
+    (quotes, unclear)
+}
+
+/// The laws that a text quotes.
+fn laws(graph: &Graph, text: &str) -> Result<Vec<usize>, String> {
+    let names = quoted(text);
+    let is_path = |name: &&&str| name.starts_with("crates/");
+    let paths: Vec<&str> = names.iter().filter(is_path).copied().collect();
+    let mut laws = vec![];
+    for name in names.iter().filter(|name| !is_path(name)) {
+        laws.extend(law(graph, name, &paths)?);
+    }
+    Ok(laws)
 }
 
 /// The laws of that name: those in a file or folder that stands on the line; else
-/// the one that there is. A name that `specs/` or `src/` has too is no law's.
+/// the one that there is. A name that `specs/` or `src/` has too is no law's, and
+/// neither is a crate's.
 fn law(graph: &Graph, name: &str, paths: &[&str]) -> Result<Vec<usize>, String> {
+    if graph.files.iter().any(|file| file.package == name) {
+        return Ok(vec![]);
+    }
     let all = 0..graph.nodes.len();
     let has_name = |node: &usize| {
         graph.nodes[*node].name == name && graph.folder(*node) != Folder::FunctionProof
@@ -90,7 +137,10 @@ fn law(graph: &Graph, name: &str, paths: &[&str]) -> Result<Vec<usize>, String> 
     match named.iter().all(is_law) {
         true if named.len() > 1 => {
             let files: Vec<&str> = named.iter().map(|node| &path(node)[..]).collect();
-            Err(files.join(" or "))
+            Err(format!(
+                "which `{name}` is meant, of {}?",
+                files.join(" or of ")
+            ))
         }
         true => Ok(named),
         false => Ok(vec![]),
@@ -127,6 +177,15 @@ mod tests {
         let places: Vec<&str> = lines.iter().map(|line| &line.place[..]).collect();
         assert_eq!(places, ["x.md:1", "x.md:5"]);
         assert_eq!(quoted(&lines[0].text), ["b"]);
+    }
+
+    #[test]
+    fn tests_stand_apart() {
+        let text = "| sentence | test | code |\n|---|---|---|\n| a | `b` | c |\n\n| d | e |\n";
+        let lines = lines("x.md", text);
+        let texts: Vec<(&str, &str)> = lines.iter().map(|l| (&l.text[..], &l.tests[..])).collect();
+        assert_eq!(texts[2], ("| a | c |", "`b`"));
+        assert_eq!(texts[4], ("| d | e |", ""));
     }
 
     #[test]

@@ -18,6 +18,8 @@ pub struct Node {
     /// What it states is made of; what it is made of besides.
     pub statement: Vec<usize>,
     pub body: Vec<usize>,
+    /// What all of it names of the toolchain's libraries, as `lib.ListN.getD`.
+    pub library: Vec<String>,
 }
 
 /// What a name means.
@@ -28,7 +30,7 @@ pub enum Target {
     Constructor(usize),
     Module(Module),
     /// Something of the toolchain's libraries.
-    External,
+    External(String),
 }
 
 #[derive(Clone, Debug, PartialEq, Eq)]
@@ -38,7 +40,7 @@ pub enum Module {
     Function(usize),
     Type(usize),
     Variants(usize),
-    External,
+    External(String),
 }
 
 /// A line of imports, and what of it the file does not use.
@@ -87,7 +89,9 @@ impl Graph {
             graph.link(file);
         }
         graph.unused_passed();
-        graph.unused.sort_by_key(|unused| (unused.file, unused.line));
+        graph
+            .unused
+            .sort_by_key(|unused| (unused.file, unused.line));
         graph
     }
 
@@ -105,6 +109,18 @@ impl Graph {
             Content::Antt(source) => source.declarations.get(node.at),
             Content::Rattle(_) => None,
         }
+    }
+
+    /// The heads of the sections around a declaration: first and last lines.
+    pub fn heads(&self, node: usize) -> Vec<(usize, usize)> {
+        let Content::Antt(source) = &self.files[self.nodes[node].file].content else {
+            return vec![];
+        };
+        let sections = &source.declarations[self.nodes[node].at].sections;
+        let heads = sections.iter().map(|section| &source.sections[*section]);
+        heads
+            .map(|section| (section.first, section.headed))
+            .collect()
     }
 
     pub fn item(&self, node: usize) -> Option<&Item> {
@@ -132,11 +148,7 @@ impl Graph {
     }
 
     /// What is reached by steps from a node to those that `next` gives.
-    pub fn closure(
-        &self,
-        from: &[usize],
-        next: impl Fn(&Node) -> Vec<usize>,
-    ) -> HashSet<usize> {
+    pub fn closure(&self, from: &[usize], next: impl Fn(&Node) -> Vec<usize>) -> HashSet<usize> {
         let mut reached = HashSet::new();
         let mut waiting = from.to_vec();
         while let Some(node) = waiting.pop() {
@@ -163,6 +175,7 @@ impl Graph {
                 name: name.clone(),
                 statement: vec![],
                 body: vec![],
+                library: vec![],
             });
             if let Some(declaration) = self.declaration(node) {
                 let members = declaration.members.clone();
@@ -182,7 +195,10 @@ impl Graph {
     fn declare_item(&mut self, node: usize, name: String) {
         let package = self.files[self.nodes[node].file].package.clone();
         let is_method = self.item(node).is_some_and(|item| item.of.is_some());
-        if self.item(node).is_some_and(|item| item.form == Form::Function) {
+        if self
+            .item(node)
+            .is_some_and(|item| item.form == Form::Function)
+        {
             self.index.functions.insert(node);
         }
         let nodes = match is_method {
@@ -212,16 +228,21 @@ impl Graph {
         for node in nodes {
             let declaration = &source.declarations[self.nodes[*node].at];
             let found = scope::references(&names, &source.sections, declaration);
-            let statement = names.targets(&found.statement, &mut used);
-            let body = names.targets(&found.body, &mut used);
+            let (statement, mut library) = names.targets(&found.statement, &mut used);
+            let (body, more) = names.targets(&found.body, &mut used);
             names.targets(&found.unfolding, &mut used);
-            edges.push((*node, statement, body));
+            library.extend(more);
+            edges.push((*node, statement, body, library));
         }
         let unused = unused(file, source.uses.iter(), &used);
         self.unused.extend(unused);
-        for (node, statement, body) in edges {
-            self.nodes[node].statement = statement;
-            self.nodes[node].body = body;
+        self.set(edges);
+    }
+
+    fn set(&mut self, edges: Vec<(usize, Vec<usize>, Vec<usize>, Vec<String>)>) {
+        for (node, statement, body, library) in edges {
+            let of = &mut self.nodes[node];
+            (of.statement, of.body, of.library) = (statement, body, library);
         }
     }
 
@@ -237,23 +258,23 @@ impl Graph {
         for node in nodes {
             let item = &code.items[self.nodes[*node].at];
             let mut statement = vec![];
+            let mut library = vec![];
             for contract in &item.contracts {
                 let parameters = [&item.parameters[..], &["self".to_string()]].concat();
                 let found = scope::contract(&names, &parameters, &contract.tokens);
-                statement.extend(names.targets(&found, &mut used));
+                let (ours, others) = names.targets(&found, &mut used);
+                statement.extend(ours);
+                library.extend(others);
                 statement.extend(found.iter().flat_map(|path| words.path(path, &mut named)));
             }
             let mut body = words.targets(item, &mut named);
             body.extend(self.proofs(*node));
-            edges.push((*node, statement, body));
+            edges.push((*node, statement, body, library));
         }
         let unused_words = words.unused(file, &named);
         let unused = unused(file, code.ghosts.iter(), &used);
         self.unused.extend(unused.into_iter().chain(unused_words));
-        for (node, statement, body) in edges {
-            self.nodes[node].statement = statement;
-            self.nodes[node].body = body;
-        }
+        self.set(edges);
     }
 
     /// The proof of a function: what its file makes public.
@@ -324,7 +345,8 @@ impl<'a> Names<'a> {
                 }
                 Brings::Names(items) => {
                     for (item, name) in items {
-                        let target = names.member(&module, item).unwrap_or(Target::External);
+                        let missing = || Target::External(item.clone());
+                        let target = names.member(&module, item).unwrap_or_else(missing);
                         names.brought.insert(key(name).to_string(), target);
                     }
                 }
@@ -335,7 +357,8 @@ impl<'a> Names<'a> {
 
     /// The module of a path from the top.
     fn module(&self, path: &[String]) -> Module {
-        self.ours(path).unwrap_or(Module::External)
+        let external = || Module::External(path.join("."));
+        self.ours(path).unwrap_or_else(external)
     }
 
     fn ours(&self, path: &[String]) -> Option<Module> {
@@ -351,7 +374,11 @@ impl<'a> Names<'a> {
             ["specs", "declared", .., of] => item(of).map(Module::Type),
             [folder, ..] => {
                 let is_specs = folder == "specs";
-                let of = if is_specs { Folder::Specs } else { Folder::Proofs };
+                let of = if is_specs {
+                    Folder::Specs
+                } else {
+                    Folder::Proofs
+                };
                 let file = (package.clone(), of, parts[1..].join("."));
                 let file = self.index.modules.get(&file).copied().map(Module::File);
                 file.or_else(|| {
@@ -367,7 +394,7 @@ impl<'a> Names<'a> {
     /// What a name means in a module.
     fn member(&self, module: &Module, name: &str) -> Option<Target> {
         match module {
-            Module::External => Some(Target::External),
+            Module::External(path) => Some(Target::External(format!("{path}.{name}"))),
             Module::Type(node) | Module::Function(node) => Some(Target::Node(*node)),
             Module::Variants(node) => Some(Target::Constructor(*node)),
             Module::File(file) => {
@@ -385,7 +412,10 @@ impl<'a> Names<'a> {
         for line in source.uses.iter().filter(|line| line.public) {
             if let Brings::Names(items) = &line.brings {
                 if let Some((item, _)) = items.iter().find(|(_, called)| called == name) {
-                    self.index.taken.borrow_mut().insert((file, name.to_string()));
+                    self.index
+                        .taken
+                        .borrow_mut()
+                        .insert((file, name.to_string()));
                     return self.member(&self.module(&line.module), item);
                 }
             }
@@ -407,26 +437,29 @@ impl<'a> Names<'a> {
         }
     }
 
-    /// The nodes that paths mean; what they are brought in by is marked as used.
-    fn targets(&self, paths: &[Path], used: &mut HashSet<String>) -> Vec<usize> {
+    /// The nodes that paths mean, and what of the libraries; what they are brought
+    /// in by is marked as used.
+    fn targets(&self, paths: &[Path], used: &mut HashSet<String>) -> (Vec<usize>, Vec<String>) {
         let mut nodes = vec![];
+        let mut library = vec![];
         for path in paths {
             used.insert(key(&path[0]).to_string());
             match self.target(path) {
                 Some(Target::Node(node) | Target::Constructor(node)) => nodes.push(node),
-                Some(Target::Module(_) | Target::External) | None => {}
+                Some(Target::External(name)) => library.push(name),
+                Some(Target::Module(_)) | None => {}
             }
         }
         nodes.sort_unstable();
         nodes.dedup();
-        nodes
+        (nodes, library)
     }
 }
 
 impl Scope for Names<'_> {
     fn is_constructor(&self, path: &[String]) -> bool {
         let target = self.target(path);
-        matches!(target, Some(Target::Constructor(_) | Target::External))
+        matches!(target, Some(Target::Constructor(_) | Target::External(_)))
     }
 
     fn is_module(&self, name: &str) -> bool {

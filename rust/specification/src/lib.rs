@@ -6,12 +6,16 @@
 
 #![forbid(unsafe_code)]
 
+pub mod belief;
 pub mod blocks;
 pub mod code;
 pub mod documents;
+pub mod excerpts;
 pub mod files;
 pub mod graph;
 pub mod lexemes;
+pub mod page;
+pub mod rules;
 pub mod scope;
 pub mod tokens;
 pub mod uncited;

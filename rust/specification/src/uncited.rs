@@ -11,8 +11,9 @@ use crate::graph::Graph;
 
 /// What `crates/` has and nothing needs, a line each; what documents leave unclear.
 pub fn uncited(graph: &Graph, documents: &[Line]) -> Vec<String> {
-    let (laws, mut found) = documents::quotes(graph, documents);
-    let roots = [laws, documents::calls(graph, documents)].concat();
+    let (quotes, mut found) = documents::quotes(graph, documents);
+    let mut roots = documents::calls(graph, documents);
+    roots.extend(quotes.iter().map(|quote| quote.law));
     let reached = graph.reached(&roots);
     for node in (0..graph.nodes.len()).filter(|node| !reached.contains(node)) {
         let of = &graph.nodes[node];

@@ -19,6 +19,20 @@ pub(crate) enum Node {
 }
 
 impl Node {
+    pub fn kind(&self) -> Kind {
+        match self {
+            Node::Number(_) => Kind::Number,
+            Node::Argument => Kind::Argument,
+            Node::Read(_) => Kind::Read,
+            Node::Call(_) => Kind::Call,
+            Node::Sum => Kind::Sum,
+            Node::Difference => Kind::Difference,
+            Node::Product => Kind::Product,
+            Node::Quotient => Kind::Quotient,
+            Node::Choice => Kind::Choice,
+        }
+    }
+
     /// How many operands it has.
     pub fn operands(&self) -> usize {
         match self {
@@ -66,6 +80,11 @@ pub struct Expression {
 }
 
 impl Expression {
+    /// Nodes that are each followed by all of their operands.
+    pub(crate) fn of_nodes(nodes: Vec<Node>) -> Self {
+        Expression { nodes }
+    }
+
     pub(crate) fn nodes(&self) -> &[Node] {
         &self.nodes
     }
@@ -134,34 +153,26 @@ impl From<i64> for Expression {
     }
 }
 
-/// A: the sum.
-impl<T: Into<Expression>> ops::Add<T> for Expression {
-    type Output = Expression;
-    fn add(self, other: T) -> Expression {
-        Expression::over(Node::Sum, [self, other.into()])
-    }
+/// A sign between two expressions, or between an expression and a number.
+macro_rules! operation {
+    ($operation:ident, $method:ident, $node:ident) => {
+        impl<T: Into<Expression>> ops::$operation<T> for Expression {
+            type Output = Expression;
+            fn $method(self, other: T) -> Expression {
+                Expression::over(Node::$node, [self, other.into()])
+            }
+        }
+
+        impl ops::$operation<Expression> for i64 {
+            type Output = Expression;
+            fn $method(self, other: Expression) -> Expression {
+                number(self).$method(other)
+            }
+        }
+    };
 }
 
-/// S: the difference.
-impl<T: Into<Expression>> ops::Sub<T> for Expression {
-    type Output = Expression;
-    fn sub(self, other: T) -> Expression {
-        Expression::over(Node::Difference, [self, other.into()])
-    }
-}
-
-/// M: the product.
-impl<T: Into<Expression>> ops::Mul<T> for Expression {
-    type Output = Expression;
-    fn mul(self, other: T) -> Expression {
-        Expression::over(Node::Product, [self, other.into()])
-    }
-}
-
-/// D: the quotient, rounded.
-impl<T: Into<Expression>> ops::Div<T> for Expression {
-    type Output = Expression;
-    fn div(self, other: T) -> Expression {
-        Expression::over(Node::Quotient, [self, other.into()])
-    }
-}
+operation!(Add, add, Sum);
+operation!(Sub, sub, Difference);
+operation!(Mul, mul, Product);
+operation!(Div, div, Quotient);

@@ -5,14 +5,14 @@
 //! Each function takes it that its row has found something at its label: the
 //! rows above it have found nothing, and so have the labels before in its pass.
 
-mod forms;
+pub(crate) mod forms;
 mod lines;
 mod order;
 mod paths;
 mod rows;
 mod text;
 mod tree;
-mod words;
+pub(crate) mod words;
 
 use crate::raw;
 use crate::{Fault, Label, Mark, Refusal, Sheet};

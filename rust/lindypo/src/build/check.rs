@@ -13,9 +13,30 @@ const MOST_LEVELS: usize = 32;
 /// Row, node where it is in one, and sentence.
 type Finding = (u64, Option<usize>, String);
 
-/// Rows 3, 7, 10 and 11: the count first, then down the definitions.
+/// Row 1.
+pub fn bytes(text: &[u8]) -> Result<(), Mistake> {
+    within(text.len(), MOST_BYTES, "bytes", 1)
+}
+
+/// Row 3: the lines of all definitions and bodies, and that of label 1.
+pub fn lines(lines: usize) -> Result<(), Mistake> {
+    within(lines.saturating_add(1), MOST_LINES, "lines", 3)
+}
+
+fn within(count: usize, most: usize, what: &str, row: u64) -> Result<(), Mistake> {
+    match count <= most {
+        true => Ok(()),
+        false => Err(Mistake {
+            row,
+            definition: None,
+            sentence: format!("the sheet would have {count} {what}; at most {most} are allowed"),
+            place: Place::Sheet,
+        }),
+    }
+}
+
+/// Rows 7, 10 and 11, down the definitions.
 pub fn definitions(definitions: &[Definition]) -> Result<(), Mistake> {
-    count(definitions)?;
     for (at, definition) in definitions.iter().enumerate() {
         if let Some((row, node, sentence)) = definition_alone(definition) {
             return Err(Mistake {
@@ -27,46 +48,6 @@ pub fn definitions(definitions: &[Definition]) -> Result<(), Mistake> {
         }
     }
     Ok(())
-}
-
-/// Row 1.
-pub fn bytes(text: &[u8]) -> Result<(), Mistake> {
-    let count = text.len();
-    let sentence =
-        || format!("the sheet would have {count} bytes; at most {MOST_BYTES} are allowed");
-    within(count, MOST_BYTES, 1, sentence)
-}
-
-/// Row 3.
-fn count(definitions: &[Definition]) -> Result<(), Mistake> {
-    let bodies = definitions.iter().filter_map(|it| it.content.body());
-    let expressions: usize = bodies.map(|body| body.nodes().len()).sum();
-    let lines = 1 + definitions.len() + expressions;
-    let sentence = || {
-        format!(
-            "the sheet would have {lines} lines, one for the outermost Group, {} for definitions \
-             and {expressions} for expressions; at most {MOST_LINES} are allowed",
-            definitions.len()
-        )
-    };
-    within(lines, MOST_LINES, 3, sentence)
-}
-
-fn within(
-    count: usize,
-    most: usize,
-    row: u64,
-    sentence: impl Fn() -> String,
-) -> Result<(), Mistake> {
-    match count <= most {
-        true => Ok(()),
-        false => Err(Mistake {
-            row,
-            definition: None,
-            sentence: sentence(),
-            place: Place::Sheet,
-        }),
-    }
 }
 
 fn definition_alone(definition: &Definition) -> Option<Finding> {

@@ -2,6 +2,7 @@
 
 use std::ops;
 
+use super::MOST_LINES;
 use crate::{Kind, Label, Sheet};
 
 /// One line of an expression.
@@ -75,31 +76,45 @@ impl Node {
 /// The body of a value or function.
 #[derive(Debug, Clone, PartialEq, Eq, Hash)]
 pub struct Expression {
-    /// Each followed by all of operand a, then of b, then of c.
+    /// Each followed by all of operand a, then of b, then of c. Of more than a
+    /// sheet can have none is kept.
     nodes: Vec<Node>,
+    /// How many there are.
+    count: usize,
 }
 
 impl Expression {
     /// Nodes that are each followed by all of their operands.
     pub(crate) fn of_nodes(nodes: Vec<Node>) -> Self {
-        Expression { nodes }
+        let count = nodes.len();
+        Expression { nodes, count }
     }
 
     pub(crate) fn nodes(&self) -> &[Node] {
         &self.nodes
     }
 
+    /// How many lines it takes.
+    pub(crate) fn lines(&self) -> usize {
+        self.count
+    }
+
     fn leaf(node: Node) -> Self {
-        Expression { nodes: vec![node] }
+        Expression::of_nodes(vec![node])
     }
 
     /// A node before its operands.
     fn over<const COUNT: usize>(node: Node, operands: [Expression; COUNT]) -> Self {
         let mut nodes = vec![node];
+        let mut count: usize = 1;
         for operand in operands {
+            count = count.saturating_add(operand.count);
             nodes.extend(operand.nodes);
         }
-        Expression { nodes }
+        if count > MOST_LINES {
+            nodes.clear();
+        }
+        Expression { nodes, count }
     }
 
     /// What stands at a label of a sheet that reads; `None` where that is no
@@ -113,7 +128,7 @@ impl Expression {
             waiting.extend(operands.map(|&operand| operand as Label));
             nodes.push(node);
         }
-        Some(Expression { nodes })
+        Some(Expression::of_nodes(nodes))
     }
 }
 

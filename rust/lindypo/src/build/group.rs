@@ -2,14 +2,17 @@
 
 use std::mem;
 
-use super::{check, lines, Expression, Mistake};
+use super::{check, lines, Expression, Mistake, MOST_LINES};
 use crate::{Kind, Label, Line, Sheet};
 
 /// The members of a Group, in sequence; the outermost Group is a sheet.
 #[derive(Debug, Clone, Default, PartialEq, Eq, Hash)]
 pub struct Group {
-    /// Each Group followed by all under it.
+    /// Each Group followed by all under it. Of more than a sheet can have none
+    /// is kept.
     definitions: Vec<Definition>,
+    /// How many lines they take.
+    lines: usize,
 }
 
 #[derive(Debug, Clone, PartialEq, Eq, Hash)]
@@ -67,8 +70,7 @@ impl Group {
             definition.depth += 1;
             definition
         });
-        self.definitions.extend(deeper);
-        self
+        self.extend(members.lines, deeper)
     }
 
     /// The text of the sheet whose outermost Group this is, else the first
@@ -94,6 +96,7 @@ impl Group {
     /// );
     /// ```
     pub fn text(&self) -> Result<Vec<u8>, Mistake> {
+        check::lines(self.lines)?;
         check::definitions(&self.definitions)?;
         let text = lines::text(&self.definitions);
         check::bytes(&text)?;
@@ -129,11 +132,21 @@ impl Group {
     }
 
     pub(crate) fn add(&mut self, depth: usize, name: String, content: Content) -> &mut Self {
-        self.definitions.push(Definition {
+        let lines = 1 + content.body().map_or(0, Expression::lines);
+        let definition = Definition {
             depth,
             name,
             content,
-        });
+        };
+        self.extend(lines, [definition])
+    }
+
+    fn extend(&mut self, lines: usize, more: impl IntoIterator<Item = Definition>) -> &mut Self {
+        self.lines = self.lines.saturating_add(lines);
+        self.definitions.extend(more);
+        if self.lines > MOST_LINES {
+            self.definitions.clear();
+        }
         self
     }
 }

@@ -3,7 +3,7 @@
 
 use super::names::{self, Word};
 use super::signs::{self, Strength};
-use super::tokens::{is_word, Names, Token, Tokens};
+use super::tokens::{Names, Token, Tokens, BETWEEN_MARKS};
 use super::Mistake;
 use crate::build::Node;
 use crate::diagnosis::forms::Form;
@@ -220,8 +220,7 @@ impl<'parser, 'text> Formula<'parser, 'text> {
             Some(argument) => {
                 let marked = names::marked(head);
                 let sentence = format!(
-                    "`{argument}` is the argument, a number; \
-                     a definition named `{head}` is written {marked} here"
+                    "`{argument}` is the argument here, a number; {BETWEEN_MARKS}: {marked}"
                 );
                 Err(Mistake::at(mark, sentence))
             }
@@ -281,7 +280,6 @@ fn no_operand(token: &Token) -> String {
         Token::Word(Word::If) => {
             "a choice stands in parentheses after a sign: `(if ... then ... else ...)`".to_string()
         }
-        Token::Word(word) => is_word(*word),
         token => {
             let token = token.quoted();
             format!("a number, a name, `(` or `if` has to stand here, not {token}")

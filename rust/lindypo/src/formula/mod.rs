@@ -128,6 +128,16 @@ fn refused(marks: &Marks, refusal: &Refusal) -> Mistake {
     Mistake {
         row: Some(refusal.number()),
         mark: marks.of_label(refusal.place() as Label),
-        sentence: refusal.sentence().to_string(),
+        sentence: by_line(marks, refusal.sentence()),
     }
+}
+
+/// A sentence that names a label at its end says its line here: who writes
+/// formulas sees no labels.
+fn by_line(marks: &Marks, sentence: &str) -> String {
+    let found = sentence.rsplit_once(": label ").and_then(|(words, label)| {
+        let mark = marks.of_label(label.parse().ok()?)?;
+        Some(format!("{words}, at line {}", mark.line))
+    });
+    found.unwrap_or_else(|| sentence.to_string())
 }

@@ -167,7 +167,7 @@ impl<'text> Tokens<'text> {
         self.skip(|byte| byte.is_ascii_alphanumeric());
         let name = self.part(first);
         if is_marked && self.byte() != Some(b'`') {
-            let sentence = "a mark stands on both sides of a name: `` `if` ``";
+            let sentence = "a backquote stands on both sides of a name: `if`";
             return Err(Mistake::at(
                 self.mark(start, self.at.max(start + 1)),
                 sentence,
@@ -236,8 +236,11 @@ impl<'text> Tokens<'text> {
     }
 }
 
+/// How to name what is named as a word.
+pub const BETWEEN_MARKS: &str = "a definition of this name stands between backquotes";
+
 /// What is wrong where a word stands for a name.
 pub fn is_word(word: Word) -> String {
     let (word, marked) = (word.text(), names::marked(word.text()));
-    format!("`{word}` is a word of the grammar; a definition of this name is written {marked}")
+    format!("`{word}` is a word of the grammar; {BETWEEN_MARKS}: {marked}")
 }

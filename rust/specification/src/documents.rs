@@ -9,16 +9,16 @@ use crate::graph::{is_entry, Graph};
 pub struct Line {
     /// Where it stands, as `docs/RULES.md:12`.
     pub place: String,
+    /// The line; a row of a table without its columns `code` and `test`.
     pub text: String,
-    /// In a table that has a column of tests: what stands there, which the text
-    /// then has not.
+    /// What stands in the column `test`.
     pub tests: String,
 }
 
 /// The lines of a document, those that show code left out.
 pub fn lines(name: &str, text: &str) -> Vec<Line> {
     let mut shows_code = false;
-    let mut column = None;
+    let mut columns = vec![];
     let mut lines = vec![];
     for (number, line) in (1..).zip(text.lines()) {
         let fence = line.trim_start().starts_with("```");
@@ -26,28 +26,28 @@ pub fn lines(name: &str, text: &str) -> Vec<Line> {
         if fence || shows_code {
             continue;
         }
-        let mut row = cells(line).unwrap_or_default();
-        match row.iter().position(|cell| *cell == "test") {
-            Some(at) => column = Some(at),
-            None if row.is_empty() => column = None,
-            None => {}
+        let row = cells(line).unwrap_or_default();
+        if columns.is_empty() || row.is_empty() {
+            columns = row.iter().map(|cell| cell.to_string()).collect();
         }
-        let is_tested = column.is_some_and(|at| at < row.len());
-        let tests = match column {
-            Some(at) if is_tested => row.remove(at).to_string(),
-            _ => String::new(),
-        };
-        let text = match is_tested {
-            true => format!("| {} |", row.join(" | ")),
-            false => line.to_string(),
-        };
-        lines.push(Line {
-            place: format!("{name}:{number}"),
-            text,
-            tests,
-        });
+        let (text, tests) = parted(line, &row, &columns);
+        let place = format!("{name}:{number}");
+        lines.push(Line { place, text, tests });
     }
     lines
+}
+
+/// A row of a table with these columns, its tests apart and its code left out.
+fn parted(line: &str, row: &[&str], columns: &[String]) -> (String, String) {
+    let at = |name: &str| columns.iter().position(|column| column == name);
+    let [code, test] = ["code", "test"].map(at);
+    if code.is_none() && test.is_none() {
+        return (line.to_string(), String::new());
+    }
+    let tests = test.and_then(|at| row.get(at)).copied().unwrap_or_default();
+    let kept = (0..row.len()).filter(|at| Some(*at) != code && Some(*at) != test);
+    let kept: Vec<&str> = kept.map(|at| row[at]).collect();
+    (format!("| {} |", kept.join(" | ")), tests.to_string())
 }
 
 /// What stands between backquotes.
@@ -66,9 +66,11 @@ pub fn cells(line: &str) -> Option<Vec<&str>> {
 fn is_about_edit(graph: &Graph, line: &str) -> bool {
     let first = cells(line).and_then(|cells| cells.first().copied());
     let names = first.map(quoted).unwrap_or_default();
-    let crates = |name: &str| graph.files.iter().any(|file| file.package == name);
-    let is_edit = |name: &&str| name.split_once('/').is_some_and(|(of, _)| crates(of));
-    names.iter().any(|name| is_edit(&name))
+    let is_edit = |name: &str| {
+        name.split_once('/')
+            .is_some_and(|(of, _)| graph.is_crate(of))
+    };
+    names.into_iter().any(is_edit)
 }
 
 /// A law that a line of a document quotes.
@@ -116,34 +118,28 @@ fn laws(graph: &Graph, text: &str) -> Result<Vec<usize>, String> {
 }
 
 /// The laws of that name: those in a file or folder that stands on the line; else
-/// the one that there is. A name that `specs/` or `src/` has too is no law's, and
-/// neither is a crate's.
+/// the one that there is. A name that `specs/` or `src/` has too is then no law's,
+/// and neither is a crate's.
 fn law(graph: &Graph, name: &str, paths: &[&str]) -> Result<Vec<usize>, String> {
-    if graph.files.iter().any(|file| file.package == name) {
-        return Ok(vec![]);
-    }
-    let all = 0..graph.nodes.len();
-    let has_name = |node: &usize| {
-        graph.nodes[*node].name == name && graph.folder(*node) != Folder::FunctionProof
-    };
-    let named: Vec<usize> = all.filter(has_name).collect();
-    let path = |node: &usize| &graph.files[graph.nodes[*node].file].path;
-    let stands = |node: &usize| paths.iter().any(|at| path(node).starts_with(at));
+    let is_asked = |node: &usize| graph.folder(*node) != Folder::FunctionProof;
+    let named = graph.named(name).iter().copied().filter(is_asked);
+    let named: Vec<usize> = named.collect();
+    let stands = |node: &usize| paths.iter().any(|at| graph.path(*node).starts_with(at));
     let is_law = |node: &usize| graph.folder(*node) == Folder::Proofs;
     let here: Vec<usize> = named.iter().copied().filter(stands).collect();
     if !here.is_empty() {
         return Ok(here.into_iter().filter(is_law).collect());
     }
-    match named.iter().all(is_law) {
-        true if named.len() > 1 => {
-            let files: Vec<&str> = named.iter().map(|node| &path(node)[..]).collect();
-            Err(format!(
-                "which `{name}` is meant, of {}?",
-                files.join(" or of ")
-            ))
+    if graph.is_crate(name) || !named.iter().all(is_law) {
+        return Ok(vec![]);
+    }
+    match named.len() {
+        0 | 1 => Ok(named),
+        _ => {
+            let files: Vec<&str> = named.iter().map(|node| graph.path(*node)).collect();
+            let files = files.join(" or of ");
+            Err(format!("which `{name}` is meant, of {files}?"))
         }
-        true => Ok(named),
-        false => Ok(vec![]),
     }
 }
 
@@ -181,10 +177,11 @@ mod tests {
 
     #[test]
     fn tests_stand_apart() {
-        let text = "| sentence | test | code |\n|---|---|---|\n| a | `b` | c |\n\n| d | e |\n";
+        let text =
+            "| sentence | test | code |\n|---|---|---|\n| a | `b` | c |\n\n| d | e |\n| f | g |\n";
         let lines = lines("x.md", text);
         let texts: Vec<(&str, &str)> = lines.iter().map(|l| (&l.text[..], &l.tests[..])).collect();
-        assert_eq!(texts[2], ("| a | c |", "`b`"));
+        assert_eq!(texts[2], ("| a |", "`b`"));
         assert_eq!(texts[4], ("| d | e |", ""));
     }
 

@@ -7,32 +7,24 @@ use std::fs;
 use std::path::Path;
 use std::process::ExitCode;
 
-use specification::belief;
-use specification::documents::{self, Line};
-use specification::files;
-use specification::graph::Graph;
-use specification::page::{self, Page};
-use specification::rules;
-use specification::uncited;
+use specification::page::PLACE;
+use specification::repository::Repository;
 
 const USAGE: &str = "\
-Usage: specification WORD [ROOT]
+Usage: specification uncited [ROOT]
+       specification mixed [ROOT]
+       specification page [--check] [ROOT]
 
-Reads the Rattle crates of the repository at ROOT, the folder here where it is left out.
+Reads the Rattle crates of the repository at ROOT, or here.
 
-  uncited   lists what nothing cites: definitions, laws, functions and imports
+  uncited   lists the definitions, laws, functions and imports that nothing cites
   mixed     lists the files of specs/ that hold both what readers believe and what
             functions promise each other
-  page      writes docs/SPECIFICATION.md, what a reader has to believe
-  page --check
-            says whether docs/SPECIFICATION.md is what `page` would write
+  page      writes docs/SPECIFICATION.md, what a reader has to believe;
+            with --check it only says whether the page there is that one
 
 Status: 0 where nothing is found, 1 where something is, 2 where it cannot be read.
 ";
-
-/// The documents whose quotes are roots, and the one of them that is the map.
-const QUOTING: [&str; 2] = ["docs/CONTRACTS.md", RULES];
-const RULES: &str = "docs/RULES.md";
 
 const FOUND: u8 = 1;
 const FAILED: u8 = 2;
@@ -45,98 +37,63 @@ fn main() -> ExitCode {
             print!("{USAGE}");
             Ok(0)
         }
-        ["uncited"] => list(".", find_uncited),
-        ["uncited", root] => list(root, find_uncited),
-        ["mixed"] => list(".", find_mixed),
-        ["mixed", root] => list(root, find_mixed),
-        ["page"] => write_page("."),
-        ["page", "--check"] => check_page("."),
-        ["page", "--check", root] => check_page(root),
-        ["page", root] => write_page(root),
-        _ => Err(USAGE.to_string()),
+        ["page", "--check"] => check(Path::new(".")),
+        ["page", "--check", root] => check(Path::new(root)),
+        [word] => run(word, Path::new(".")),
+        [word, root] => run(word, Path::new(root)),
+        _ => Err(USAGE.trim_end().to_string()),
     };
     match done {
         Ok(status) => ExitCode::from(status),
         Err(message) => {
-            eprint!("{message}");
+            eprintln!("specification: {message}");
             ExitCode::from(FAILED)
         }
     }
 }
 
-fn graph(root: &Path) -> Result<Graph, String> {
-    let failed = |error| format!("specification: {}: {error}\n", root.display());
-    files::read(root).map_err(failed).map(Graph::new)
-}
-
-fn quoting(root: &Path) -> Result<Vec<Line>, String> {
-    let mut lines = vec![];
-    for name in QUOTING {
-        let failed = |error| format!("specification: {name}: {error}\n");
-        let text = fs::read_to_string(root.join(name)).map_err(failed)?;
-        lines.extend(documents::lines(name, &text));
+fn run(word: &str, root: &Path) -> Result<u8, String> {
+    match word {
+        "uncited" => Ok(list(&Repository::read(root)?.uncited())),
+        "mixed" => Ok(list(&Repository::read(root)?.mixed())),
+        "page" => write(root),
+        _ => Err(format!("there is no word {word}\n{}", USAGE.trim_end())),
     }
-    Ok(lines)
-}
-
-fn find_uncited(graph: &Graph, lines: &[Line]) -> Vec<String> {
-    uncited::uncited(graph, lines)
-}
-
-fn find_mixed(graph: &Graph, lines: &[Line]) -> Vec<String> {
-    belief::mixed(graph, &belief::belief(graph, lines))
 }
 
 /// Prints what is found, and how much that is.
-fn list(root: &str, find: impl Fn(&Graph, &[Line]) -> Vec<String>) -> Result<u8, String> {
-    let root = Path::new(root);
-    let found = find(&graph(root)?, &quoting(root)?);
-    for line in &found {
+fn list(found: &[String]) -> u8 {
+    for line in found {
         println!("{line}");
     }
     println!("{} found", found.len());
-    Ok(if found.is_empty() { 0 } else { FOUND })
+    if found.is_empty() {
+        0
+    } else {
+        FOUND
+    }
 }
 
-/// The page for the repository as it stands.
-fn page(root: &Path) -> Result<String, String> {
-    let graph = graph(root)?;
-    let lines = quoting(root)?;
-    let belief = belief::belief(&graph, &lines);
-    let is_rule = |line: &&Line| line.place.starts_with(RULES);
-    let rules: Vec<Line> = lines.iter().filter(is_rule).cloned().collect();
-    let sections = rules::sections(&graph, &rules, |node| belief.definitions.contains(&node));
-    let page = Page {
-        graph: &graph,
-        belief: &belief,
-        lines: &lines,
-        sections: &sections,
-    };
-    Ok(page.text())
-}
-
-fn write_page(root: &str) -> Result<u8, String> {
-    let root = Path::new(root);
-    let failed = |error| format!("specification: {}: {error}\n", page::PLACE);
-    fs::write(root.join(page::PLACE), page(root)?).map_err(failed)?;
+fn write(root: &Path) -> Result<u8, String> {
+    let page = Repository::read(root)?.page();
+    let failed = |error| format!("{PLACE}: {error}");
+    fs::write(root.join(PLACE), page).map_err(failed)?;
     Ok(0)
 }
 
-fn check_page(root: &str) -> Result<u8, String> {
-    let root = Path::new(root);
-    let failed = |error| format!("specification: {}: {error}\n", page::PLACE);
-    let there = fs::read_to_string(root.join(page::PLACE)).map_err(failed)?;
-    let wanted = page(root)?;
-    let lines = there.lines().zip(wanted.lines());
-    let same = lines.take_while(|(a, b)| a == b).count();
+fn check(root: &Path) -> Result<u8, String> {
+    let wanted = Repository::read(root)?.page();
+    let failed = |error| format!("{PLACE}: {error}");
+    let there = fs::read_to_string(root.join(PLACE)).map_err(failed)?;
     if there == wanted {
-        println!("{}: {} lines, as the crates have it", page::PLACE, same);
+        println!(
+            "{PLACE}: {} lines, as the crates have it",
+            there.lines().count()
+        );
         return Ok(0);
     }
-    println!(
-        "{}:{}: differs from what the crates have; `specification page` writes it anew",
-        page::PLACE,
-        same + 1
-    );
+    let lines = there.lines().zip(wanted.lines());
+    let line = 1 + lines.take_while(|(is, wanted)| is == wanted).count();
+    println!("{PLACE}:{line}: not as the crates have it; `specification page` writes it anew");
     Ok(FOUND)
 }

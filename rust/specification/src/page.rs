@@ -110,7 +110,7 @@ impl Page<'_> {
     /// What definitions are made of, step by step, up to those that are left out.
     fn beneath(&self, nodes: &[usize], is_out: impl Fn(usize) -> bool) -> Vec<usize> {
         let next = |node: usize| {
-            let parts = self.made_of(node).into_iter();
+            let parts = self.graph.parts(node).into_iter();
             parts.filter(|part| !is_out(*part)).collect::<Vec<usize>>()
         };
         let mut found = HashSet::new();
@@ -123,24 +123,44 @@ impl Page<'_> {
         sorted(found)
     }
 
-    fn made_of(&self, node: usize) -> Vec<usize> {
-        let of = &self.graph.nodes[node];
-        [&of.statement[..], &of.body[..]].concat()
-    }
-
     fn links(&self, nodes: &[usize]) -> String {
         links(self.graph, nodes).join(", ")
     }
 
     /// Which other definitions of the page these are made of.
     fn parts(&self, nodes: &[usize]) -> String {
-        let parts = nodes.iter().flat_map(|node| self.made_of(*node));
+        let parts = nodes.iter().flat_map(|node| self.graph.parts(*node));
         let is_asked = |part: &usize| self.belief.definitions.contains(part);
         let is_other = |part: &usize| !nodes.contains(part);
         let parts: HashSet<usize> = parts.filter(is_asked).filter(is_other).collect();
-        match parts.is_empty() {
+        let mut text = match parts.is_empty() {
             true => String::new(),
-            false => format!("Made of {}.\n\n", self.links(&sorted(parts))),
+            false => format!("Made of {}. ", self.links(&sorted(parts))),
+        };
+        text.push_str(&self.aliases(nodes));
+        match text.is_empty() {
+            true => text,
+            false => format!("{}\n\n", text.trim_end()),
+        }
+    }
+
+    /// What these call by another name than its own.
+    fn aliases(&self, nodes: &[usize]) -> String {
+        let aliases = nodes
+            .iter()
+            .flat_map(|node| &self.graph.nodes[*node].aliases);
+        let is_asked = |(node, _): &&(usize, String)| self.belief.definitions.contains(node);
+        let mut said: Vec<String> = vec![];
+        for (node, alias) in aliases.filter(is_asked) {
+            let link = self.links(&[*node]);
+            let alias = format!("`{alias}` leads to {link}");
+            if !said.contains(&alias) {
+                said.push(alias);
+            }
+        }
+        match said.is_empty() {
+            true => String::new(),
+            false => format!("Here {}.", said.join(", ")),
         }
     }
 
@@ -197,7 +217,9 @@ impl Page<'_> {
             .flat_map(|node| self.graph.nodes[*node].statement.clone());
         let stated = self.links(&sorted(stated.collect()));
         let text = excerpt(self.graph, nodes, Extent::Statement);
-        format!("{text}Over {stated}.\n\n")
+        let aliases = self.aliases(nodes);
+        let over = format!("Over {stated}. {aliases}");
+        format!("{text}{}\n\n", over.trim_end())
     }
 
     fn contracts(&self) -> String {

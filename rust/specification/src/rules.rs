@@ -42,12 +42,11 @@ pub fn sections(graph: &Graph, lines: &[Line], asked: impl Fn(usize) -> bool) ->
 }
 
 /// The definitions that a cell names: of the file named last before, else of another
-/// file of the cell, else the only one of that name.
+/// file of the cell, else the only one of that name, if it names no variant of a type.
 fn named(graph: &Graph, cell: &str, asked: impl Fn(usize) -> bool) -> Vec<usize> {
     let quotes = quoted(cell);
     let is_path = |text: &&&str| text.starts_with("crates/");
     let paths: Vec<&str> = quotes.iter().filter(is_path).copied().collect();
-    let path = |node: usize| &graph.files[graph.nodes[node].file].path;
     let mut last = "";
     let mut found = vec![];
     for text in quotes {
@@ -55,12 +54,12 @@ fn named(graph: &Graph, cell: &str, asked: impl Fn(usize) -> bool) -> Vec<usize>
             last = text;
             continue;
         }
-        let all: Vec<usize> = (0..graph.nodes.len())
-            .filter(|node| graph.nodes[*node].name == text && asked(*node))
-            .collect();
-        let here = all.iter().find(|node| path(**node) == last);
-        let near = all.iter().find(|node| paths.contains(&&path(**node)[..]));
-        let only = all.first().filter(|_| all.len() == 1);
+        let all = graph.named(text).iter().filter(|node| asked(**node));
+        let all: Vec<usize> = all.copied().collect();
+        let here = all.iter().find(|node| graph.path(**node) == last);
+        let near = all.iter().find(|node| paths.contains(&graph.path(**node)));
+        let is_only = all.len() == 1 && !graph.is_variant(text);
+        let only = all.first().filter(|_| is_only);
         found.extend(here.or(near).or(only));
     }
     found.dedup();

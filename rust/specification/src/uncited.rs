@@ -16,9 +16,8 @@ pub fn uncited(graph: &Graph, documents: &[Line]) -> Vec<String> {
     roots.extend(quotes.iter().map(|quote| quote.law));
     let reached = graph.reached(&roots);
     for node in (0..graph.nodes.len()).filter(|node| !reached.contains(node)) {
-        let of = &graph.nodes[node];
-        let path = &graph.files[of.file].path;
-        let (line, name) = (graph.line(node), &of.name);
+        let (path, line) = (graph.path(node), graph.line(node));
+        let name = &graph.nodes[node].name;
         let what = match graph.folder(node) {
             Folder::Specs => "definition",
             Folder::Proofs | Folder::FunctionProof => "law",

@@ -43,12 +43,13 @@ impl Page<'_> {
         let mut shown = HashSet::new();
         let rules = self.rules(&mut shown);
         let theorems = self.theorems(&mut shown);
+        let contracts = self.contracts(&mut shown);
         let parts = [
             OPENING.to_string(),
             self.contents(),
             rules,
             theorems,
-            self.contracts(),
+            contracts,
             self.library(),
             self.index(),
         ];
@@ -196,39 +197,49 @@ impl Page<'_> {
         let names = names.collect::<Vec<String>>().join(", ");
         let says = quotes.iter().find_map(|quote| self.said(quote));
         let mut text = format!("> {names}{}\n\n", says.unwrap_or_default());
-        let stated = laws
-            .iter()
-            .flat_map(|law| self.graph.nodes[*law].statement.clone());
-        let stated: HashSet<usize> = stated.filter(|node| !shown.contains(node)).collect();
-        let beneath = self.beneath(&sorted(stated.clone()), |node| shown.contains(&node));
-        let new = sorted(stated.into_iter().chain(beneath).collect());
-        shown.extend(new.iter().copied());
-        if !new.is_empty() {
-            text.push_str(&excerpt(self.graph, &new, Extent::Whole));
-        }
+        text.push_str(&self.needed(&laws, shown));
         text.push_str(&self.statements(&laws));
         text
     }
 
-    /// What laws or functions state.
-    fn statements(&self, nodes: &[usize]) -> String {
+    /// The definitions that laws or functions need and nothing has brought yet.
+    fn needed(&self, nodes: &[usize], shown: &mut HashSet<usize>) -> String {
+        let stated = self.stated(nodes).into_iter();
+        let stated: Vec<usize> = stated.filter(|node| !shown.contains(node)).collect();
+        let beneath = self.beneath(&stated, |node| shown.contains(&node));
+        let new = sorted(stated.into_iter().chain(beneath).collect());
+        shown.extend(new.iter().copied());
+        match new.is_empty() {
+            true => String::new(),
+            false => excerpt(self.graph, &new, Extent::Whole) + &self.parts(&new),
+        }
+    }
+
+    /// What the statements of laws or functions name.
+    fn stated(&self, nodes: &[usize]) -> Vec<usize> {
         let stated = nodes
             .iter()
-            .flat_map(|node| self.graph.nodes[*node].statement.clone());
-        let stated = self.links(&sorted(stated.collect()));
+            .flat_map(|node| &self.graph.nodes[*node].statement);
+        sorted(stated.copied().collect())
+    }
+
+    /// What laws or functions state.
+    fn statements(&self, nodes: &[usize]) -> String {
+        let stated = self.links(&self.stated(nodes));
         let text = excerpt(self.graph, nodes, Extent::Statement);
         let aliases = self.aliases(nodes);
         let over = format!("Over {stated}. {aliases}");
         format!("{text}{}\n\n", over.trim_end())
     }
 
-    fn contracts(&self) -> String {
+    fn contracts(&self, shown: &mut HashSet<usize>) -> String {
         let mut text = String::from("## Contracts\n\n");
         let mut rest = &self.belief.calls[..];
         while let Some(first) = rest.first() {
             let file = self.graph.nodes[*first].file;
             let is_here = |node: &&usize| self.graph.nodes[**node].file == file;
             let (here, after) = rest.split_at(rest.iter().take_while(is_here).count());
+            text.push_str(&self.needed(here, shown));
             text.push_str(&self.statements(here));
             rest = after;
         }

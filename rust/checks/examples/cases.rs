@@ -10,8 +10,9 @@ use std::process::ExitCode;
 use checks::{Trial, Wanted};
 use lindypo::Sheet;
 
-/// The most labels of a sheet.
+/// The most labels of a sheet, and the most values that each have a body.
 const LABELS: usize = 1_024;
+const CHAIN: usize = (LABELS - 1) / 2;
 
 fn main() -> ExitCode {
     let words: Vec<String> = std::env::args().skip(1).collect();
@@ -33,17 +34,16 @@ fn main() -> ExitCode {
 }
 
 fn write(folder: &Path, count: u64) -> std::io::Result<usize> {
-    let shape = |(at, shape): (usize, generator::Shape)| {
-        let order = vec![];
-        (format!("shape-{at:02}"), shape.text, order)
-    };
+    let shape = |(at, text): (usize, Vec<u8>)| (format!("shape-{at:02}"), text, vec![]);
     let random = |seed: u64| {
         let case = generator::case(seed);
         (format!("seed-{seed}"), case.text, case.order)
     };
-    let shapes = generator::shapes().into_iter().enumerate().map(shape);
+    let shapes = generator::shapes().into_iter().map(|shape| shape.text);
+    // the longest chain that a sheet has room for takes Plan the most stack
+    let shapes = shapes.chain([generator::forward(CHAIN)]);
     let mut sheets = 0;
-    for (name, text, order) in shapes.chain((0..count).map(random)) {
+    for (name, text, order) in shapes.enumerate().map(shape).chain((0..count).map(random)) {
         let file = folder.join(name);
         fs::write(file.with_extension("sheet"), &text)?;
         fs::write(file.with_extension("json"), wanted(&text, &order))?;

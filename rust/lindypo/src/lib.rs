@@ -51,7 +51,9 @@
 //! calls, over buffers of the caller's, are in [`raw`].
 
 mod answer;
+pub mod build;
 mod diagnosis;
+pub mod formula;
 mod line;
 pub mod raw;
 mod refusal;

@@ -137,19 +137,20 @@ class Mistakes(unittest.TestCase):
             return group
 
         self.assertEqual(len(Sheet.read(values(511).text()).lines), 1023)
-        row, words = mistake_of(values(512))
-        self.assertEqual(row, 3)
-        self.assertEqual(
-            words,
-            "the sheet would have 1025 lines, one for the outermost Group, 512 for definitions "
-            "and 512 for expressions; at most 1024 are allowed",
-        )
+        words = "the sheet would have {} lines; at most 1024 are allowed"
+        self.assertEqual(mistake_of(values(512)), (3, words.format(1025)))
+        self.assertEqual(mistake_of(values(5_000)), (3, words.format(10_001)))
 
-    def test_what_doubles_is_found_at_once(self):
-        body = number(1)
+    def test_nothing_is_too_large_to_be_judged(self):
+        body, group = number(1), Group().value("x", 1)
         for _ in range(1000):
-            body = body + body
+            body, group = body + body, Group().group("a", group).group("b", group)
         self.assertEqual(mistake_of(Group().value("x", body))[0], 3)
+        self.assertEqual(mistake_of(group)[0], 3)
+        for _ in range(100_000):
+            body, group = 1 + body, Group().group("a", group)
+        self.assertEqual(mistake_of(Group().value("x", body))[0], 3)
+        self.assertEqual(mistake_of(group)[0], 3)
 
     def test_bytes(self):
         group = Group()

@@ -13,8 +13,10 @@ use std::process::Command;
 
 const FOLDER: &str = "LINDYPO_LIB_DIR";
 
-/// Where the repository has the library, from the folder of this crate.
+/// Where the repository has the library, and its list of what that is made of,
+/// from the folder of this crate.
 const BUILT: &str = "../../target/staticlib";
+const CRATES: &str = "../../crates.txt";
 
 /// What pkg-config goes by.
 const PKG_CONFIG: [&str; 4] = [
@@ -48,9 +50,12 @@ fn folder() -> Result<PathBuf, String> {
     }
     let here = env::var_os("CARGO_MANIFEST_DIR").ok_or("cargo did not say where the crate is")?;
     let built = Path::new(&here).join(BUILT);
-    println!("cargo:rerun-if-changed={}", built.display());
     if built.join("liblindypo.a").is_file() {
         return Ok(built);
+    }
+    if Path::new(&here).join(CRATES).is_file() {
+        // it may be built yet
+        println!("cargo:rerun-if-changed={}", built.display());
     }
     installed().map_err(|trouble| {
         format!(

@@ -1,18 +1,22 @@
 //! `cargo run --release -p checks --example cases -- FOLDER COUNT`: sheets for
 //! tests in other languages, the worst shapes and so many random ones. NAME.sheet
 //! is a sheet, NAME.json what the reference wants of each call on it, with
-//! buffers as long as it needs, and the line that its refusal points at.
+//! buffers as long as it needs, and besides that what the wrapper gives: the line
+//! that a refusal points at, and the sheet built again where it reads.
 
 use std::fs;
 use std::path::Path;
 use std::process::ExitCode;
 
 use checks::{Trial, Wanted};
+use lindypo::build::Group;
 use lindypo::Sheet;
 
 /// The most labels of a sheet, and the most values that each have a body.
 const LABELS: usize = 1_024;
 const CHAIN: usize = (LABELS - 1) / 2;
+
+const NULL: &str = "null";
 
 fn main() -> ExitCode {
     let words: Vec<String> = std::env::args().skip(1).collect();
@@ -63,8 +67,9 @@ fn wanted(text: &[u8], order: &[i64]) -> String {
     };
     let [read, plan, run, follow] = trial.wanted();
     format!(
-        "{{\"order\": {order:?}, \"line\": {}, \"read\": {}, \"plan\": {}, \"run\": {}, \"follow\": {}}}\n",
-        line(text).map_or("null".to_string(), |line| line.to_string()),
+        "{{\"order\": {order:?}, \"line\": {}, \"built\": {}, \"read\": {}, \"plan\": {}, \"run\": {}, \"follow\": {}}}\n",
+        line(text).map_or(NULL.to_string(), |line| line.to_string()),
+        built(text).map_or(NULL.to_string(), |text| format!("{text:?}")),
         call(&read, &[0]),
         call(&plan, &[0, 1]),
         call(&run, &[0, 1, 2]),
@@ -78,6 +83,13 @@ fn call(wanted: &Wanted, lent: &[usize]) -> String {
     let numbers = [reply.refusal, reply.place, reply.count, reply.order];
     let buffers: Vec<&Vec<i64>> = lent.iter().map(|&at| &wanted.buffers[at]).collect();
     format!("{{\"reply\": {numbers:?}, \"buffers\": {buffers:?}}}")
+}
+
+/// What the sheet holds, built again.
+fn built(text: &[u8]) -> Option<String> {
+    let sheet = Sheet::read(text).ok()?;
+    let text = Group::of_sheet(&sheet).text().expect("a sheet that can be");
+    String::from_utf8(text).ok()
 }
 
 /// The line that the refusal of Read or Run points at.

@@ -187,6 +187,15 @@ fn limits() {
     }
 }
 
+/// The print's bound is a sum: a line of column names, and one for each label.
+#[test]
+fn print() {
+    let header = header();
+    let bound = format!("printBound = 36 + 48 * {}", header["LABELS_MOST"]);
+    assert_eq!(definition("printing", "printBound"), bound);
+    assert_eq!(header["PRINT_MOST"], 36 + 48 * header["LABELS_MOST"]);
+}
+
 /// What c/tests/words.print has after `refusal 3: `, by the number.
 fn words(of: &str) -> BTreeMap<i64, String> {
     let text = read("c/tests/words.print");

@@ -13,8 +13,8 @@ from prints import printed
 
 def cases():
     """Each case's name, text, and what the reference wants."""
-    for file in sorted(CASES.glob("*.json")):
-        yield file.stem, file.with_suffix(".sheet").read_bytes(), json.loads(file.read_text())
+    for file in sorted(CASES.glob("*.sheet")):
+        yield file.stem, file.read_bytes(), json.loads(file.with_suffix(".json").read_text())
 
 
 def rows(cells, width):

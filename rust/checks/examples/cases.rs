@@ -3,13 +3,14 @@
 //! is a sheet, NAME.json what the reference wants of each call on it, with
 //! buffers as long as it needs, and besides that what the wrapper gives: the line
 //! that a refusal points at, and the sheet built again where it reads.
+//! mistakes.json is what the wrapper's builder says of a Group for each mistake.
 
 use std::fs;
 use std::path::Path;
 use std::process::ExitCode;
 
 use checks::{Trial, Wanted};
-use lindypo::build::Group;
+use lindypo::build::{argument, number, read, Expression, Group};
 use lindypo::Sheet;
 
 /// The most labels of a sheet, and the most values that each have a body.
@@ -46,6 +47,7 @@ fn write(folder: &Path, count: u64) -> std::io::Result<usize> {
     let shapes = generator::shapes().into_iter().map(|shape| shape.text);
     // the longest chain that a sheet has room for takes Plan the most stack
     let shapes = shapes.chain([generator::forward(CHAIN)]);
+    fs::write(folder.join("mistakes.json"), format!("{:?}\n", mistakes()))?;
     let mut sheets = 0;
     for (name, text, order) in shapes.enumerate().map(shape).chain((0..count).map(random)) {
         let file = folder.join(name);
@@ -90,6 +92,34 @@ fn built(text: &[u8]) -> Option<String> {
     let sheet = Sheet::read(text).ok()?;
     let text = Group::of_sheet(&sheet).text().expect("a sheet that can be");
     String::from_utf8(text).ok()
+}
+
+/// What is said of a Group `right` for each mistake that its one value can have,
+/// and of Groups with too many lines or bytes.
+fn mistakes() -> Vec<String> {
+    let nested = |levels: usize| (1..levels).fold(number(1), |body, _| 1 + body);
+    let path = ["decentration0001"; 8].join(".");
+    let cases: [(&str, Expression, usize); 10] = [
+        ("1x", number(1), 1),
+        ("abcdefghijklmnopq", number(1), 1),
+        ("x", number(1_000_000_001), 1),
+        ("x", read("x..y"), 1),
+        ("x", 2 * read("a.b.c.d.e.f.g.h.i"), 1),
+        ("x", 1 + argument(), 1),
+        ("x", nested(33), 1),
+        ("x", number(1), 512),
+        ("x", read(path), 500),
+        ("abcdefghijklmnopqrstuvwxyzabcdefghijklmnop", number(1), 1),
+    ];
+    let said = |(name, body, count): (&str, Expression, usize)| {
+        let mut right = Group::new();
+        for _ in 0..count {
+            right.value(name, body.clone());
+        }
+        let mistake = Group::new().group("right", right).text().unwrap_err();
+        format!("{} {mistake}", mistake.row)
+    };
+    cases.into_iter().map(said).collect()
 }
 
 /// The line that the refusal of Read or Run points at.

@@ -28,6 +28,7 @@ mod svg;
 mod table;
 mod tree;
 mod values;
+mod why;
 pub mod words;
 
 pub use tree::{Node, Span};

@@ -11,14 +11,15 @@ use crate::input;
 use crate::options::{Call, Opt, COMMON};
 use crate::output::{Output, NAME};
 use crate::status::{self, Status};
-use crate::{check, explain, follow, plan, run};
+use crate::{check, explain, follow, plan, run, why};
 
 /// The words, as `lindypo --help` lists them.
-pub const WORDS: [&Word; 5] = [
+pub const WORDS: [&Word; 6] = [
     &run::WORD,
     &plan::WORD,
     &follow::WORD,
     &explain::WORD,
+    &why::WORD,
     &check::WORD,
 ];
 

@@ -16,9 +16,9 @@ const CUT: &str = "...";
 /// Why a text is refused, in words; `file` is what to call it.
 pub fn refused(text: &[u8], file: &str, refusal: &Refusal, paint: Paint) -> String {
     let (number, sentence) = (refusal.number(), refusal.sentence());
-    let margin = " ".repeat(refusal.line().unwrap_or(1).to_string().len());
+    let margin = margin(refusal.line().unwrap_or(1));
     let place = match refusal.mark() {
-        Some(mark) => excerpt(text, file, mark, &margin, paint),
+        Some(mark) => excerpt(text, file, mark, paint),
         None => format!("{margin}--> {file}{}\n", position(refusal)),
     };
     let heading = paint.bad(&format!("refusal {number}"));
@@ -37,17 +37,28 @@ fn position(refusal: &Refusal) -> String {
 }
 
 /// The place in the file, and the line with the mark beneath.
-fn excerpt(text: &[u8], file: &str, mark: Mark, margin: &str, paint: Paint) -> String {
+fn excerpt(text: &[u8], file: &str, mark: Mark, paint: Paint) -> String {
     let Mark { line, column, .. } = mark;
     let label = match line {
         1 => String::new(),
         _ => format!(" (label {})", line - 1),
     };
+    let (margin, quote) = (margin(line), quote(text, mark, paint));
+    format!("{margin}--> {file}:{line}:{column}{label}\n{quote}")
+}
+
+/// As much room as the number of a line takes.
+pub fn margin(line: usize) -> String {
+    " ".repeat(line.to_string().len())
+}
+
+/// A line of the text with the mark beneath.
+pub fn quote(text: &[u8], mark: Mark, paint: Paint) -> String {
+    let (line, margin) = (mark.line, margin(mark.line));
     let (shown, carets) = marked(line_of(text, line), mark);
     let carets = paint.bad(&carets);
     format!(
-        "{margin}--> {file}:{line}:{column}{label}\n\
-         {margin} |\n\
+        "{margin} |\n\
          {line} | {shown}\n\
          {margin} | {carets}\n"
     )

@@ -120,7 +120,7 @@ fn say(text: &Text, answer: &dyn Answer, call: &Call, out: &mut Output) -> Statu
 }
 
 /// An error for whoever reads JSON; a message on standard error in any case.
-fn wrong(source: &Source, error: &str, message: &str, call: &Call, out: &mut Output) -> Status {
+pub fn wrong(source: &Source, error: &str, message: &str, call: &Call, out: &mut Output) -> Status {
     if call.wants_json() {
         let object = object(source, Status::Unreadable).with("error", error);
         out.print(&format!("{object}\n"));

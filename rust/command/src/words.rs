@@ -11,15 +11,17 @@ use crate::input;
 use crate::options::{Call, Opt, COMMON};
 use crate::output::{Output, NAME};
 use crate::status::{self, Status};
-use crate::{check, explain, follow, plan, run};
+use crate::{check, explain, follow, plan, run, show, write};
 
 /// The words, as `lindypo --help` lists them.
-pub const WORDS: [&Word; 5] = [
+pub const WORDS: [&Word; 7] = [
     &run::WORD,
     &plan::WORD,
     &follow::WORD,
     &explain::WORD,
     &check::WORD,
+    &show::WORD,
+    &write::WORD,
 ];
 
 pub struct Word {

@@ -102,24 +102,39 @@ impl Reader<'_> {
     }
 }
 
+/// A file that is not there.
+const NO_FILE: &str = "no \"such\" sheet\n";
+
+/// Texts of formulas, and a sheet, which is none.
+const FORMULAS: [&str; 3] = [
+    "examples/order.formulas",
+    "rust/command/tests/formulas/refused.formulas",
+    "sheets/01-example.sheet",
+];
+
 /// What to call a word with, so that every field comes up.
 fn calls(word: &Word) -> Vec<Vec<String>> {
     let sheets: Vec<String> = sheets()
         .iter()
         .map(|sheet| sheet.display().to_string())
         .collect();
-    let own: &[&[&str]] = match word.name {
-        "follow" => &[&["--order", "5,4,2"], &["--order", "endless"]],
-        "check" => &[&["sheets"]],
-        _ => &[&[]],
+    let files: Vec<&str> = match word.name {
+        "write" => FORMULAS.to_vec(),
+        _ => sheets.iter().map(String::as_str).collect(),
     };
-    let call = |own: &&[&str]| {
-        let words = [&[word.name, "--json", "no \"such\" sheet\n"], *own].concat();
-        [
-            words.iter().map(|word| word.to_string()).collect(),
-            sheets.clone(),
-        ]
-        .concat()
+    let files = [&[NO_FILE], &files[..]].concat();
+    let own: Vec<Vec<&str>> = match word.name {
+        "follow" => vec![vec!["--order", "5,4,2"], vec!["--order", "endless"]],
+        "check" => vec![vec!["sheets"]],
+        // one file at a time
+        "show" | "write" => files.iter().map(|file| vec![*file]).collect(),
+        _ => vec![vec![]],
+    };
+    let is_one = own.len() == files.len();
+    let call = |own: &Vec<&str>| {
+        let files = if is_one { &[] } else { &files[..] };
+        let words = [&[word.name, "--json"], &own[..], files].concat();
+        words.iter().map(|word| word.to_string()).collect()
     };
     own.iter().map(call).collect()
 }

@@ -146,7 +146,18 @@ fn what_is_open() {
 #[test]
 fn definitions() {
     let wanted = "a definition has to begin here, with its name, not";
-    says("= 5", &format!("line 1, column 1: {wanted} `=`"));
+    let none = "its name is missing, or the formula before it ends with a sign too many \
+                and took the name in";
+    let none = |symbol| format!("no definition begins before this `{symbol}`: {none}");
+    says("= 5", &format!("line 1, column 1: {}", none('=')));
+    says(
+        "a = 1 +\nb = 5",
+        &format!("line 2, column 3: {}", none('=')),
+    );
+    says(
+        "a = 1 -\nb {\n}",
+        &format!("line 2, column 3: {}", none('{')),
+    );
     formula_says("1 2", 7, &format!("{wanted} `2`"));
     formula_says("a (1) (2)", 11, &format!("{wanted} `(`"));
     formula_says(
@@ -170,6 +181,12 @@ fn definitions() {
         "f(x) 1",
         &format!("line 1, column 6: `=` has to stand here, not `1`; {form}"),
     );
+}
+
+#[test]
+fn a_sheet() {
+    let sentence = "line 1, column 1: this is the first line of a sheet, not of formulas";
+    says("kind name a b c\nG - 0 - -\n", sentence);
 }
 
 #[test]

@@ -40,14 +40,14 @@ sheets/09-used-twice.sheet:5:1: refusal 9: this expression is used twice, by lab
 
 3 sheets, 1 refused; 3 of 4 values have a number
 
-answered, plan whole              2
-answered, plan mixed              0
-refused                           1
-  refusal 9                       1  use of an expression     sheets/09-used-twice.sheet
-values                            4
-  a number                        3
-  a call at depth 64              1
-steps                           139
+answered, plan whole                 2
+answered, plan mixed                 0
+refused                              1
+  refusal 9                          1  use of an expression     sheets/09-used-twice.sheet
+values                               4
+  a number                           3
+  a call at depth 64                 1
+steps                              139
 ",
     }],
     fields: &[&sheets::FIELDS, &report::FIELDS],

@@ -26,6 +26,12 @@ fn help_lists_all_words() {
 }
 
 #[test]
+fn the_version_is_the_crates() {
+    let version = concat!("lindypo ", env!("CARGO_PKG_VERSION"), "\n");
+    assert_eq!([said(&["--version"]), said(&["-V"])], [version, version]);
+}
+
+#[test]
 fn every_word_has_help() {
     for word in WORDS {
         let help = said(&[word.name, "--help"]);

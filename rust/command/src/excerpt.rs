@@ -1,6 +1,6 @@
 //! A refusal with the line of the text that it is about, the field marked.
 
-use lindypo::{Mark, Refusal};
+use lindypo::{Help, Mark, Refusal};
 
 use crate::output::Paint;
 use crate::rules;
@@ -13,55 +13,109 @@ const BEFORE: usize = 32;
 /// What stands for the rest of a line.
 const CUT: &str = "...";
 
-/// Why a text is refused, in words; `file` is what to call it.
+/// Why a text is refused, in words, with all places of it that this has to do
+/// with, and how to mend it; `file` is what to call the text.
 pub fn refused(text: &[u8], file: &str, refusal: &Refusal, paint: Paint) -> String {
     let (number, sentence) = (refusal.number(), refusal.sentence());
-    let margin = margin(refusal.line().unwrap_or(1));
-    let place = match refusal.mark() {
-        Some(mark) => excerpt(text, file, mark, paint),
-        None => format!("{margin}--> {file}{}\n", position(refusal)),
-    };
     let heading = paint.bad(&format!("refusal {number}"));
-    let rule = rules::of(number).rule;
-    format!("{heading}: {sentence}\n{place}{margin} = rule: {rule}\n")
+    let place = place(file, refusal);
+    let (mark, help, rule) = (refusal.mark(), refusal.help(), rules::of(number).rule);
+    let (margin, places) = places(text, mark, help, Some(rule), paint);
+    format!("{heading}: {sentence}\n{margin}--> {place}\n{places}")
 }
 
-/// Where an order is wrong.
-fn position(refusal: &Refusal) -> String {
-    match refusal {
-        Refusal::Listed(fault) | Refusal::Early(fault) => {
-            format!(", position {} of the order", fault.place)
+/// As much room as the numbers of the lines take; these lines with all that is
+/// to be seen in them, the hints and the rule.
+pub fn places(
+    text: &[u8],
+    mark: Option<Mark>,
+    help: &[Help],
+    rule: Option<&str>,
+    paint: Paint,
+) -> (String, String) {
+    let spots = spots(mark, help);
+    let last = spots.iter().map(|spot| spot.mark.line).max().unwrap_or(1);
+    let margin = " ".repeat(last.to_string().len());
+    let mut places = excerpt(text, &spots, &margin, paint);
+    for help in help.iter().filter(|help| help.mark.is_none()) {
+        places += &note(&margin, "help", &help.sentence, paint);
+    }
+    if let Some(rule) = rule {
+        places += &note(&margin, "rule", rule, paint);
+    }
+    (margin, places)
+}
+
+fn note(margin: &str, word: &str, sentence: &str, paint: Paint) -> String {
+    format!("{margin} = {}: {sentence}\n", paint.strong(word))
+}
+
+/// Where to look: in the file, or in the order.
+fn place(file: &str, refusal: &Refusal) -> String {
+    match (refusal, refusal.mark()) {
+        (Refusal::Listed(fault) | Refusal::Early(fault), _) => {
+            format!("{file}, position {} of the order", fault.place)
         }
-        _ => String::new(),
+        (_, Some(Mark { line, column, .. })) => {
+            let label = line.checked_sub(2).map(|above| above + 1);
+            let label = label.map_or(String::new(), |label| format!(" (label {label})"));
+            format!("{file}:{line}:{column}{label}")
+        }
+        _ => file.to_string(),
     }
 }
 
-/// The place in the file, and the line with the mark beneath.
-fn excerpt(text: &[u8], file: &str, mark: Mark, paint: Paint) -> String {
-    let Mark { line, column, .. } = mark;
-    let label = match line {
-        1 => String::new(),
-        _ => format!(" (label {})", line - 1),
-    };
-    let (margin, quote) = (margin(line), quote(text, mark, paint));
-    format!("{margin}--> {file}:{line}:{column}{label}\n{quote}")
+/// A part of the text that is marked, and what is said of it there.
+struct Spot<'a> {
+    mark: Mark,
+    /// Whether this is the place to mend, and no other that has to do with it.
+    is_place: bool,
+    words: &'a str,
 }
 
-/// As much room as the number of a line takes.
-pub fn margin(line: usize) -> String {
-    " ".repeat(line.to_string().len())
+/// The place to mend and all others, from the top.
+fn spots(mark: Option<Mark>, help: &[Help]) -> Vec<Spot<'_>> {
+    let place = mark.map(|mark| Spot {
+        mark,
+        is_place: true,
+        words: "",
+    });
+    let others = help.iter().filter_map(other_spot);
+    let mut spots: Vec<Spot> = others.chain(place).collect();
+    spots.sort_by_key(|spot| (spot.mark.line, spot.mark.column));
+    spots
 }
 
-/// A line of the text with the mark beneath.
-pub fn quote(text: &[u8], mark: Mark, paint: Paint) -> String {
-    let (line, margin) = (mark.line, margin(mark.line));
-    let (shown, carets) = marked(line_of(text, line), mark);
-    let carets = paint.bad(&carets);
-    format!(
-        "{margin} |\n\
-         {line} | {shown}\n\
-         {margin} | {carets}\n"
-    )
+fn other_spot(help: &Help) -> Option<Spot<'_>> {
+    Some(Spot {
+        mark: help.mark?,
+        is_place: false,
+        words: &help.sentence,
+    })
+}
+
+/// The lines of the text with their marks beneath.
+fn excerpt(text: &[u8], spots: &[Spot], margin: &str, paint: Paint) -> String {
+    let (mut excerpt, mut above) = (String::new(), None);
+    if !spots.is_empty() {
+        excerpt += &format!("{margin} |\n");
+    }
+    for spot in spots {
+        let line = spot.mark.line;
+        let (shown, spaces, width) = marked(line_of(text, line), spot.mark);
+        let shown = format!("{line:>width$} | {shown}\n", width = margin.len());
+        // a line stands once above all its marks, but where it is cut for each
+        if above.as_ref() != Some(&shown) {
+            excerpt += &shown;
+        }
+        above = Some(shown);
+        let signs = match spot.is_place {
+            true => paint.bad(&"^".repeat(width)),
+            false => format!("{} {}", "-".repeat(width), spot.words),
+        };
+        excerpt += &format!("{margin} | {}{signs}\n", " ".repeat(spaces));
+    }
+    excerpt
 }
 
 /// A line of the text, from 1.
@@ -70,8 +124,9 @@ fn line_of(text: &[u8], line: usize) -> &[u8] {
     lines.nth(line - 1).unwrap_or(b"")
 }
 
-/// The part of a line around the mark as it is shown, and the carets beneath.
-fn marked(line: &[u8], mark: Mark) -> (String, String) {
+/// The part of a line around the mark as it is shown, how far the mark is from
+/// its start, and how wide it is.
+fn marked(line: &[u8], mark: Mark) -> (String, usize, usize) {
     let start = mark.column - 1;
     let end = start + mark.width;
     let (first, last) = window(line.len(), start);
@@ -79,13 +134,13 @@ fn marked(line: &[u8], mark: Mark) -> (String, String) {
     let before = shown(&line[first..start.min(last)]);
     let within = shown(&line[start.min(last)..end.min(last)]);
     let after = shown(&line[end.min(last)..last]);
-    // a mark beyond the end of the line still has a caret
-    let carets = "^".repeat(within.chars().count().max(1));
-    let margin = " ".repeat(left.len() + before.chars().count());
-    let beyond = if end > last { right } else { "" };
+    let beyond = if end > last { right.len() } else { 0 };
+    // a mark beyond the end of the line still has a sign
+    let width = within.chars().count().max(1) + beyond;
     (
         format!("{left}{before}{within}{after}{right}"),
-        format!("{margin}{carets}{beyond}"),
+        left.len() + before.chars().count(),
+        width,
     )
 }
 
@@ -119,7 +174,8 @@ mod tests {
 
     #[track_caller]
     fn shows(line: &[u8], mark: Mark, wanted: [&str; 2]) {
-        let (line, carets) = marked(line, mark);
+        let (line, spaces, width) = marked(line, mark);
+        let carets = " ".repeat(spaces) + &"^".repeat(width);
         assert_eq!([line.as_str(), carets.as_str()], wanted);
     }
 
@@ -160,7 +216,7 @@ mod tests {
     #[test]
     fn a_long_mark_is_cut_with_its_line() {
         let line = b"a".repeat(200);
-        let (shown, carets) = ("a".repeat(96) + "...", "^".repeat(96) + "...");
+        let (shown, carets) = ("a".repeat(96) + "...", "^".repeat(99));
         shows(&line, mark(1, 200), [&shown, &carets]);
     }
 

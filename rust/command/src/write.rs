@@ -5,10 +5,11 @@ use lindypo::formula::{self, Mistake};
 use crate::document::{self, Document, Failure, Made, Maker};
 use crate::excerpt;
 use crate::input::Source;
-use crate::json::Object;
+use crate::json::{Json, Object};
 use crate::options::Call;
 use crate::output::{Output, Paint};
 use crate::rules;
+use crate::sheets;
 use crate::status::Status;
 use crate::words::{Example, Field, Word};
 
@@ -62,7 +63,7 @@ N - 0 - -
     call,
 };
 
-const FIELDS: [Field; 11] = [
+const FIELDS: [Field; 16] = [
     (
         "file",
         "the file as the command line names it, - for standard input",
@@ -81,6 +82,14 @@ const FIELDS: [Field; 11] = [
     ),
     ("mistake.width", "how many columns"),
     ("mistake.sentence", "what is wrong"),
+    (
+        "mistake.help",
+        "how to mend it, and other places that it has to do with:",
+    ),
+    ("mistake.help.sentence", "a hint, or what is at that place"),
+    ("mistake.help.line", "the place, as above"),
+    ("mistake.help.column", ""),
+    ("mistake.help.width", ""),
     (
         "mistake.refusal",
         "the number of the refusal that a sheet of them would have",
@@ -109,30 +118,23 @@ fn make(text: &[u8], file: &str) -> Made {
     }
 }
 
-/// `file:line:column: sentence`, the line with the place marked, and the rule.
+/// `file:line:column: sentence`, the lines with the places marked, hints and the
+/// rule.
 fn message(text: &[u8], file: &str, mistake: &Mistake) -> String {
     let Mistake { mark, sentence, .. } = mistake;
-    let mut message = match mark {
-        Some(mark) => {
-            let quote = excerpt::quote(text, *mark, Paint::default());
-            format!("{file}:{}:{}: {sentence}\n{quote}", mark.line, mark.column)
-        }
-        None => format!("{file}: {sentence}\n"),
-    };
-    if let Some(row) = mistake.row {
-        let margin = excerpt::margin(mark.map_or(1, |mark| mark.line));
-        message += &format!("{margin} = rule: {}", rules::of(row).rule);
-    }
-    message.trim_end().to_string()
+    let place = mark.map_or(String::new(), |mark| {
+        format!(":{}:{}", mark.line, mark.column)
+    });
+    let rule = mistake.row.map(|row| rules::of(row).rule);
+    let (_, places) = excerpt::places(text, *mark, &mistake.help, rule, Paint::default());
+    format!("{file}{place}: {sentence}\n{}", places.trim_end())
 }
 
 fn object(mistake: &Mistake) -> Object {
-    let mark = mistake.mark;
-    Object::new()
-        .with_some("line", mark.map(|mark| mark.line))
-        .with_some("column", mark.map(|mark| mark.column))
-        .with_some("width", mark.map(|mark| mark.width))
+    let help = mistake.help.iter().map(sheets::help_object);
+    sheets::mark_object(mistake.mark)
         .with("sentence", mistake.sentence.as_str())
+        .with("help", help.collect::<Json>())
         .with_some("refusal", mistake.row)
         .with_some("rule", mistake.row.map(|row| rules::of(row).rule))
 }

@@ -95,7 +95,7 @@ fn names_and_paths() {
 
 #[test]
 fn numbers() {
-    let form = "a number: -1000000000 to 1000000000, with no leading zero, plus sign or `-0`";
+    let form = "a whole number: -1000000000 to 1000000000, with no leading zero, plus sign or `-0`";
     for number in [1_000_000_001, -1_000_000_001, i64::MIN, i64::MAX] {
         says(
             &value("v", number),

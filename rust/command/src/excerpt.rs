@@ -20,16 +20,32 @@ const CUT: &str = "...";
 pub fn refused(text: &[u8], file: &str, refusal: &Refusal, paint: Paint) -> String {
     let (number, sentence) = (refusal.number(), refusal.sentence());
     let heading = paint.bad(&format!("refusal {number}"));
-    let spots = spots(refusal);
+    let place = place(file, refusal);
+    let (mark, help, rule) = (refusal.mark(), refusal.help(), rules::of(number).rule);
+    let (margin, places) = places(text, mark, help, Some(rule), paint);
+    format!("{heading}: {sentence}\n{margin}--> {place}\n{places}")
+}
+
+/// As much room as the numbers of the lines take; these lines with all that is
+/// to be seen in them, the hints and the rule.
+pub fn places(
+    text: &[u8],
+    mark: Option<Mark>,
+    help: &[Help],
+    rule: Option<&str>,
+    paint: Paint,
+) -> (String, String) {
+    let spots = spots(mark, help);
     let last = spots.iter().map(|spot| spot.mark.line).max().unwrap_or(1);
     let margin = " ".repeat(last.to_string().len());
-    let place = place(file, refusal);
-    let excerpt = excerpt(text, &spots, &margin, paint);
-    let hints = refusal.help().iter().filter(|help| help.mark.is_none());
-    let hints = hints.map(|help| note(&margin, "help", &help.sentence, paint));
-    let hints: String = hints.collect();
-    let rule = note(&margin, "rule", rules::of(number).rule, paint);
-    format!("{heading}: {sentence}\n{margin}--> {place}\n{excerpt}{hints}{rule}")
+    let mut places = excerpt(text, &spots, &margin, paint);
+    for help in help.iter().filter(|help| help.mark.is_none()) {
+        places += &note(&margin, "help", &help.sentence, paint);
+    }
+    if let Some(rule) = rule {
+        places += &note(&margin, "rule", rule, paint);
+    }
+    (margin, places)
 }
 
 fn note(margin: &str, word: &str, sentence: &str, paint: Paint) -> String {
@@ -59,14 +75,14 @@ struct Spot<'a> {
     words: &'a str,
 }
 
-/// All parts of the text that a refusal speaks of, from the top.
-fn spots(refusal: &Refusal) -> Vec<Spot<'_>> {
-    let place = refusal.mark().map(|mark| Spot {
+/// The place to mend and all others, from the top.
+fn spots(mark: Option<Mark>, help: &[Help]) -> Vec<Spot<'_>> {
+    let place = mark.map(|mark| Spot {
         mark,
         is_place: true,
         words: "",
     });
-    let others = refusal.help().iter().filter_map(other_spot);
+    let others = help.iter().filter_map(other_spot);
     let mut spots: Vec<Spot> = others.chain(place).collect();
     spots.sort_by_key(|spot| (spot.mark.line, spot.mark.column));
     spots

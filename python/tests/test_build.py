@@ -109,7 +109,7 @@ class Mistakes(unittest.TestCase):
         for bad in (1_000_000_001, -1_000_000_001, 2**64, -(2**64), 10**5000):
             row, words = mistake_of(Group().value("x", bad))
             self.assertEqual(row, 7)
-            self.assertIn("is not a number: -1000000000 to 1000000000", words)
+            self.assertIn("is not a whole number: -1000000000 to 1000000000", words)
         for good in (1_000_000_000, -1_000_000_000, 0):
             self.assertEqual(number_of(Group().value("x", good)), good)
 

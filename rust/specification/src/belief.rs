@@ -35,7 +35,7 @@ pub fn belief(graph: &Graph, lines: &[Line]) -> Belief {
     let laws = theorems.iter().map(|quote| quote.law);
     let stated = calls.iter().copied().chain(laws);
     let from: Vec<usize> = stated
-        .flat_map(|node| graph.nodes[node].statement.clone())
+        .flat_map(|node| graph.nodes[node].stated.nodes.clone())
         .collect();
     let definitions = graph.reached(&from);
     Belief {

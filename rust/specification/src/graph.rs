@@ -17,14 +17,9 @@ pub struct Node {
     /// Its place among the declarations or the items of the file.
     pub at: usize,
     pub name: String,
-    /// What it states is made of; what it is made of besides.
-    pub statement: Vec<usize>,
-    pub body: Vec<usize>,
-    /// What all of it names of the toolchain's libraries, as `lib.ListN.getD`.
-    pub library: Vec<String>,
-    /// What it names by another name than its own: through a module, or brought in
-    /// under another name.
-    pub aliases: Vec<(usize, String)>,
+    /// What its statement names; what it is made of besides.
+    pub stated: Meant,
+    pub made: Meant,
 }
 
 /// A name that a line of a file brings in and that the file does not use.
@@ -145,10 +140,7 @@ impl Graph {
     fn set(&mut self, edges: Edges) {
         for (node, stated, made) in edges {
             let of = &mut self.nodes[node];
-            of.statement = stated.nodes;
-            of.body = made.nodes;
-            of.library = [stated.library, made.library].concat();
-            of.aliases = [stated.aliases, made.aliases].concat();
+            (of.stated, of.made) = (stated, made);
         }
     }
 
@@ -213,7 +205,7 @@ impl Graph {
     /// What it states and what it is made of.
     pub fn parts(&self, node: usize) -> Vec<usize> {
         let of = &self.nodes[node];
-        [&of.statement[..], &of.body[..]].concat()
+        [&of.stated.nodes[..], &of.made.nodes[..]].concat()
     }
 
     /// All that these rest on, themselves among them.

@@ -16,11 +16,14 @@ pub struct Names<'a> {
     renamed: HashSet<String>,
 }
 
-/// What paths mean.
-#[derive(Default)]
+/// What names mean.
+#[derive(Clone, Debug, Default)]
 pub struct Meant {
     pub nodes: Vec<usize>,
+    /// Of the toolchain's libraries, as `lib.ListN.getD`.
     pub library: Vec<String>,
+    /// What goes by another name than its own: through a module, or brought in under
+    /// another name.
     pub aliases: Vec<(usize, String)>,
 }
 

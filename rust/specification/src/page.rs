@@ -5,6 +5,7 @@ use std::collections::{BTreeMap, HashSet};
 use crate::belief::Belief;
 use crate::documents::{cells, Line, Quote};
 use crate::excerpts::{excerpt, links, Extent};
+use crate::files::Folder;
 use crate::graph::Graph;
 use crate::rules::{Row, Section};
 
@@ -17,6 +18,13 @@ const OPENING: &str = "\
 Every definition and declared type that the public contracts and the quoted theorems rest on, and none other: whoever has read them against the papers need read nothing else. They stand in the order of document 01, each under the sentence that it states, as [RULES.md](RULES.md) leads from the one to the other; what no sentence names stands where it is first used. Then come the theorems that [CONTRACTS.md](CONTRACTS.md) quotes, without their proofs, and the contracts themselves. What a definition names of the toolchain's library is listed at the end.
 
 `rust/specification` makes this page from `crates/`; the gate makes it again and compares.
+";
+
+const ASIDE: &str = "\
+## Files to leave aside
+
+These files of `specs/` hold what functions promise each other. No public contract and no quoted theorem rests on them.
+
 ";
 
 const LIBRARY: &str = "\
@@ -51,6 +59,7 @@ impl Page<'_> {
             theorems,
             contracts,
             self.library(),
+            self.aside(),
             self.index(),
         ];
         parts.join("\n")
@@ -62,7 +71,13 @@ impl Page<'_> {
             .iter()
             .filter(|section| !section.rows.is_empty());
         let titles = sections.map(|section| &section.title[..]);
-        let last = ["Theorems", "Contracts", "The toolchain's library", "Index"];
+        let last = [
+            "Theorems",
+            "Contracts",
+            "The toolchain's library",
+            "Files to leave aside",
+            "Index",
+        ];
         let line = |title: &str| format!("- [{title}](#{})\n", heading(title));
         titles.chain(last).map(line).collect()
     }
@@ -138,7 +153,7 @@ impl Page<'_> {
             true => String::new(),
             false => format!("Made of {}. ", self.links(&sorted(parts))),
         };
-        text.push_str(&self.aliases(nodes));
+        text.push_str(&self.aliases(nodes, Extent::Whole));
         match text.is_empty() {
             true => text,
             false => format!("{}\n\n", text.trim_end()),
@@ -146,15 +161,15 @@ impl Page<'_> {
     }
 
     /// What these call by another name than its own.
-    fn aliases(&self, nodes: &[usize]) -> String {
-        let aliases = nodes
-            .iter()
-            .flat_map(|node| &self.graph.nodes[*node].aliases);
-        let is_asked = |(node, _): &&(usize, String)| self.belief.definitions.contains(node);
+    fn aliases(&self, nodes: &[usize], extent: Extent) -> String {
+        let aliases = nodes.iter().flat_map(|node| {
+            let of = &self.graph.nodes[*node];
+            let made = of.made.aliases.iter().filter(|_| extent == Extent::Whole);
+            of.stated.aliases.iter().chain(made)
+        });
         let mut said: Vec<String> = vec![];
-        for (node, alias) in aliases.filter(is_asked) {
-            let link = self.links(&[*node]);
-            let alias = format!("`{alias}` leads to {link}");
+        for (node, alias) in aliases {
+            let alias = format!("`{alias}` leads to {}", self.links(&[*node]));
             if !said.contains(&alias) {
                 said.push(alias);
             }
@@ -219,7 +234,7 @@ impl Page<'_> {
     fn stated(&self, nodes: &[usize]) -> Vec<usize> {
         let stated = nodes
             .iter()
-            .flat_map(|node| &self.graph.nodes[*node].statement);
+            .flat_map(|node| &self.graph.nodes[*node].stated.nodes);
         sorted(stated.copied().collect())
     }
 
@@ -227,7 +242,7 @@ impl Page<'_> {
     fn statements(&self, nodes: &[usize]) -> String {
         let stated = self.links(&self.stated(nodes));
         let text = excerpt(self.graph, nodes, Extent::Statement);
-        let aliases = self.aliases(nodes);
+        let aliases = self.aliases(nodes, Extent::Statement);
         let over = format!("Over {stated}. {aliases}");
         format!("{text}{}\n\n", over.trim_end())
     }
@@ -249,20 +264,40 @@ impl Page<'_> {
     /// What all of this names of the toolchain's libraries, by module.
     fn library(&self) -> String {
         let definitions = self.belief.definitions.iter();
+        let definitions = definitions.map(|node| &self.graph.nodes[*node]);
         let laws = self.belief.theorems.iter().map(|quote| &quote.law);
+        let stated = laws
+            .chain(&self.belief.calls)
+            .map(|node| &self.graph.nodes[*node]);
+        let whole = definitions.flat_map(|of| of.stated.library.iter().chain(&of.made.library));
         let mut modules: BTreeMap<&str, Vec<String>> = BTreeMap::new();
-        for node in definitions.chain(laws).chain(&self.belief.calls) {
-            for name in &self.graph.nodes[*node].library {
-                let (module, name) = name.rsplit_once('.').unwrap_or(("", name));
-                let name = format!("`{}`", name.replace('|', "\\|"));
-                modules.entry(module).or_default().push(name);
-            }
+        for name in whole.chain(stated.flat_map(|of| &of.stated.library)) {
+            let (module, name) = name.rsplit_once('.').unwrap_or(("", name));
+            let name = format!("`{}`", name.replace('|', "\\|"));
+            modules.entry(module).or_default().push(name);
         }
         let mut text = LIBRARY.to_string();
         for (module, mut names) in modules {
             names.sort_unstable();
             names.dedup();
             text.push_str(&format!("| `{module}` | {} |\n", names.join(", ")));
+        }
+        text
+    }
+
+    /// The files of `specs/` that nothing of this stands in.
+    fn aside(&self) -> String {
+        let definitions = self.belief.definitions.iter();
+        let files: HashSet<usize> = definitions
+            .map(|node| self.graph.nodes[*node].file)
+            .collect();
+        let mut text = ASIDE.to_string();
+        for (at, file) in self.graph.files.iter().enumerate() {
+            let is_root = file.name == "Lib";
+            if file.folder == Folder::Specs && !is_root && !files.contains(&at) {
+                let path = &file.path;
+                text.push_str(&format!("- [{path}](../{path})\n"));
+            }
         }
         text
     }

@@ -14,7 +14,8 @@ use Rattle.refusals.specs.Refusal.{firstBad}
 use Rattle.refusals.specs.declared.Verdict.the-variants.{Fine, Refused}
 use Rattle.refusals.proofs.FirstBad.{first-start, first-fine, first-bad, first-end}
 use Rattle.text.specs.Bytes.{countBy, isNewline, endsLines}
-use Rattle.text.specs.Pieces.{rest, cut, place, firstOf, fieldsFrom}
+use Rattle.text.specs.Pieces.{cut, place, firstOf}
+use Rattle.text.specs.Scans.{rest, fieldsFrom}
 use Rattle.text.proofs.Slices.{whole}
 use Rattle.text.proofs.Cuts.{pieces, place-zero, piece-is, pieces-next, place-next}
 use Rattle.text.proofs.Fields.{line-inside, line-next}

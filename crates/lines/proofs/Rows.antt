@@ -12,7 +12,8 @@ use borrow.Author.Tests.{eq-eqb, ne-eqb, eqb-true}
 use Rattle.numbers.specs.Decimal.{decimalOf, digitsOf, allDigits, value}
 use Rattle.numbers.specs.declared.Decimal.the-variants.{Not}
 use Rattle.text.specs.Bytes.{same}
-use Rattle.text.specs.Pieces.{rest, cut, place, firstOf, fieldsFrom, fieldsAre}
+use Rattle.text.specs.Pieces.{cut, place, firstOf, fieldsAre}
+use Rattle.text.specs.Scans.{rest, fieldsFrom}
 use Rattle.text.specs.Forms.{labelOf}
 use Rattle.text.proofs.Bytes.{same-eq, and-false}
 use Rattle.lines.proofs.Splits.{full}

@@ -7,7 +7,8 @@ use lib.IntN.{ℤ, pos}
 use lib.ListN.{length}
 use lib.Seq.{slice, sets}
 use Rattle.text.specs.Bytes.{same}
-use Rattle.text.specs.Pieces.{rest, cut, place, firstOf, fieldsFrom, fieldsAre}
+use Rattle.text.specs.Pieces.{cut, place, firstOf, fieldsAre}
+use Rattle.text.specs.Scans.{rest, fieldsFrom}
 use Rattle.refusals.specs.Rows.{formRow}
 use Rattle.lines.specs.Kinds.{kindAt}
 use Rattle.lines.specs.Fields.{dash, fieldOf, held, kindCode}

@@ -19,8 +19,8 @@ use Rattle.text.specs.Scans.{rest, fieldsFrom}
 use Rattle.text.proofs.Slices.{whole}
 use Rattle.text.proofs.Cuts.{pieces, place-zero, piece-is, pieces-next, place-next}
 use Rattle.text.proofs.Fields.{line-inside, line-next}
-use Rattle.lines.specs.Lines.{line, firstLine, labels, headBad, lineBad, lineCheck, linesBad, rowOf, rows, linesWritten}
-use Rattle.lines.specs.Steps.{lineFrom, rowAt, cellsOf, decide, lineRead, stepOf, written}
+use Rattle.lines.specs.Lines.{line, firstLine, labels, headBad, lineBad, lineCheck, linesBad, rowOf, rows}
+use Rattle.lines.specs.Steps.{lineFrom, rowAt, cellsOf, decide, lineRead, stepOf, written, linesWritten}
 use Rattle.lines.specs.declared.Row.{Row}
 use Rattle.lines.specs.declared.Line.{Line}
 use Rattle.lines.specs.declared.Line.the-variants.{Passes, Fails}

@@ -35,7 +35,9 @@ pub struct Item {
     pub comment: Vec<String>,
     pub parameters: Vec<String>,
     pub contracts: Vec<Contract>,
-    pub words: Vec<Word>,
+    /// What its head names: parameters, results, the types of fields; and its body.
+    pub head: Vec<Word>,
+    pub body: Vec<Word>,
     pub variants: Vec<String>,
 }
 
@@ -106,12 +108,12 @@ fn end(lexemes: &[Lexeme]) -> (usize, usize) {
     }
 }
 
-fn words(lexemes: &[Lexeme]) -> Vec<Word> {
+fn words<'a>(lexemes: impl Iterator<Item = &'a Lexeme>) -> Vec<Word> {
     let word = |lexeme: &Lexeme| match &lexeme.sort {
         Sort::Word(word) => Some(word.clone()),
         _ => None,
     };
-    lexemes.iter().filter_map(word).collect()
+    lexemes.filter_map(word).collect()
 }
 
 /// The places of the words before a sign, just inside the first brackets.
@@ -208,8 +210,15 @@ impl Reader {
             Some("enum") => labels(rest, '{', &[',', '(', '{']),
             _ => vec![],
         };
-        let named = (2..=close).filter(|at| !variants.contains(at));
-        let named: Vec<Lexeme> = named.map(|at| rest[at].clone()).collect();
+        let named = |from: usize, to: usize| {
+            let named = (from..to).filter(|at| !variants.contains(at));
+            words(named.map(|at| &rest[at]))
+        };
+        let headed = if form == Form::Function {
+            open
+        } else {
+            close + 1
+        };
         self.code.items.push(Item {
             name: rest[1].word().unwrap_or_default().to_string(),
             form,
@@ -222,7 +231,8 @@ impl Reader {
             comment: self.above(first),
             parameters: texts(rest, &labels(&rest[..open], '(', &[':'])),
             contracts: rest[..open].iter().filter_map(contract).collect(),
-            words: words(&named),
+            head: named(2, headed),
+            body: named(headed, close + 1),
             variants: texts(rest, &variants),
         });
         close + 1
@@ -283,7 +293,7 @@ pub extern \"C\" fn g(
         let names: Vec<&str> = code.items.iter().map(|item| &item.name[..]).collect();
         assert_eq!(names, ["Kind", "TABLE", "number", "g"]);
         assert_eq!(code.items[0].variants, ["One", "Two"]);
-        let words: Vec<&str> = code.items[0].words.iter().map(|w| &w.path[0][..]).collect();
+        let words: Vec<&str> = code.items[0].head.iter().map(|w| &w.path[0][..]).collect();
         assert_eq!(words, ["u8"]);
         assert_eq!(code.items[2].of.as_deref(), Some("Kind"));
         assert_eq!((code.ghosts.len(), code.uses.len()), (1, 1));

@@ -1,6 +1,9 @@
 //! What the documents quote: names between backquotes, and the files that stand
 //! with them on a line.
 
+use std::collections::HashSet;
+
+use crate::code::Form;
 use crate::files::Folder;
 use crate::graph::{is_entry, Graph};
 
@@ -143,23 +146,37 @@ fn law(graph: &Graph, name: &str, paths: &[&str]) -> Result<Vec<usize>, String> 
     }
 }
 
-/// The public calls: exported functions and programs, and functions that a document
-/// names with their crate, `crate::function`, and that ask nothing.
+/// The public calls: functions that a document names with their crate,
+/// `crate::function`, and that ask nothing, in the order in which they are named;
+/// then exported functions and programs.
 pub fn calls(graph: &Graph, lines: &[Line]) -> Vec<usize> {
-    let texts: Vec<&str> = lines.iter().flat_map(|line| quoted(&line.text)).collect();
-    let is_named = |node: usize| {
-        let of = &graph.nodes[node];
-        let name = format!("{}::{}", graph.files[of.file].package, of.name);
-        let stands = |text: &&str| text.split('(').next() == Some(&name[..]);
-        texts.iter().any(stands)
-    };
-    let is_call = |node: &usize| {
-        graph.item(*node).is_some_and(|item| {
-            let asks = item.contracts.iter().any(|of| of.keyword == "requires");
-            is_entry(item) || !asks && item.form == crate::code::Form::Function && is_named(*node)
-        })
-    };
-    (0..graph.nodes.len()).filter(is_call).collect()
+    let mut calls = vec![];
+    for text in lines.iter().flat_map(|line| quoted(&line.text)) {
+        let name = text.split('(').next().unwrap_or(text);
+        if let Some((of, name)) = name.split_once("::") {
+            let of = |node: &&usize| graph.files[graph.nodes[**node].file].package == of;
+            calls.extend(
+                graph
+                    .named(name)
+                    .iter()
+                    .filter(of)
+                    .filter(|node| asks_nothing(graph, **node)),
+            );
+        }
+    }
+    let is_entry = |node: &usize| graph.item(*node).is_some_and(is_entry);
+    calls.extend((0..graph.nodes.len()).filter(is_entry));
+    let mut seen = HashSet::new();
+    calls.retain(|node| seen.insert(*node));
+    calls
+}
+
+/// Whether it is a function without a `requires`.
+fn asks_nothing(graph: &Graph, node: usize) -> bool {
+    graph.item(node).is_some_and(|item| {
+        let asks = item.contracts.iter().any(|of| of.keyword == "requires");
+        item.form == Form::Function && !asks
+    })
 }
 
 #[cfg(test)]

@@ -125,8 +125,10 @@ impl Graph {
             for path in &paths {
                 stated.nodes.extend(words.path(path, &mut spoken));
             }
+            stated.nodes.extend(words.targets(&item.head, &mut spoken));
+            stated.nodes.extend(words.owner(item));
             let mut made = Meant {
-                nodes: words.targets(item, &mut spoken),
+                nodes: words.targets(&item.body, &mut spoken),
                 ..Meant::default()
             };
             let proofs = index.proofs.get(&(package.clone(), item.name.clone()));

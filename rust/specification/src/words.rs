@@ -40,10 +40,10 @@ impl<'a> Words<'a> {
         }
     }
 
-    /// The items that an item names.
-    pub fn targets(&self, item: &Item, used: &mut HashSet<usize>) -> Vec<usize> {
+    /// The items that words name.
+    pub fn targets(&self, words: &[Word], used: &mut HashSet<usize>) -> Vec<usize> {
         let mut nodes: Vec<usize> = vec![];
-        for word in &item.words {
+        for word in words {
             nodes.extend(self.methods(word));
             if !word.member {
                 let items = self.path(&word.path, used).into_iter();
@@ -51,10 +51,13 @@ impl<'a> Words<'a> {
                 nodes.extend(items.filter(is_meant));
             }
         }
-        if let Some(of) = &item.of {
-            nodes.extend(self.index.items(self.package, of));
-        }
         nodes
+    }
+
+    /// The type that an `impl` gives an item to.
+    pub fn owner(&self, item: &Item) -> &[usize] {
+        let of = item.of.as_ref();
+        of.map_or(&[], |of| self.index.items(self.package, of))
     }
 
     /// What of an `impl` a word may mean: all of that name.

@@ -3,6 +3,7 @@
 mod checks;
 mod helps;
 mod json;
+mod language;
 mod pages;
 mod pictures;
 mod transcripts;

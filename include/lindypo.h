@@ -223,6 +223,26 @@ lindypo_reply lindypo_follow(const uint8_t *text, size_t text_length,
                              int64_t *table, size_t table_length,
                              int64_t *results, size_t results_length);
 
+/* The program's print of a sheet: one line of column names, then one line per
+ * value in the order of the plan; of a refusal, `refusal place` and one line of
+ * the two numbers. It is no call of document 01, so a refusal leaves a print
+ * and no zeros.
+ *
+ * The sheet is run with buffers of the library's own, which are long enough for
+ * every sheet: refusal and place are those of Run with such buffers, 0 and 0 in
+ * an answer, and never 4. `out` holds the print as far as it goes, then zeros.
+ * `length` is that of the whole print, 1 to LINDYPO_PRINT_MOST: an `out` that
+ * is shorter has the first bytes alone, and one of LINDYPO_PRINT_MOST bytes is
+ * never too short. */
+#define LINDYPO_PRINT_MOST 49188
+
+typedef struct {
+    uint64_t refusal, place, length;
+} lindypo_printed;
+
+lindypo_printed lindypo_print(const uint8_t *text, size_t text_length,
+                              uint8_t *out, size_t out_length);
+
 /* The calls from here on are c/lindypo_words.c: tested, not proved. They keep
  * nothing, allocate nothing, and give texts that are never null, never change
  * and are not to be freed. target/staticlib/liblindypo.a has the proved calls

@@ -59,6 +59,7 @@ mod line;
 pub mod raw;
 mod refusal;
 mod sheet;
+pub mod why;
 
 pub use answer::{Order, Outcome, Plan, Results, Run, State};
 pub use faults::faults;

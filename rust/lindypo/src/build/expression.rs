@@ -2,6 +2,7 @@
 
 use std::ops;
 
+use super::MOST_LINES;
 use crate::{Kind, Label, Sheet};
 
 /// One line of an expression.
@@ -19,6 +20,20 @@ pub(crate) enum Node {
 }
 
 impl Node {
+    pub fn kind(&self) -> Kind {
+        match self {
+            Node::Number(_) => Kind::Number,
+            Node::Argument => Kind::Argument,
+            Node::Read(_) => Kind::Read,
+            Node::Call(_) => Kind::Call,
+            Node::Sum => Kind::Sum,
+            Node::Difference => Kind::Difference,
+            Node::Product => Kind::Product,
+            Node::Quotient => Kind::Quotient,
+            Node::Choice => Kind::Choice,
+        }
+    }
+
     /// How many operands it has.
     pub fn operands(&self) -> usize {
         match self {
@@ -61,26 +76,45 @@ impl Node {
 /// The body of a value or function.
 #[derive(Debug, Clone, PartialEq, Eq, Hash)]
 pub struct Expression {
-    /// Each followed by all of operand a, then of b, then of c.
+    /// Each followed by all of operand a, then of b, then of c. Of more than a
+    /// sheet can have none is kept.
     nodes: Vec<Node>,
+    /// How many there are.
+    count: usize,
 }
 
 impl Expression {
+    /// Nodes that are each followed by all of their operands.
+    pub(crate) fn of_nodes(nodes: Vec<Node>) -> Self {
+        let count = nodes.len();
+        Expression { nodes, count }
+    }
+
     pub(crate) fn nodes(&self) -> &[Node] {
         &self.nodes
     }
 
+    /// How many lines it takes.
+    pub(crate) fn lines(&self) -> usize {
+        self.count
+    }
+
     fn leaf(node: Node) -> Self {
-        Expression { nodes: vec![node] }
+        Expression::of_nodes(vec![node])
     }
 
     /// A node before its operands.
     fn over<const COUNT: usize>(node: Node, operands: [Expression; COUNT]) -> Self {
         let mut nodes = vec![node];
+        let mut count: usize = 1;
         for operand in operands {
+            count = count.saturating_add(operand.count);
             nodes.extend(operand.nodes);
         }
-        Expression { nodes }
+        if count > MOST_LINES {
+            nodes.clear();
+        }
+        Expression { nodes, count }
     }
 
     /// What stands at a label of a sheet that reads; `None` where that is no
@@ -94,7 +128,7 @@ impl Expression {
             waiting.extend(operands.map(|&operand| operand as Label));
             nodes.push(node);
         }
-        Some(Expression { nodes })
+        Some(Expression::of_nodes(nodes))
     }
 }
 
@@ -134,34 +168,26 @@ impl From<i64> for Expression {
     }
 }
 
-/// A: the sum.
-impl<T: Into<Expression>> ops::Add<T> for Expression {
-    type Output = Expression;
-    fn add(self, other: T) -> Expression {
-        Expression::over(Node::Sum, [self, other.into()])
-    }
+/// A sign between two expressions, or between an expression and a number.
+macro_rules! operation {
+    ($operation:ident, $method:ident, $node:ident) => {
+        impl<T: Into<Expression>> ops::$operation<T> for Expression {
+            type Output = Expression;
+            fn $method(self, other: T) -> Expression {
+                Expression::over(Node::$node, [self, other.into()])
+            }
+        }
+
+        impl ops::$operation<Expression> for i64 {
+            type Output = Expression;
+            fn $method(self, other: Expression) -> Expression {
+                number(self).$method(other)
+            }
+        }
+    };
 }
 
-/// S: the difference.
-impl<T: Into<Expression>> ops::Sub<T> for Expression {
-    type Output = Expression;
-    fn sub(self, other: T) -> Expression {
-        Expression::over(Node::Difference, [self, other.into()])
-    }
-}
-
-/// M: the product.
-impl<T: Into<Expression>> ops::Mul<T> for Expression {
-    type Output = Expression;
-    fn mul(self, other: T) -> Expression {
-        Expression::over(Node::Product, [self, other.into()])
-    }
-}
-
-/// D: the quotient, rounded.
-impl<T: Into<Expression>> ops::Div<T> for Expression {
-    type Output = Expression;
-    fn div(self, other: T) -> Expression {
-        Expression::over(Node::Quotient, [self, other.into()])
-    }
-}
+operation!(Add, add, Sum);
+operation!(Sub, sub, Difference);
+operation!(Mul, mul, Product);
+operation!(Div, div, Quotient);

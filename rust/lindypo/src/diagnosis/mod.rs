@@ -20,7 +20,7 @@ mod rewrite;
 pub(crate) mod rows;
 pub(crate) mod text;
 pub(crate) mod tree;
-mod words;
+pub(crate) mod words;
 
 use crate::raw;
 use crate::{Label, Refusal, Sheet};

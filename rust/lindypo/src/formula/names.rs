@@ -2,23 +2,45 @@
 
 use crate::build::{Expression, Node};
 
-/// The words of the grammar, in capitals or small letters.
-const WORDS: [&str; 3] = ["if", "then", "else"];
+/// The words of the grammar, whatever the case of their letters.
+#[derive(Debug, Clone, Copy, PartialEq, Eq)]
+pub enum Word {
+    If,
+    Then,
+    Else,
+}
+
+impl Word {
+    const ALL: [Word; 3] = [Word::If, Word::Then, Word::Else];
+
+    pub fn text(self) -> &'static str {
+        match self {
+            Word::If => "if",
+            Word::Then => "then",
+            Word::Else => "else",
+        }
+    }
+
+    pub fn of(name: &str) -> Option<Word> {
+        let is_meant = |word: &Word| word.text().eq_ignore_ascii_case(name);
+        Word::ALL.into_iter().find(is_meant)
+    }
+}
 
 /// What a definition's name stands between where it may be taken for something
 /// else.
-const MARK: char = '`';
-
-pub fn is_word(name: &str) -> bool {
-    WORDS.iter().any(|word| word.eq_ignore_ascii_case(name))
-}
+pub const MARK: char = '`';
 
 /// A definition's name as it is written.
 pub fn written(name: &str) -> String {
-    match is_word(name) {
-        true => format!("{MARK}{name}{MARK}"),
-        false => name.to_string(),
+    match Word::of(name) {
+        Some(_) => marked(name),
+        None => name.to_string(),
     }
+}
+
+pub fn marked(name: &str) -> String {
+    format!("{MARK}{name}{MARK}")
 }
 
 pub fn written_path(path: &str) -> String {

@@ -1,16 +1,48 @@
-//! An expression as a formula, with no more parentheses than it takes to keep
-//! its tree.
+//! Definitions and expressions as text, with no more parentheses than it takes
+//! to keep the tree.
 
 use super::names;
-use crate::build::{Expression, Node};
+use super::signs::{self, Strength};
+use crate::build::{Content, Expression, Group, Node};
 
-/// How firmly a formula holds together.
-#[derive(Clone, Copy, PartialEq, Eq, PartialOrd, Ord)]
-enum Strength {
-    Choice,
-    Sum,
-    Product,
-    Operand,
+/// One more Group around, up to a depth from which on it is not shown.
+const INDENT: &str = "    ";
+const DEEPEST: usize = 20;
+
+/// All definitions, each on a line of its own.
+pub fn definitions(group: &Group) -> String {
+    let mut text = String::new();
+    let mut depth = 0;
+    for definition in group.definitions() {
+        close(&mut text, depth, definition.depth);
+        depth = definition.depth;
+        let name = names::written(&definition.name);
+        let line = match &definition.content {
+            Content::Group => format!("{name} {{"),
+            Content::Value(body) => format!("{name} = {}", formula(body, "")),
+            Content::Function(body) => {
+                let argument = names::argument(body);
+                format!("{name}({argument}) = {}", formula(body, &argument))
+            }
+        };
+        add(&mut text, depth, &line);
+        depth += usize::from(definition.content == Content::Group);
+    }
+    close(&mut text, depth, 0);
+    text
+}
+
+/// Closes the Groups from one depth out to another.
+fn close(text: &mut String, from: usize, to: usize) {
+    for depth in (to..from).rev() {
+        add(text, depth, "}");
+    }
+}
+
+fn add(text: &mut String, depth: usize, line: &str) {
+    *text += &INDENT.repeat(depth.min(DEEPEST));
+    *text += line;
+    text.push('\n');
 }
 
 /// The formula of an expression already passed.
@@ -42,27 +74,26 @@ pub fn formula(expression: &Expression, argument: &str) -> String {
 
 fn piece(node: &Node, argument: &str, operands: &mut Vec<Piece>) -> Piece {
     let mut operand = |least| operands.pop().map_or(String::new(), |it| it.within(least));
-    let mut binary = |sign: &str, strength: Strength, right: Strength| {
-        let (a, b) = (operand(strength), operand(right));
-        (format!("{a} {sign} {b}"), strength)
-    };
-    let (text, strength) = match node {
-        Node::Number(number) => (number.to_string(), Strength::Operand),
-        Node::Argument => (argument.to_string(), Strength::Operand),
-        Node::Read(path) => (names::written_path(path), Strength::Operand),
+    let mut strength = Strength::Operand;
+    let text = match node {
+        Node::Number(number) => number.to_string(),
+        Node::Argument => argument.to_string(),
+        Node::Read(path) => names::written_path(path),
         Node::Call(path) => {
-            let (path, argument) = (names::written_path(path), operand(Strength::Choice));
-            (format!("{path}({argument})"), Strength::Operand)
+            let argument = operand(Strength::Choice);
+            format!("{}({argument})", names::written_path(path))
         }
-        Node::Sum => binary("+", Strength::Sum, Strength::Product),
-        Node::Difference => binary("-", Strength::Sum, Strength::Product),
-        Node::Product => binary("*", Strength::Product, Strength::Operand),
-        Node::Quotient => binary("/", Strength::Product, Strength::Operand),
+        Node::Sum | Node::Difference | Node::Product | Node::Quotient => {
+            let (sign, own) = signs::of_node(node).unwrap_or((' ', strength));
+            strength = own;
+            let (a, b) = (operand(own), operand(own.next()));
+            format!("{a} {sign} {b}")
+        }
         Node::Choice => {
+            strength = Strength::Choice;
             let (test, then) = (operand(Strength::Sum), operand(Strength::Sum));
             let otherwise = operand(Strength::Choice);
-            let text = format!("if {test} then {then} else {otherwise}");
-            (text, Strength::Choice)
+            format!("if {test} then {then} else {otherwise}")
         }
     };
     Piece { text, strength }

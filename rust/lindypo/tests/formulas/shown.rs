@@ -1,12 +1,14 @@
-//! Formulas as text.
+//! What a sheet's formulas look like.
 
 use lindypo::{formula, Sheet};
+
+use crate::sheet;
 
 /// The formula at label 2 of a sheet of these lines after label 1.
 #[track_caller]
 fn is_shown(lines: &str, wanted: &str) {
-    let text = format!("kind name a b c\nG - 0 - -\n{lines}\n");
-    let sheet = Sheet::read(text.as_bytes()).expect("a sheet that reads");
+    let text = sheet(&format!("{lines}\n"));
+    let sheet = Sheet::read(&text).expect("a sheet that reads");
     assert_eq!(formula::of(&sheet, 2).as_deref(), Some(wanted));
 }
 
@@ -72,4 +74,67 @@ fn names_of_arguments() {
          V Y 1 10 -\nN - 0 - -\nG z 1 - -\nV x 11 13 -\nN - 0 - -",
         "x1 + x(Y + z.x)",
     );
+}
+
+/// Any expression of a sheet, with the argument's name of its function; nothing
+/// for Groups and for labels that there are none of.
+#[test]
+fn one_expression() {
+    let text = sheet("F f 1 3 -\nA - 4 5 -\nP - - - -\nR x - - -\nV x 1 7 -\nN - 8 - -\n");
+    let sheet = Sheet::read(&text).expect("a sheet that reads");
+    let shown: Vec<Option<String>> = (0..9).map(|label| formula::of(&sheet, label)).collect();
+    let shown: Vec<&str> = shown
+        .iter()
+        .map(|it| it.as_deref().unwrap_or("none"))
+        .collect();
+    assert_eq!(
+        shown,
+        ["none", "none", "y + x", "y + x", "y", "x", "8", "8", "none"]
+    );
+    let arguments = [1, 2, 3, 6].map(|label| formula::argument(&sheet, label));
+    assert_eq!(arguments, [None, Some("y".to_string()), None, None]);
+}
+
+/// Members in the sequence of their labels, whatever stands between them.
+#[test]
+fn definitions() {
+    let text = sheet(
+        "G else 1 - -\nV last 1 9 -\nG empty 2 - -\nF f 2 8 -\nV first 2 10 -\nG none 1 - -\n\
+         P - - - -\nN - 1 - -\nN - 2 - -\n",
+    );
+    let sheet = Sheet::read(&text).expect("a sheet that reads");
+    let wanted = "\
+`else` {
+    empty {
+    }
+    f(x) = x
+    first = 2
+}
+last = 1
+none {
+}
+";
+    assert_eq!(formula::show(&sheet), wanted);
+}
+
+#[test]
+fn no_definitions() {
+    let text = sheet("");
+    let sheet = Sheet::read(&text).expect("a sheet that reads");
+    assert_eq!(formula::show(&sheet), "");
+    assert_eq!(formula::write(b""), Ok(text.clone()));
+}
+
+/// The deepest nest of Groups; it is not indented all the way.
+#[test]
+fn deep_groups() {
+    let lines: String = (1..1024)
+        .map(|label| format!("G g {label} - -\n"))
+        .collect();
+    let text = sheet(&lines);
+    let sheet = Sheet::read(&text).expect("a sheet that reads");
+    let shown = formula::show(&sheet);
+    assert_eq!(shown.lines().count(), 2 * 1023);
+    assert_eq!(shown.lines().map(str::len).max(), Some(83));
+    assert_eq!(formula::write(shown.as_bytes()), Ok(text.clone()));
 }

@@ -15,6 +15,7 @@ mod formulas;
 pub mod help;
 pub mod input;
 pub mod json;
+mod labels;
 mod numerals;
 pub mod options;
 mod outline;
@@ -28,6 +29,7 @@ mod svg;
 mod table;
 mod tree;
 mod values;
+mod why;
 pub mod words;
 
 pub use tree::{Node, Span};

@@ -12,7 +12,7 @@ use crate::input;
 use crate::options::{Call, Opt};
 use crate::output::{Output, NAME};
 use crate::status::Status;
-use crate::{check, explain, follow, plan, run};
+use crate::{check, explain, follow, plan, run, why};
 
 /// The words, as `lindypo --help` lists them.
 pub const WORDS: &[&Word] = &[
@@ -20,6 +20,7 @@ pub const WORDS: &[&Word] = &[
     &plan::WORD,
     &follow::WORD,
     &explain::WORD,
+    &why::WORD,
     &check::WORD,
 ];
 

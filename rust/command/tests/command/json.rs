@@ -116,6 +116,7 @@ fn calls(word: &Word) -> &'static [&'static str] {
             "sheets/09-used-twice.sheet total",
             "sheets/01-example.sheet right.prism",
             "sheets/03-mixed.sheet right",
+            "sheets/04b-even-of-1.sheet answer",
             "sheets/05b-even-of-64.sheet answer",
             "rust/command/tests/sheets/failures.sheet right.centre",
             "rust/command/tests/sheets/failures.sheet rim",

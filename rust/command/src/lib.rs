@@ -8,6 +8,7 @@
 #![forbid(unsafe_code)]
 
 pub mod check;
+mod document;
 mod excerpt;
 pub mod explain;
 mod follow;
@@ -24,6 +25,7 @@ mod plan;
 mod rules;
 mod run;
 pub mod sheets;
+mod show;
 pub mod status;
 mod svg;
 mod table;
@@ -31,5 +33,6 @@ mod tree;
 mod values;
 mod why;
 pub mod words;
+mod write;
 
 pub use tree::{Node, Span};

@@ -32,9 +32,6 @@ pub trait Answer {
 /// Why there is no answer.
 pub enum Stop {
     Refused(Refusal),
-    /// Why it is refused, said on standard error: the output is no place for
-    /// words.
-    Unsaid(String),
     /// What is wrong with the words, or with a file that is to be written.
     Wrong(String),
 }
@@ -114,10 +111,6 @@ fn one(source: Source, has_heading: bool, call: &Call, out: &mut Output, ask: As
     match asked {
         Ok(answer) => say(&text, answer.as_ref(), call, out),
         Err(Stop::Refused(refusal)) => say(&text, &Refused::new(&text, &refusal), call, out),
-        Err(Stop::Unsaid(message)) => {
-            out.complain(message.trim_end());
-            Status::Failed
-        }
         Err(Stop::Wrong(message)) => wrong(&text.source, &message, &message, call, out),
     }
 }
@@ -135,7 +128,7 @@ fn say(text: &Text, answer: &dyn Answer, call: &Call, out: &mut Output) -> Statu
 }
 
 /// An error for whoever reads JSON; a message on standard error in any case.
-fn wrong(source: &Source, error: &str, message: &str, call: &Call, out: &mut Output) -> Status {
+pub fn wrong(source: &Source, error: &str, message: &str, call: &Call, out: &mut Output) -> Status {
     if call.wants_json() {
         let object = object(source, Status::Unreadable).with("error", error);
         out.print(&format!("{object}\n"));
@@ -191,12 +184,12 @@ pub fn refusal_object(refusal: &Refusal) -> Object {
         .with("rule", rules::of(refusal.number()).rule)
 }
 
-fn help_object(help: &Help) -> Object {
+pub fn help_object(help: &Help) -> Object {
     mark_object(help.mark).with("sentence", help.sentence.as_str())
 }
 
 /// Nothing where no part of the text is marked.
-fn mark_object(mark: Option<Mark>) -> Object {
+pub fn mark_object(mark: Option<Mark>) -> Object {
     Object::new()
         .with_some("line", mark.map(|mark| mark.line))
         .with_some("column", mark.map(|mark| mark.column))

@@ -121,6 +121,17 @@ fn calls(word: &Word) -> &'static [&'static str] {
             "rust/command/tests/sheets/failures.sheet right.centre",
             "rust/command/tests/sheets/failures.sheet rim",
         ],
+        "show" => &[
+            "no.sheet",
+            "sheets/01-example.sheet",
+            "sheets/refusal-12-same-name.sheet",
+        ],
+        "write" => &[
+            "no.formulas",
+            "examples/order.formulas",
+            "rust/command/tests/formulas/refused.formulas",
+            "sheets/01-example.sheet",
+        ],
         _ => &["*"],
     }
 }

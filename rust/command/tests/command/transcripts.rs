@@ -51,3 +51,8 @@ fn values_and_why() {
 fn wrong_words_files_and_outputs() {
     is_replayed("wrong.txt");
 }
+
+#[test]
+fn sheets_shown_and_formulas_written() {
+    is_replayed("formulas.txt");
+}

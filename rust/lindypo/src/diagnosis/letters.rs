@@ -51,15 +51,15 @@ pub fn shown(letter: char) -> String {
     let number = u32::from(letter);
     match letter {
         '\u{a0}' => "a no-break space (U+00A0)".to_string(),
-        _ if is_unseen(letter) => format!("the letter U+{number:04X}, which cannot be seen,"),
+        _ if is_unseen(letter) => format!("a letter that cannot be seen (U+{number:04X})"),
         _ => format!("`{letter}` (U+{number:04X})"),
     }
 }
 
+/// Spaces, and what Rust escapes where it shows a text: controls, marks that
+/// turn or join letters, letters of no script.
 fn is_unseen(letter: char) -> bool {
-    let is_like_nothing =
-        |(letters, plain): &(&str, &str)| plain.trim().is_empty() && letters.contains(letter);
-    letter.is_control() || letter.is_whitespace() || ALIKE.iter().any(is_like_nothing)
+    letter.is_whitespace() || letter.escape_debug().count() > 1
 }
 
 /// What to write in its place, where that can be said.
@@ -99,6 +99,16 @@ pub fn of_windows(byte: u8) -> String {
 #[cfg(test)]
 mod tests {
     use super::*;
+
+    #[test]
+    fn letters_that_cannot_be_seen() {
+        for letter in [
+            '\u{200b}', '\u{feff}', '\u{202e}', '\u{2028}', '\u{85}', '\u{301}',
+        ] {
+            assert!(is_unseen(letter), "{letter:?}");
+        }
+        assert!(!['é', '−', '–', '×', 'α', '字'].into_iter().any(is_unseen));
+    }
 
     #[test]
     fn bytes_of_windows() {

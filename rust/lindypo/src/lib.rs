@@ -62,6 +62,7 @@ mod sheet;
 pub mod why;
 
 pub use answer::{Order, Outcome, Plan, Results, Run, State};
+pub use diagnosis::bytes::MOST_BYTES;
 pub use faults::faults;
 pub use line::{Kind, Line};
 pub use refusal::{Fault, Help, Mark, Refusal};

@@ -23,7 +23,12 @@ fn bytes_and_characters() {
     let nothing = "means nothing in a formula; names are letters and digits, \
                    the signs are + - * / ( ) { } =";
     formula_says("a_b", 6, &format!("`_` {nothing}"));
-    formula_says("1;", 6, &format!("`;` {nothing}"));
+    formula_says("1 % 2", 7, &format!("`%` {nothing}"));
+    formula_says("1;", 6, "nothing stands between definitions");
+    let test = "means nothing in a formula: a test is a number, and holds where it is not 0";
+    formula_says("if a > 1 then 2 else 3", 10, &format!("`>` {test}"));
+    let dot = "a dot stands between two names, with no space: `right.prism`";
+    formula_says("right .prism", 11, dot);
     let ascii = "may stand in a comment, after `#`, and nowhere else: formulas are printable ASCII";
     formula_says("3 \u{d7} 4", 7, &format!("byte 195 {ascii}"));
     formula_says("3 \0", 7, &format!("byte 0 {ascii}"));

@@ -1,5 +1,7 @@
 //! A refusal with the line of the text that it is about, the field marked.
 
+use std::str::Utf8Chunk;
+
 use lindypo::{Help, Mark, Refusal};
 
 use crate::output::Paint;
@@ -151,13 +153,28 @@ fn window(length: usize, start: usize) -> (usize, usize) {
     (first, length.min(first + SHOWN))
 }
 
-/// Bytes as they are, those that cannot be seen as numbers: `<9>`.
+/// Letters as they are, bytes that cannot be seen as numbers: `<9>`.
 fn shown(bytes: &[u8]) -> String {
-    let show = |&byte: &u8| match byte {
-        32..=126 => char::from(byte).to_string(),
-        _ => format!("<{byte}>"),
+    let letter = |letter: char| match is_seen(letter) {
+        true => letter.to_string(),
+        false => numbers(letter.encode_utf8(&mut [0; 4]).as_bytes()),
     };
-    bytes.iter().map(show).collect()
+    let chunk = |chunk: Utf8Chunk| {
+        let letters: String = chunk.valid().chars().map(letter).collect();
+        letters + &numbers(chunk.invalid())
+    };
+    bytes.utf8_chunks().map(chunk).collect()
+}
+
+/// All but what would move the text: controls, marks that turn or join letters,
+/// spaces other than the plain one.
+fn is_seen(letter: char) -> bool {
+    let is_escaped = letter.escape_debug().count() > 1 && !letter.is_ascii_graphic();
+    letter == ' ' || !letter.is_whitespace() && !is_escaped
+}
+
+fn numbers(bytes: &[u8]) -> String {
+    bytes.iter().map(|byte| format!("<{byte}>")).collect()
 }
 
 #[cfg(test)]
@@ -198,6 +215,18 @@ mod tests {
     fn bytes_that_cannot_be_seen_are_numbers() {
         shows(b"V\tx\xc3 1", mark(2, 1), ["V<9>x<195> 1", " ^^^"]);
         shows(b"V\tx\xc3 1", mark(4, 1), ["V<9>x<195> 1", "     ^^^^^"]);
+        let turned = "V \u{202e}x";
+        shows(
+            turned.as_bytes(),
+            mark(6, 1),
+            ["V <226><128><174>x", "                 ^"],
+        );
+    }
+
+    #[test]
+    fn letters_outside_ascii_are_shown() {
+        shows("V café 1".as_bytes(), mark(6, 2), ["V café 1", "     ^"]);
+        shows("V a\"'\\ 1".as_bytes(), mark(1, 1), ["V a\"'\\ 1", "^"]);
     }
 
     #[test]

@@ -30,6 +30,7 @@ mod svg;
 mod table;
 mod tree;
 mod values;
+mod why;
 pub mod words;
 mod write;
 

@@ -11,14 +11,15 @@ use crate::input;
 use crate::options::{Call, Opt, COMMON};
 use crate::output::{Output, NAME};
 use crate::status::{self, Status};
-use crate::{check, explain, follow, plan, run, show, write};
+use crate::{check, explain, follow, plan, run, show, why, write};
 
 /// The words, as `lindypo --help` lists them.
-pub const WORDS: [&Word; 7] = [
+pub const WORDS: [&Word; 8] = [
     &run::WORD,
     &plan::WORD,
     &follow::WORD,
     &explain::WORD,
+    &why::WORD,
     &check::WORD,
     &show::WORD,
     &write::WORD,

@@ -9,7 +9,7 @@ use crate::json::Object;
 use crate::options::{Call, Opt};
 use crate::outline;
 use crate::output::{self, Output, Paint};
-use crate::sheets::{self, Answer, Asked, Stop, Text};
+use crate::sheets::{self, Answer, Asked, Refused, Stop, Text};
 use crate::status::Status;
 use crate::svg;
 use crate::tree::Node;
@@ -143,7 +143,9 @@ pub fn picture(text: &[u8], caption: &str) -> Result<(String, Status), Refusal> 
 
 /// Draws a sheet into a file, or says the picture itself.
 fn draw<'a>(text: &'a Text, file: &OsStr, force: bool) -> Asked<'a> {
-    let (svg, status) = picture(&text.bytes, &text.source.file_name())?;
+    let undrawn = |refusal: Refusal| Refused::new(text, &refusal).text(Paint::default());
+    let drawn = picture(&text.bytes, &text.source.file_name());
+    let (svg, status) = drawn.map_err(|refusal| Stop::Unsaid(undrawn(refusal)))?;
     let svg = match Source::of(file) {
         Source::Input => svg,
         Source::File(path) => {

@@ -32,6 +32,9 @@ pub trait Answer {
 /// Why there is no answer.
 pub enum Stop {
     Refused(Refusal),
+    /// Why it is refused, said on standard error: the output is no place for
+    /// words.
+    Unsaid(String),
     /// What is wrong with the words, or with a file that is to be written.
     Wrong(String),
 }
@@ -111,6 +114,10 @@ fn one(source: Source, has_heading: bool, call: &Call, out: &mut Output, ask: As
     match asked {
         Ok(answer) => say(&text, answer.as_ref(), call, out),
         Err(Stop::Refused(refusal)) => say(&text, &Refused::new(&text, &refusal), call, out),
+        Err(Stop::Unsaid(message)) => {
+            out.complain(message.trim_end());
+            Status::Failed
+        }
         Err(Stop::Wrong(message)) => wrong(&text.source, &message, &message, call, out),
     }
 }

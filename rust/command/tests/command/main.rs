@@ -5,6 +5,7 @@ mod helps;
 mod json;
 mod pages;
 mod pictures;
+mod random;
 mod transcripts;
 mod trees;
 
@@ -70,6 +71,6 @@ fn explained(bytes: &[u8]) -> Result<String, String> {
     match asked {
         Ok(answer) => Ok(answer.text(paint)),
         Err(Stop::Refused(refusal)) => Err(Refused::new(&text, &refusal).text(paint)),
-        Err(Stop::Wrong(message)) => panic!("{message}"),
+        Err(Stop::Wrong(message) | Stop::Unsaid(message)) => panic!("{message}"),
     }
 }

@@ -74,6 +74,43 @@ fn sheets_with_many_faults() {
     assert!(most > 10, "{most} faults at most");
 }
 
+/// Pieces of other encodings, and of none.
+const PIECES: [&[u8]; 8] = [
+    "é".as_bytes(),
+    "−".as_bytes(),
+    "\u{202e}".as_bytes(),
+    b"\xef\xbb\xbf",
+    b"\xff\xfe",
+    b"\xc3",
+    b"\r\n",
+    b"\0\0",
+];
+
+/// Sheets with any bytes put in anywhere, and texts of nothing else.
+#[test]
+fn any_bytes() {
+    let is_clean = |byte: &u8| *byte == b'\n' || (32..=126).contains(byte);
+    for seed in 0..CASES / 2 {
+        let rng = &mut Rng::new(seed);
+        let mut text = match rng.below(4) {
+            0 => (0..rng.below(200)).map(|_| rng.below(256) as u8).collect(),
+            _ => generator::sheet_within(rng, 30),
+        };
+        for _ in 0..rng.range(1, 6) {
+            let at = rng.below(text.len() + 1);
+            let piece = *rng.pick(&PIECES);
+            text.splice(at..at, piece.iter().copied());
+        }
+        let faults = faults(&text);
+        is_proper(&text, &faults);
+        let is_bytes = faults.first().is_some_and(|fault| fault.number() == 1);
+        assert_eq!(
+            is_bytes,
+            !text.iter().all(is_clean) || !text.ends_with(b"\n")
+        );
+    }
+}
+
 /// A field that has not its form, whatever the kind.
 const MISFITS: [&str; 7] = ["?", "1.5", "01", "a..b", "a_b", "99999", "--"];
 

@@ -83,16 +83,20 @@ pub fn wrong_target(rows: &Rows, label: Label) -> Finding {
     })
 }
 
-/// What of a kind a Group has, by paths that begin with its own.
+/// What of a kind a Group has, to be written after its path.
 fn members_of_kind(rows: &Rows, group: Label, kind: Kind, path: &str) -> String {
     let is_kind = |&&member: &&Label| rows.kind(member) == Some(kind);
     let members = rows.members(group).iter().filter(is_kind);
-    let paths: Vec<String> = members
-        .map(|&member| format!("{path}.{}", rows.name(member)))
+    let names: Vec<String> = members
+        .map(|&member| rows.name(member).to_string())
         .collect();
-    match paths.is_empty() {
-        true => members_named(rows, group),
-        false => format!("name a {kind} of it: {}", words::names(&paths, MEMBERS)),
+    match &names[..] {
+        [] => members_named(rows, group),
+        [name] => format!("name the {kind} in it: `{path}.{name}`"),
+        names => {
+            let names = words::names(names, MEMBERS);
+            format!("name a {kind} in it, after `{path}.`: {names}")
+        }
     }
 }
 
@@ -127,7 +131,7 @@ fn elsewhere(found: Finding, rows: &Rows, label: Label, at: usize) -> Finding {
     others.take(GROUPS).fold(found, |found, (other, path)| {
         let group = match rows.link(other, A) {
             1 => "the outermost Group".to_string(),
-            group => format!("`{}`", rows.full_name(group)),
+            group => format!("`{}`", rows.shown_name(group)),
         };
         let name = rows.name(other);
         found.see(

@@ -1,5 +1,6 @@
 //! Where paths lead.
 
+use super::forms::PATH_NAMES;
 use super::rows::{Rows, A, NAME};
 use crate::{Kind, Label, Mark};
 
@@ -71,7 +72,8 @@ pub fn path_to(rows: &Rows, group: Label, definition: Label) -> Option<String> {
     let names: Vec<&str> = full_name.split('.').collect();
     let path = |from: usize| names[from..].join(".");
     let leads = |path: &String| target_of(rows, group, path) == Some(definition);
-    (0..names.len()).rev().map(path).find(leads)
+    let shortest = (0..names.len()).rev().take(PATH_NAMES);
+    shortest.map(path).find(leads)
 }
 
 /// One name of a path.

@@ -65,7 +65,8 @@ pub fn status(values: &[Value]) -> Status {
 
 /// "3 of 4 values have a number".
 pub fn headline(numbers: u64, count: u64) -> String {
-    let verb = if count == 1 { "has" } else { "have" };
+    let is_one = numbers == 1 || count == 1;
+    let verb = if is_one { "has" } else { "have" };
     let values = counted(count, "value");
     match count {
         0 => values,

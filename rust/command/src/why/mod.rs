@@ -21,9 +21,10 @@ pub const WORD: Word = Word {
     operands: "FILE NAME",
     about: "\
 Evaluates one value once more and shows its formula, what it read with the values, and the calls
-that it entered with their arguments; of many calls the first, and how many more there are. Of a
-value without a number it says at which line that began, in which calls, and by which reads it was
-handed on. NAME is the value's full name, as `lindypo plan` lists it, or its label.
+that it entered with their arguments. Of a value without a number it says at which line that
+began, in which calls, and by which reads it was handed on. NAME is the value's full name, as
+`lindypo plan` lists it, or its label. Of many calls the first are shown, and the number of the
+others.
 ",
     options: &[],
     examples: &[Example {

@@ -43,6 +43,11 @@ fn sheets_in_json() {
 }
 
 #[test]
+fn values_and_why() {
+    is_replayed("why.txt");
+}
+
+#[test]
 fn wrong_words_files_and_outputs() {
     is_replayed("wrong.txt");
 }

@@ -6,6 +6,7 @@ mod json;
 mod language;
 mod pages;
 mod pictures;
+mod random;
 mod transcripts;
 mod trees;
 

@@ -12,7 +12,8 @@ use Rattle.cells.specs.Reaches.{Reaches}
 use Rattle.numbers.specs.Range.{limit}
 use Rattle.numbers.specs.declared.Operation.{Operation}
 use Rattle.evaluation.specs.Evaluation.{kindOf, branchOf, depthLimit, one, outcome, nothing}
-use Rattle.evaluation.specs.Ready.{Settled, Ready, ReachedEvaluated, Line, Entry, Entered, Cell, Room, Evaluable}
+use Rattle.evaluation.specs.Ready.{Ready, ReachedEvaluated, Line, Entry, Entered, Cell, Room, Evaluable}
+use Rattle.evaluation.specs.Results.{Settled}
 use Rattle.evaluation.specs.declared.Arguments.{Arguments}
 use Rattle.evaluation.specs.declared.Kind.{Kind}
 use Rattle.evaluation.specs.declared.Kind.the-variants as kinds

@@ -8,7 +8,7 @@ use Rattle.numbers.specs.declared.Operation.{Operation}
 use Rattle.order.specs.Evaluating.{down}
 use Rattle.evaluation.specs.States.{hasNumber}
 use Rattle.evaluation.specs.Evaluation.{kindOf, branchOf, depthLimit, stepLimit, one, outcome, nothing}
-use Rattle.evaluation.specs.Ready.{Settled}
+use Rattle.evaluation.specs.Results.{Settled}
 use Rattle.evaluation.specs.declared.Arguments.{Arguments}
 use Rattle.evaluation.specs.declared.Kind.{Kind}
 use Rattle.evaluation.specs.declared.Kind.the-variants as kinds

@@ -20,6 +20,7 @@ pub mod page;
 pub mod repository;
 pub mod rules;
 pub mod scope;
+pub mod tidy;
 pub mod tokens;
 pub mod uncited;
 pub mod words;

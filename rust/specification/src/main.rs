@@ -12,12 +12,14 @@ use specification::repository::Repository;
 
 const USAGE: &str = "\
 Usage: specification uncited [ROOT]
+       specification tidy [ROOT]
        specification mixed [ROOT]
        specification page [--check] [ROOT]
 
 Reads the Rattle crates of the repository at ROOT, or here.
 
   uncited   lists the definitions, laws, functions and imports that nothing cites
+  tidy      takes the imports that are not used out of the files
   mixed     lists the files of specs/ that hold both what readers believe and what
             functions promise each other
   page      writes docs/SPECIFICATION.md, what a reader has to believe;
@@ -55,6 +57,7 @@ fn main() -> ExitCode {
 fn run(word: &str, root: &Path) -> Result<u8, String> {
     match word {
         "uncited" => Ok(list(&Repository::read(root)?.uncited())),
+        "tidy" => tidy(root),
         "mixed" => Ok(list(&Repository::read(root)?.mixed())),
         "page" => write(root),
         _ => Err(format!("there is no word {word}\n{}", USAGE.trim_end())),
@@ -74,6 +77,15 @@ fn list(found: &[String]) -> u8 {
     }
 }
 
+fn tidy(root: &Path) -> Result<u8, String> {
+    for (path, text) in Repository::read(root)?.tidied() {
+        let failed = |error| format!("{path}: {error}");
+        fs::write(root.join(path), text).map_err(failed)?;
+        println!("{path}");
+    }
+    Ok(0)
+}
+
 fn write(root: &Path) -> Result<u8, String> {
     let page = Repository::read(root)?.page();
     let failed = |error| format!("{PLACE}: {error}");
@@ -86,10 +98,7 @@ fn check(root: &Path) -> Result<u8, String> {
     let failed = |error| format!("{PLACE}: {error}");
     let there = fs::read_to_string(root.join(PLACE)).map_err(failed)?;
     if there == wanted {
-        println!(
-            "{PLACE}: {} lines, as the crates have it",
-            there.lines().count()
-        );
+        println!("{PLACE} is as the crates have it");
         return Ok(0);
     }
     let lines = there.lines().zip(wanted.lines());

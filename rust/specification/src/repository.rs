@@ -9,6 +9,7 @@ use crate::files;
 use crate::graph::Graph;
 use crate::page::Page;
 use crate::rules;
+use crate::tidy;
 use crate::uncited;
 
 /// The documents whose quotes are roots, and the one of them that is the map.
@@ -37,6 +38,11 @@ impl Repository {
     /// What nothing cites, a line each.
     pub fn uncited(&self) -> Vec<String> {
         uncited::uncited(&self.graph, &self.lines)
+    }
+
+    /// The files that bring in what they do not use, each with its text without that.
+    pub fn tidied(&self) -> Vec<(&str, String)> {
+        tidy::tidied(&self.graph)
     }
 
     /// The files of `specs/` that are mixed, a line each.

@@ -1,0 +1,5 @@
+pub mod Tests
+pub mod Rows
+pub mod Laws
+pub mod Clauses
+pub mod Codes

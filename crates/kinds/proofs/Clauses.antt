@@ -9,7 +9,7 @@ use borrow.Author.Tests.{eqb-true}
 use lib.Dec.{leb, eqb}
 use Rattle.kinds.specs.declared.Clause.{Clause}
 use Rattle.kinds.specs.declared.Clause.the-variants as clause
-use Rattle.kinds.specs.Kinds.{Kind, kinds, kindAt, isOperand, isDefinition, isExpression, hasPath, operandA, operandB, operandC, wantedBy, clauseOf, placeIn, takes, value, number}
+use Rattle.kinds.specs.Kinds.{Kind, kinds, kindAt, isOperand, isDefinition, isExpression, hasPath, operandA, operandB, operandC, wantedBy, clauseOf, placeIn, takes, valueCode, numberCode}
 use Rattle.kinds.proofs.Clause as tags
 use Rattle.kinds.proofs.Rows.{each, by-rows}
 use Rattle.kinds.proofs.Laws.{expresses, leads, expression-row}
@@ -59,9 +59,9 @@ module _ (c : ℕ) where
 
 abbrev told : ℕ → Kind → Clause → Bool
 told c k clause.None = true
-told c k clause.Number = eqb c number
+told c k clause.Number = eqb c numberCode
 told c k (clause.Argument i) = true
-told c k clause.Read = eqb (k .wanted) value
+told c k clause.Read = eqb (k .wanted) valueCode
 told c k (clause.Call n) = eqb (kindAt (k .wanted) .takes) n
 told c k (clause.Operation op) = true
 told c k clause.Choice = true
@@ -71,12 +71,12 @@ module _ (c : ℕ) where
   unfolding clauseOf kinds kindAt
   told-each = each (λ i k. told i k (k .clause)) (λ i. refl) refl c
 
-  pub number-code : clauseOf c ≡ clause.Number → c ≡ number
-  number-code e = eqb-true c number (subst (λ x. told c (kindAt c) x ≡ true) e told-each)
+  pub number-code : clauseOf c ≡ clause.Number → c ≡ numberCode
+  number-code e = eqb-true c numberCode (subst (λ x. told c (kindAt c) x ≡ true) e told-each)
 
-  pub read-value : clauseOf c ≡ clause.Read → wantedBy c ≡ value
+  pub read-value : clauseOf c ≡ clause.Read → wantedBy c ≡ valueCode
   unfolding wantedBy
-  read-value e = eqb-true (wantedBy c) value (subst (λ x. told c (kindAt c) x ≡ true) e told-each)
+  read-value e = eqb-true (wantedBy c) valueCode (subst (λ x. told c (kindAt c) x ≡ true) e told-each)
 
   pub call-takes : (n : ℕ) → clauseOf c ≡ clause.Call n → takes (wantedBy c) ≡ n
   unfolding wantedBy takes

@@ -3,8 +3,9 @@
  *
  * Every text, every order list, every label, every length and whatever the
  * buffers hold beforehand is fine: a call answers or refuses, and never ends
- * the process. It allocates nothing, keeps nothing between calls, and runs in
- * a thread stack of 2 MiB.
+ * the process. It allocates nothing, keeps nothing between calls, and may be
+ * made from several threads at once. A thread stack of 2 MiB is enough for all
+ * of them; LINDYPO_READ_STACK and its like say how much each takes.
  *
  * What a caller sees to: a pointer is not null, even where the length is 0; as
  * many bytes or cells as its length says can be read there, and written unless
@@ -27,35 +28,140 @@
 extern "C" {
 #endif
 
+/* The version of this header. lindypo_version() gives that of the library. */
+#define LINDYPO_VERSION_MAJOR 0
+#define LINDYPO_VERSION_MINOR 2
+#define LINDYPO_VERSION_PATCH 0
+#define LINDYPO_VERSION "0.2.0"
+
+/* Limits of a sheet. */
+#define LINDYPO_TEXT_MOST 65536        /* bytes of the text */
+#define LINDYPO_LABELS_MOST 1024       /* lines after line one */
+#define LINDYPO_NAME_MOST 16           /* letters or digits of a name */
+#define LINDYPO_PATH_MOST 8            /* names of a path */
+#define LINDYPO_NUMBER_MOST 1000000000 /* numbers, and as many below 0 */
+#define LINDYPO_LEVELS_MOST 32         /* levels of an expression */
+
+/* Limits of evaluating: steps for each value, and the call depth at which a
+ * further call fails. */
+#define LINDYPO_STEPS_MOST 20000
+#define LINDYPO_DEPTH_MOST 64
+
+/* Cells for each label in the table and in the results; the plan has one. */
+#define LINDYPO_TABLE_CELLS 8
+#define LINDYPO_RESULT_CELLS 3
+
+/* Cells that are enough for every sheet. */
+#define LINDYPO_TABLE_MOST (LINDYPO_TABLE_CELLS * LINDYPO_LABELS_MOST)
+#define LINDYPO_PLAN_MOST LINDYPO_LABELS_MOST
+#define LINDYPO_RESULTS_MOST (LINDYPO_RESULT_CELLS * LINDYPO_LABELS_MOST)
+
+/* Bytes of stack that are enough for a call, the frame that makes it included:
+ * measured on the sheets that take most, rounded up. */
+#define LINDYPO_READ_STACK 32768
+#define LINDYPO_NAME_STACK 32768
+#define LINDYPO_PLAN_STACK 327680
+#define LINDYPO_RUN_STACK 327680
+#define LINDYPO_FOLLOW_STACK 393216
+
+/* The kind of a line, by its letter's code. G, V and F lines are definitions,
+ * all others are expressions. */
+enum lindypo_kind {
+    LINDYPO_KIND_GROUP = 1,      /* G */
+    LINDYPO_KIND_VALUE = 2,      /* V */
+    LINDYPO_KIND_FUNCTION = 3,   /* F */
+    LINDYPO_KIND_NUMBER = 4,     /* N */
+    LINDYPO_KIND_ARGUMENT = 5,   /* P */
+    LINDYPO_KIND_READ = 6,       /* R */
+    LINDYPO_KIND_CALL = 7,       /* C */
+    LINDYPO_KIND_SUM = 8,        /* A */
+    LINDYPO_KIND_DIFFERENCE = 9, /* S */
+    LINDYPO_KIND_PRODUCT = 10,   /* M */
+    LINDYPO_KIND_QUOTIENT = 11,  /* D */
+    LINDYPO_KIND_CHOICE = 12     /* I */
+};
+
+/* The cells of a label in the table. */
+enum lindypo_column {
+    LINDYPO_COLUMN_KIND = 0,        /* one of lindypo_kind */
+    LINDYPO_COLUMN_NAME_START = 1,  /* the name field's first byte in the text, from 0; 0 for `-` */
+    LINDYPO_COLUMN_NAME_LENGTH = 2, /* the name field's length in bytes; 0 for `-` */
+    LINDYPO_COLUMN_A = 3,           /* a: a label, or an N's number; 0 for `-` */
+    LINDYPO_COLUMN_B = 4,           /* b: a label; 0 for `-` */
+    LINDYPO_COLUMN_C = 5,           /* c: a label; 0 for `-` */
+    LINDYPO_COLUMN_OWNER = 6,       /* a definition's Group, an expression's definition; 0 for label 1 */
+    LINDYPO_COLUMN_TARGET = 7       /* what the path of an R or C leads to; 0 for other kinds */
+};
+
+/* The cells of a label in the results. */
+enum lindypo_result {
+    LINDYPO_RESULT_STATE = 0,
+    LINDYPO_RESULT_NUMBER = 1, /* 0 where the state is not LINDYPO_STATE_NUMBER */
+    LINDYPO_RESULT_STEPS = 2   /* steps taken */
+};
+
+/* What evaluating a value ends in; a line that is no value has state 0. */
+enum lindypo_state {
+    LINDYPO_STATE_NUMBER = 1,
+    LINDYPO_STATE_OUT_OF_RANGE = 2,
+    LINDYPO_STATE_ZERO_DIVISOR = 3,
+    LINDYPO_STATE_OUT_OF_STEPS = 4, /* of LINDYPO_STEPS_MOST */
+    LINDYPO_STATE_TOO_DEEP = 5      /* a call at LINDYPO_DEPTH_MOST */
+};
+
+/* The order of a plan. */
+enum lindypo_order {
+    LINDYPO_ORDER_WHOLE = 1, /* the values of every Group stand together */
+    LINDYPO_ORDER_MIXED = 2  /* no order that has each value after those it reaches can have that */
+};
+
 /* Refusals. A call gives the first that applies; Read looks at 1 to 15, Plan
- * and Run at 1 to 16, Follow at all.
- *
- *   found in  number  when                                              place
- *   text       1  its length, its last byte or a byte is not allowed    0
- *              2  line one is not `kind name a b c`                     0
- *              3  there are no labels, or more than 1,024               0
- *   buffers    4  one is too short: 1 table, 2 plan, 3 results;         1 to 3
- *                 the lowest, of those that the call is lent
- *   line       5  not five fields, or an empty one                      label
- *              6  unknown kind                                          label
- *              7  a field of wrong form, or label 1 not `G - 0 - -`     label
- *   tree       8  a Group field is no Group with a smaller label, or    label
- *                 a body or operand no expression with a larger one
- *              9  an expression that no field uses, or two or more      label
- *             10  a P owned by a V                                      label
- *             11  nested deeper than 32 levels                          label
- *   names     12  a smaller label in its Group has that name            label
- *   paths     13  head not found                                        label
- *             14  a later name not found, or asked of a V or F          label
- *             15  an R that leads to no V, or a C that leads to no F    label
- *   cycle     16  a value that reaches itself                           label
- *   order     17  no V label, or one listed before; or a V is missing   position
- *             18  reaches a value that is not listed earlier            position
+ * and Run at 1 to 16, Follow at all. The place is 0 for the text, one of
+ * lindypo_place for the buffers, a position in the order list for the order,
+ * and else a label.
  *
  * Positions in the order list count from 1; where a V is missing and nothing
  * else is wrong, the place is the list's length + 1. */
+enum lindypo_refusal {
+    /* the text */
+    LINDYPO_REFUSAL_TEXT = 1,       /* its length, its last byte or a byte is not allowed */
+    LINDYPO_REFUSAL_FIRST_LINE = 2, /* line one is not `kind name a b c` */
+    LINDYPO_REFUSAL_LABELS = 3,     /* there are no labels, or more than 1,024 */
+    /* the buffers */
+    LINDYPO_REFUSAL_BUFFERS = 4, /* one is too short */
+    /* a line */
+    LINDYPO_REFUSAL_FIELDS = 5, /* not five fields, or an empty one */
+    LINDYPO_REFUSAL_KIND = 6,   /* unknown kind */
+    LINDYPO_REFUSAL_FORM = 7,   /* a field of wrong form, or label 1 not `G - 0 - -` */
+    /* the tree */
+    LINDYPO_REFUSAL_STRUCTURE = 8, /* a Group field is no Group with a smaller label, or a body or
+                                      operand no expression with a larger one */
+    LINDYPO_REFUSAL_USES = 9,      /* an expression that no field uses, or two or more */
+    LINDYPO_REFUSAL_ARGUMENT = 10, /* a P owned by a V */
+    LINDYPO_REFUSAL_LEVEL = 11,    /* nested deeper than 32 levels */
+    /* names and paths */
+    LINDYPO_REFUSAL_DUPLICATE = 12, /* a smaller label in its Group has that name */
+    LINDYPO_REFUSAL_HEAD = 13,      /* the first name of a path is not found */
+    LINDYPO_REFUSAL_LATER = 14,     /* a later name is not found, or asked of a V or F */
+    LINDYPO_REFUSAL_TARGET = 15,    /* an R that leads to no V, or a C that leads to no F */
+    /* the values */
+    LINDYPO_REFUSAL_CYCLE = 16, /* a value that reaches itself */
+    /* the order list */
+    LINDYPO_REFUSAL_LISTED = 17, /* no V label, or one listed before; or a V is missing */
+    LINDYPO_REFUSAL_EARLY = 18   /* reaches a value that is not listed earlier */
+};
+
+/* The place of LINDYPO_REFUSAL_BUFFERS: the lowest, of the buffers that the
+ * call is lent. */
+enum lindypo_place {
+    LINDYPO_PLACE_TABLE = 1,
+    LINDYPO_PLACE_PLAN = 2,
+    LINDYPO_PLACE_RESULTS = 3
+};
+
 typedef struct {
-    /* 0 where the call answered, else the number of the refusal. */
+    /* 0 where the call answered, else the number of the refusal, one of
+     * lindypo_refusal. */
     uint64_t refusal;
     /* Where the refusal was found; 0 in an answer. */
     uint64_t place;
@@ -63,9 +169,8 @@ typedef struct {
      * which is the number of values, from Plan and Run; the length of the order
      * list, which is then the same, from Follow. 0 in a refusal. */
     uint64_t count;
-    /* Of the plan, from Plan and Run: 1 whole, the values of every Group stand
-     * together; 2 mixed, no order that has each value after those it reaches can
-     * have that. 0 in a refusal and from Read and Follow. */
+    /* Of the plan, from Plan and Run: one of lindypo_order. 0 in a refusal and
+     * from Read and Follow. */
     uint64_t order;
 } lindypo_reply;
 
@@ -78,18 +183,8 @@ typedef struct {
 /* Read: judges the sheet and writes the table.
  *
  * The table needs 8 cells for each of the n labels. In an answer the cells of
- * label k are those from 8(k - 1) on:
- *
- *   0  kind: 1 G, 2 V, 3 F, 4 N, 5 P, 6 R, 7 C, 8 A, 9 S, 10 M, 11 D, 12 I
- *   1  where the name field starts in the text, in bytes from 0; 0 for `-`
- *   2  the length of the name field in bytes; 0 for `-`
- *   3  a: a label, or an N's number; 0 for `-`
- *   4  b: a label; 0 for `-`
- *   5  c: a label; 0 for `-`
- *   6  owner: a definition's Group (0 for label 1), an expression's definition
- *   7  target: what the path of an R or C leads to; 0 for other kinds
- *
- * All cells after these 8n are then 0. */
+ * label k are those from 8(k - 1) on, by lindypo_column. All cells after these
+ * 8n are then 0. */
 lindypo_reply lindypo_read(const uint8_t *text, size_t text_length,
                            int64_t *table, size_t table_length);
 
@@ -112,14 +207,8 @@ lindypo_reply lindypo_plan(const uint8_t *text, size_t text_length,
  * values down the plan.
  *
  * The results need 3 cells for each of the n labels. In an answer the cells of
- * label k are those from 3(k - 1) on, all three 0 for a line that is no value:
- *
- *   0  state: 1 a number, 2 out of the number range, 3 divided by zero,
- *      4 no step left of 20,000, 5 a call at depth 64
- *   1  the number, -1000000000 to 1000000000; 0 where the state is not 1
- *   2  steps taken
- *
- * All cells after these 3n are then 0. */
+ * label k are those from 3(k - 1) on, by lindypo_result, all three 0 for a line
+ * that is no value. All cells after these 3n are then 0. */
 lindypo_reply lindypo_run(const uint8_t *text, size_t text_length,
                           int64_t *table, size_t table_length,
                           int64_t *plan, size_t plan_length,
@@ -133,6 +222,53 @@ lindypo_reply lindypo_follow(const uint8_t *text, size_t text_length,
                              const int64_t *order, size_t order_length,
                              int64_t *table, size_t table_length,
                              int64_t *results, size_t results_length);
+
+/* The program's print of a sheet: one line of column names, then one line per
+ * value in the order of the plan; of a refusal, `refusal place` and one line of
+ * the two numbers. It is no call of document 01, so a refusal leaves a print
+ * and no zeros.
+ *
+ * The sheet is run with buffers of the library's own, which are long enough for
+ * every sheet: refusal and place are those of Run with such buffers, 0 and 0 in
+ * an answer, and never 4. `out` holds the print as far as it goes, then zeros.
+ * `length` is that of the whole print, 1 to LINDYPO_PRINT_MOST: an `out` that
+ * is shorter has the first bytes alone, and one of LINDYPO_PRINT_MOST bytes is
+ * never too short. */
+#define LINDYPO_PRINT_MOST 49188
+
+typedef struct {
+    uint64_t refusal, place, length;
+} lindypo_printed;
+
+lindypo_printed lindypo_print(const uint8_t *text, size_t text_length,
+                              uint8_t *out, size_t out_length);
+
+/* The calls from here on are c/lindypo_words.c: tested, not proved. They keep
+ * nothing, allocate nothing, and give texts that are never null, never change
+ * and are not to be freed. target/staticlib/liblindypo.a has the proved calls
+ * alone; the libraries that ./install makes have these as well. */
+
+/* The version of the library: "0.2.0" and the like. */
+const char *lindypo_version(void);
+
+/* A refusal in general, in words: "a value that reaches itself". For 0 "no
+ * refusal", for a number that none has "no refusal has this number". */
+const char *lindypo_refusal_words(uint64_t refusal);
+
+/* A state in words: "divided by zero". For 0, which is that of a line that is no
+ * value, "no value"; for a number that none has "no state has this number". */
+const char *lindypo_state_words(int64_t state);
+
+/* The label of the definition with this full name, its own name after those of
+ * the Groups around it, outermost first, joined by dots: `right.prism`. 0 where
+ * there is none.
+ *
+ * Text and table are those of a Read that answered, and of no other text. The
+ * path ends with a byte 0. Nothing outside the text and the table is read
+ * whatever they hold, nor after the path's end; 0 where a pointer is null. */
+int64_t lindypo_find(const uint8_t *text, size_t text_length,
+                     const int64_t *table, size_t table_length,
+                     const char *path);
 
 #ifdef __cplusplus
 }

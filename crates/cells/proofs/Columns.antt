@@ -11,7 +11,7 @@ use lib.IntN.{ℤ, pos}
 use lib.ListN.{length, set, length-set}
 use lib.Seq.{set-set, set-comm, set-getD, ext-getD}
 use Rattle.cells.specs.Cells.{natOf, intAt, natAt}
-use Rattle.cells.specs.Table.{cell, numberOf, withColumn, changed}
+use Rattle.cells.specs.Table.{cell, entry, numberOf, withColumn, changed}
 use Rattle.cells.proofs.Stores.{intAt-put, intAt-other}
 use Rattle.cells.proofs.Table.{cell-at}
 
@@ -117,3 +117,48 @@ column-is j zero t h = refl
 column-is j (suc k) t h =
     let r = column-is j k t (λ i m. h i (omega arith)) in
     ap (λ (w : List ℤ). set w (8 * k + j) (pos (cell t (suc k) j))) r ∙ ap (λ (z : ℤ). set t (8 * k + j) z) (sym (h k (omega arith))) ∙ set-getD t (8 * k + j) (pos 0)
+
+-- ---- cells as they stand
+
+pub cell-entry : (t : List ℤ) (l j : ℕ) → cell t l j ≡ natOf (entry t l j)
+cell-entry t zero j = refl
+cell-entry t (suc k) j = refl
+
+pub cell-by : (t u : List ℤ) (l j : ℕ) → entry u l j ≡ entry t l j → cell u l j ≡ cell t l j
+cell-by t u l j e = cell-entry u l j ∙ ap natOf e ∙ sym (cell-entry t l j)
+
+-- a column that is written, and another one
+pub entry-other : (j : ℕ) (f : ℕ → ℕ) (n : ℕ) (t : List ℤ) (l i : ℕ) → j < 8 → i < 8 → (i ≡ j → ⊥) → entry (withColumn j f n t) l i ≡ entry t l i
+entry-other j f n t zero i h g d = refl
+entry-other j f n t (suc k) i h g d = column-keeps j f h n t (8 * k + i) (λ m a q. d (omega arith))
+
+pub entry-has : (j : ℕ) (f : ℕ → ℕ) (n : ℕ) (t : List ℤ) (k : ℕ) → j < 8 → 8 * n ≤ length t → k < n → entry (withColumn j f n t) (suc k) j ≡ pos (f (suc k))
+entry-has j f n t k h room g = column-has j f h n t k g room
+
+entry-past : (j : ℕ) (f : ℕ → ℕ) (n : ℕ) (t : List ℤ) (k : ℕ) → j < 8 → n ≤ k → entry (withColumn j f n t) (suc k) j ≡ entry t (suc k) j
+entry-past j f n t k h g = column-keeps j f h n t (8 * k + j) (λ m a q. omega arith)
+
+-- equal columns over tables that agree
+pub entry-column : (j : ℕ) (f g : ℕ → ℕ) (n : ℕ) (t u : List ℤ) (l : ℕ) → j < 8 → 8 * n ≤ length t → 8 * n ≤ length u
+    → ((x : ℕ) → g x ≡ f x) → entry u l j ≡ entry t l j → entry (withColumn j g n u) l j ≡ entry (withColumn j f n t) l j
+entry-column j f g n t u zero h a b same e = refl
+entry-column j f g n t u (suc k) h a b same e = go (ltb k n) refl
+  where
+    go : (c : Bool) → ltb k n ≡ c → entry (withColumn j g n u) (suc k) j ≡ entry (withColumn j f n t) (suc k) j
+    go true q =
+        let m = ltb-true k n q in
+        entry-has j g n u k h b m ∙ ap pos (same (suc k)) ∙ sym (entry-has j f n t k h a m)
+    go false q =
+        let m = ltb-false k n q in
+        entry-past j g n u k h m ∙ e ∙ sym (entry-past j f n t k h m)
+
+-- a column written in both
+pub entry-both : (j : ℕ) (f g : ℕ → ℕ) (n : ℕ) (t u : List ℤ) → j < 8 → 8 * n ≤ length t → 8 * n ≤ length u → ((x : ℕ) → g x ≡ f x)
+    → (l i : ℕ) → i < 8 → entry u l i ≡ entry t l i → entry (withColumn j g n u) l i ≡ entry (withColumn j f n t) l i
+entry-both j f g n t u h a b same l i k e = go (eqb i j) refl
+  where
+    go : (c : Bool) → eqb i j ≡ c → entry (withColumn j g n u) l i ≡ entry (withColumn j f n t) l i
+    go true q = let m = eqb-true i j q in rw m (entry-column j f g n t u l h a b same (rw m at e))
+    go false q =
+        let d = eqb-false i j q in
+        entry-other j g n u l i h k d ∙ e ∙ sym (entry-other j f n t l i h k d)

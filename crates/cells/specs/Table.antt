@@ -14,6 +14,11 @@ abbrev pub cell : List ℤ → ℕ → ℕ → ℕ
 cell t zero j = 0
 cell t (suc k) j = natAt t (8 * k + j)
 
+-- the same cell as it stands
+abbrev pub entry : List ℤ → ℕ → ℕ → ℤ
+entry t zero j = pos 0
+entry t (suc k) j = intAt t (8 * k + j)
+
 -- the kind code
 abbrev pub kind : List ℤ → ℕ → ℕ
 kind t l = cell t l 0

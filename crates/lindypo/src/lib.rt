@@ -9,7 +9,9 @@ ghost use Rattle.calls.specs.Plan.{planReply, planTable, planCells};
 ghost use Rattle.calls.specs.Plan as plans;
 ghost use Rattle.calls.specs.Run.{runReply, runTable, runPlan, runResults};
 ghost use Rattle.calls.specs.Follow.{followReply, followTable, followResults};
+ghost use Rattle.printing.specs.Print.{PrintLeaves};
 use calls::PlanReply;
+use printing::Printed;
 use refusals::Reply;
 
 // What a call answers, as C sees it. A refused reply has count 0 and order 0.
@@ -147,4 +149,12 @@ pub extern "C" fn lindypo_follow(
     ensures { λ _. ⌜ now (results .exit) ≡ followResults (now (text .entry)) (now (order .entry)) (length (now (table .entry))) (length (now (results .entry))) ⌝ }
 {
     answer_of(calls::follow(text, order, table, results))
+}
+
+// The program's print: no call of document 01, so a refusal is printed too.
+#[no_mangle]
+pub extern "C" fn lindypo_print(text: &[u8], out: &mut [u8]) -> Printed
+    ensures { λ r. ⌜ PrintLeaves (now (text .entry)) (length (now (out .entry))) r (now (out .exit)) ⌝ }
+{
+    printing::print(text, out)
 }

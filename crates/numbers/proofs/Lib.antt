@@ -5,4 +5,5 @@ pub mod Arithmetic
 pub mod Decimals
 pub mod Numerals
 pub mod ReadBack
+pub mod Canonical
 mod Samples

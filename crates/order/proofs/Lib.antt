@@ -11,6 +11,7 @@ pub mod Listed
 pub mod Whole
 pub mod Free
 pub mod Planned
+pub mod Same
 pub mod Positions
 pub mod Following
 pub mod Evaluating

@@ -1,17 +1,20 @@
 -- Document 01's "Program and its print", in bytes: 10 ends a line, 32 stands between fields.
+use mathlib.Core.Path.{_≡_}
 use mathlib.Core.List.{List, [], _∷_, _++_}
-use Prim.Native.Nat.{ℕ, _+_}
+use Prim.Native.Nat.{ℕ, _+_, _-_, _*_, _≤_}
 use lib.IntN.{ℤ}
-use lib.ListN.{take}
+use lib.ListN.{length, take, replicate}
 use lib.Seq.{slice}
 use Rattle.cells.specs.Table.{nameStart, nameLength}
 use Rattle.text.specs.Quoted.{bytesOf}
 use Rattle.order.specs.Following.{labelsOf}
 use Rattle.evaluation.specs.Results.{stateAt, numberAt, stepsAt}
+use Rattle.calls.specs.Plan.{numberOf, placeOf}
 use Rattle.calls.specs.Run.{runReply, runTable, runPlan, runResults}
 use Rattle.calls.specs.declared.PlanReply.{PlanReply}
 use Rattle.calls.specs.declared.PlanReply.the-variants as reply
 use Rattle.numbers.specs.Numerals.{decimal, integer}
+use Rattle.printing.specs.declared.Printed.{Printed}
 
 -- ---- lines
 
@@ -62,10 +65,28 @@ printBy s (reply.Refused row place) t p r = refusalLine ++ lineOf (decimal row �
 abbrev pub printWith : List ℕ → ℕ → ℕ → ℕ → List ℕ
 printWith s m p q = printBy s (runReply s m p q) (runTable s m p q) (runPlan s m p q) (runResults s m p q)
 
--- a bound on the bytes of a print: 36 for the column names, and 48 for each of 1,024 labels
-abbrev pub printBound : ℕ
-printBound = 49188
-
 -- the program's print of the text s: with buffers for 1,024 labels, the most that a sheet has, so that they are long enough for every sheet
+unfoldable pub printReply : List ℕ → PlanReply
+printReply s = runReply s 8192 1024 3072
+
 unfoldable pub printOf : List ℕ → List ℕ
 printOf s = printWith s 8192 1024 3072
+
+-- a bound on its bytes: 36 for the column names, and 48 for each of 1,024 labels
+abbrev pub printBound : ℕ
+printBound = 36 + 48 * 1024
+
+-- ---- what a call that is lent a buffer of m bytes leaves
+
+abbrev pub zeroBytes : ℕ → List ℕ
+zeroBytes n = replicate n 0
+
+pub record PrintLeaves (s : List ℕ) (m : ℕ) (answer : Printed) (out : List ℕ) : Type 0 where
+  -- Run's refusal and its place, 0 and 0 where it answers
+  pub refusal : answer .refusal ≡ numberOf (printReply s)
+  pub place : answer .place ≡ placeOf (printReply s)
+  -- the length of the whole print, however much of it there is room for
+  pub whole : answer .length ≡ length (printOf s)
+  pub short : length (printOf s) ≤ printBound
+  -- the print as far as the buffer goes, then zeros
+  pub bytes : out ≡ take m (printOf s) ++ zeroBytes (m - length (printOf s))

@@ -2,35 +2,43 @@
 
 ghost use mathlib.Core.Path.{_≡_};
 ghost use mathlib.Core.List.{List, [], _∷_, _++_};
-ghost use Prim.Native.Nat.{_≤_, _<_, min};
+ghost use Prim.Native.Nat.{_+_, _-_, _≤_, _<_, min};
 ghost use lib.ListN.{length, take};
-ghost use lib.Seq.{sets};
 ghost use lib.IntN.{natAbs};
 ghost use Rattle.cells.specs.Cells.{natOf};
 ghost use Rattle.order.specs.Following.{labelsOf};
 ghost use Rattle.evaluation.specs.Results.{stateAt, numberAt, stepsAt};
 ghost use Rattle.numbers.specs.Numerals.{digits, decimal, integer};
-ghost use Rattle.printing.specs.Print.{lineOf, columnsLine, refusalLine, nameField, valueLine, valueLines, printBound, printWith, printOf};
-ghost use Rattle.printing.specs.Writing.{Wrote, NamesIn, resultAt};
+ghost use Rattle.printing.specs.Print.{lineOf, columnsLine, refusalLine, nameField, valueLine, valueLines, zeroBytes, PrintLeaves};
+ghost use Rattle.printing.specs.Writing.{lastIndex, Wrote, NamesIn, resultAt, PrintWritten};
 use calls::PlanReply;
 
-// ---- bytes, from index `at` of the buffer on. Each function answers the index behind what it wrote.
+// ---- bytes, from index `at` of the buffer on. Each function answers the index behind what it wrote: a byte for which the buffer has no
+// room counts as well.
+
+// The largest index there is.
+const LAST: usize = 18446744073709551615;
+
+// The index behind one; the last has none behind it.
+fn behind(at: usize) -> usize
+    ensures { λ r. ⌜ r ≡ min (at + 1) lastIndex ⌝ }
+{
+    if at < LAST { at + 1 } else { at }
+}
 
 // One byte.
 fn put(out: &mut [u8], at: usize, byte: u8) -> usize
-    requires { ⌜ at ≤ length (now out) ⌝ }
     ensures { λ r. ⌜ Wrote (now (out .entry)) at (byte ∷ []) (now (out .exit)) r ⌝ }
 {
     if at < out.len() {
         out[at] = byte;
         return at + 1;
     }
-    at
+    behind(at)
 }
 
 // Several bytes.
 fn put_all(out: &mut [u8], at: usize, bytes: &[u8]) -> usize
-    requires { ⌜ at ≤ length (now out) ⌝ }
     ensures { λ r. ⌜ Wrote (now (out .entry)) at (now (bytes .entry)) (now (out .exit)) r ⌝ }
 {
     let mut end = at;
@@ -46,7 +54,6 @@ fn put_all(out: &mut [u8], at: usize, bytes: &[u8]) -> usize
 
 // The digits of n, none of 0.
 fn put_digits(out: &mut [u8], at: usize, n: u64) -> usize
-    requires { ⌜ at ≤ length (now out) ⌝ }
     ensures { λ r. ⌜ Wrote (now (out .entry)) at (digits n n) (now (out .exit)) r ⌝ }
 {
     if n == 0 {
@@ -58,7 +65,6 @@ fn put_digits(out: &mut [u8], at: usize, n: u64) -> usize
 
 // n in decimal, with no leading zeros.
 fn put_decimal(out: &mut [u8], at: usize, n: u64) -> usize
-    requires { ⌜ at ≤ length (now out) ⌝ }
     ensures { λ r. ⌜ Wrote (now (out .entry)) at (decimal n) (now (out .exit)) r ⌝ }
 {
     if n == 0 {
@@ -79,7 +85,6 @@ fn size_of(x: i64) -> u64
 
 // x in decimal, with `-` before a negative number.
 fn put_integer(out: &mut [u8], at: usize, x: i64) -> usize
-    requires { ⌜ at ≤ length (now out) ⌝ }
     ensures { λ r. ⌜ Wrote (now (out .entry)) at (integer x) (now (out .exit)) r ⌝ }
 {
     if cells::is_negative(x) {
@@ -93,7 +98,6 @@ fn put_integer(out: &mut [u8], at: usize, x: i64) -> usize
 
 // A field of bytes as they stand.
 fn put_text(out: &mut [u8], at: usize, bytes: &[u8], after: u8) -> usize
-    requires { ⌜ at ≤ length (now out) ⌝ }
     ensures { λ r. ⌜ Wrote (now (out .entry)) at (now (bytes .entry) ++ (after ∷ [])) (now (out .exit)) r ⌝ }
 {
     let end = put_all(out, at, bytes);
@@ -102,7 +106,6 @@ fn put_text(out: &mut [u8], at: usize, bytes: &[u8], after: u8) -> usize
 
 // A field with a natural number.
 fn put_count(out: &mut [u8], at: usize, n: u64, after: u8) -> usize
-    requires { ⌜ at ≤ length (now out) ⌝ }
     ensures { λ r. ⌜ Wrote (now (out .entry)) at (decimal n ++ (after ∷ [])) (now (out .exit)) r ⌝ }
 {
     let end = put_decimal(out, at, n);
@@ -111,7 +114,6 @@ fn put_count(out: &mut [u8], at: usize, n: u64, after: u8) -> usize
 
 // A field with an integer.
 fn put_number(out: &mut [u8], at: usize, x: i64, after: u8) -> usize
-    requires { ⌜ at ≤ length (now out) ⌝ }
     ensures { λ r. ⌜ Wrote (now (out .entry)) at (integer x ++ (after ∷ [])) (now (out .exit)) r ⌝ }
 {
     let end = put_integer(out, at, x);
@@ -145,7 +147,6 @@ fn count_at(results: &[i64], label: usize, j: usize) -> u64
 
 // The end of the line: state, number, steps.
 fn put_results(results: &[i64], label: usize, out: &mut [u8], at: usize) -> usize
-    requires { ⌜ at ≤ length (now out) ⌝ }
     ensures { λ r. ⌜ Wrote (now (out .entry)) at (lineOf (decimal (stateAt (now (results .entry)) label) ∷ integer (numberAt (now (results .entry)) label) ∷ decimal (stepsAt (now (results .entry)) label) ∷ [])) (now (out .exit)) r ⌝ }
 {
     let state = count_at(results, label, 0);
@@ -158,7 +159,7 @@ fn put_results(results: &[i64], label: usize, out: &mut [u8], at: usize) -> usiz
 
 // The label's name, from the text.
 fn put_name(text: &[u8], table: &[i64], label: usize, out: &mut [u8], at: usize) -> usize
-    requires { ⌜ (at ≤ length (now out)) × NamesIn (now text) (now table) ⌝ }
+    requires { ⌜ NamesIn (now text) (now table) ⌝ }
     ensures { λ r. ⌜ Wrote (now (out .entry)) at (nameField (now (text .entry)) (now (table .entry)) label ++ (32 ∷ [])) (now (out .exit)) r ⌝ }
 {
     let start = cells::cell_at(table, label, cells::NAME_START);
@@ -176,7 +177,7 @@ fn put_line(
     out: &mut [u8],
     at: usize,
 ) -> usize
-    requires { ⌜ (at ≤ length (now out)) × NamesIn (now text) (now table) ⌝ }
+    requires { ⌜ NamesIn (now text) (now table) ⌝ }
     ensures { λ r. ⌜ Wrote (now (out .entry)) at (valueLine (now (text .entry)) (now (table .entry)) (now (results .entry)) (now (word .entry)) label) (now (out .exit)) r ⌝ }
 {
     let behind_label = put_count(out, at, label as u64, b' ');
@@ -198,7 +199,7 @@ fn put_lines(
     out: &mut [u8],
     at: usize,
 ) -> usize
-    requires { ⌜ (at ≤ length (now out)) × (count ≤ length (now plan)) × NamesIn (now text) (now table) ⌝ }
+    requires { ⌜ (count ≤ length (now plan)) × NamesIn (now text) (now table) ⌝ }
     ensures { λ r. ⌜ Wrote (now (out .entry)) at (valueLines (now (text .entry)) (now (table .entry)) (now (results .entry)) (now (word .entry)) (labelsOf (take count (now (plan .entry))))) (now (out .exit)) r ⌝ }
 {
     let mut end = at;
@@ -237,6 +238,25 @@ fn put_refusal(row: u64, place: u64, out: &mut [u8]) -> usize
     put_count(out, behind_row, place, b'\n')
 }
 
+// Zeros to the end of the buffer.
+fn put_zeros(out: &mut [u8], at: usize) -> usize
+    ensures { λ r. ⌜ Wrote (now (out .entry)) at (zeroBytes (length (now (out .entry)) - at)) (now (out .exit)) r ⌝ }
+{
+    let mut end = at;
+    while end < out.len() {
+        end = put(out, end, 0);
+    }
+    end
+}
+
+// What the print answers: Run's refusal and its place, 0 and 0 on an answer; and the length of the whole print.
+#[repr(C)]
+pub struct Printed {
+    pub refusal: u64,
+    pub place: u64,
+    pub length: u64,
+}
+
 // The print of a sheet that is run with these buffers.
 fn print_with(
     text: &[u8],
@@ -244,30 +264,37 @@ fn print_with(
     plan: &mut [i64],
     results: &mut [i64],
     out: &mut [u8],
-) -> usize
-    ensures { λ r. ⌜ Wrote (now (out .entry)) 0 (printWith (now (text .entry)) (length (now (table .entry))) (length (now (plan .entry))) (length (now (results .entry)))) (now (out .exit)) r ⌝ }
-    ensures { λ _. ⌜ length (printWith (now (text .entry)) (length (now (table .entry))) (length (now (plan .entry))) (length (now (results .entry)))) ≤ printBound ⌝ }
+) -> Printed
+    ensures { λ r. ⌜ PrintWritten (now (text .entry)) (length (now (table .entry))) (length (now (plan .entry))) (length (now (results .entry))) (now (out .entry)) r (now (out .exit)) ⌝ }
 {
     match calls::run(text, table, plan, results) {
-        PlanReply::Whole(count) => {
-            put_answer(text, table, plan, count as usize, results, b"whole", out)
-        }
-        PlanReply::Mixed(count) => {
-            put_answer(text, table, plan, count as usize, results, b"mixed", out)
-        }
-        PlanReply::Refused(row, place) => put_refusal(row, place, out),
+        PlanReply::Whole(count) => Printed {
+            refusal: 0,
+            place: 0,
+            length: put_answer(text, table, plan, count as usize, results, b"whole", out) as u64,
+        },
+        PlanReply::Mixed(count) => Printed {
+            refusal: 0,
+            place: 0,
+            length: put_answer(text, table, plan, count as usize, results, b"mixed", out) as u64,
+        },
+        PlanReply::Refused(row, place) => Printed {
+            refusal: row,
+            place,
+            length: put_refusal(row, place, out) as u64,
+        },
     }
 }
 
-// Puts the program's print of a sheet at the start of `out` and answers its length. What stands behind the print stays. A print takes at
-// most 49,188 bytes; of one that `out` has no room for, the end is left out.
-pub fn write_print(text: &[u8], out: &mut [u8]) -> usize
-    ensures { λ r. ⌜ r ≡ min (length (printOf (now (text .entry)))) (length (now (out .entry))) ⌝ }
-    ensures { λ _. ⌜ now (out .exit) ≡ sets (now (out .entry)) 0 (printOf (now (text .entry))) ⌝ }
-    ensures { λ r. ⌜ (printBound ≤ length (now (out .entry)) → take r (now (out .exit)) ≡ printOf (now (text .entry))) ⌝ }
+// The program's print of a sheet, in `out` as far as that goes, and zeros behind it. The length is that of the whole print, at most
+// 49,188, so that an `out` that is too short shows by it.
+pub fn print(text: &[u8], out: &mut [u8]) -> Printed
+    ensures { λ r. ⌜ PrintLeaves (now (text .entry)) (length (now (out .entry))) r (now (out .exit)) ⌝ }
 {
     let mut table = [0i64; 8192];
     let mut plan = [0i64; 1024];
     let mut results = [0i64; 3072];
-    print_with(text, &mut table, &mut plan, &mut results, out)
+    let printed = print_with(text, &mut table, &mut plan, &mut results, out);
+    put_zeros(out, printed.length as usize);
+    printed
 }

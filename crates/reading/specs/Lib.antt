@@ -1,3 +1,4 @@
 pub mod Read
 pub mod Name
 pub mod Keeps
+pub mod AnyLength

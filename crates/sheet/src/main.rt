@@ -2,11 +2,12 @@
 use libc::STDIN_FILENO;
 use libc::STDOUT_FILENO;
 
-// Prints what running a text gives: at most 49,188 bytes, as write_print promises.
+// Prints what running a text gives: at most 49,188 bytes, as `printing::print` promises.
 fn print_text(text: &[u8]) {
-    let mut print = [0u8; 49188];
-    let end = printing::write_print(text, &mut print);
-    if !io::write_all(STDOUT_FILENO, &print[..end]) {
+    let mut out = [0u8; 49188];
+    let printed = printing::print(text, &mut out);
+    let end = printed.length as usize;
+    if !io::write_all(STDOUT_FILENO, &out[..end]) {
         os::fail(b"standard output");
     }
 }

@@ -1,12 +1,8 @@
-pub mod Pieces
-pub mod Canonical
 pub mod Bytes
 pub mod Letters
 pub mod Lines
 pub mod Sheets
 pub mod Tables
 pub mod Agree
-pub mod SameFigures
-pub mod SamePlan
 pub mod NumberPut
 mod Samples

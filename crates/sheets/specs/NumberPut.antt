@@ -11,7 +11,7 @@ use Rattle.order.specs.Order.{plan}
 use Rattle.reading.specs.Read.{sheetTable}
 use Rattle.figures.specs.Figures.{figures}
 use Rattle.sheets.specs.Sheet.{Line, Sheet, noLine, parse, serialize}
-use Rattle.sheets.specs.Right.{ReadsAtAnyLength}
+use Rattle.reading.specs.AnyLength.{ReadsAtAnyLength}
 
 -- the line with z in its field a
 abbrev pub withA : ℤ → Line → Line

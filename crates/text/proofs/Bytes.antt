@@ -10,6 +10,7 @@ use lib.Dec.{eqb, leb, ltb, eqb·suc-suc, eqb·zero-suc}
 use lib.ListN.{length, getD, drop, take}
 use lib.Seq.{slice, length-slice}
 use borrow.Author.Tests.{eq-eqb, ne-eqb, eqb-true, leb-true, ltb-true, lt-ltb, le-ltb}
+pub use Rattle.cells.proofs.Tests.{and-left, and-right}
 use Rattle.text.specs.Bytes.{all, one, countBy, oneMore, run, same, isAllowed, isBad, isNewline, isGraphic, endsLines}
 use Rattle.text.specs.Scans.{runEnd}
 use Rattle.text.proofs.Slices.{at-drop, past-drop, slice-at, slice-none}
@@ -47,14 +48,6 @@ none-bad x xs false e = sym (ne-eqb (1 + countBy isBad xs) 0 (λ q. omega arith)
 pub all-allowed : (s : List ℕ) → all isAllowed s ≡ eqb (countBy isBad s) 0
 all-allowed [] = refl
 all-allowed (x ∷ xs) = none-bad x xs (isAllowed x) (all-allowed xs)
-
-pub and-left : (a b : Bool) → (a && b) ≡ true → a ≡ true
-and-left true b e = refl
-and-left false b e = e
-
-pub and-right : (a b : Bool) → (a && b) ≡ true → b ≡ true
-and-right true b e = e
-and-right false b e = absurd (true-false (sym e))
 
 pub and-false : (a b : Bool) → b ≡ false → (a && b) ≡ false
 and-false true b e = e

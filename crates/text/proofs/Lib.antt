@@ -1,6 +1,7 @@
 pub mod Slices
 pub mod Bytes
 pub mod Cuts
+pub mod Joined
 pub mod Fields
 pub mod Names
 pub mod Labels

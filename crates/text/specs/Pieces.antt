@@ -1,6 +1,6 @@
 -- The pieces of a list between separators: the lines of a text (byte 10), the fields of a line (32), the names of a path (46).
 use mathlib.Core.Bool.{Bool, true, false}
-use mathlib.Core.List.{List, [], _∷_}
+use mathlib.Core.List.{List, [], _∷_, _++_}
 use Prim.Native.Nat.{ℕ, zero, suc, _+_}
 use lib.Dec.{eqb}
 use lib.ListN.{length, getD}
@@ -19,6 +19,12 @@ cutAt false x ps = onto x ps
 abbrev pub cut : ℕ → List ℕ → List (List ℕ)
 cut b [] = [] ∷ []
 cut b (x ∷ xs) = cutAt (eqb x b) x (cut b xs)
+
+-- pieces with the byte b between neighbours
+abbrev pub joined : ℕ → List (List ℕ) → List ℕ
+joined b [] = []
+joined b (p ∷ []) = p
+joined b (p ∷ q ∷ ps) = p ++ b ∷ joined b (q ∷ ps)
 
 -- where piece k begins in the list: past each piece before it, and the separator after that; 0 past the last piece
 abbrev pub place : List (List ℕ) → ℕ → ℕ

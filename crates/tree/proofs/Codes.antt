@@ -12,22 +12,13 @@ use Rattle.cells.specs.Lists.{one, count}
 use Rattle.cells.specs.Table.{kind}
 use Rattle.cells.specs.Accepted.{HasBody}
 use Rattle.cells.proofs.Signed.{clash}
+pub use Rattle.cells.proofs.Tests.{and-left, and-right}
 use Rattle.lines.specs.Kinds.{kinds, kindAt}
 use Rattle.refusals.specs.declared.Verdict.the-variants.{Fine}
 use Rattle.refusals.specs.Refusal.{firstBad}
 use Rattle.refusals.proofs.FirstBad.{first-none}
 use Rattle.tree.specs.Tree.{isGroup, isOperand, isDefinition, isExpression, parts, IsPart}
 use Rattle.tree.specs.Treed.{Formed}
-
--- ---- tests
-
-pub and-left : (a b : Bool) → (a && b) ≡ true → a ≡ true
-and-left true b e = refl
-and-left false b e = clash (sym e)
-
-pub and-right : (a b : Bool) → (a && b) ≡ true → b ≡ true
-and-right true b e = e
-and-right false b e = clash (sym e)
 
 -- ---- the codes
 

@@ -2,6 +2,8 @@
 
 use lindypo::raw;
 
+use crate::earlier;
+
 #[derive(Debug, Clone, Copy, PartialEq, Eq)]
 pub enum Call {
     Read,
@@ -16,6 +18,8 @@ pub enum Call {
 pub enum Side {
     Library,
     Reference,
+    /// An earlier library, where one is linked.
+    Earlier,
 }
 
 /// All that a call is lent; it takes what is its own.
@@ -33,12 +37,14 @@ pub struct Lent<'a> {
 pub type Function = fn(Lent) -> usize;
 
 impl Side {
-    pub const ALL: [Side; 2] = [Side::Library, Side::Reference];
+    /// The two that are always there.
+    pub const BOTH: [Side; 2] = [Side::Library, Side::Reference];
 
     pub fn name(self) -> &'static str {
         match self {
             Side::Library => "library",
             Side::Reference => "reference",
+            Side::Earlier => "earlier",
         }
     }
 }
@@ -60,10 +66,12 @@ impl Call {
         Call::ALL.into_iter().find(is_meant)
     }
 
-    pub fn function(self, side: Side) -> Function {
+    /// The call of that side; none of an earlier library that is not there.
+    pub fn function(self, side: Side) -> Option<Function> {
         match side {
-            Side::Library => self.library(),
-            Side::Reference => self.reference(),
+            Side::Library => Some(self.library()),
+            Side::Reference => Some(self.reference()),
+            Side::Earlier => earlier::function(self),
         }
     }
 

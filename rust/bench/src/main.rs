@@ -9,10 +9,14 @@
 //! through all sheets give each its share of quiet moments. One sheet taken
 //! again and again is soon known by heart to the processor; several in turn are
 //! not.
+//!
+//! Built with `LINDYPO_EARLIER` set to the archive of an earlier library, it
+//! times that one too, in the same turns: the last column is our time to its.
 
-#![forbid(unsafe_code)]
+#![deny(unsafe_code)]
 
 mod calls;
+mod earlier;
 mod instructions;
 mod measure;
 mod workloads;
@@ -20,7 +24,7 @@ mod workloads;
 use std::env;
 use std::process::ExitCode;
 
-use calls::Call;
+use calls::{Call, Side};
 use instructions::CALLS_ONLY;
 use measure::{measure, Times, ROUNDS};
 use workloads::{growths, workloads, Growth, Workload};
@@ -29,8 +33,10 @@ use workloads::{growths, workloads, Growth, Workload};
 const PASSES: usize = 12;
 const GROWTH_PASSES: usize = 4;
 
-/// How much longer than the reference the library may take.
+/// How much longer than the reference the library may take, and than an earlier
+/// library.
 const BAR: f64 = 1.1;
+const EARLIER_BAR: f64 = 1.05;
 
 /// Width of the names of sheets.
 const WIDTH: usize = 30;
@@ -98,8 +104,14 @@ fn compare(call: Call, choice: &Choice, workloads: &[Workload]) -> usize {
     let (name, rounds) = (call.name(), PASSES * ROUNDS);
     println!("{name}, microseconds a call: the shortest of {rounds} rounds\n");
     println!(
-        "{:<WIDTH$} {:>6} {:>7} {:>9} {:>10} {:>6}",
-        "sheet", "lines", "bytes", "library", "reference", "ratio"
+        "{:<WIDTH$} {:>6} {:>7} {:>9} {:>10} {:>6}{}",
+        "sheet",
+        "lines",
+        "bytes",
+        "library",
+        "reference",
+        "ratio",
+        earlier_columns(call)
     );
     let times = measure(call, &workloads, PASSES);
     for (workload, times) in workloads.iter().zip(&times) {
@@ -107,15 +119,39 @@ fn compare(call: Call, choice: &Choice, workloads: &[Workload]) -> usize {
     }
     let within = times.iter().filter(|times| times.ratio() <= BAR).count();
     println!(
-        "\n{name}: {within} of {} within the bar of {BAR}\n",
+        "\n{name}: {within} of {} within the bar of {BAR}",
         workloads.len()
     );
+    compare_earlier(&name, &times);
+    println!();
     workloads.len()
 }
 
+/// The headings of an earlier library's columns, where one is linked.
+fn earlier_columns(call: Call) -> &'static str {
+    match call.function(Side::Earlier) {
+        Some(_) => "   earlier  ratio",
+        None => "",
+    }
+}
+
+fn compare_earlier(name: &str, times: &[Times]) {
+    let ratios: Vec<f64> = times.iter().filter_map(Times::to_earlier).collect();
+    if let Some(most) = ratios.iter().copied().reduce(f64::max) {
+        let within = ratios.iter().filter(|&&ratio| ratio <= EARLIER_BAR).count();
+        println!(
+            "{name}: {within} of {} within {EARLIER_BAR} of the earlier library, at most {most:.2}",
+            ratios.len()
+        );
+    }
+}
+
 fn print(workload: &Workload, times: &Times) {
+    let earlier = times.to_earlier().map_or(String::new(), |ratio| {
+        format!(" {:>9.2} {ratio:>6.2}", 1e6 * times.earlier)
+    });
     println!(
-        "{:<WIDTH$} {:>6} {:>7} {:>9.2} {:>10.2} {:>6.2}",
+        "{:<WIDTH$} {:>6} {:>7} {:>9.2} {:>10.2} {:>6.2}{earlier}",
         workload.name,
         workload.lines(),
         workload.bytes(),

@@ -1,4 +1,4 @@
-//! Times of the library and of the reference.
+//! Times of the library, of the reference and of an earlier library.
 
 use std::hint::black_box;
 use std::time::Instant;
@@ -13,11 +13,13 @@ const WARM_UP: usize = 3;
 /// About this many seconds for each round.
 const ROUND: f64 = 0.0007;
 
-/// Seconds a call of the library and of the reference.
+/// Seconds a call of the library and of the reference; of an earlier library
+/// too where one is linked.
 #[derive(Clone)]
 pub struct Times {
     pub library: f64,
     pub reference: f64,
+    pub earlier: f64,
 }
 
 impl Times {
@@ -25,10 +27,17 @@ impl Times {
     const MAX: Times = Times {
         library: f64::INFINITY,
         reference: f64::INFINITY,
+        earlier: f64::INFINITY,
     };
 
     pub fn ratio(&self) -> f64 {
         self.library / self.reference
+    }
+
+    /// To the earlier library's time; none without one.
+    pub fn to_earlier(&self) -> Option<f64> {
+        let is_there = self.earlier.is_finite();
+        is_there.then_some(self.library / self.earlier)
     }
 
     /// The shorter time of each.
@@ -36,6 +45,7 @@ impl Times {
         Times {
             library: self.library.min(other.library),
             reference: self.reference.min(other.reference),
+            earlier: self.earlier.min(other.earlier),
         }
     }
 }
@@ -87,14 +97,23 @@ impl<'a> Job<'a> {
     /// One whose rounds take long enough for a clock.
     fn timed(call: Call, workload: &'a Workload) -> Self {
         let mut job = Job::new(call, workload);
-        let once = job.time(call.function(Side::Reference)) * job.sheets.len() as f64;
+        let once = job.seconds(Side::Reference) * job.sheets.len() as f64;
         job.turns = (ROUND / once).ceil() as usize;
         job
     }
 
     fn round(&mut self) -> Times {
-        let [library, reference] = Side::ALL.map(|side| self.time(self.call.function(side)));
-        Times { library, reference }
+        Times {
+            library: self.seconds(Side::Library),
+            reference: self.seconds(Side::Reference),
+            earlier: self.seconds(Side::Earlier),
+        }
+    }
+
+    /// Seconds a call of that side, endless where it is not there.
+    fn seconds(&mut self, side: Side) -> f64 {
+        let function = self.call.function(side);
+        function.map_or(f64::INFINITY, |function| self.time(function))
     }
 
     /// Seconds a call.

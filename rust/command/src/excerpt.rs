@@ -2,6 +2,7 @@
 
 use lindypo::{Mark, Refusal};
 
+use crate::output::Paint;
 use crate::rules;
 
 /// The most bytes of a line that are shown, and how many of them before the
@@ -13,25 +14,37 @@ const BEFORE: usize = 32;
 const CUT: &str = "...";
 
 /// Why a text is refused, in words; `file` is what to call it.
-pub fn refused(text: &[u8], file: &str, refusal: &Refusal) -> String {
+pub fn refused(text: &[u8], file: &str, refusal: &Refusal, paint: Paint) -> String {
     let (number, sentence) = (refusal.number(), refusal.sentence());
     let margin = " ".repeat(refusal.line().unwrap_or(1).to_string().len());
     let place = match refusal.mark() {
-        Some(mark) => excerpt(text, file, mark, &margin),
-        None => format!("{margin}--> {file}\n"),
+        Some(mark) => excerpt(text, file, mark, &margin, paint),
+        None => format!("{margin}--> {file}{}\n", position(refusal)),
     };
+    let heading = paint.bad(&format!("refusal {number}"));
     let rule = rules::of(number).rule;
-    format!("refusal {number}: {sentence}\n{place}{margin} = row {number}: {rule}\n")
+    format!("{heading}: {sentence}\n{place}{margin} = rule: {rule}\n")
+}
+
+/// Where an order is wrong.
+fn position(refusal: &Refusal) -> String {
+    match refusal {
+        Refusal::Listed(fault) | Refusal::Early(fault) => {
+            format!(", position {} of the order", fault.place)
+        }
+        _ => String::new(),
+    }
 }
 
 /// The place in the file, and the line with the mark beneath.
-fn excerpt(text: &[u8], file: &str, mark: Mark, margin: &str) -> String {
+fn excerpt(text: &[u8], file: &str, mark: Mark, margin: &str, paint: Paint) -> String {
     let Mark { line, column, .. } = mark;
     let label = match line {
         1 => String::new(),
         _ => format!(" (label {})", line - 1),
     };
     let (shown, carets) = marked(line_of(text, line), mark);
+    let carets = paint.bad(&carets);
     format!(
         "{margin}--> {file}:{line}:{column}{label}\n\
          {margin} |\n\

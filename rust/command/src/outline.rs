@@ -1,45 +1,78 @@
-//! The tree of Groups as text.
+//! The tree of Groups as text, and its definitions as JSON.
 
-use lindypo::{Kind, Order, State};
+use lindypo::{formula, Kind, Sheet};
 
-use crate::numerals::counted;
-use crate::tree::Node;
+use crate::formulas;
+use crate::json::{Json, Object};
+use crate::output::Paint;
+use crate::table::{self, figures, words, Cell, Column};
+use crate::tree::{Node, Span};
+use crate::values;
+use crate::words::Field;
 
-/// The columns after the tree. All but the last are figures.
-const COLUMNS: [&str; 5] = ["label", "position", "number", "steps", "state"];
+const COLUMNS: [Column; 7] = [
+    words("definition"),
+    figures("label"),
+    figures("position"),
+    figures("number"),
+    figures("steps"),
+    words("state"),
+    words("formula"),
+];
 
-/// A line: the tree's part, then its cells.
-struct Row {
-    stem: String,
-    cells: [String; 5],
-}
+type Row = [Cell; COLUMNS.len()];
 
-/// Whether the plan is whole or mixed, and all definitions.
-pub fn outline(outermost: &Node, order: Order) -> String {
-    let mut rows = vec![Row {
-        stem: "definition".to_string(),
-        cells: COLUMNS.map(str::to_string),
-    }];
-    add(&mut rows, outermost, "", "");
-    format!("{}\n\n{}", heading(outermost, order), aligned(&rows))
-}
+/// The JSON of definitions.
+pub const FIELDS: [Field; 15] = [
+    (
+        "definitions",
+        "the definitions as the tree has them, a Group before its members:",
+    ),
+    ("definitions.label", "its label"),
+    (
+        "definitions.name",
+        "its full name; empty for the outermost Group",
+    ),
+    ("definitions.line", "the line that it stands in, from 1"),
+    ("definitions.kind", "Group, value or function"),
+    (
+        "definitions.group",
+        "the label of its Group; the outermost has none",
+    ),
+    (
+        "definitions.first",
+        "the first position in the plan of a value under it, from 1",
+    ),
+    ("definitions.last", "the last such position"),
+    (
+        "definitions.mixed",
+        "of a Group: whether values of others stand between its own",
+    ),
+    ("definitions.formula", "of a value or function: its formula"),
+    (
+        "definitions.argument",
+        "of a function: what its formula calls the argument",
+    ),
+    ("definitions.state", "of a value: 1 a number, 2 to 5 none"),
+    ("definitions.number", "the number, in state 1"),
+    (
+        "definitions.failure",
+        "why there is no number, in every other state",
+    ),
+    ("definitions.steps", "the steps that it took"),
+];
 
-fn heading(outermost: &Node, order: Order) -> String {
-    let count = outermost.span.map_or(0, |span| span.count) as u64;
-    let meaning = match order {
-        Order::Whole => "the values of every Group stand together",
-        Order::Mixed => "no order keeps the values of every Group together",
-    };
-    format!("{}, {order} plan: {meaning}", counted(count, "value"))
+/// All definitions, each in a line.
+pub fn table(sheet: &Sheet, outermost: &Node, paint: Paint) -> String {
+    let mut rows = vec![];
+    add(&mut rows, sheet, outermost, "", "");
+    table::aligned(COLUMNS, &rows, paint)
 }
 
 /// The row of a node and those of all under it. `branch` leads to the node
 /// itself, `beneath` to what is under it.
-fn add(rows: &mut Vec<Row>, node: &Node, branch: &str, beneath: &str) {
-    rows.push(Row {
-        stem: format!("{branch}{}", node.title()),
-        cells: cells(node),
-    });
+fn add(rows: &mut Vec<Row>, sheet: &Sheet, node: &Node, branch: &str, beneath: &str) {
+    rows.push(row(sheet, node, branch));
     let last = node.members.len().saturating_sub(1);
     for (at, member) in node.members.iter().enumerate() {
         let (branch, under) = match at == last {
@@ -47,61 +80,70 @@ fn add(rows: &mut Vec<Row>, node: &Node, branch: &str, beneath: &str) {
             false => ("├─ ", "│  "),
         };
         let (branch, under) = (format!("{beneath}{branch}"), format!("{beneath}{under}"));
-        add(rows, member, &branch, &under);
+        add(rows, sheet, member, &branch, &under);
     }
 }
 
-fn cells(node: &Node) -> [String; 5] {
-    let position = node
-        .span
-        .map_or(String::new(), |span| match span.first == span.last {
-            true => span.first.to_string(),
-            false => format!("{}-{}", span.first, span.last),
-        });
-    let state = node.outcome.map(|outcome| outcome.state);
-    let number = state
-        .and_then(State::number)
-        .map_or(String::new(), |number| number.to_string());
-    let steps = node
-        .outcome
-        .map_or(String::new(), |outcome| outcome.steps.to_string());
+fn row(sheet: &Sheet, node: &Node, branch: &str) -> Row {
+    let outcome = node.outcome;
+    let [number, state] = match outcome {
+        Some(outcome) => values::state_cells(outcome.state),
+        None => [Cell::default(), Cell::from(kind(node))],
+    };
     [
-        node.line.label.to_string(),
-        position,
+        Cell::from(format!("{branch}{}", node.title())),
+        Cell::from(node.line.label),
+        Cell::from(node.span.map_or(String::new(), positions)),
         number,
-        steps,
-        words(node),
+        outcome.map_or(Cell::default(), |outcome| Cell::from(outcome.steps)),
+        state,
+        Cell::from(formulas::shown(sheet, node.line.label)),
     ]
 }
 
-/// The state of a value in words, and what else a definition is.
-fn words(node: &Node) -> String {
-    match node.outcome.map(|outcome| outcome.state) {
-        Some(State::Number(_)) => "a number".to_string(),
-        Some(failure) => failure.to_string(),
-        None if node.is_mixed() => "Group, mixed".to_string(),
-        None if node.line.kind == Kind::Group => "Group".to_string(),
-        None => "function".to_string(),
+fn positions(span: Span) -> String {
+    match span.first == span.last {
+        true => span.first.to_string(),
+        false => format!("{}-{}", span.first, span.last),
     }
 }
 
-/// The rows with their columns beneath each other.
-fn aligned(rows: &[Row]) -> String {
-    let width = |cell: &String| cell.chars().count();
-    let stems = rows.iter().map(|row| width(&row.stem)).max().unwrap_or(0);
-    let mut widths = [0; COLUMNS.len()];
-    for row in rows {
-        for (column, cell) in widths.iter_mut().zip(&row.cells) {
-            *column = width(cell).max(*column);
-        }
+/// What a definition is that is no value.
+fn kind(node: &Node) -> &'static str {
+    match node.line.kind {
+        Kind::Group if node.is_mixed() => "Group, mixed",
+        Kind::Group => "Group",
+        _ => "function",
     }
-    let line = |row: &Row| {
-        let [label, position, number, steps, state] = &row.cells;
-        let mut line = format!("{:<stems$}", row.stem);
-        for (cell, width) in [label, position, number, steps].into_iter().zip(widths) {
-            line += &format!("  {cell:>width$}");
-        }
-        format!("{line}  {state}\n")
-    };
-    rows.iter().map(line).collect()
+}
+
+/// The definitions, each Group before what is under it.
+pub fn json(sheet: &Sheet, outermost: &Node) -> Json {
+    let mut objects = vec![];
+    add_objects(&mut objects, sheet, outermost);
+    objects.into_iter().collect()
+}
+
+fn add_objects(objects: &mut Vec<Object>, sheet: &Sheet, node: &Node) {
+    objects.push(object(sheet, node));
+    for member in &node.members {
+        add_objects(objects, sheet, member);
+    }
+}
+
+fn object(sheet: &Sheet, node: &Node) -> Object {
+    let label = node.line.label;
+    let mixed = (node.line.kind == Kind::Group).then(|| node.is_mixed());
+    let object = values::name_object(label, &sheet.full_name(label))
+        .with("kind", node.line.kind.to_string())
+        .with_some("group", node.line.owner)
+        .with_some("first", node.span.map(|span| span.first))
+        .with_some("last", node.span.map(|span| span.last))
+        .with_some("mixed", mixed)
+        .with_some("formula", formula::of(sheet, label))
+        .with_some("argument", formula::argument(sheet, label));
+    match node.outcome {
+        Some(outcome) => object.and(values::outcome_object(outcome)),
+        None => object,
+    }
 }

@@ -1,85 +1,85 @@
-//! The rows of document 01's table of refusals, in plain words.
+//! The rules of document 01's table of refusals, in plain words.
 
-/// A row by a short name, and the rule that it keeps.
-pub struct Row {
+/// A rule by a short name, and what it says.
+pub struct Rule {
     pub name: &'static str,
     pub rule: &'static str,
 }
 
-/// Row k stands at k - 1. Row 4 is about buffers, 17 and 18 about orders: no
-/// sheet is refused by them.
-pub const ROWS: [Row; 18] = [
-    row(
+/// The rule of refusal k stands at k - 1. Refusal 4 is about buffers, 17 and 18
+/// about orders: no sheet is refused by them.
+pub const RULES: [Rule; 18] = [
+    rule(
         "bytes of the text",
         "a sheet is 1 to 65,536 bytes, printable ASCII in lines that each end with \
          byte 10",
     ),
-    row("line one", "line one is `kind name a b c`"),
-    row("number of lines", "1 to 1,024 lines follow line one"),
-    row("length of a buffer", "every buffer is long enough"),
-    row(
+    rule("line one", "line one is `kind name a b c`"),
+    rule("number of lines", "1 to 1,024 lines follow line one"),
+    rule("length of a buffer", "every buffer is long enough"),
+    rule(
         "number of fields",
         "a line has five fields, none of them empty, with one space between fields",
     ),
-    row(
+    rule(
         "unknown kind",
         "the kind is one of the twelve: G V F N P R C A S M D I",
     ),
-    row(
+    rule(
         "form of a field",
         "each field has the form that its kind wants, and label 1 is `G - 0 - -`",
     ),
-    row(
+    rule(
         "Group, body or operand",
         "a definition's Group is a Group above it; a body or operand is an expression \
          below the line that uses it",
     ),
-    row(
+    rule(
         "use of an expression",
         "an expression is used by one field, no less and no more",
     ),
-    row("argument in a value", "only a function has an argument"),
-    row(
+    rule("argument in a value", "only a function has an argument"),
+    rule(
         "more than 32 levels",
         "expressions are nested at most 32 levels deep",
     ),
-    row(
+    rule(
         "name taken already",
         "the members of a Group have different names",
     ),
-    row(
+    rule(
         "first name of a path",
         "the first name of a path is a member of the Group that it is read in, or of \
          one around it",
     ),
-    row(
+    rule(
         "later name of a path",
         "each later name of a path is a member of the Group that the names before it \
          lead to",
     ),
-    row(
+    rule(
         "end of a path",
         "a read leads to a value, a call to a function",
     ),
-    row(
+    rule(
         "value reaching itself",
         "no value reaches itself by what it reads and calls",
     ),
-    row(
+    rule(
         "values of an order",
         "an order lists every value once and nothing else",
     ),
-    row(
+    rule(
         "sequence of an order",
         "an order lists a value after all that it reaches",
     ),
 ];
 
-const fn row(name: &'static str, rule: &'static str) -> Row {
-    Row { name, rule }
+const fn rule(name: &'static str, rule: &'static str) -> Rule {
+    Rule { name, rule }
 }
 
-/// The row with this number, 1 to 18.
-pub fn of(number: u64) -> &'static Row {
-    &ROWS[number as usize - 1]
+/// The rule of the refusal with this number, 1 to 18.
+pub fn of(number: u64) -> &'static Rule {
+    &RULES[number as usize - 1]
 }

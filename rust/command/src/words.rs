@@ -1,155 +1,184 @@
-//! The words of the command line.
+//! The words of the command: one table, and what `--help` says of each.
+//!
+//! A word is a module with a `WORD`, which stands in the table below. What it
+//! says of a sheet is an `Answer`, in text and in JSON; `sheets::each` does what
+//! is the same for every word that takes sheets one by one.
 
 use std::ffi::OsString;
-use std::path::PathBuf;
+use std::path::Path;
 
-pub const USAGE: &str = "\
-use: explain FILE                why a sheet is refused, or its plan as a tree of Groups
-     explain --svg PICTURE FILE  the same as a picture, written to the file PICTURE
-     explain --batch DIR         a summary of the sheets in a folder
-     explain FILE FILE...        a summary of these sheets
-FILE - is standard input, and so is none; PICTURE - is standard output.
-Status 0: explained. 1: the one sheet is refused. 2: a file cannot be read or written, or wrong words.
-";
+use crate::input;
+use crate::options::{Call, Opt, COMMON};
+use crate::output::{Output, NAME};
+use crate::status::{self, Status};
+use crate::{check, explain, follow, plan, run};
 
-/// What is wanted.
-#[derive(Debug, PartialEq, Eq)]
-pub enum Task {
-    Usage,
-    One {
-        /// None is standard input.
-        sheet: Option<PathBuf>,
-        picture: Option<Picture>,
-    },
-    /// Files, and folders where `folders` is true.
-    Many {
-        paths: Vec<PathBuf>,
-        folders: bool,
-    },
+/// The words, as `lindypo --help` lists them.
+pub const WORDS: [&Word; 5] = [
+    &run::WORD,
+    &plan::WORD,
+    &follow::WORD,
+    &explain::WORD,
+    &check::WORD,
+];
+
+pub struct Word {
+    pub name: &'static str,
+    /// What it does, in less than a line.
+    pub summary: &'static str,
+    /// What it takes besides options.
+    pub operands: &'static str,
+    /// What it does, in full.
+    pub about: &'static str,
+    /// Its options besides those of every word.
+    pub options: &'static [Opt],
+    /// Tests run them at the top of the repository.
+    pub examples: &'static [Example],
+    /// What its JSON holds; tests see that no field is left out here.
+    pub fields: &'static [&'static [Field]],
+    /// What it does; an error is a mistake in the words.
+    pub call: fn(&Call, &mut Output) -> Result<Status, String>,
 }
 
-/// Where a picture goes.
-#[derive(Debug, PartialEq, Eq)]
-pub enum Picture {
-    Output,
-    File(PathBuf),
+/// What is typed after `lindypo`, and what that prints.
+pub struct Example {
+    pub words: &'static str,
+    pub print: &'static str,
 }
 
-/// The words as they come.
-#[derive(Default)]
-struct Words {
-    usage: bool,
-    batch: bool,
-    picture: Option<OsString>,
-    files: Vec<OsString>,
-}
+/// A field of JSON and what it holds. The fields of an object in a field have
+/// its name and a dot before their own.
+pub type Field = (&'static str, &'static str);
 
-/// What the words ask for, else what is wrong with them. Without a file the
-/// sheet is standard input, where `has_input` says that one comes from there.
-pub fn parse(words: impl IntoIterator<Item = OsString>, has_input: bool) -> Result<Task, String> {
-    let Words {
-        usage,
-        batch,
-        picture,
-        files,
-    } = sorted(words)?;
-    let is_many = batch || files.len() > 1;
-    match &files[..] {
-        _ if usage => Ok(Task::Usage),
-        [] if batch => Err("--batch wants a folder".to_string()),
-        [] if !has_input => Err("which sheet?".to_string()),
-        _ if is_many && picture.is_some() => Err("--svg draws one sheet".to_string()),
-        files if is_many => Ok(Task::Many {
-            paths: files.iter().map(PathBuf::from).collect(),
-            folders: batch,
-        }),
-        files => Ok(one(files.first(), picture)),
-    }
-}
-
-fn sorted(words: impl IntoIterator<Item = OsString>) -> Result<Words, String> {
-    let mut sorted = Words::default();
+/// Does what the words ask for.
+pub fn call(words: impl IntoIterator<Item = OsString>, has_input: bool) -> Status {
+    let mut out = Output::new();
     let mut words = words.into_iter();
-    while let Some(word) = words.next() {
-        match word.to_str() {
-            Some("-h" | "--help") => sorted.usage = true,
-            Some("--batch") => sorted.batch = true,
-            Some("--svg") => match words.next() {
-                Some(file) => sorted.picture = Some(file),
-                None => return Err("--svg wants a file for the picture".to_string()),
-            },
-            Some(option) if option.len() > 1 && option.starts_with('-') => {
-                return Err(format!("there is no {option}"));
-            }
-            _ => sorted.files.push(word),
+    let first = words.next().unwrap_or_default();
+    let status = match first.to_str() {
+        Some("-h" | "--help" | "help") => help(words.next(), &mut out),
+        Some("-V" | "--version") => {
+            out.print(&format!("{NAME} {}\n", env!("CARGO_PKG_VERSION")));
+            Ok(Status::Answered)
         }
-    }
-    Ok(sorted)
-}
-
-fn one(file: Option<&OsString>, picture: Option<OsString>) -> Task {
-    let place = |word: OsString| match word.to_str() {
-        Some("-") => Picture::Output,
-        _ => Picture::File(word.into()),
+        _ => match word_of(&first) {
+            Some(word) => do_word(word, words, has_input, &mut out),
+            None => Err(no_word(&first)),
+        },
     };
-    Task::One {
-        sheet: file.filter(|&file| file != "-").map(PathBuf::from),
-        picture: picture.map(place),
+    let status = status.unwrap_or_else(|message| {
+        out.complain(&message);
+        Status::Unreadable
+    });
+    status.max(out.end())
+}
+
+fn word_of(name: &OsString) -> Option<&'static Word> {
+    WORDS.into_iter().find(|word| name == word.name)
+}
+
+fn do_word(
+    word: &Word,
+    words: impl Iterator<Item = OsString>,
+    has_input: bool,
+    out: &mut Output,
+) -> Result<Status, String> {
+    let more = |message| {
+        let name = word.name;
+        format!("{name}: {message}\n`{NAME} {name} --help` says how it is used")
+    };
+    let call = Call::parse(words, word.options, has_input).map_err(more)?;
+    if call.is_set("--help") {
+        out.print(&help_of(word));
+        return Ok(Status::Answered);
+    }
+    (word.call)(&call, out).map_err(more)
+}
+
+/// What to do about a first word that is none.
+fn no_word(first: &OsString) -> String {
+    let shown = input::shown(Path::new(first));
+    let names: Vec<&str> = WORDS.iter().map(|word| word.name).collect();
+    let names = format!(
+        "the words are {}; `{NAME} --help` says more",
+        names.join(", ")
+    );
+    match () {
+        _ if first.is_empty() => names,
+        _ if Path::new(first).is_file() => {
+            format!("there is no word `{shown}`; did you mean `{NAME} run {shown}`?\n{names}")
+        }
+        _ => format!("there is no word `{shown}`\n{names}"),
     }
 }
 
-#[cfg(test)]
-mod tests {
-    use super::*;
+/// Help on a word, or on all.
+fn help(name: Option<OsString>, out: &mut Output) -> Result<Status, String> {
+    let text = match name {
+        None => usage(),
+        Some(name) => help_of(word_of(&name).ok_or_else(|| no_word(&name))?),
+    };
+    out.print(&text);
+    Ok(Status::Answered)
+}
 
-    fn parsed(words: &str) -> Result<Task, String> {
-        parse(words.split_whitespace().map(OsString::from), true)
-    }
+/// `lindypo --help`.
+pub fn usage() -> String {
+    let lines = WORDS.map(|word| (word.name.to_string(), word.summary));
+    format!(
+        "use: {NAME} WORD [OPTION...] [FILE...]\n\n\
+         Order sheets of a lens laboratory: read, planned and evaluated by proved code.\n\n\
+         {}\n\
+         `{NAME} WORD --help` explains a word; every word has --json. `{NAME} --version` prints\n\
+         the version. FILE - is standard input, and so is none.\n\n{}",
+        columns(&lines),
+        status::MEANINGS
+    )
+}
 
-    fn sheet(path: Option<&str>, picture: Option<Picture>) -> Result<Task, String> {
-        let sheet = path.map(PathBuf::from);
-        Ok(Task::One { sheet, picture })
-    }
+/// `lindypo WORD --help`.
+pub fn help_of(word: &Word) -> String {
+    let options: Vec<&Opt> = word.options.iter().chain(&COMMON).collect();
+    let uses = options
+        .iter()
+        .map(|option| format!("[{}]", option_use(option)));
+    let uses: Vec<String> = uses.collect();
+    let meanings: Vec<_> = options
+        .iter()
+        .map(|option| (option_use(option), option.meaning))
+        .collect();
+    let examples: String = word.examples.iter().map(example).collect();
+    let fields = word.fields.concat().into_iter();
+    let fields: Vec<_> = fields
+        .map(|(name, what)| (name.to_string(), what))
+        .collect();
+    format!(
+        "use: {NAME} {} {} {}\n\n{}\n{}\n{examples}\
+         JSON; a field that does not apply is left out:\n{}\n{}",
+        word.name,
+        uses.join(" "),
+        word.operands,
+        word.about,
+        columns(&meanings),
+        columns(&fields),
+        status::MEANINGS
+    )
+}
 
-    fn many(paths: &[&str], folders: bool) -> Result<Task, String> {
-        let paths = paths.iter().map(PathBuf::from).collect();
-        Ok(Task::Many { paths, folders })
+fn option_use(option: &Opt) -> String {
+    match option.value {
+        Some(value) => format!("{} {value}", option.name),
+        None => option.name.to_string(),
     }
+}
 
-    #[test]
-    fn one_sheet() {
-        assert_eq!(parsed("a.sheet"), sheet(Some("a.sheet"), None));
-        assert_eq!(parsed("-"), sheet(None, None));
-        assert_eq!(parsed(""), sheet(None, None));
-        let picture = Picture::File("a.svg".into());
-        assert_eq!(parsed("--svg a.svg a"), sheet(Some("a"), Some(picture)));
-        assert_eq!(parsed("a --svg -"), sheet(Some("a"), Some(Picture::Output)));
-    }
+fn example(example: &Example) -> String {
+    format!("$ {NAME} {}\n{}\n", example.words, example.print)
+}
 
-    #[test]
-    fn many_sheets() {
-        assert_eq!(parsed("a b"), many(&["a", "b"], false));
-        assert_eq!(parsed("--batch a"), many(&["a"], true));
-        assert_eq!(parsed("a --batch b"), many(&["a", "b"], true));
-    }
-
-    #[test]
-    fn help_comes_before_all_else() {
-        assert_eq!(parsed("a b --help"), Ok(Task::Usage));
-    }
-
-    #[test]
-    fn wrong_words() {
-        let nobody = parse([], false);
-        assert_eq!(nobody, Err("which sheet?".to_string()));
-        for (words, message) in [
-            ("--batch", "--batch wants a folder"),
-            ("--svg", "--svg wants a file for the picture"),
-            ("--svg a b c", "--svg draws one sheet"),
-            ("--svg a --batch b", "--svg draws one sheet"),
-            ("--tree a", "there is no --tree"),
-        ] {
-            assert_eq!(parsed(words), Err(message.to_string()), "{words}");
-        }
-    }
+/// Lines of a name and its meaning, the meanings beneath each other.
+fn columns(lines: &[(String, &str)]) -> String {
+    let width = lines.iter().map(|(name, _)| name.len()).max().unwrap_or(0);
+    let line = |(name, meaning): &(String, &str)| format!("  {name:width$}  {meaning}\n");
+    lines.iter().map(line).collect()
 }

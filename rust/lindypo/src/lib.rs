@@ -51,15 +51,20 @@
 //! calls, over buffers of the caller's, are in [`raw`].
 
 mod answer;
+pub mod build;
 mod diagnosis;
+mod faults;
+pub mod formula;
 mod line;
 pub mod raw;
 mod refusal;
 mod sheet;
+pub mod why;
 
 pub use answer::{Order, Outcome, Plan, Results, Run, State};
+pub use faults::faults;
 pub use line::{Kind, Line};
-pub use refusal::{Fault, Mark, Refusal};
+pub use refusal::{Fault, Help, Mark, Refusal};
 pub use sheet::Sheet;
 
 /// Counts the lines after line one from 1: label k stands in line k + 1.

@@ -3,9 +3,9 @@
 use std::error::Error;
 use std::fmt;
 
-/// Why a sheet or an order is refused: one case for each row of the paper's
-/// table, top to bottom; the first row that finds something is given. Row 4 has
-/// none: it is about buffers, and `Sheet` lends those that are long enough.
+/// Why a sheet or an order is refused: one case for each refusal of the paper's
+/// table, top to bottom; the first that applies is given. Refusal 4 has none: it
+/// is about buffers, and `Sheet` lends those that are long enough.
 #[derive(Debug, Clone, PartialEq, Eq, Hash)]
 pub enum Refusal {
     /// 1: the text's length, its last byte, or a byte that is not allowed.
@@ -55,6 +55,16 @@ pub struct Fault {
     pub mark: Option<Mark>,
     /// What is wrong, in words.
     pub sentence: String,
+    /// How to mend it, and other places of the text that it has to do with.
+    pub help: Vec<Help>,
+}
+
+/// A hint how to mend a fault. One with a mark is about that part of the text:
+/// a second use, the other holder of a name, a step of a cycle.
+#[derive(Debug, Clone, PartialEq, Eq, Hash)]
+pub struct Help {
+    pub sentence: String,
+    pub mark: Option<Mark>,
 }
 
 /// A part of one line of the text. Lines and columns count from 1, and a column
@@ -67,8 +77,8 @@ pub struct Mark {
 }
 
 impl Refusal {
-    /// The case of a row of the paper's table; no other row is found here.
-    pub(crate) fn of_row(number: u64, fault: Fault) -> Refusal {
+    /// The case of a number of the paper's table; 4 is not found here.
+    pub(crate) fn of_number(number: u64, fault: Fault) -> Refusal {
         let case = match number {
             1 => Refusal::Text,
             2 => Refusal::FirstLine,
@@ -132,6 +142,18 @@ impl Refusal {
     /// What is wrong, in words, without where.
     pub fn sentence(&self) -> &str {
         &self.fault().sentence
+    }
+
+    /// How to mend it, and other places of the text that it has to do with.
+    ///
+    /// ```
+    /// let text = b"kind name a b c\nG - 0 - -\nV size 1 4 -\nV twice 1 5 -\nN - 1.5 - -\nR Size - - -\n";
+    /// let refusal = lindypo::Sheet::read(text).unwrap_err();
+    /// assert_eq!(refusal.number(), 7);
+    /// assert_eq!(refusal.help()[0].sentence, "numbers are whole: in hundredths it is `150`");
+    /// ```
+    pub fn help(&self) -> &[Help] {
+        &self.fault().help
     }
 
     /// What to look at in the text, where it is in the text.

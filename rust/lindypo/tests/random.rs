@@ -1,8 +1,11 @@
 //! Random sheets: the wrapper says what the library's own calls say, and marks
 //! what is in the text.
 
+mod common;
+
+use common::is_in_text;
 use generator::Case;
-use lindypo::{raw, Label, Mark, Order, Refusal, Results, Run, Sheet};
+use lindypo::{raw, Label, Order, Refusal, Results, Run, Sheet};
 
 const CASES: u64 = 6_000;
 
@@ -106,27 +109,12 @@ impl Met {
             17.. => assert_eq!(refusal.mark(), None),
             _ => {}
         }
-        if let Some(mark) = refusal.mark() {
+        let helps = refusal.help().iter().filter_map(|help| help.mark);
+        for mark in refusal.mark().into_iter().chain(helps) {
             is_in_text(text, mark, refusal);
         }
         self.rows[refusal.number() as usize] += 1;
     }
-}
-
-/// A mark is a part of its line, or one column past its end where something is
-/// missing: a line end, the rest of line one, a field.
-fn is_in_text(text: &[u8], mark: Mark, refusal: &Refusal) {
-    let Mark {
-        line,
-        column,
-        width,
-    } = mark;
-    let line = text.split(|&byte| byte == b'\n').nth(line - 1);
-    let length = line.expect("a line of the text").len();
-    let is_past = (column, width) == (length + 1, 1);
-    let may_be_past = matches!(refusal.number(), 1 | 2 | 5);
-    let is_within = column >= 1 && width >= 1 && column - 1 + width <= length;
-    assert!(is_within || is_past && may_be_past, "{mark:?}: {refusal}");
 }
 
 fn lines_are_cells(sheet: &Sheet, table: &[i64]) {

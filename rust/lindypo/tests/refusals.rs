@@ -28,7 +28,7 @@ fn row_1_length_and_end() {
     text_says(b"", "refusal 1: the text is empty");
     text_says(
         &b"x".repeat(65_537),
-        "refusal 1: the text has 65537 bytes; at most 65536 are allowed",
+        "refusal 1: the text has more than 65536 bytes",
     );
     text_says(
         b"kind name a b c\nG - 0 - -",
@@ -41,7 +41,8 @@ fn row_1_bytes() {
     let allowed = "is not allowed; lines end with byte 10, all others are 32 to 126";
     text_says(
         b"kind name a b c\r\nG - 0 - -\r\n",
-        &format!("refusal 1, line 1, column 16: byte 13 (a carriage return) {allowed}"),
+        "refusal 1, line 1, column 16: \
+         2 of 2 lines end with a carriage return (byte 13; Windows line ends)",
     );
     for (byte, name) in [
         (0, "0"),
@@ -156,7 +157,8 @@ fn row_7_forms() {
     let path =
         "a path: 1 to 8 names joined by dots, each of 1 to 16 letters or digits, a letter first";
     let label = "a label: 1 to 3, with no leading zero";
-    let number = "a number: -1000000000 to 1000000000, with no leading zero, plus sign or `-0`";
+    let number =
+        "a whole number: -1000000000 to 1000000000, with no leading zero, plus sign or `-0`";
     let missing = "`-` (missing)";
     for (line, column, field, wanted) in [
         ("G 1a 1 - -", 3, "name of a Group (G) is `1a`", name),

@@ -4,7 +4,7 @@ use native.Mathlib.Omega.{arith}
 use borrow.Author.Needs.{needs}
 use borrow.Fn.Kinds.{In}
 use borrow.Fn.PlainCycle.{Measures, is, falls, and}
-use Rattle.printing.proofs.Writing.{nothing, same-size, within, then}
+use Rattle.printing.proofs.Writing.{nothing, same-size, then}
 use Rattle.numbers.proofs.Numerals.{digits-none, digits-last}
 use Rattle.printing.proofs.put_digits.Reads as put-digits
 use Rattle.printing.proofs.put_digits.Kinds as put-digits-kinds
@@ -31,10 +31,10 @@ claims t = (put-digits-below t, put-digits.Post, put-reads.Asked, put-reads.Lear
 put-digits-returns : (t : ℕ) → put-digits-lts.Need-returns (claims t) (put-digits-at t) put-digits.Post
 put-digits-returns t c =
     let a = c .before .before .args in
-    rw (c .if1 .taken, digits-none) (nothing (a .out .now) (a .at) (c .before .before .pre .1))
+    rw (c .if1 .taken, digits-none) (nothing (a .out .now) (a .at) (omega arith) (omega arith))
 
 put-digits-put-digits-requires : (t : ℕ) → put-digits-lts.Need-put-digits-requires (claims t) (put-digits-at t) put-digits.Post
-put-digits-put-digits-requires t c κs = (omega (arith, c .before .before .before .pre .0, c .before .if1 .left), c .before .before .before .pre .1)
+put-digits-put-digits-requires t c κs = (omega (arith, c .before .before .before .pre .0, c .before .if1 .left), tt)
 
 put-digits-cast-put : (t : ℕ) → put-digits-lts.Need-cast-put (claims t) (put-digits-at t) put-digits.Post
 put-digits-cast-put t c = search needs
@@ -43,7 +43,7 @@ put-digits-add-put : (t : ℕ) → put-digits-lts.Need-add-put (claims t) (put-d
 put-digits-add-put t c = search needs
 
 put-digits-put-requires : (t : ℕ) → put-digits-lts.Need-put-requires (claims t) (put-digits-at t) put-digits.Post
-put-digits-put-requires t c κs = within _ _ _ _ _ (c .before .before .before .put-digits .ensures)
+put-digits-put-requires t c κs = search needs
 
 put-digits-same-length : (t : ℕ) → put-digits-lts.Need-same-length (claims t) (put-digits-at t) put-digits.Post
 put-digits-same-length t c = search needs

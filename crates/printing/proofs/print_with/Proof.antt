@@ -1,6 +1,6 @@
 use mathlib.Core.Path.{_∙_, sym, ap}
 use lib.ListN.{length}
-use Rattle.calls.specs.Plan.{lengthOf}
+use Rattle.calls.specs.Plan.{numberOf, placeOf, lengthOf}
 use Rattle.calls.proofs.Answers.{answers}
 use Rattle.printing.specs.Print.{wholeWord, mixedWord}
 use Rattle.printing.proofs.Runs.{names-in, count-in, printed}
@@ -66,10 +66,14 @@ unfolding wholeWord
 returns c =
     let a = c .before .before .before .before .before .before .before .before .before .before .before .before .before .before .before .before .before .before .before .before .args in
     let k = c .before .before .before .before .before .before .before .before .before .before .before .before .before .before .run in
-    let g = c .before .before .before .before .before .before .before .before .before .count .given .1 in (
-      rw (← printed (a .text .now) (length (a .table .now)) (length (a .plan .now)) (length (a .results .now)) (k .result) (k .ensures .0) _ _ _ (k .ensures .1 .0) (k .ensures .1 .1 .0) (k .ensures .1 .1 .1 .0) _ g) (c .before .before .put-answer .ensures),
-      whole-length (a .text .now) (length (a .table .now)) (length (a .plan .now)) (length (a .results .now)) _ (sym (k .ensures .0) ∙ g),
-    )
+    let g = c .before .before .before .before .before .before .before .before .before .count .given .1 in
+    let e = sym (k .ensures .0) ∙ g in
+    record {
+      refusal = sym (ap numberOf e);
+      place = sym (ap placeOf e);
+      short = whole-length (a .text .now) (length (a .table .now)) (length (a .plan .now)) (length (a .results .now)) _ e;
+      wrote = rw (← printed (a .text .now) (length (a .table .now)) (length (a .plan .now)) (length (a .results .now)) (k .result) (k .ensures .0) _ _ _ (k .ensures .1 .0) (k .ensures .1 .1 .0) (k .ensures .1 .1 .1 .0) _ g) (c .before .before .put-answer .ensures);
+    }
 
 same-length-5 : tie.Need-same-length-5
 same-length-5 c = search needs
@@ -88,10 +92,14 @@ unfolding mixedWord
 returns-2 c =
     let a = c .before .before .before .before .before .before .before .before .before .before .before .before .before .before .before .before .before .before .before .before .args in
     let k = c .before .before .before .before .before .before .before .before .before .before .before .before .before .before .run in
-    let g = c .before .before .before .before .before .before .before .before .before .count2 .given .1 in (
-      rw (← printed (a .text .now) (length (a .table .now)) (length (a .plan .now)) (length (a .results .now)) (k .result) (k .ensures .0) _ _ _ (k .ensures .1 .0) (k .ensures .1 .1 .0) (k .ensures .1 .1 .1 .0) _ g) (c .before .before .put-answer2 .ensures),
-      mixed-length (a .text .now) (length (a .table .now)) (length (a .plan .now)) (length (a .results .now)) _ (sym (k .ensures .0) ∙ g),
-    )
+    let g = c .before .before .before .before .before .before .before .before .before .count2 .given .1 in
+    let e = sym (k .ensures .0) ∙ g in
+    record {
+      refusal = sym (ap numberOf e);
+      place = sym (ap placeOf e);
+      short = mixed-length (a .text .now) (length (a .table .now)) (length (a .plan .now)) (length (a .results .now)) _ e;
+      wrote = rw (← printed (a .text .now) (length (a .table .now)) (length (a .plan .now)) (length (a .results .now)) (k .result) (k .ensures .0) _ _ _ (k .ensures .1 .0) (k .ensures .1 .1 .0) (k .ensures .1 .1 .1 .0) _ g) (c .before .before .put-answer2 .ensures);
+    }
 
 same-length-9 : tie.Need-same-length-9
 same-length-9 c = search needs
@@ -109,10 +117,14 @@ returns-3 : tie.Need-returns-3
 returns-3 c =
     let a = c .before .before .before .before .before .before .before .before .before .before .before .before .before .before .before .before .args in
     let k = c .before .before .before .before .before .before .before .before .before .before .run in
-    let g = c .before .before .before .before .before .row .given .1 in (
-      rw (← printed (a .text .now) (length (a .table .now)) (length (a .plan .now)) (length (a .results .now)) (k .result) (k .ensures .0) _ _ _ (k .ensures .1 .0) (k .ensures .1 .1 .0) (k .ensures .1 .1 .1 .0) _ g) (c .before .before .put-refusal .ensures),
-      refused-length (a .text .now) (length (a .table .now)) (length (a .plan .now)) (length (a .results .now)) _ _ (sym (k .ensures .0) ∙ g) (omega (arith, c .before .before .before .before .known-told3 .given)) (omega (arith, c .before .before .before .before .known-told3 .given)),
-    )
+    let g = c .before .before .before .before .before .row .given .1 in
+    let e = sym (k .ensures .0) ∙ g in
+    record {
+      refusal = sym (ap numberOf e);
+      place = sym (ap placeOf e);
+      short = refused-length (a .text .now) (length (a .table .now)) (length (a .plan .now)) (length (a .results .now)) _ _ e (omega (arith, c .before .before .before .before .known-told3 .given)) (omega (arith, c .before .before .before .before .known-told3 .given));
+      wrote = rw (← printed (a .text .now) (length (a .table .now)) (length (a .plan .now)) (length (a .results .now)) (k .result) (k .ensures .0) _ _ _ (k .ensures .1 .0) (k .ensures .1 .1 .0) (k .ensures .1 .1 .1 .0) _ g) (c .before .before .put-refusal .ensures);
+    }
 
 pub print-with-spec : {M : Type 1} → statement M
 print-with-spec =

@@ -16,8 +16,13 @@ same-length c = search needs
 returns : tie.Need-returns
 returns c = search needs
 
+behind-requires : tie.Need-behind-requires
+behind-requires c κs = search needs
+
 returns-2 : tie.Need-returns-2
-returns-2 c = let a = c .before .args in one (a .out .now) (a .at) (a .byte) (omega arith) (omega arith)
+returns-2 c =
+    let a = c .before .before .before .args in
+    one (a .out .now) (a .at) (a .byte) (c .behind .result) (omega arith) (omega arith) (c .behind .ensures)
 
 pub put-spec : {M : Type 1} → statement M
-put-spec = tie.close (tie.spec slice-write-out add-result same-length returns returns-2)
+put-spec = tie.close (tie.spec slice-write-out add-result same-length returns behind-requires returns-2)

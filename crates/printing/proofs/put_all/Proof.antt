@@ -2,10 +2,11 @@ use mathlib.Core.Path.{_≡_}
 use Prim.Native.Nat.{_-_, _≤_}
 use native.Mathlib.Numerals.{add-one}
 use native.Mathlib.Omega.{arith}
+use borrow.Author.Needs.{needs}
 use lib.ListN.{length, take}
 use lib.Seq.{take-suc, take-length}
 use Rattle.printing.specs.Writing.{Wrote}
-use Rattle.printing.proofs.Writing.{nothing, same-size, within, then}
+use Rattle.printing.proofs.Writing.{nothing, same-size, then}
 use Rattle.printing.proofs.put_all.Statement.{statement}
 use Rattle.printing.proofs.put_all.Tie as tie
 
@@ -16,13 +17,13 @@ abbrev μ-loop : tie.MeasureT-loop
 μ-loop out₀ at bytes end₀ i₀ out end i = length bytes - i
 
 loop-holds : tie.Need-loop-holds Inv-loop μ-loop
-loop-holds c = (omega arith, nothing _ _ (omega arith))
+loop-holds c = (omega arith, nothing _ _ (omega arith) (omega arith))
 
 shared-slice-read-put : tie.Need-shared-slice-read-put Inv-loop μ-loop
 shared-slice-read-put c = omega arith
 
 put-requires : tie.Need-put-requires Inv-loop μ-loop
-put-requires c κs = within _ _ _ _ _ (c .before .before .before .loop .inv .1)
+put-requires c κs = search needs
 
 add-i : tie.Need-add-i Inv-loop μ-loop
 add-i c = omega arith

@@ -7,7 +7,7 @@ use Rattle.order.specs.Following.{labelsOf}
 use Rattle.printing.specs.Print.{valueLines}
 use Rattle.printing.specs.Writing.{Wrote}
 use Rattle.printing.proofs.Lines.{lines-none, one-line-more}
-use Rattle.printing.proofs.Writing.{nothing, same-size, within, then}
+use Rattle.printing.proofs.Writing.{nothing, same-size, then}
 use Rattle.printing.proofs.put_lines.Statement.{statement}
 use Rattle.printing.proofs.put_lines.Tie as tie
 
@@ -20,13 +20,13 @@ abbrev μ-loop : tie.MeasureT-loop
 loop-holds : tie.Need-loop-holds Inv-loop μ-loop
 loop-holds c =
     let a = c .before .before .before .args in
-    (omega arith, rw (lines-none (a .text .now) (a .table .now) (a .results .now) (a .word .now) (a .plan .now)) (nothing (a .out .now) (a .at) (c .before .before .before .pre .0)))
+    (omega arith, rw (lines-none (a .text .now) (a .table .now) (a .results .now) (a .word .now) (a .plan .now)) (nothing (a .out .now) (a .at) (omega arith) (omega arith)))
 
 nat-at-requires : tie.Need-nat-at-requires Inv-loop μ-loop
 nat-at-requires c κs = search needs
 
 put-line-requires : tie.Need-put-line-requires Inv-loop μ-loop
-put-line-requires c κs = (within _ _ _ _ _ (c .before .before .before .loop .inv .1), c .before .before .before .before .before .before .before .pre .2)
+put-line-requires c κs = c .before .before .before .before .before .before .before .pre .1
 
 add-i : tie.Need-add-i Inv-loop μ-loop
 add-i c = omega arith
@@ -38,7 +38,7 @@ loop-again : tie.Need-loop-again Inv-loop μ-loop
 loop-again c =
     let a = c .before .before .before .before .before .before .before .before .before .before .args in
     let l = c .before .before .before .before .before .before .loop in
-    let h : l .i < length (a .plan .now) = omega (arith, c .before .before .before .before .before .before .before .before .before .before .pre .1) in (
+    let h : l .i < length (a .plan .now) = omega (arith, c .before .before .before .before .before .before .before .before .before .before .pre .0) in (
       omega arith,
       rw (one-line-more (a .text .now) (a .table .now) (a .results .now) (a .word .now) (a .plan .now) (l .i) _ h (c .before .before .before .before .nat-at .ensures))
           (then _ _ _ _ _ (l .inv .1) _ _ _ (c .before .before .put-line .ensures)),

@@ -13,7 +13,7 @@ cell-at-requires-2 : tie.Need-cell-at-requires-2
 cell-at-requires-2 c κs = search needs
 
 add-end : tie.Need-add-end
-add-end c = omega (arith, c .cell-at2 .ensures, c .before .cell-at .ensures, c .before .before .before .before .pre .1 (c .before .before .before .before .args .label), c .before .before .before .before .good)
+add-end c = omega (arith, c .cell-at2 .ensures, c .before .cell-at .ensures, c .before .before .before .before .pre (c .before .before .before .before .args .label), c .before .before .before .before .good)
 
 sub-put-text : tie.Need-sub-put-text
 sub-put-text c = search needs
@@ -22,7 +22,7 @@ part-put-text-start : tie.Need-part-put-text-start
 part-put-text-start c = search needs
 
 part-put-text-end : tie.Need-part-put-text-end
-part-put-text-end c = omega (arith, c .before .cell-at2 .ensures, c .before .before .cell-at .ensures, c .before .before .before .before .before .pre .1 (c .before .before .before .before .before .args .label))
+part-put-text-end c = omega (arith, c .before .cell-at2 .ensures, c .before .before .cell-at .ensures, c .before .before .before .before .before .pre (c .before .before .before .before .before .args .label))
 
 put-text-requires : tie.Need-put-text-requires
 put-text-requires c κs = search needs

@@ -5,17 +5,19 @@ use borrow.Author.Needs.{needs}
 use Rattle.sheet.proofs.print_text.Statement.{statement}
 use Rattle.sheet.proofs.print_text.Tie as tie
 
-slice-aggregate-write-print : tie.Need-slice-aggregate-write-print
-slice-aggregate-write-print c = search needs
+slice-aggregate-print : tie.Need-slice-aggregate-print
+slice-aggregate-print c = search needs
 
-write-print-requires : tie.Need-write-print-requires
-write-print-requires c κs = search needs
+print-requires : tie.Need-print-requires
+print-requires c κs = search needs
 
-array-share-prefix-print : tie.Need-array-share-prefix-print
-array-share-prefix-print c = search needs
+array-share-prefix-out : tie.Need-array-share-prefix-out
+array-share-prefix-out c = search needs
 
 slice-aggregate-write-all : tie.Need-slice-aggregate-write-all
-slice-aggregate-write-all c = let w = c .before .before .write-print in sym (length-take-le (w .result) (w .last .1 .0) (omega (arith, w .ensures .0, w .kept)))
+slice-aggregate-write-all c =
+    let w = c .before .before .print in
+    sym (length-take-le (w .result .length) (w .last .1 .0) (omega (arith, w .ensures .whole, w .ensures .short, w .kept)))
 
 write-all-requires : tie.Need-write-all-requires
 write-all-requires c κs = search needs
@@ -36,9 +38,9 @@ pub print-text-spec : {M : Type 1} → statement M
 print-text-spec =
     tie.close
     (tie.spec
-    slice-aggregate-write-print
-    write-print-requires
-    array-share-prefix-print
+    slice-aggregate-print
+    print-requires
+    array-share-prefix-out
     slice-aggregate-write-all
     write-all-requires
     slice-aggregate-fail

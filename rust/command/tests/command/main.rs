@@ -1,13 +1,21 @@
 //! The program and its parts on the sample sheets and on random ones.
 
-mod batches;
+mod checks;
+mod helps;
+mod json;
+mod pages;
 mod pictures;
-mod program;
-mod samples;
+mod transcripts;
 mod trees;
 
 use std::fs;
 use std::path::{Path, PathBuf};
+use std::process::{Command, Output, Stdio};
+
+use command::explain;
+use command::input::Source;
+use command::output::Paint;
+use command::sheets::{Answer, Refused, Stop, Text};
 
 /// The top of the repository.
 fn top() -> PathBuf {
@@ -35,4 +43,33 @@ fn read(path: impl AsRef<Path>) -> Vec<u8> {
 
 fn read_text(path: impl AsRef<Path>) -> String {
     String::from_utf8(read(path)).expect("text")
+}
+
+/// The program with these words, at the top of the repository.
+fn output(words: &[&str]) -> Output {
+    Command::new(env!("CARGO_BIN_EXE_lindypo"))
+        .args(words)
+        .current_dir(top())
+        .stdin(Stdio::null())
+        .output()
+        .expect("the program")
+}
+
+fn stdout(output: &Output) -> String {
+    String::from_utf8(output.stdout.clone()).expect("text")
+}
+
+/// A text as it is explained, else why it is refused.
+fn explained(bytes: &[u8]) -> Result<String, String> {
+    let text = Text {
+        source: Source::File("x".into()),
+        bytes: bytes.to_vec(),
+    };
+    let paint = Paint::default();
+    let asked = explain::ask(&text, false);
+    match asked {
+        Ok(answer) => Ok(answer.text(paint)),
+        Err(Stop::Refused(refusal)) => Err(Refused::new(&text, &refusal).text(paint)),
+        Err(Stop::Wrong(message)) => panic!("{message}"),
+    }
 }

@@ -3,7 +3,10 @@
 
 use std::collections::BTreeSet;
 
+use command::explain;
 use lindypo::Sheet;
+
+use crate::{read, read_text};
 
 const CASES: u64 = 1_500;
 
@@ -160,7 +163,7 @@ fn keep_apart(arrows: &[Arrow]) {
 }
 
 fn check(text: &[u8]) -> Option<usize> {
-    let svg = command::picture(text, "x", "a < \"b\" & 'c'\u{7}").ok()?;
+    let (svg, _) = explain::picture(text, "a < \"b\" & 'c'\u{7}").ok()?;
     assert!(svg.contains(">a &lt; &quot;b&quot; &amp; &apos;c&apos;\u{fffd}</text>"));
     let sheet = Sheet::read(text).expect("a sheet that reads");
     let tags = tags(&svg);
@@ -203,8 +206,20 @@ fn everyday_pictures() {
 #[test]
 fn large_pictures() {
     for shape in generator::shapes() {
-        if let Ok(svg) = command::picture(&shape.text, "x", shape.name) {
+        if let Ok((svg, _)) = explain::picture(&shape.text, shape.name) {
             assert!(!tags(&svg).is_empty(), "{}", shape.name);
         }
+    }
+}
+
+/// The pictures of the documents are what is drawn.
+#[test]
+fn the_pictures_on_file() {
+    for (sheet, picture) in [("01-example", "example"), ("03-mixed", "mixed")] {
+        let (sheet, picture) = (format!("{sheet}.sheet"), format!("docs/{picture}.svg"));
+        let path = format!("sheets/{sheet}");
+        let (drawn, _) = explain::picture(&read(&path), &sheet).expect("a picture");
+        let again = format!("to draw it anew: ./lindypo explain --force --svg {picture} {path}");
+        assert!(drawn == read_text(&picture), "{again}");
     }
 }

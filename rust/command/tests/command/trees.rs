@@ -3,6 +3,8 @@
 use command::Node;
 use lindypo::{Kind, Label, Order, Run, Sheet};
 
+use crate::explained;
+
 const CASES: u64 = 3_000;
 
 /// A sheet with its plan by position.
@@ -73,7 +75,7 @@ fn random_trees() {
         assert_eq!(count, definitions.count(), "seed {seed}");
         assert_eq!(run.plan.order == Order::Mixed, mixed > 0, "seed {seed}");
         orders[usize::from(mixed > 0)] += 1;
-        let tree = command::tree(&text, "").expect("a tree");
+        let tree = explained(&text).expect("a tree");
         assert_eq!(tree.lines().count(), count + 3, "seed {seed}");
     }
     assert!(orders.iter().all(|&count| count > 100), "{orders:?}");
@@ -83,7 +85,7 @@ fn random_trees() {
 #[test]
 fn deep_trees() {
     for shape in generator::shapes() {
-        if let Ok(tree) = command::tree(&shape.text, "") {
+        if let Ok(tree) = explained(&shape.text) {
             assert!(tree.lines().count() > 3, "{}", shape.name);
         }
     }
@@ -95,7 +97,7 @@ fn random_refusals() {
     let mut refused = 0;
     for seed in 0..CASES {
         let text = generator::damaged(&mut generator::Rng::new(seed));
-        if let Err(words) = command::tree(&text, "x") {
+        if let Err(words) = explained(&text) {
             assert!(
                 words.starts_with("refusal ") && words.ends_with('\n'),
                 "{words}"

@@ -2,6 +2,13 @@
 
 use crate::Kind;
 
+/// The most letters of a name, and the most names of a path.
+pub const NAME_LETTERS: usize = 16;
+pub const PATH_NAMES: usize = 8;
+
+/// The largest number; the smallest is as far below zero.
+pub const NUMBER: i64 = 1_000_000_000;
+
 #[derive(Clone, Copy, PartialEq, Eq)]
 pub enum Form {
     Missing,
@@ -27,14 +34,21 @@ impl Form {
         }
     }
 
+    /// The fields of a line that have not the form that its kind wants.
+    pub fn misfits(kind: Kind, fields: &[&str], count: usize) -> Vec<usize> {
+        let wanted = Form::wanted(kind);
+        let is_wrong = |&at: &usize| !wanted[at - 1].fits(fields[at], count);
+        (1..=wanted.len()).filter(is_wrong).collect()
+    }
+
     /// Whether a field of a sheet with `count` labels has the form.
     pub fn fits(self, field: &str, count: usize) -> bool {
         match self {
             Form::Missing => field == "-",
             Form::Name => is_name(field),
-            Form::Path => field.split('.').count() <= 8 && field.split('.').all(is_name),
+            Form::Path => is_path(field),
             Form::Label => is_written(field, 1, count as i64),
-            Form::Number => is_written(field, -1_000_000_000, 1_000_000_000),
+            Form::Number => is_written(field, -NUMBER, NUMBER),
         }
     }
 
@@ -47,15 +61,19 @@ impl Form {
                            each of 1 to 16 letters or digits, a letter first"
                 .to_string(),
             Form::Label => format!("a label: 1 to {count}, with no leading zero"),
-            Form::Number => "a number: -1000000000 to 1000000000, \
+            Form::Number => "a whole number: -1000000000 to 1000000000, \
                              with no leading zero, plus sign or `-0`"
                 .to_string(),
         }
     }
 }
 
-fn is_name(field: &str) -> bool {
-    field.len() <= 16
+pub fn is_path(field: &str) -> bool {
+    field.split('.').count() <= PATH_NAMES && field.split('.').all(is_name)
+}
+
+pub fn is_name(field: &str) -> bool {
+    field.len() <= NAME_LETTERS
         && field.starts_with(|first: char| first.is_ascii_alphabetic())
         && field.bytes().all(|byte| byte.is_ascii_alphanumeric())
 }

@@ -1,26 +1,87 @@
-//! Rows 5 to 7: one line by itself.
+//! Refusals 5 and 6: the fields of a line, and its kind.
 
-use super::forms::Form;
-use super::rows::{Rows, FIELDS};
-use super::words;
-use super::Finding;
+use super::rows::{Rows, FIELDS, KIND};
+use super::{rewrite, words, Finding};
 use crate::{Kind, Label, Mark};
 
-/// What label 1 has to be.
-const OUTERMOST: [&str; 5] = ["G", "-", "0", "-", "-"];
+/// How people write a kind in words or signs.
+const SIGNS: [(&str, Kind); 15] = [
+    ("+", Kind::Sum),
+    ("add", Kind::Sum),
+    ("plus", Kind::Sum),
+    ("-", Kind::Difference),
+    ("sub", Kind::Difference),
+    ("minus", Kind::Difference),
+    ("*", Kind::Product),
+    ("mul", Kind::Product),
+    ("times", Kind::Product),
+    ("/", Kind::Quotient),
+    ("div", Kind::Quotient),
+    ("?", Kind::Choice),
+    ("if", Kind::Choice),
+    ("const", Kind::Number),
+    ("arg", Kind::Argument),
+];
 
-/// Row 5.
+/// A line that is to be left out: it is empty, a comment, or the column names
+/// once more. The labels after it then count otherwise.
+pub fn is_no_line(rows: &Rows, label: Label) -> bool {
+    let fields = rows.fields(label);
+    let is_empty = fields.iter().all(|field| field.is_empty());
+    is_empty || words::is_comment(fields[0]) || words::is_first_line(fields)
+}
+
+/// Refusal 5.
 pub fn fields(rows: &Rows, label: Label) -> Finding {
     let fields = rows.fields(label);
-    if let Some(empty) = fields.iter().position(|field| field.is_empty()) {
-        return empty_field(rows, label, empty);
+    let line = fields.join(" ");
+    let found = match fields.iter().position(|field| field.is_empty()) {
+        Some(empty) => empty_field(rows, label, empty),
+        None => wrong_number(rows, label),
+    };
+    if is_no_line(rows, label) {
+        return left_out(found, rows, label);
     }
-    let has = match fields.len() {
+    let rewritten = rewrite::line(&line, rows.count());
+    let help = match (rewritten, rewrite::name_in_two(&line)) {
+        (_, Some(name)) => Some(format!("a name has no spaces: is `{name}` meant?")),
+        (Some(line), None) => Some(format!("write `{line}`")),
+        (None, None) => template(rows, label),
+    };
+    alike(found.may_help(help), rows, label)
+}
+
+fn template(rows: &Rows, label: Label) -> Option<String> {
+    let (kind, template) = rows.kind(label).map(|kind| (kind, words::template(kind)))?;
+    Some(format!("a {kind} is written {template}"))
+}
+
+/// What to do with a line that is none.
+fn left_out(found: Finding, rows: &Rows, label: Label) -> Finding {
+    let fields = rows.fields(label);
+    let what = match fields[0] {
+        _ if words::is_first_line(fields) => "the column names stand in line one alone",
+        word if words::is_comment(word) => "a sheet has no comments",
+        _ => "a sheet has no empty lines",
+    };
+    let found = found.help(format!("{what}: leave the line out"));
+    let is_counted = |&other: &Label| !is_no_line(rows, other);
+    let moved = (label + 1..=rows.count()).any(|other| is_counted(&other));
+    let labels = "a label counts the lines after line one: those after this one are then one less";
+    found.may_help(moved.then(|| labels.to_string()))
+}
+
+fn wrong_number(rows: &Rows, label: Label) -> Finding {
+    let has = match rows.fields(label).len() {
         1 => "one field".to_string(),
         count => format!("{count} fields"),
     };
     let sentence = format!("the line has {has}; it has to have five: kind, name, a, b, c");
-    (Some(rows.mark_from(label, FIELDS.len())), sentence)
+    let found = Finding::at(rows.mark_from(label, FIELDS.len()), sentence);
+    let comment = rows.fields(label).get(FIELDS.len());
+    let is_comment = comment.is_some_and(|word| words::is_comment(word));
+    let help = "a sheet has no comments: leave out what follows the fifth field";
+    found.may_help(is_comment.then(|| help.to_string()))
 }
 
 /// A field is empty where a space has no field on one of its sides; that space
@@ -36,33 +97,75 @@ fn empty_field(rows: &Rows, label: Label, empty: usize) -> Finding {
             let column = mark.column - 1;
             let sentence =
                 "the line ends with a space; one space stands between fields, nowhere else";
-            return (Some(Mark { column, ..mark }), sentence.to_string());
+            return Finding::at(Mark { column, ..mark }, sentence);
         }
     };
-    (Some(mark), sentence.to_string())
+    Finding::at(mark, sentence)
 }
 
-/// Row 6.
+/// With how many other lines have an empty field where this one has: at the
+/// start, at the end or between.
+fn alike(found: Finding, rows: &Rows, label: Label) -> Finding {
+    let sort = |label: Label| {
+        let fields = rows.fields(label);
+        let empty = fields.iter().position(|field| field.is_empty())?;
+        Some((empty == 0, empty + 1 == fields.len()))
+    };
+    let is_alike = |&other: &Label| other != label && sort(other) == sort(label);
+    let others = rows.labels().filter(is_alike).count();
+    let lines = if others == 1 { "line is" } else { "lines are" };
+    let is_said = others > 0 && sort(label).is_some();
+    found.may_help(is_said.then(|| format!("{others} more {lines} so")))
+}
+
+/// Refusal 6.
 pub fn kind(rows: &Rows, label: Label) -> Finding {
-    let kind = words::quoted(rows.field(label, 0));
-    let sentence = format!("{kind} is no kind; the kinds are G V F N P R C A S M D I");
-    (Some(rows.mark(label, 0)), sentence)
+    let word = rows.field(label, KIND);
+    let quoted = words::quoted(word);
+    let sentence = format!("{quoted} is no kind; the kinds are G V F N P R C A S M D I");
+    let found = Finding::at(rows.mark(label, KIND), sentence);
+    if is_no_line(rows, label) {
+        return left_out(found, rows, label);
+    }
+    if Kind::of_field(&word.to_ascii_uppercase()).is_some() {
+        let capital = word.to_ascii_uppercase();
+        let found = found.help(format!("a kind is a capital letter: write `{capital}`"));
+        return small_kinds(found, rows, label);
+    }
+    let meant = meant(word).map(|kind| {
+        let letter = kind.letter();
+        format!("for {} write `{letter}`", words::of_kind(kind))
+    });
+    found.help(meant.unwrap_or_else(kinds))
 }
 
-/// Row 7.
-pub fn form(rows: &Rows, label: Label) -> Finding {
-    if label == 1 {
-        let differs = |&at: &usize| rows.field(label, at) != OUTERMOST[at];
-        let at = (0..FIELDS.len()).find(differs).unwrap_or(0);
-        let sentence = "label 1 has to be `G - 0 - -`, the outermost Group".to_string();
-        return (Some(rows.mark(label, at)), sentence);
-    }
-    let kind = rows.kind(label).unwrap_or(Kind::Group);
-    let wanted = Form::wanted(kind);
-    let is_wrong = |&at: &usize| !wanted[at - 1].fits(rows.field(label, at), rows.count());
-    let at = (1..FIELDS.len()).find(is_wrong).unwrap_or(1);
-    let (field, form) = (FIELDS[at], wanted[at - 1].words(rows.count()));
-    let (written, kind) = (words::quoted(rows.field(label, at)), words::of_kind(kind));
-    let sentence = format!("field {field} of {kind} is {written}; it has to be {form}");
-    (Some(rows.mark(label, at)), sentence)
+/// The kind that a word or sign stands for.
+fn meant(word: &str) -> Option<Kind> {
+    let small = word.to_ascii_lowercase();
+    let is_word = |kind: &Kind| kind.to_string().eq_ignore_ascii_case(&small);
+    let by_word = Kind::ALL.into_iter().find(is_word);
+    let by_sign = || SIGNS.iter().find(|(sign, _)| *sign == small);
+    by_word.or_else(|| by_sign().map(|&(_, kind)| kind))
+}
+
+/// Each letter and what it stands for.
+fn kinds() -> String {
+    let kinds = Kind::ALL.map(|kind| format!("{} {kind}", kind.letter()));
+    words::and(&kinds)
+}
+
+/// How many more lines have a small letter.
+fn small_kinds(found: Finding, rows: &Rows, label: Label) -> Finding {
+    let is_small = |&other: &Label| {
+        let word = rows.field(other, KIND);
+        let capital = Kind::of_field(&word.to_ascii_uppercase());
+        other != label && rows.kind(other).is_none() && capital.is_some()
+    };
+    let others = rows.labels().filter(is_small).count();
+    let more = if others == 1 {
+        "line has"
+    } else {
+        "lines have"
+    };
+    found.may_help((others > 0).then(|| format!("{others} more {more} a small letter")))
 }

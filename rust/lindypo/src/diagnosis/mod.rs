@@ -1,74 +1,72 @@
-//! What is wrong, in words. Number and place are the library's, which proves
-//! them; here the text is looked at again for the field to point at and for the
-//! names to say.
+//! What is wrong, in words, and how to mend it. Number and place are the
+//! library's, which proves them; here the text is looked at again for the field
+//! to point at, for the names to say and for the slip that was made most likely.
 //!
-//! Each function takes it that its row has found something at its label: the
-//! rows above it have found nothing, and so have the labels before in its pass.
+//! Each function takes it that its refusal applies at its label: those above it
+//! in the paper's table found nothing that it rests on.
 
-mod forms;
-mod lines;
-mod order;
-mod paths;
-mod rows;
-mod text;
-mod tree;
-mod words;
+pub(crate) mod bytes;
+pub(crate) mod files;
+mod finding;
+pub(crate) mod form;
+pub(crate) mod forms;
+mod letters;
+pub(crate) mod lines;
+pub(crate) mod near;
+mod numbers;
+pub(crate) mod order;
+pub(crate) mod paths;
+mod rewrite;
+pub(crate) mod rows;
+pub(crate) mod text;
+pub(crate) mod tree;
+pub(crate) mod words;
 
 use crate::raw;
-use crate::{Fault, Label, Mark, Refusal, Sheet};
+use crate::{Label, Refusal, Sheet};
+pub(crate) use finding::Finding;
 use rows::Rows;
-
-/// What to look at, and the sentence.
-type Finding = (Option<Mark>, String);
 
 /// The refusal of a text by Read.
 pub fn of_text(text: &[u8], refusal: raw::Refusal) -> Refusal {
-    let finding = match refusal.number {
-        1 => text::bytes(text),
+    let raw::Refusal { number, place } = refusal;
+    let finding = match number {
+        1 => bytes::all(text).swap_remove(0),
         2 => text::first_line(text),
         3 => text::count(text),
-        number => of_line(&Rows::new(text), number, refusal.place as Label),
+        _ => of_line(&Rows::new(text), number, place as Label),
     };
-    say(refusal, finding)
+    finding.refusal(number, place)
 }
 
-/// What rows 5 to 15 have found at a label. Up to row 3 a text may be of any
-/// size, so its lines are cut into fields from here on only.
+/// What refusals 5 to 15 are about at a label. Up to refusal 3 a text may be of
+/// any size, so its lines are cut into fields from here on only.
 fn of_line(rows: &Rows, number: u64, label: Label) -> Finding {
+    let first = |fields: Vec<usize>| fields.first().copied().unwrap_or(rows::A);
     match number {
         5 => lines::fields(rows, label),
         6 => lines::kind(rows, label),
-        7 => lines::form(rows, label),
-        8 => tree::link(rows, label),
+        7 => form::form(rows, label, first(form::misfits(rows, label))),
+        8 => tree::link(rows, label, first(tree::wrong_links(rows, label))),
         9 => tree::uses(rows, label),
         10 => tree::argument(rows, label),
         11 => tree::level(rows, label),
         12 => paths::name(rows, label),
         13 => paths::head(rows, label),
         14 => paths::member(rows, label),
-        _ => paths::target(rows, label),
+        _ => paths::wrong_target(rows, label),
     }
 }
 
 /// The refusal by Plan, Run or Follow of a sheet that reads.
 pub fn of_order(sheet: &Sheet, order: &[Label], refusal: raw::Refusal) -> Refusal {
-    let place = refusal.place as usize;
-    say(
-        refusal,
-        match refusal.number {
-            16 => order::cycle(sheet, place),
-            17 => order::listed(sheet, order, place),
-            _ => order::early(sheet, order, place),
-        },
-    )
-}
-
-fn say(refusal: raw::Refusal, (mark, sentence): Finding) -> Refusal {
-    let place = refusal.place;
-    let fault = Fault {
-        place,
-        mark,
-        sentence,
+    let raw::Refusal { number, place } = refusal;
+    let rows = Rows::new(sheet.text());
+    let position = place as usize;
+    let finding = match number {
+        16 => order::cycle(&rows, &order::mentions(&rows), position),
+        17 => order::listed(&rows, order, position),
+        _ => order::early(&rows, &order::mentions(&rows), order, position),
     };
-    Refusal::of_row(refusal.number, fault)
+    finding.refusal(number, place)
 }

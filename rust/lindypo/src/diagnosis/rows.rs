@@ -1,27 +1,107 @@
 //! The lines of a text as their fields, before there is a table.
 
-use std::str;
-
 use crate::{Kind, Label, Mark};
 
 /// The fields of a line.
+pub const KIND: usize = 0;
 pub const NAME: usize = 1;
 pub const A: usize = 2;
+pub const B: usize = 3;
 pub const FIELDS: [&str; 5] = ["kind", "name", "a", "b", "c"];
+
+/// The lines of any text, line one first, without their line ends. A carriage
+/// return before a line end is left out too, and the last line may have none.
+pub fn lines_of(text: &[u8]) -> impl Iterator<Item = &[u8]> {
+    let text = text.strip_suffix(b"\n").unwrap_or(text);
+    let lines = text.split(|&byte| byte == b'\n');
+    lines.map(|line| line.strip_suffix(b"\r").unwrap_or(line))
+}
+
+/// A field that names an expression as a body or operand.
+#[derive(Clone, Copy)]
+pub struct Use {
+    pub user: Label,
+    pub field: usize,
+}
+
+/// A line cut into fields, up to a byte that is not text.
+struct Row<'text> {
+    fields: Vec<&'text str>,
+    kind: Option<Kind>,
+}
+
+impl<'text> Row<'text> {
+    fn new(line: &'text [u8]) -> Self {
+        let text = line.utf8_chunks().next().map_or("", |chunk| chunk.valid());
+        let fields: Vec<&str> = text.split(' ').collect();
+        let kind = Kind::of_field(fields[0]);
+        Row { fields, kind }
+    }
+}
 
 /// A text's lines after line one, each cut into fields; label k is the k-th.
 pub struct Rows<'text> {
-    lines: Vec<Vec<&'text str>>,
+    lines: Vec<Row<'text>>,
+    /// By label, from 0: who uses it, upward through the labels.
+    uses: Vec<Vec<Use>>,
+    /// By label, from 0: the definitions whose field a names it, upward.
+    members: Vec<Vec<Label>>,
+    is_whole: bool,
 }
 
 impl<'text> Rows<'text> {
-    /// None where a byte is not ASCII: row 1 has then found it.
     pub fn new(text: &'text [u8]) -> Self {
-        let text = str::from_utf8(text).unwrap_or("");
-        let lines = text.lines().skip(1);
-        Rows {
-            lines: lines.map(|line| line.split(' ').collect()).collect(),
+        let lines: Vec<Row> = lines_of(text).skip(1).map(Row::new).collect();
+        let lists = lines.len() + 1;
+        let mut rows = Rows {
+            lines,
+            uses: vec![vec![]; lists],
+            members: vec![vec![]; lists],
+            is_whole: true,
+        };
+        for label in rows.labels() {
+            rows.note(label);
         }
+        rows
+    }
+
+    /// Notes whom a line uses, and whose member it is.
+    fn note(&mut self, user: Label) {
+        for field in self.part_fields(user) {
+            let part = self.link(user, field);
+            if let Some(uses) = self.uses.get_mut(part) {
+                uses.push(Use { user, field });
+            }
+        }
+        let group = self.link(user, A);
+        if user > 1 && self.is_definition(user) && group < self.members.len() {
+            self.members[group].push(user);
+        }
+    }
+
+    /// Takes out a line of which nothing is known: it has no kind, uses nobody
+    /// and is no member.
+    pub fn unform(&mut self, label: Label) {
+        for field in self.part_fields(label).chain([A]) {
+            self.unlink(label, field);
+        }
+        self.lines[label - 1].kind = None;
+        self.is_whole = false;
+    }
+
+    /// Takes out a field that leads to nothing it may.
+    pub fn unlink(&mut self, label: Label, field: usize) {
+        let to = self.link(label, field);
+        if let (Some(uses), Some(members)) = (self.uses.get_mut(to), self.members.get_mut(to)) {
+            uses.retain(|at| (at.user, at.field) != (label, field));
+            members.retain(|&member| member != label || field != A);
+        }
+        self.is_whole = false;
+    }
+
+    /// Whether nothing was taken out.
+    pub fn is_whole(&self) -> bool {
+        self.is_whole
     }
 
     pub fn count(&self) -> usize {
@@ -32,17 +112,25 @@ impl<'text> Rows<'text> {
         1..=self.count()
     }
 
+    fn row(&self, label: Label) -> Option<&Row<'text>> {
+        self.lines.get(label.checked_sub(1)?)
+    }
+
     pub fn fields(&self, label: Label) -> &[&'text str] {
-        let at = label.checked_sub(1).and_then(|at| self.lines.get(at));
-        at.map_or(&[], |fields| fields)
+        self.row(label).map_or(&[], |row| &row.fields)
     }
 
     pub fn field(&self, label: Label, field: usize) -> &'text str {
         self.fields(label).get(field).copied().unwrap_or("")
     }
 
+    /// A definition's name, or a path.
+    pub fn name(&self, label: Label) -> &'text str {
+        self.field(label, NAME)
+    }
+
     pub fn kind(&self, label: Label) -> Option<Kind> {
-        Kind::of_field(self.field(label, 0))
+        self.row(label)?.kind
     }
 
     pub fn is_definition(&self, label: Label) -> bool {
@@ -61,7 +149,7 @@ impl<'text> Rows<'text> {
     /// The fields of a line that name a body or an operand.
     pub fn part_fields(&self, label: Label) -> std::ops::Range<usize> {
         match self.kind(label) {
-            Some(Kind::Value | Kind::Function) => A + 1..A + 2,
+            Some(Kind::Value | Kind::Function) => B..B + 1,
             Some(Kind::Call) => A..A + 1,
             Some(Kind::Sum | Kind::Difference | Kind::Product | Kind::Quotient) => A..A + 2,
             Some(Kind::Choice) => A..A + 3,
@@ -69,23 +157,18 @@ impl<'text> Rows<'text> {
         }
     }
 
-    /// The lines whose fields name an expression as body or operand, one for
-    /// each such field.
-    pub fn users(&self, part: Label) -> Vec<Label> {
-        let count = |&user: &Label| {
-            let is_use = |&field: &usize| self.link(user, field) == part;
-            self.part_fields(user).filter(is_use).count()
-        };
-        let each = |user: Label| std::iter::repeat_n(user, count(&user));
-        self.labels().flat_map(each).collect()
+    /// The fields that name an expression as body or operand, upward through
+    /// their labels.
+    pub fn uses(&self, part: Label) -> &[Use] {
+        self.uses.get(part).map_or(&[], Vec::as_slice)
     }
 
     /// From an expression outward: the lines that it stands in, its owner last.
     pub fn outward(&self, label: Label) -> impl Iterator<Item = Label> + '_ {
         let user = |&part: &Label| {
-            let is_part = self.is_expression(part);
-            let users = if is_part { self.users(part) } else { vec![] };
-            users.first().copied().filter(|&user| user < part)
+            let users = self.uses(part).iter().map(|at| at.user);
+            let mut above = users.filter(|&user| user < part);
+            above.next().filter(|_| self.is_expression(part))
         };
         std::iter::successors(user(&label), user)
     }
@@ -95,24 +178,36 @@ impl<'text> Rows<'text> {
         self.outward(label).last().unwrap_or(0)
     }
 
+    /// The members of a Group, upward through the labels.
+    pub fn members(&self, group: Label) -> &[Label] {
+        self.members.get(group).map_or(&[], Vec::as_slice)
+    }
+
     /// The smallest member of a Group with this name.
     pub fn member(&self, group: Label, name: &str) -> Option<Label> {
-        let is_meant = |&label: &Label| {
-            let is_member = self.is_definition(label) && self.link(label, A) == group;
-            label > 1 && is_member && self.field(label, NAME) == name
-        };
-        self.labels().find(is_meant)
+        let is_meant = |&&label: &&Label| self.name(label) == name;
+        self.members(group).iter().find(is_meant).copied()
+    }
+
+    /// The Group around a definition; none around the outermost.
+    pub fn around(&self, label: Label) -> Option<Label> {
+        Some(self.link(label, A)).filter(|&group| group > 0 && group < label)
+    }
+
+    /// A definition's name with those of the Groups around it, outermost first.
+    pub fn full_name(&self, label: Label) -> String {
+        let around = |&label: &Label| self.around(label);
+        let path = std::iter::successors(Some(label), around).take_while(|&label| label > 1);
+        let mut names: Vec<&str> = path.map(|label| self.name(label)).collect();
+        names.reverse();
+        names.join(".")
     }
 
     /// A definition with its name: "the value `right.prism`".
     pub fn title(&self, label: Label) -> String {
-        let around = |&label: &Label| Some(self.link(label, A)).filter(|&group| group < label);
-        let path = std::iter::successors(Some(label), around).take_while(|&label| label > 1);
-        let mut names: Vec<&str> = path.map(|label| self.field(label, NAME)).collect();
-        names.reverse();
         match self.kind(label) {
             _ if label == 1 => "the outermost Group".to_string(),
-            Some(kind) => format!("the {kind} `{}`", names.join(".")),
+            Some(kind) => format!("the {kind} `{}`", self.full_name(label)),
             None => format!("label {label}"),
         }
     }

@@ -1,87 +1,123 @@
-//! Rows 1 to 3: the text as a whole.
+//! Refusals 2 and 3: line one, and how many lines there are.
 
-use super::Finding;
-use crate::Mark;
+use super::rows::{self, FIELDS};
+use super::{files, words, Finding};
+use crate::{Kind, Mark};
 
-const FIRST_LINE: &[u8] = b"kind name a b c";
-const MOST_BYTES: usize = 65_536;
+pub const MOST_LINES: usize = 1_024;
 
-/// Row 1.
-pub fn bytes(text: &[u8]) -> Finding {
-    let is_bad = |&byte: &u8| byte != b'\n' && !(32..=126).contains(&byte);
-    if text.is_empty() {
-        return (None, "the text is empty".to_string());
-    }
-    if text.len() > MOST_BYTES {
-        let length = text.len();
-        let sentence = format!("the text has {length} bytes; at most {MOST_BYTES} are allowed");
-        return (None, sentence);
-    }
-    match text.iter().position(is_bad) {
-        Some(at) => {
-            let byte = text[at];
-            let sentence = format!(
-                "byte {byte}{} is not allowed; lines end with byte 10, all others are 32 to 126",
-                byte_name(byte)
-            );
-            (Some(mark(text, at)), sentence)
-        }
-        None => {
-            let sentence = "the last line does not end with a line end (byte 10)";
-            (Some(mark(text, text.len())), sentence.to_string())
-        }
-    }
+/// Line one without a byte order mark.
+pub fn line_one(text: &[u8]) -> &[u8] {
+    let text = text.strip_prefix(files::BYTE_ORDER_MARK).unwrap_or(text);
+    rows::lines_of(text).next().unwrap_or(b"")
 }
 
-/// What the bytes that come into a sheet unseen are called.
-fn byte_name(byte: u8) -> &'static str {
-    match byte {
-        b'\t' => " (a tab)",
-        b'\r' => " (a carriage return)",
-        128.. => " (not ASCII)",
-        _ => "",
-    }
+/// Whether a line is what line one has to be.
+pub fn is_first_line(line: &[u8]) -> bool {
+    line == FIELDS.join(" ").as_bytes()
 }
 
-/// Row 2.
+/// How many lines there are after line one, whatever the text.
+pub fn line_count(text: &[u8]) -> usize {
+    rows::lines_of(text).count() - 1
+}
+
+/// Refusal 2.
 pub fn first_line(text: &[u8]) -> Finding {
-    let line = text.split(|&byte| byte == b'\n').next().unwrap_or(b"");
-    let agree = line
-        .iter()
-        .zip(FIRST_LINE)
-        .take_while(|(a, b)| a == b)
-        .count();
+    let line = String::from_utf8_lossy(line_one(text));
+    let wanted = FIELDS.join(" ");
+    let same = line.bytes().zip(wanted.bytes());
+    let agree = same.take_while(|(a, b)| a == b).count();
     let mark = Mark {
         line: 1,
         column: agree + 1,
         width: line.len().saturating_sub(agree).max(1),
     };
-    (
-        Some(mark),
-        "line one has to be `kind name a b c`".to_string(),
-    )
-}
-
-/// Row 3.
-pub fn count(text: &[u8]) -> Finding {
-    let ends = text.iter().filter(|&&byte| byte == b'\n').count();
-    let sentence = match ends.saturating_sub(1) {
-        0 => "there is no line after line one; label 1 has to be `G - 0 - -`".to_string(),
-        lines => format!("there are {lines} lines after line one; at most 1024 are allowed"),
-    };
-    (None, sentence)
-}
-
-/// One byte of the text.
-fn mark(text: &[u8], at: usize) -> Mark {
-    let before = &text[..at];
-    let start = before
-        .iter()
-        .rposition(|&byte| byte == b'\n')
-        .map_or(0, |end| end + 1);
-    Mark {
-        line: 1 + before.iter().filter(|&&byte| byte == b'\n').count(),
-        column: 1 + at - start,
-        width: 1,
+    let sentence = "line one has to be `kind name a b c`";
+    let found = Finding::at(mark, sentence);
+    if let Some(later) = later_first_line(text) {
+        let mark = Mark {
+            line: later,
+            column: 1,
+            width: wanted.len(),
+        };
+        let help = "the column names stand here: leave out what is before them";
+        return found.see(mark, help);
     }
+    let help = files::kind_of(text).or_else(|| slip(&line));
+    found.help(help.unwrap_or_else(|| differing_name(&line)))
+}
+
+/// The first line after line one that is the column names.
+fn later_first_line(text: &[u8]) -> Option<usize> {
+    let mut later = rows::lines_of(text).skip(1).take(MOST_LINES);
+    later.position(is_first_line).map(|at| at + 2)
+}
+
+/// What happens to column names.
+fn slip(line: &str) -> Option<String> {
+    let fields: Vec<&str> = line.split(' ').collect();
+    let is_line = fields.len() == FIELDS.len() && Kind::of_field(fields[0]).is_some();
+    if is_line {
+        return Some("the column names are missing: put the line `kind name a b c` first".into());
+    }
+    if line.is_empty() {
+        return Some("line one is empty: write the column names there".into());
+    }
+    if words::is_comment(line) {
+        return Some("a sheet has no comments: leave the line out".into());
+    }
+    let is_names = |line: &str| {
+        let names: Vec<&str> = line.split_whitespace().collect();
+        names.join(" ").to_lowercase() == FIELDS.join(" ")
+    };
+    if is_names(line) {
+        let is_small = line == line.to_lowercase();
+        let small = if is_small { "" } else { "in small letters, " };
+        return Some(format!(
+            "write it {small}with one space between names and none before or after"
+        ));
+    }
+    let separator = line.chars().find(|letter| ",;|:".contains(*letter))?;
+    let spaced = line.replace(separator, " ");
+    let is_separated = is_names(&spaced);
+    is_separated.then(|| format!("one space stands between names, not `{separator}`"))
+}
+
+/// The first of the column names that is another.
+fn differing_name(line: &str) -> String {
+    let names: Vec<&str> = line.split(' ').collect();
+    let differs = |&at: &usize| names.get(at) != FIELDS.get(at);
+    let at = (0..).find(differs).unwrap_or(0);
+    match (names.get(at), FIELDS.get(at)) {
+        (Some(name), Some(wanted)) => {
+            format!("{} stands where `{wanted}` has to", words::quoted(name))
+        }
+        (None, Some(wanted)) => format!("`{wanted}` is missing at the end"),
+        (name, None) => {
+            let name = words::quoted(name.unwrap_or(&""));
+            format!("{name} is too many: a sheet has five columns")
+        }
+    }
+}
+
+/// Refusal 3.
+pub fn count(text: &[u8]) -> Finding {
+    let lines = line_count(text);
+    if lines == 0 {
+        let sentence = "there is no line after line one; label 1 has to be `G - 0 - -`";
+        return Finding::new(sentence).help("the smallest sheet has this one line more");
+    }
+    let sentence =
+        format!("there are {lines} lines after line one; at most {MOST_LINES} are allowed");
+    let is_empty = |line: &&[u8]| line.is_empty();
+    let kept = rows::lines_of(text)
+        .skip(1)
+        .filter(|line| !is_empty(line))
+        .count();
+    let help = match kept <= MOST_LINES {
+        true => format!("{} of them are empty: leave those out", lines - kept),
+        false => "leave out what the order does not need, or send it as two sheets".to_string(),
+    };
+    Finding::new(sentence).help(help)
 }

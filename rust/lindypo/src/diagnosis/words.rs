@@ -1,6 +1,9 @@
 //! Pieces that several sentences share.
 
-use crate::{Kind, Label};
+use std::fmt::Display;
+
+use super::rows::FIELDS;
+use crate::Kind;
 
 /// The most bytes of a field that a sentence repeats.
 const QUOTED: usize = 40;
@@ -8,11 +11,15 @@ const QUOTED: usize = 40;
 /// The most definitions of a way that a sentence names.
 const NAMED: usize = 8;
 
+/// How people begin a comment in other languages.
+const COMMENTS: [&str; 7] = ["#", "//", "/*", ";", "--", "%", "'"];
+
 /// A field as a sentence repeats it; a long one is cut.
 pub fn quoted(field: &str) -> String {
-    match field.get(..QUOTED) {
-        Some(start) if start.len() < field.len() => format!("`{start}...`"),
-        _ => format!("`{field}`"),
+    let cut = field.char_indices().nth(QUOTED);
+    match cut {
+        Some((end, _)) => format!("`{}...`", &field[..end]),
+        None => format!("`{field}`"),
     }
 }
 
@@ -25,18 +32,53 @@ pub fn of_kind(kind: Kind) -> String {
     format!("{article} {kind} ({})", kind.letter())
 }
 
+/// How a line of a kind is written; capitals stand for what is put there.
+pub fn template(kind: Kind) -> String {
+    let fields = match kind {
+        Kind::Group => "NAME GROUP - -",
+        Kind::Value | Kind::Function => "NAME GROUP BODY -",
+        Kind::Number => "- NUMBER - -",
+        Kind::Argument => "- - - -",
+        Kind::Read => "PATH - - -",
+        Kind::Call => "PATH ARGUMENT - -",
+        Kind::Choice => "- TEST THEN ELSE",
+        _ => "- LEFT RIGHT -",
+    };
+    format!("`{} {fields}`", kind.letter())
+}
+
 /// "2, 3, 4".
-pub fn list(labels: &[Label]) -> String {
-    let words: Vec<String> = labels.iter().map(Label::to_string).collect();
+pub fn list<T: Display>(items: &[T]) -> String {
+    let words: Vec<String> = items.iter().map(T::to_string).collect();
     words.join(", ")
 }
 
-/// "2, 3 and 4"; two or more.
-pub fn and(labels: &[Label]) -> String {
-    match labels {
-        [rest @ .., last] => format!("{} and {last}", list(rest)),
-        [] => String::new(),
+/// "2, 3 and 4".
+pub fn and<T: Display>(items: &[T]) -> String {
+    match items {
+        [rest @ .., last] if !rest.is_empty() => format!("{} and {last}", list(rest)),
+        _ => list(items),
     }
+}
+
+/// "2, 3 and 4"; of more than `most`, "2, 3 and 17 more".
+pub fn and_more<T: Display>(items: &[T], most: usize) -> String {
+    match items.len().saturating_sub(most) {
+        0 => and(items),
+        more => format!("{} and {more} more", list(&items[..most])),
+    }
+}
+
+/// Names in backticks, as `and_more` has them.
+pub fn names(names: &[String], most: usize) -> String {
+    let quoted: Vec<String> = names.iter().map(|name| format!("`{name}`")).collect();
+    and_more(&quoted, most)
+}
+
+/// A count with what it counts: "1 line", "2 lines".
+pub fn counted(count: usize, thing: &str) -> String {
+    let end = if count == 1 { "" } else { "s" };
+    format!("{count} {thing}{end}")
 }
 
 /// Names with arrows between; the middle of a long way is left out.
@@ -47,4 +89,13 @@ pub fn way(names: &[String]) -> String {
         names.splice(NAMED / 2..tail, ["...".to_string()]);
     }
     names.join(" -> ")
+}
+
+pub fn is_comment(word: &str) -> bool {
+    COMMENTS.iter().any(|beginning| word.starts_with(beginning))
+}
+
+/// Whether a line, cut into fields, is the column names.
+pub fn is_first_line(fields: &[&str]) -> bool {
+    fields == FIELDS
 }

@@ -3,7 +3,7 @@
 //! A slice passes as a pointer and a length. Nothing compares these
 //! declarations with the Rattle source: the tests of `checks` do.
 
-use super::{Part, Reply};
+use super::{Part, Printed, Reply};
 
 extern "C" {
     pub fn lindypo_read(
@@ -51,4 +51,11 @@ extern "C" {
         results: *mut i64,
         results_length: usize,
     ) -> Reply;
+
+    pub fn lindypo_print(
+        text: *const u8,
+        text_length: usize,
+        out: *mut u8,
+        out_length: usize,
+    ) -> Printed;
 }

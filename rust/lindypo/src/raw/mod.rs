@@ -8,12 +8,13 @@
 //! labels at most.
 //!
 //! Each call is here twice: with its answer as a `Result`, and with its reply
-//! as the C interface gives it.
+//! as the C interface gives it. The program's print, which is no call of
+//! document 01, is here once.
 
 mod exports;
 mod reply;
 
-pub use reply::{Part, Refusal, Reply};
+pub use reply::{Part, Printed, Refusal, Reply};
 
 use crate::Order;
 
@@ -250,4 +251,40 @@ pub fn follow_reply(text: &[u8], order: &[i64], table: &mut [i64], results: &mut
             results.len(),
         )
     }
+}
+
+/// No print has more bytes: 36 for the column names, 48 for each of 1,024
+/// labels.
+pub const PRINT_MOST: usize = 49_188;
+
+/// The program's print of a sheet, as much of it as `out` has room for, then
+/// zeros. A refusal is printed, too. The sheet is run with buffers of the
+/// library's own, in which row 4 finds nothing.
+///
+/// The length answered is that of the whole print: where it is above that of
+/// `out`, the end is missing.
+///
+/// ```
+/// use lindypo::raw::{Printed, Refusal};
+///
+/// let sheet = b"kind name a b c\nG - 0 - -\nV x 1 3 -\nN - 7 - -\n";
+/// let mut out = [b'?'; 60];
+/// let printed = lindypo::raw::print(sheet, &mut out);
+/// assert_eq!(printed, Printed { refusal: 0, place: 0, length: 52 });
+/// assert_eq!(out[..52], *b"label name order state number steps\n2 x whole 1 7 1\n");
+/// assert_eq!(out[52..], [0; 8]);
+///
+/// let mut start = [b'?'; 5];
+/// assert_eq!(lindypo::raw::print(sheet, &mut start), printed);
+/// assert_eq!(start, *b"label");
+///
+/// let refused = lindypo::raw::print(b"kind name a b c\n", &mut out).refused();
+/// assert_eq!(refused, Some(Refusal { number: 3, place: 0 }));
+/// assert_eq!(out[..18], *b"refusal place\n3 0\n");
+/// assert_eq!(out[18..], [0; 42]);
+/// ```
+pub fn print(text: &[u8], out: &mut [u8]) -> Printed {
+    // SAFETY: as for `read_reply`; the bytes to write are lent to the function
+    // alone.
+    unsafe { exports::lindypo_print(text.as_ptr(), text.len(), out.as_mut_ptr(), out.len()) }
 }

@@ -62,3 +62,23 @@ impl Part {
         &text[self.start as usize..][..self.length as usize]
     }
 }
+
+/// What the program's print comes to, as the C interface gives it.
+#[derive(Debug, Clone, Copy, PartialEq, Eq)]
+#[repr(C)]
+pub struct Printed {
+    /// Run's refusal, 0 where it answers, and its place.
+    pub refusal: u64,
+    pub place: u64,
+    /// Bytes of the whole print, whether or not the buffer had room for them.
+    pub length: u64,
+}
+
+impl Printed {
+    /// The refusal that is printed, if it is one.
+    pub fn refused(self) -> Option<Refusal> {
+        let Printed { refusal, place, .. } = self;
+        let number = refusal;
+        (number != 0).then_some(Refusal { number, place })
+    }
+}

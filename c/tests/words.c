@@ -1,0 +1,208 @@
+/* Tests c/lindypo_words.c: prints the version and all words, then looks for
+ * definitions by their full names, in the table that Read writes and in tables
+ * that no Read writes. Every text, table and path is as long as is said, in
+ * memory of its own, so that AddressSanitizer sees what is read beside it.
+ * Status 1 where something is found that should not be, or is not found. */
+#include <inttypes.h>
+#include <stdio.h>
+#include <stdlib.h>
+#include <string.h>
+
+#include "lindypo.h"
+
+static int failures;
+
+static void expect(const char *what, int64_t found, int64_t wanted)
+{
+    if (found != wanted) {
+        failures++;
+        printf("%s: found %" PRId64 ", wanted %" PRId64 "\n", what, found, wanted);
+    }
+}
+
+static void *copy(const void *from, size_t bytes)
+{
+    void *to = malloc(bytes == 0 ? 1 : bytes);
+    if (to == NULL)
+        exit(2);
+    memcpy(to, from, bytes);
+    return to;
+}
+
+/* Looks for a path with copies of all that is lent. */
+static int64_t find(const char *text, const int64_t *table, size_t cells, const char *path)
+{
+    uint8_t *own_text = copy(text, strlen(text));
+    int64_t *own_table = copy(table, cells * sizeof *table);
+    char *own_path = copy(path, strlen(path) + 1);
+    int64_t found = lindypo_find(own_text, strlen(text), own_table, cells, own_path);
+    free(own_path);
+    free(own_table);
+    free(own_text);
+    return found;
+}
+
+static void print_words(void)
+{
+    printf("version %s\n", lindypo_version());
+    for (uint64_t refusal = 0; refusal <= LINDYPO_REFUSAL_EARLY + 1; refusal++)
+        printf("refusal %" PRIu64 ": %s\n", refusal, lindypo_refusal_words(refusal));
+    printf("refusal %" PRIu64 ": %s\n", UINT64_MAX, lindypo_refusal_words(UINT64_MAX));
+    for (int64_t state = -1; state <= LINDYPO_STATE_TOO_DEEP + 1; state++)
+        printf("state %" PRId64 ": %s\n", state, lindypo_state_words(state));
+    printf("state %" PRId64 ": %s\n", INT64_MIN, lindypo_state_words(INT64_MIN));
+}
+
+/* `far` stands in the outermost Group and in `left`, `right.deep` is a Group in
+ * a Group, and the last value has the longest name. */
+static const char sheet[] = "kind name a b c\n"
+                            "G - 0 - -\n"
+                            "G right 1 - -\n"
+                            "G left 1 - -\n"
+                            "V far 1 11 -\n"
+                            "V far 3 12 -\n"
+                            "G deep 2 - -\n"
+                            "V sphere 6 13 -\n"
+                            "F half 6 14 -\n"
+                            "V decentration0001 6 17 -\n"
+                            "V r 1 18 -\n"
+                            "N - 1 - -\n"
+                            "N - 2 - -\n"
+                            "N - 3 - -\n"
+                            "D - 15 16 -\n"
+                            "P - - - -\n"
+                            "N - 2 - -\n"
+                            "R sphere - - -\n"
+                            "N - 4 - -\n";
+
+#define LABELS 18
+#define CELLS (LINDYPO_TABLE_CELLS * LABELS)
+
+static int64_t table[CELLS + 20];
+
+struct path {
+    const char *path;
+    int64_t label;
+};
+
+static const struct path paths[] = {
+    {"right", 2},
+    {"left", 3},
+    {"far", 4},
+    {"left.far", 5},
+    {"right.deep", 6},
+    {"right.deep.sphere", 7},
+    {"right.deep.half", 8},
+    {"right.deep.decentration0001", 9},
+    {"r", 10},
+    /* nothing goes outward, and only Groups have members */
+    {"right.far", 0},
+    {"deep", 0},
+    {"far.far", 0},
+    {"right.deep.half.far", 0},
+    /* the bytes are those of the name, all and no other */
+    {"Right", 0},
+    {"righ", 0},
+    {"rights", 0},
+    {"right.deep.decentration00011", 0},
+    {"right.deep.decentration000", 0},
+    /* paths that no definition can have */
+    {"", 0},
+    {".", 0},
+    {".right", 0},
+    {"right.", 0},
+    {"right..deep", 0},
+    {"-", 0},
+    {" right", 0},
+    {"right ", 0},
+    {"right\n", 0},
+    {"decentration00011111111111111111111111111111111111111111111111111111", 0},
+};
+
+static void found_in_a_sheet(void)
+{
+    for (size_t at = 0; at < sizeof paths / sizeof paths[0]; at++) {
+        const char *path = paths[at].path;
+        expect(path, find(sheet, table, CELLS, path), paths[at].label);
+        expect(path, find(sheet, table, CELLS + 20, path), paths[at].label);
+    }
+}
+
+/* A table that ends early has the labels that it is long enough for. */
+static void found_in_part_of_a_table(void)
+{
+    for (size_t cells = 0; cells <= CELLS; cells++) {
+        int64_t labels = (int64_t)(cells / LINDYPO_TABLE_CELLS);
+        expect("left.far, cut", find(sheet, table, cells, "left.far"), labels >= 5 ? 5 : 0);
+    }
+}
+
+static void nothing_lent(void)
+{
+    const uint8_t *text = (const uint8_t *)sheet;
+    expect("no text", lindypo_find(NULL, sizeof sheet, table, CELLS, "far"), 0);
+    expect("no table", lindypo_find(text, sizeof sheet, NULL, CELLS, "far"), 0);
+    expect("no path", lindypo_find(text, sizeof sheet, table, CELLS, NULL), 0);
+    expect("an empty table", find(sheet, table, 0, "far"), 0);
+    expect("an empty text", find("", table, CELLS, "far"), 0);
+}
+
+/* A zero table, as after a refusal, has no definitions. */
+static void refused_table(void)
+{
+    int64_t zeros[CELLS] = {0};
+    expect("zeros", find(sheet, zeros, CELLS, "far"), 0);
+}
+
+/* Tables with one cell that no Read writes, each cell in turn: what is found is
+ * what was found before, or another definition, and nothing beside the text and
+ * the table is read. */
+static void rubbish(void)
+{
+    static const int64_t wrong[] = {INT64_MIN, -1, 0, 1, 2, 3, 15, 16, 200, 300, INT64_MAX};
+    for (size_t at = 0; at < CELLS; at++)
+        for (size_t which = 0; which < sizeof wrong / sizeof wrong[0]; which++) {
+            int64_t kept = table[at];
+            table[at] = wrong[which];
+            for (size_t path = 0; path < sizeof paths / sizeof paths[0]; path++) {
+                int64_t found = find(sheet, table, CELLS, paths[path].path);
+                expect("a label", found >= 0 && found <= LABELS, 1);
+            }
+            table[at] = kept;
+        }
+}
+
+/* A table that says of every label that it is in itself, or in a later one. */
+static void no_end(void)
+{
+    int64_t round[CELLS];
+    memcpy(round, table, sizeof round);
+    for (int64_t label = 1; label <= LABELS; label++) {
+        int64_t *cells = round + LINDYPO_TABLE_CELLS * (label - 1);
+        cells[LINDYPO_COLUMN_KIND] = LINDYPO_KIND_GROUP;
+        cells[LINDYPO_COLUMN_NAME_START] = 28;
+        cells[LINDYPO_COLUMN_NAME_LENGTH] = 5;
+        cells[LINDYPO_COLUMN_OWNER] = label;
+    }
+    expect("Groups in themselves", find(sheet, round, CELLS, "right.right.right"), 0);
+    round[LINDYPO_COLUMN_OWNER] = 2;
+    round[LINDYPO_TABLE_CELLS + LINDYPO_COLUMN_OWNER] = 1;
+    expect("a Group in its member", find(sheet, round, CELLS, "right"), 2);
+    expect("a Group in its member", find(sheet, round, CELLS, "right.right.right"), 0);
+}
+
+int main(void)
+{
+    print_words();
+    lindypo_reply reply = lindypo_read((const uint8_t *)sheet, strlen(sheet), table, CELLS + 20);
+    expect("the sheet reads", (int64_t)reply.refusal, 0);
+    expect("the labels", (int64_t)reply.count, LABELS);
+    found_in_a_sheet();
+    found_in_part_of_a_table();
+    nothing_lent();
+    refused_table();
+    rubbish();
+    no_end();
+    printf("%d wrong\n", failures);
+    return failures != 0;
+}

@@ -1,0 +1,69 @@
+-- Tests: what `and`, `or` and `not` of tests say.
+use mathlib.Core.Path.{_≡_, refl, sym}
+use mathlib.Core.Logic.{_⊎_, inl, inr}
+use mathlib.Core.Bool.{Bool, true, false, not, _&&_, _||_}
+use Prim.Native.Nat.{ℕ, _<_}
+use native.Mathlib.Omega.{arith}
+use Rattle.cells.specs.Lists.{one}
+
+pub clash : {A : Type 0} (t : Bool) → t ≡ true → t ≡ false → A
+clash t p q = absurd (let z : _≡_ {A = ℕ} 0 1 = cc in omega arith)
+
+pub and-left : (a b : Bool) → (a && b) ≡ true → a ≡ true
+and-left true b e = refl
+and-left false b e = e
+
+pub and-right : (a b : Bool) → (a && b) ≡ true → b ≡ true
+and-right true b e = e
+and-right false b e = clash false e refl
+
+pub and-intro : (a b : Bool) → a ≡ true → b ≡ true → (a && b) ≡ true
+and-intro a b p q = rw (p, q)
+
+pub or-cases : (a b : Bool) → (a || b) ≡ true → (a ≡ true) ⊎ (b ≡ true)
+or-cases true b e = inl refl
+or-cases false b e = inr e
+
+pub or-left : (a b : Bool) → a ≡ true → (a || b) ≡ true
+or-left a b p = rw p
+
+pub or-right : (a b : Bool) → b ≡ true → (a || b) ≡ true
+or-right true b p = refl
+or-right false b p = p
+
+pub or-none-left : (a b : Bool) → (a || b) ≡ false → a ≡ false
+or-none-left true b e = e
+or-none-left false b e = refl
+
+pub or-none-right : (a b : Bool) → (a || b) ≡ false → b ≡ false
+or-none-right true b e = clash true refl e
+or-none-right false b e = e
+
+-- a test is false if it cannot be true
+pub not-so : (t : Bool) → (t ≡ true → ⊥) → t ≡ false
+not-so true h = absurd (h refl)
+not-so false h = refl
+
+pub so-or-not : (t : Bool) → (t ≡ true) ⊎ (t ≡ false)
+so-or-not true = inl refl
+so-or-not false = inr refl
+
+-- "a, and not b" is false where b holds if a does
+pub and-not : (a b : Bool) → a ≡ true → (a && not b) ≡ false → b ≡ true
+and-not a true p q = refl
+and-not true false p q = sym q
+and-not false false p q = p
+
+pub not-and : (a b : Bool) → (not a && b) ≡ false → b ≡ true → a ≡ true
+not-and true b p q = refl
+not-and false b p q = clash b q p
+
+pub one-true : (t : Bool) → t ≡ true → one t ≡ 1
+one-true t e = rw e
+
+pub one-false : (t : Bool) → (t ≡ true → ⊥) → one t ≡ 0
+one-false t h = rw (not-so t h)
+
+pub one-in : (t : Bool) → 0 < one t → t ≡ true
+one-in true h = refl
+one-in false h = absurd (omega arith)

@@ -1,0 +1,60 @@
+"""Order sheets of a lens laboratory: read, planned and evaluated by proved code.
+
+A sheet is a small program: values and functions in nested Groups that name each
+other by dotted paths. `Sheet.read` judges its text; the sheet then gives its
+lines and names, its plan, and its values, by the plan or by an order of the
+caller's.
+
+>>> import lindypo
+>>> sheet = lindypo.Sheet.read('''kind name a b c
+... G - 0 - -
+... V total 1 4 -
+... V part 1 7 -
+... D - 5 6 -
+... R part - - -
+... N - 2 - -
+... N - 7 - -
+... ''')
+>>> sheet.names
+{'total': 2, 'part': 3}
+>>> run = sheet.run()
+>>> run.plan.order
+<Order.WHOLE: 1>
+>>> for name, outcome in run.values.items():
+...     print(f"{name}: {outcome} in {outcome.steps} steps")
+part: 7 in 1 steps
+total: 4 in 3 steps
+>>> run.values["total"].number
+4
+
+A sheet that breaks a rule is refused, with the number and the place that the
+library proves, the line to look at, and words:
+
+>>> lindypo.Sheet.read("kind name a b c\\nG - 0 - -\\nV x 1 3 -\\nR y - - -\\n")
+Traceback (most recent call last):
+    ...
+lindypo.sheet.Refusal: refusal 13, line 4: the head of a path is not found
+
+`lindypo.build` makes sheets. Nothing but `ctypes` and `liblindypo.so` is needed;
+`lindypo.library` says where that is looked for. This module is tested, and not
+proved.
+"""
+
+from .constants import VERSION as __version__
+from .constants import Kind, Order, State
+from .library import LibraryError
+from .sheet import Line, Outcome, Plan, Refusal, Run, Sheet
+
+__all__ = [
+    "Kind",
+    "LibraryError",
+    "Line",
+    "Order",
+    "Outcome",
+    "Plan",
+    "Refusal",
+    "Run",
+    "Sheet",
+    "State",
+    "__version__",
+]

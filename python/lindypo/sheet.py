@@ -1,0 +1,255 @@
+"""Sheets that read, and what they come to."""
+
+import re
+from operator import index
+from typing import Dict, NamedTuple, Optional, Tuple
+
+from .constants import LABELS_MOST, RESULT_CELLS, TABLE_CELLS, TEXT_MOST
+from .constants import Column, Kind, Order, RefusalNumber, Result, State
+from .library import cells, library
+
+_NOT_ALLOWED = re.compile(rb"[^\n -~]")
+
+
+class Refusal(Exception):
+    """Why a sheet or an order is refused.
+
+    `number` and `place` are those that the library proves: the place is 0 for the
+    text as a whole (1 to 3), a label (5 to 16), or a position in the order, from 1
+    (17 and 18). `line` is the line of the text to look at, from 1, where it is in
+    the text. `words` say what the number stands for.
+    """
+
+    def __init__(self, number, place, line):
+        self.number = number
+        self.place = place
+        self.line = line
+        self.words = library().lindypo_refusal_words(number).decode()
+        super().__init__(number, place, line)
+
+    def __str__(self):
+        where = f", line {self.line}" if self.line else ""
+        if self.number >= RefusalNumber.LISTED:
+            where = f", position {self.place} of the order"
+        return f"refusal {self.number}{where}: {self.words}"
+
+
+class Line(NamedTuple):
+    """What Read's table says of a line.
+
+    `name` is a definition's name or the path of a read or call; a, b and c are
+    labels, or the number of an N line, and 0 for a missing field.
+    """
+
+    label: int
+    kind: Kind
+    name: Optional[str]
+    a: int
+    b: int
+    c: int
+    #: a definition's Group, an expression's definition; None for label 1
+    owner: Optional[int]
+    #: what the path of a read or call leads to
+    target: Optional[int]
+
+
+class Plan(NamedTuple):
+    """The order in which the values of a sheet are evaluated."""
+
+    #: all values, each after every value that it reaches
+    labels: Tuple[int, ...]
+    order: Order
+
+
+class Outcome(NamedTuple):
+    """How evaluating a value went; as text, the number or why there is none."""
+
+    state: State
+    #: None where the state is not State.NUMBER
+    number: Optional[int]
+    steps: int
+
+    def __str__(self):
+        if self.state is State.NUMBER:
+            return str(self.number)
+        return library().lindypo_state_words(self.state).decode()
+
+
+class Run(NamedTuple):
+    """A plan, and each value's outcome by its full name, in the order of the plan."""
+
+    plan: Plan
+    values: Dict[str, Outcome]
+
+
+class Sheet:
+    """A sheet in which Read finds nothing to refuse.
+
+    It does not change, so several threads may use it.
+    """
+
+    def __init__(self, text):
+        self._text = _bytes_of(text) if isinstance(text, str) else bytes(memoryview(text))
+        labels = min(max(self._text.count(b"\n") - 1, 0), LABELS_MOST)
+        self._table = cells(TABLE_CELLS * labels)
+        self._labels = self._call("lindypo_read", *self._table).count
+        self._lines = tuple(self._line(label) for label in range(1, self._labels + 1))
+        self._full_names = self._name_definitions()
+
+    @classmethod
+    def read(cls, text):
+        """Judges a text, bytes or a string; a `Refusal` where it breaks a rule."""
+        return cls(text)
+
+    @property
+    def text(self):
+        """The text that was read, as bytes."""
+        return self._text
+
+    @property
+    def lines(self):
+        """All lines, label 1 first."""
+        return self._lines
+
+    @property
+    def names(self):
+        """The label of each definition by its full name, upward through the labels.
+
+        A full name has the names of the Groups around before it, outermost first,
+        joined by dots; the outermost Group has none.
+        """
+        return {name: label for label, name in self._full_names.items() if name}
+
+    def full_name(self, label):
+        """The full name of a definition; "" for label 1; a KeyError for others."""
+        return self._full_names[label]
+
+    def find(self, full_name):
+        """The label of the definition with this full name, or None."""
+        path = _bytes_of(full_name)
+        if b"\0" in path:
+            return None
+        return library().lindypo_find(*self._lent_text(), *self._table, path) or None
+
+    def name(self, label):
+        """A label's name field, by Name; None where it is `-` or there is none."""
+        if not 1 <= label <= self._labels:
+            return None
+        part = library().lindypo_name(*self._lent_text(), *self._spare_table(), label)
+        return self._text[part.start : part.start + part.length].decode() or None
+
+    def plan(self):
+        """Plan: the order in which the values are evaluated."""
+        plan, length = cells(self._labels)
+        reply = self._call("lindypo_plan", *self._spare_table(), plan, length)
+        return _plan_of(reply, plan)
+
+    def run(self):
+        """Run: settles the order and evaluates the values down it."""
+        plan, length = cells(self._labels)
+        results = self._blank_results()
+        reply = self._call("lindypo_run", *self._spare_table(), plan, length, *results)
+        settled = _plan_of(reply, plan)
+        return Run(settled, self._values(settled.labels, results))
+
+    def follow(self, order):
+        """Follow: evaluates the values down an order of labels or full names.
+
+        It has to list every value once, each after every value that it reaches.
+        Gives each value's outcome by its full name, in that order.
+        """
+        labels = [self._label_of(entry) for entry in order]
+        results = self._blank_results()
+        self._call("lindypo_follow", *cells(labels), *self._spare_table(), *results)
+        return self._values(labels, results)
+
+    def _call(self, name, *lent):
+        """Makes a call that may refuse."""
+        reply = getattr(library(), name)(*self._lent_text(), *lent)
+        if reply.refusal != 0:
+            line = _line_of(self._text, reply.refusal, reply.place)
+            raise Refusal(reply.refusal, reply.place, line)
+        return reply
+
+    def _lent_text(self):
+        return self._text, len(self._text)
+
+    def _spare_table(self):
+        """A table for a call that writes it once more."""
+        return cells(TABLE_CELLS * self._labels)
+
+    def _blank_results(self):
+        return cells(RESULT_CELLS * self._labels)
+
+    def _line(self, label):
+        table, _ = self._table
+        start = TABLE_CELLS * (label - 1)
+        row = table[start : start + TABLE_CELLS]
+        at = row[Column.NAME_START]
+        name = self._text[at : at + row[Column.NAME_LENGTH]].decode()
+        return Line(
+            label,
+            Kind(row[Column.KIND]),
+            name or None,
+            row[Column.A],
+            row[Column.B],
+            row[Column.C],
+            row[Column.OWNER] or None,
+            row[Column.TARGET] or None,
+        )
+
+    def _name_definitions(self):
+        """The full name of each definition; a Group stands above its members."""
+        names = {}
+        for line in self._lines:
+            if line.kind.is_definition:
+                around = names.get(line.owner, "")
+                names[line.label] = f"{around}.{line.name}" if around else line.name or ""
+        return names
+
+    def _label_of(self, entry):
+        """An entry of an order; 0, which is no value's, for one that no cell can hold."""
+        if isinstance(entry, str):
+            return self.find(entry) or 0
+        label = index(entry)
+        return label if abs(label) < 2**63 else 0
+
+    def _values(self, labels, results):
+        table, _ = results
+        return {self._full_names[label]: _outcome_of(table, label) for label in labels}
+
+
+def _bytes_of(string):
+    """Any string as bytes; what is not ASCII is for the library to refuse."""
+    return string.encode("utf-8", "surrogatepass")
+
+
+def _plan_of(reply, plan):
+    return Plan(tuple(plan[: reply.count]), Order(reply.order))
+
+
+def _outcome_of(results, label):
+    start = RESULT_CELLS * (label - 1)
+    row = results[start : start + RESULT_CELLS]
+    state = State(row[Result.STATE])
+    number = row[Result.NUMBER] if state is State.NUMBER else None
+    return Outcome(state, number, row[Result.STEPS])
+
+
+def _line_of(text, number, place):
+    """The line that a refusal points at, where it is in the text."""
+    if number == RefusalNumber.TEXT:
+        return _line_of_byte(text)
+    if number == RefusalNumber.FIRST_LINE:
+        return 1
+    if RefusalNumber.FIELDS <= number <= RefusalNumber.CYCLE:
+        return place + 1
+    return None
+
+
+def _line_of_byte(text):
+    """The line of the first byte that is not allowed, else the last line."""
+    if not 1 <= len(text) <= TEXT_MOST:
+        return None
+    found = _NOT_ALLOWED.search(text)
+    return 1 + text.count(b"\n", 0, found.start() if found else len(text))

@@ -1,0 +1,197 @@
+"""What a sheet gives, on sheets written out here and on those of sheets/."""
+
+import threading
+import unittest
+
+from lindypo import Kind, Order, Refusal, Sheet, State
+
+from places import ROOT
+
+HEAD = "kind name a b c\nG - 0 - -\n"
+EXAMPLE = (ROOT / "sheets/01-example.sheet").read_bytes()
+
+
+def refusal_of(call, *words):
+    """The refusal that a call has to raise."""
+    try:
+        call(*words)
+    except Refusal as refusal:
+        return refusal
+    raise AssertionError("nothing was refused")
+
+
+def refused(text):
+    refusal = refusal_of(Sheet.read, text)
+    return refusal.number, refusal.place, refusal.line
+
+
+class Text(unittest.TestCase):
+    def test_bytes_and_strings(self):
+        for text in (EXAMPLE, EXAMPLE.decode(), bytearray(EXAMPLE), memoryview(EXAMPLE)):
+            self.assertEqual(Sheet.read(text).text, EXAMPLE)
+
+    def test_a_bytearray_may_change_afterwards(self):
+        text = bytearray(EXAMPLE)
+        sheet = Sheet.read(text)
+        text[:] = b"x" * len(text)
+        self.assertEqual(sheet.run(), Sheet.read(EXAMPLE).run())
+
+    def test_what_is_no_text(self):
+        for text in (7, None, ["kind"], 1.5):
+            with self.assertRaises(TypeError):
+                Sheet.read(text)
+
+    def test_any_text_is_judged(self):
+        for text in ("", "\0", "\ud800", "\u00e4\n", b"\xff", "x" * 1_000_000):
+            self.assertEqual(refusal_of(Sheet.read, text).number, 1, text[:9])
+
+
+class Lines(unittest.TestCase):
+    def setUp(self):
+        self.sheet = Sheet.read(EXAMPLE)
+
+    def test_lines(self):
+        lines = self.sheet.lines
+        self.assertEqual([line.label for line in lines], list(range(1, 15)))
+        self.assertEqual(lines[0], (1, Kind.GROUP, None, 0, 0, 0, None, None))
+        self.assertEqual(lines[3], (4, Kind.VALUE, "prism", 3, 9, 0, 3, None))
+        self.assertEqual(lines[6], (7, Kind.READ, "right.prism", 0, 0, 0, 2, 4))
+        self.assertEqual(lines[13], (14, Kind.NUMBER, None, -325, 0, 0, 5, None))
+
+    def test_names(self):
+        names = {"total": 2, "right": 3, "right.prism": 4, "right.sphere": 5}
+        self.assertEqual(self.sheet.names, names)
+        self.assertEqual([self.sheet.full_name(label) for label in (1, 3, 5)], ["", "right", "right.sphere"])
+        with self.assertRaises(KeyError):
+            self.sheet.full_name(6)
+
+    def test_find(self):
+        for name, label in self.sheet.names.items():
+            self.assertEqual(self.sheet.find(name), label)
+        for name in ("", ".", "sphere", "right.", "right.total", "Right", "right.prism\0", "\u00e4", "\ud800"):
+            self.assertIsNone(self.sheet.find(name), name)
+
+    def test_name(self):
+        names = [self.sheet.name(label) for label in (1, 2, 7, 8, 14)]
+        self.assertEqual(names, [None, "total", "right.prism", None, None])
+        for label in (0, -1, 15, 2**63, 2**64 + 2):
+            self.assertIsNone(self.sheet.name(label))
+
+
+class Orders(unittest.TestCase):
+    def test_run(self):
+        sheet = Sheet.read(EXAMPLE)
+        run = sheet.run()
+        self.assertEqual(run.plan, sheet.plan())
+        self.assertEqual(run.plan, ((5, 4, 2), Order.WHOLE))
+        self.assertEqual(list(run.values), ["right.sphere", "right.prism", "total"])
+        self.assertEqual(run.values["right.prism"], (State.NUMBER, -33, 5))
+
+    def test_no_values(self):
+        sheet = Sheet.read(HEAD)
+        self.assertEqual(sheet.run(), (((), Order.WHOLE), {}))
+        self.assertEqual(sheet.follow([]), {})
+
+    def test_mixed(self):
+        plan = Sheet.read((ROOT / "sheets/03-mixed.sheet").read_bytes()).plan()
+        self.assertEqual(plan, ((5, 6, 4, 7), Order.MIXED))
+
+    def test_failures_have_no_number(self):
+        outcome = Sheet.read(HEAD + "V x 1 3 -\nD - 4 5 -\nN - 7 - -\nN - 0 - -\n").run().values["x"]
+        self.assertEqual(outcome, (State.ZERO_DIVISOR, None, 3))
+        self.assertEqual(str(outcome), "divided by zero")
+
+    def test_follow(self):
+        sheet = Sheet.read(EXAMPLE)
+        values = sheet.run().values
+        for order in ([5, 4, 2], ["right.sphere", "right.prism", "total"], ("right.sphere", 4, "total")):
+            self.assertEqual(sheet.follow(order), values)
+        self.assertEqual(list(sheet.follow(iter([5, 4, 2]))), list(values))
+
+    def test_orders_that_are_refused(self):
+        sheet = Sheet.read(EXAMPLE)
+        for order, number, place in (
+            ([2, 4, 5], 18, 1),
+            ([5, 4], 17, 3),
+            ([5, 5], 17, 2),
+            ([5, "right"], 17, 2),
+            ([5, "nobody"], 17, 2),
+            ([2**63], 17, 1),
+            ([-(2**63)], 17, 1),
+            ([2**64 + 5], 17, 1),
+            ([5] * 5000, 17, 2),
+        ):
+            refusal = refusal_of(sheet.follow, order)
+            self.assertEqual((refusal.number, refusal.place, refusal.line), (number, place, None))
+
+    def test_what_is_no_label(self):
+        for order in ([5.0], [None], [b"total"]):
+            with self.assertRaises(TypeError):
+                Sheet.read(EXAMPLE).follow(order)
+
+    def test_threads(self):
+        sheet = Sheet.read(EXAMPLE)
+        wanted, found = sheet.run(), []
+        work = lambda: found.extend(sheet.run() == wanted for _ in range(200))
+        threads = [threading.Thread(target=work) for _ in range(4)]
+        for thread in threads:
+            thread.start()
+        for thread in threads:
+            thread.join()
+        self.assertEqual(found, [True] * 800)
+
+
+class Refusals(unittest.TestCase):
+    def test_places_and_lines(self):
+        for text, wanted in (
+            ("", (1, 0, None)),
+            ("x" * 65_537, (1, 0, None)),
+            (HEAD + "G x 1 - -", (1, 0, 3)),
+            (HEAD + "G\tx 1 - -\n", (1, 0, 3)),
+            (HEAD + "G x 1 - -\n\r", (1, 0, 4)),
+            ("kind name a b\n", (2, 0, 1)),
+            ("kind name a b c\n", (3, 0, None)),
+            (HEAD * 1 + "-\n" * 1024, (3, 0, None)),
+            (HEAD + "G x 1 -\n", (5, 2, 3)),
+            (HEAD + "V x 1 3 -\nR y - - -\n", (13, 3, 4)),
+        ):
+            self.assertEqual(refused(text), wanted, text[:60])
+
+    def test_cycle(self):
+        sheet = Sheet.read(HEAD + "V x 1 3 -\nR x - - -\n")
+        for call in (sheet.plan, sheet.run):
+            refusal = refusal_of(call)
+            self.assertEqual((refusal.number, refusal.place, refusal.line), (16, 2, 3))
+            self.assertEqual(str(refusal), "refusal 16, line 3: a value that reaches itself")
+
+    def test_words(self):
+        refusal = refusal_of(Sheet.read, "")
+        self.assertEqual(refusal.words, "the text's length, its last byte, or a byte that is not allowed")
+        self.assertEqual(str(refusal), f"refusal 1: {refusal.words}")
+        early = refusal_of(Sheet.read(EXAMPLE).follow, [2, 4, 5])
+        self.assertEqual(str(early), f"refusal 18, position 1 of the order: {early.words}")
+
+
+def printed(text):
+    """The program's print, by the module."""
+    try:
+        sheet = Sheet.read(text)
+        run = sheet.run()
+    except Refusal as refusal:
+        return f"refusal place\n{refusal.number} {refusal.place}\n"
+    lines = ["label name order state number steps\n"]
+    order = run.plan.order.name.lower()
+    for label, (state, number, steps) in zip(run.plan.labels, run.values.values()):
+        name = sheet.name(label)
+        lines.append(f"{label} {name} {order} {state.value} {number or 0} {steps}\n")
+    return "".join(lines)
+
+
+class SampleSheets(unittest.TestCase):
+    def test_prints(self):
+        files = sorted((ROOT / "sheets").glob("*.sheet"))
+        self.assertGreater(len(files), 25)
+        for file in files:
+            with self.subTest(file.name):
+                wanted = file.with_suffix(".print").read_text()
+                self.assertEqual(printed(file.read_bytes()), wanted)

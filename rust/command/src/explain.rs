@@ -1,0 +1,172 @@
+//! `lindypo explain`: a sheet in words, or as a picture.
+
+use std::ffi::OsStr;
+
+use lindypo::{Refusal, Run, Sheet};
+
+use crate::input::Source;
+use crate::json::Object;
+use crate::options::{Call, Opt};
+use crate::outline;
+use crate::output::{self, Output, Paint};
+use crate::sheets::{self, Answer, Asked, Stop, Text};
+use crate::status::Status;
+use crate::svg;
+use crate::tree::Node;
+use crate::values;
+use crate::words::{Example, Word};
+
+pub const WORD: Word = Word {
+    name: "explain",
+    summary: "says why a sheet is refused, or shows its values with their formulas",
+    operands: "[FILE...]",
+    about: "\
+Says in words what `lindypo run` says in numbers. A refused sheet is shown with the place to mend
+marked. One that runs is shown as the tree of its Groups: members stand in the order in which the
+plan evaluates them, functions and Groups without values after them. Long formulas are cut; --json
+has them whole.
+",
+    options: &[
+        Opt {
+            name: LIST,
+            value: None,
+            meaning: "a flat list in the order of the plan, with full names, in place of the tree",
+        },
+        Opt {
+            name: SVG,
+            value: Some("PICTURE"),
+            meaning: "a picture of one sheet in the file PICTURE; - is standard output",
+        },
+        Opt {
+            name: FORCE,
+            value: None,
+            meaning: "write over PICTURE where it is there already",
+        },
+    ],
+    examples: &[
+        Example {
+            words: "explain sheets/01-example.sheet",
+            print: "\
+3 of 3 values have a number; whole plan: the values of every Group stand together
+
+definition       label  position  number  steps  state     formula
+outermost Group      1       1-3                 Group
+├─ right             3       1-2                 Group
+│  ├─ sphere         5         1    -325      1  a number  = -325
+│  └─ prism          4         2     -33      5  a number  = sphere * 10 / 100
+└─ total             2         3     -28      3  a number  = right.prism + 5
+",
+        },
+        Example {
+            words: "explain sheets/refusal-14-later-name-not-found.sheet",
+            print: "\
+refusal 14: the Group `right` has no member `prism`
+ --> sheets/refusal-14-later-name-not-found.sheet:7:9 (label 6)
+  |
+7 | R right.prism - - -
+  |         ^^^^^
+  = rule: each later name of a path is a member of the Group that the names before it lead to
+",
+        },
+    ],
+    fields: &[&sheets::FIELDS, &values::ORDER_FIELDS, &outline::FIELDS],
+    call,
+};
+
+const LIST: &str = "--list";
+const SVG: &str = "--svg";
+const FORCE: &str = "--force";
+
+fn call(call: &Call, out: &mut Output) -> Result<Status, String> {
+    let (is_list, force) = (call.is_set(LIST), call.is_set(FORCE));
+    match call.value(SVG) {
+        Some(_) if call.operands.len() > 1 => Err(format!("{SVG} draws one sheet")),
+        Some(_) if is_list || call.wants_json() => Err(format!("{SVG} draws, and writes no words")),
+        Some(file) => sheets::each(&call.operands, call, out, &|text| draw(text, file, force)),
+        None => sheets::each(&call.operands, call, out, &|text| ask(text, is_list)),
+    }
+}
+
+pub fn ask(text: &Text, is_list: bool) -> Asked<'_> {
+    let (sheet, run) = sheets::ran(&text.bytes)?;
+    Ok(Box::new(Explained {
+        sheet,
+        run,
+        is_list,
+    }))
+}
+
+struct Explained<'a> {
+    sheet: Sheet<'a>,
+    run: Run,
+    /// Whether a flat list is wanted.
+    is_list: bool,
+}
+
+impl Answer for Explained<'_> {
+    fn status(&self) -> Status {
+        values::status(&values::of_run(&self.sheet, &self.run))
+    }
+
+    fn text(&self, paint: Paint) -> String {
+        let values = values::of_run(&self.sheet, &self.run);
+        let (headline, meaning) = (
+            values::headline_of(&values),
+            values::meaning(self.run.plan.order),
+        );
+        let rows = match self.is_list {
+            true => values::table(&self.sheet, &values, paint),
+            false => outline::table(&self.sheet, &Node::outermost(&self.sheet, &self.run), paint),
+        };
+        format!("{headline}; {meaning}\n\n{rows}")
+    }
+
+    fn fields(&self) -> Object {
+        let outermost = Node::outermost(&self.sheet, &self.run);
+        let definitions = outline::json(&self.sheet, &outermost);
+        Object::new()
+            .with("order", self.run.plan.order.to_string())
+            .with("definitions", definitions)
+    }
+}
+
+/// The picture of a text that runs, with a caption.
+pub fn picture(text: &[u8], caption: &str) -> Result<(String, Status), Refusal> {
+    let (sheet, run) = sheets::ran(text)?;
+    let outermost = Node::outermost(&sheet, &run);
+    let svg = svg::picture(&sheet, &outermost, run.plan.order, caption);
+    Ok((svg, values::status(&values::of_run(&sheet, &run))))
+}
+
+/// Draws a sheet into a file, or says the picture itself.
+fn draw<'a>(text: &'a Text, file: &OsStr, force: bool) -> Asked<'a> {
+    let (svg, status) = picture(&text.bytes, &text.source.file_name())?;
+    let svg = match Source::of(file) {
+        Source::Input => svg,
+        Source::File(path) => {
+            output::write_file(&path, svg.as_bytes(), force).map_err(Stop::Wrong)?;
+            String::new()
+        }
+    };
+    Ok(Box::new(Drawn { svg, status }))
+}
+
+/// What is left to print of a picture.
+struct Drawn {
+    svg: String,
+    status: Status,
+}
+
+impl Answer for Drawn {
+    fn status(&self) -> Status {
+        self.status
+    }
+
+    fn text(&self, _: Paint) -> String {
+        self.svg.clone()
+    }
+
+    fn fields(&self) -> Object {
+        Object::new()
+    }
+}

@@ -1,0 +1,48 @@
+//! The program as it is called: transcripts on file. The gate replays them too.
+
+use std::process::Command;
+
+use crate::{read_text, top};
+
+/// What the commands of a transcript write, as they are on file.
+#[track_caller]
+fn is_replayed(name: &str) {
+    let tests = top().join("rust/command/tests");
+    let file = format!("rust/command/tests/transcripts/{name}");
+    let replayed = Command::new("bash")
+        .arg(tests.join("replay"))
+        .arg(top().join(&file))
+        .env("LINDYPO", env!("CARGO_BIN_EXE_lindypo"))
+        .output()
+        .expect("a shell");
+    let (given, wanted) = (String::from_utf8_lossy(&replayed.stdout), read_text(&file));
+    for (number, (given, wanted)) in (1..).zip(given.lines().zip(wanted.lines())) {
+        assert_eq!(given, wanted, "{file}:{number}");
+    }
+    assert_eq!(given.len(), wanted.len(), "{file}: all of it");
+}
+
+#[test]
+fn every_sheet_explained() {
+    is_replayed("explain.txt");
+}
+
+#[test]
+fn plans_lists_and_orders() {
+    is_replayed("lists.txt");
+}
+
+#[test]
+fn files_and_folders_checked() {
+    is_replayed("check.txt");
+}
+
+#[test]
+fn sheets_in_json() {
+    is_replayed("json.txt");
+}
+
+#[test]
+fn wrong_words_files_and_outputs() {
+    is_replayed("wrong.txt");
+}

@@ -1,0 +1,65 @@
+//! Numbers as people write them.
+
+use super::forms::NUMBER;
+
+/// A whole number in range, however it is written.
+pub fn read(field: &str) -> Option<i64> {
+    let number = field.parse().ok();
+    number.filter(|number| (-NUMBER..=NUMBER).contains(number))
+}
+
+/// What to write in place of a field that is no number.
+pub fn instead(field: &str) -> Option<String> {
+    if let Some(number) = read(field) {
+        let what = match field.as_bytes()[0] {
+            b'+' => "a number has no plus sign",
+            _ if number == 0 && field.starts_with('-') => "zero has no sign",
+            _ => "a number has no leading zeros",
+        };
+        return Some(format!("{what}: write `{number}`"));
+    }
+    let (sign, digits) = split_sign(field);
+    let is_whole = is_digits(digits);
+    match is_whole {
+        true if sign == "-" => Some(format!("the smallest number is -{NUMBER}")),
+        true => Some(format!("the largest number is {NUMBER}")),
+        false => decimal(sign, digits).or_else(|| trimmed(sign, digits)),
+    }
+}
+
+fn split_sign(field: &str) -> (&str, &str) {
+    match field.strip_prefix('-') {
+        Some(digits) => ("-", digits),
+        None => ("", field.strip_prefix('+').unwrap_or(field)),
+    }
+}
+
+fn is_digits(field: &str) -> bool {
+    !field.is_empty() && field.bytes().all(|byte| byte.is_ascii_digit())
+}
+
+/// A number with a point or comma.
+fn decimal(sign: &str, digits: &str) -> Option<String> {
+    let (whole, part) = digits.split_once(['.', ','])?;
+    let is_decimal = is_digits(part) && (whole.is_empty() || is_digits(whole));
+    if !is_decimal {
+        return None;
+    }
+    let hundredths = read(&format!("{sign}{whole}{part:0<2}")).filter(|_| part.len() <= 2);
+    Some(match hundredths {
+        Some(number) => format!("numbers are whole: in hundredths it is `{number}`"),
+        None => "numbers are whole: write it in a smaller unit, as hundredths".to_string(),
+    })
+}
+
+/// Digits with something after them: a sign, a unit.
+fn trimmed(sign: &str, digits: &str) -> Option<String> {
+    let end = digits.find(|letter: char| !letter.is_ascii_digit())?;
+    let (digits, rest) = digits.split_at(end);
+    let sign = if rest == "-" { "-" } else { sign };
+    let number = read(&format!("{sign}{digits}"))?;
+    Some(match rest {
+        "-" => format!("the sign stands before the digits: write `{number}`"),
+        _ => format!("a number is digits alone: is `{number}` meant?"),
+    })
+}

@@ -1,0 +1,169 @@
+//! A text of formulas taken apart.
+
+use super::expression::{take_line, Formula};
+use super::tokens::{is_word, Names, Token, Tokens};
+use super::Mistake;
+use crate::build::{Content, Expression, Group, Place, MOST_LINES};
+use crate::diagnosis::forms::Form;
+use crate::{Label, Mark};
+
+/// Where all that a text defines stands in it.
+#[derive(Default)]
+pub struct Marks {
+    /// By definition: its name, and the nodes of its body.
+    definitions: Vec<(Mark, Vec<Mark>)>,
+}
+
+impl Marks {
+    pub fn of_place(&self, place: Place) -> Option<Mark> {
+        match place {
+            Place::Sheet => None,
+            Place::Definition(at) => Some(self.definitions.get(at)?.0),
+            Place::Node(at, node) => self.definitions.get(at)?.1.get(node).copied(),
+        }
+    }
+
+    /// The labels of a sheet that is built: label 1, definitions, bodies.
+    pub fn of_label(&self, label: Label) -> Option<Mark> {
+        let names = self.definitions.iter().map(|(name, _)| name);
+        let nodes = self.definitions.iter().flat_map(|(_, nodes)| nodes);
+        names.chain(nodes).nth(label.checked_sub(2)?).copied()
+    }
+}
+
+/// The definitions of a text, and where they stand.
+pub fn parse(text: &[u8]) -> Result<(Group, Marks), Mistake> {
+    let mut parser = Parser {
+        tokens: Tokens::new(text),
+        left: MOST_LINES - 1,
+        group: Group::new(),
+        marks: Marks::default(),
+        open: vec![],
+    };
+    while parser.definition()? {}
+    Ok((parser.group, parser.marks))
+}
+
+struct Parser<'text> {
+    tokens: Tokens<'text>,
+    /// How many more lines the sheet may have.
+    left: usize,
+    group: Group,
+    marks: Marks,
+    /// The names of the Groups that are not closed.
+    open: Vec<Mark>,
+}
+
+impl<'text> Parser<'text> {
+    /// The next definition or `}`; whether there is one.
+    fn definition(&mut self) -> Result<bool, Mistake> {
+        let (token, mark) = self.tokens.take()?;
+        match token {
+            Token::Names(names) => self.named(&names, mark)?,
+            Token::Symbol('}') if self.open.pop().is_some() => {}
+            Token::End => return self.end(),
+            Token::Symbol('}') => return Err(Mistake::at(mark, "this `}` closes no Group")),
+            Token::Word(word) => return Err(Mistake::at(mark, is_word(word))),
+            token => {
+                let token = token.quoted();
+                let sentence =
+                    format!("a definition has to begin here, with its name, not {token}");
+                return Err(Mistake::at(mark, sentence));
+            }
+        }
+        Ok(true)
+    }
+
+    fn end(&self) -> Result<bool, Mistake> {
+        match self.open.last() {
+            Some(&name) => Err(Mistake::at(
+                name,
+                "this Group is not closed: `}` is missing",
+            )),
+            None => Ok(false),
+        }
+    }
+
+    fn named(&mut self, names: &Names<'text>, mark: Mark) -> Result<(), Mistake> {
+        let [name] = names.names[..] else {
+            let sentence = "a definition has one name; one in a Group is written inside it: \
+                            `right { prism = 5 }`";
+            return Err(Mistake::at(mark, sentence));
+        };
+        take_line(&mut self.left, mark)?;
+        let (token, after) = self.tokens.take()?;
+        match token {
+            Token::Symbol('=') => self.body(name, mark, None),
+            Token::Symbol('(') => {
+                let argument = self.argument()?;
+                self.body(name, mark, Some(argument))
+            }
+            Token::Symbol('{') => {
+                self.add(name, (mark, vec![]), Content::Group);
+                self.open.push(mark);
+                Ok(())
+            }
+            token => Err(Mistake::at(after, no_definition(name, &token))),
+        }
+    }
+
+    /// What stands after the `(` of a function, up to the `=`.
+    fn argument(&mut self) -> Result<&'text str, Mistake> {
+        let (token, mark) = self.tokens.take()?;
+        let argument = match &token {
+            Token::Names(names) if names.names.len() == 1 && !names.is_marked => names.names[0],
+            token => {
+                let token = token.quoted();
+                let sentence = format!("the argument's name has to stand here, not {token}");
+                return Err(Mistake::at(mark, sentence));
+            }
+        };
+        if !Form::Name.fits(argument, 0) {
+            let sentence = format!("`{argument}` is not {}", Form::Name.words(0));
+            return Err(Mistake::at(mark, sentence));
+        }
+        for symbol in [')', '='] {
+            let (token, mark) = self.tokens.take()?;
+            if token != Token::Symbol(symbol) {
+                let token = token.quoted();
+                let sentence = format!(
+                    "`{symbol}` has to stand here, not {token}; \
+                     a function is written `name(x) = formula`"
+                );
+                return Err(Mistake::at(mark, sentence));
+            }
+        }
+        Ok(argument)
+    }
+
+    /// The formula of a value, or of a function with this argument.
+    fn body(
+        &mut self,
+        name: &str,
+        mark: Mark,
+        argument: Option<&'text str>,
+    ) -> Result<(), Mistake> {
+        let part = Formula::new(&mut self.tokens, argument, &mut self.left).read()?;
+        let (nodes, marks) = part.into_iter().unzip();
+        let body = Expression::of_nodes(nodes);
+        let content = match argument {
+            Some(_) => Content::Function(body),
+            None => Content::Value(body),
+        };
+        self.add(name, (mark, marks), content);
+        Ok(())
+    }
+
+    fn add(&mut self, name: &str, marks: (Mark, Vec<Mark>), content: Content) {
+        self.group.add(self.open.len(), name.to_string(), content);
+        self.marks.definitions.push(marks);
+    }
+}
+
+fn no_definition(name: &str, token: &Token) -> String {
+    let token = token.quoted();
+    format!(
+        "after the name `{name}` of a definition comes `=`, `(` or `{{`, not {token}; \
+         if `{name}` belongs to the formula before it, a sign is missing between them"
+    )
+}

@@ -1,0 +1,129 @@
+//! Every fault of a sheet: the first is the library's, none is said that only
+//! follows from another, and each points at the text.
+
+mod common;
+
+use common::is_in_text;
+use generator::rows::{self, Row};
+use generator::Rng;
+use lindypo::{faults, Refusal, Sheet};
+
+const CASES: u64 = 4_000;
+
+/// What the library says of a text.
+fn verdict(text: &[u8]) -> Option<Refusal> {
+    let plan = Sheet::read(text).and_then(|sheet| sheet.plan());
+    plan.err()
+}
+
+/// Number and place of each fault.
+fn places(faults: &[Refusal]) -> Vec<(u64, u64)> {
+    let place = |fault: &Refusal| (fault.number(), fault.place());
+    faults.iter().map(place).collect()
+}
+
+/// What is so of every list of faults.
+fn is_proper(text: &[u8], faults: &[Refusal]) {
+    assert_eq!(faults.first(), verdict(text).as_ref());
+    for fault in faults {
+        let helps = fault.help().iter().filter_map(|help| help.mark);
+        for mark in fault.mark().into_iter().chain(helps) {
+            is_in_text(text, mark, fault);
+        }
+    }
+    // refusals 5 to 7 are one pass
+    let stage = |fault: &Refusal| match fault.number() {
+        5..=7 => (5, fault.place()),
+        number => (number, fault.place()),
+    };
+    assert!(faults.is_sorted_by_key(stage), "{:?}", places(faults));
+    let all: std::collections::HashSet<&Refusal> = faults.iter().collect();
+    assert_eq!(all.len(), faults.len());
+}
+
+#[test]
+fn random_sheets() {
+    let (mut met, mut many) = ([0; 17], 0);
+    for seed in 0..CASES {
+        let text = generator::case(seed).text;
+        let faults = faults(&text);
+        is_proper(&text, &faults);
+        for fault in &faults {
+            met[fault.number() as usize] += 1;
+        }
+        many += usize::from(faults.len() > 1);
+    }
+    println!("{many} sheets with several faults, by refusal {met:?}");
+    assert!(many > 300);
+    for number in (1..=16).filter(|&number| number != 4) {
+        assert!(met[number] > 0, "refusal {number} was not met");
+    }
+}
+
+/// Damage upon damage.
+#[test]
+fn sheets_with_many_faults() {
+    let mut most = 0;
+    for seed in 0..CASES / 4 {
+        let rng = &mut Rng::new(seed);
+        let mut text = generator::sheet_within(rng, 60);
+        for _ in 0..rng.range(3, 12) {
+            text = generator::damage(rng, text);
+        }
+        let faults = faults(&text);
+        is_proper(&text, &faults);
+        most = most.max(faults.len());
+    }
+    assert!(most > 10, "{most} faults at most");
+}
+
+/// A field that has not its form, whatever the kind.
+const MISFITS: [&str; 7] = ["?", "1.5", "01", "a..b", "a_b", "99999", "--"];
+
+/// Breaks one line by itself: its fields, its kind or the form of one.
+fn break_line(rng: &mut Rng, row: &mut Row) {
+    let at = rng.range(1, 4);
+    match rng.below(6) {
+        0 => row[0] = b"X".to_vec(),
+        1 => row[0].make_ascii_lowercase(),
+        2 => row[at] = vec![],
+        3 => row[at].extend_from_slice(b" -"),
+        4 => row[at].push(b'\t'),
+        _ => row[at] = rng.pick(&MISFITS).as_bytes().to_vec(),
+    }
+}
+
+/// The rows of a random sheet that runs.
+fn good_rows(rng: &mut Rng) -> Vec<Row> {
+    loop {
+        let text = generator::sheet_within(rng, 40);
+        if verdict(&text).is_none() {
+            return rows::split(&text).expect("a sheet that runs");
+        }
+    }
+}
+
+/// In a sheet that runs, nothing is found but at the lines that are broken.
+#[test]
+fn broken_lines_alone() {
+    for seed in 0..CASES {
+        let rng = &mut Rng::new(seed);
+        let mut rows = good_rows(rng);
+        let mut broken = vec![];
+        for _ in 0..rng.range(1, 3) {
+            let at = rng.below(rows.len());
+            break_line(rng, &mut rows[at]);
+            broken.push(at as u64 + 1);
+        }
+        let text = rows::join(&rows);
+        let faults = faults(&text);
+        is_proper(&text, &faults);
+        let is_meant = |fault: &Refusal| fault.number() == 1 || broken.contains(&fault.place());
+        let shown = String::from_utf8_lossy(&text);
+        assert!(
+            faults.iter().all(is_meant),
+            "seed {seed}: broken {broken:?}, found {:?}\n{shown}",
+            places(&faults)
+        );
+    }
+}

@@ -1,0 +1,97 @@
+//! What a text of formulas stands for.
+
+use lindypo::formula;
+
+use crate::sheet;
+
+#[track_caller]
+fn is_written(formulas: &str, lines: &str) {
+    let text = formula::write(formulas.as_bytes()).expect("a sheet");
+    let wanted = sheet(lines);
+    assert_eq!(
+        String::from_utf8_lossy(&text),
+        String::from_utf8_lossy(&wanted)
+    );
+}
+
+/// Definitions first, each Group followed by its members, then the bodies.
+#[test]
+fn numbering() {
+    is_written(
+        "right { half(x) = x / 2  sphere = -325 }  total = right.half(right.sphere)",
+        "G right 1 - -\nF half 2 6 -\nV sphere 2 9 -\nV total 1 10 -\n\
+         D - 7 8 -\nP - - - -\nN - 2 - -\nN - -325 - -\nC right.half 11 - -\nR right.sphere - - -\n",
+    );
+}
+
+/// A minus is a number's sign where an operand has to stand, else a difference.
+#[test]
+fn minus() {
+    for formula in ["5 - 3", "5-3", "5 -3", "5- 3", "(5)-(3)"] {
+        is_written(
+            &format!("v = {formula}"),
+            "V v 1 3 -\nS - 4 5 -\nN - 5 - -\nN - 3 - -\n",
+        );
+    }
+    for formula in ["-5 - -3", "-5--3", "(-5)-(-3)"] {
+        is_written(
+            &format!("v = {formula}"),
+            "V v 1 3 -\nS - 4 5 -\nN - -5 - -\nN - -3 - -\n",
+        );
+    }
+}
+
+/// Signs of one strength go from the left; a choice takes all that follows.
+#[test]
+fn strength() {
+    for (short, full) in [
+        ("1 - 2 - 3", "(1 - 2) - 3"),
+        ("1 - 2 + 3", "(1 - 2) + 3"),
+        ("1 * 2 / 3 * 4", "((1 * 2) / 3) * 4"),
+        ("1 + 2 * 3 - 4 / 5", "(1 + (2 * 3)) - (4 / 5)"),
+        (
+            "if 1 + 2 then 3 + 4 else 5 + 6",
+            "if (1 + 2) then (3 + 4) else (5 + 6)",
+        ),
+        (
+            "if 1 then if 2 then 3 else 4 else 5",
+            "if 1 then (if 2 then 3 else 4) else 5",
+        ),
+        (
+            "if if 1 then 2 else 3 then 4 else 5",
+            "if (if 1 then 2 else 3) then 4 else 5",
+        ),
+        (
+            "if 1 then 2 else if 3 then 4 else 5",
+            "if 1 then 2 else (if 3 then 4 else 5)",
+        ),
+    ] {
+        let [short, full] = [short, full].map(|it| formula::write(format!("v = {it}").as_bytes()));
+        assert_eq!(short, full);
+    }
+}
+
+#[test]
+fn layout() {
+    let plain = "f(x) = x + 1\ng {\n    v = f(2) * (3 - 4)\n}\n";
+    for noisy in [
+        "f(x)=x+1 g{v=f(2)*(3-4)}",
+        "# a comment\r\nf ( x ) =\r\n\tx + # another: \u{e9}\n\n1 g { v = f (2) * ((3 - (4))) } #",
+        "f(other) = other + 1\ng {\nv\n=\nf\n(\n2\n)\n*\n(\n3\n-\n4\n)\n}",
+        "`f`(x) = (x) + 1 `g` { `v` = ((`f`((2)))) * (3 - 4) }",
+    ] {
+        let [plain, noisy] = [plain, noisy].map(|it| formula::write(it.as_bytes()));
+        assert_eq!(plain, noisy);
+    }
+}
+
+/// A marked name is a definition's; a name alone that is the argument's is the
+/// argument.
+#[test]
+fn marks() {
+    is_written(
+        "x = 1  f(x) = x + `x`  `if` { `Then` = 2  z = `if`.`Then` }",
+        "V x 1 7 -\nF f 1 8 -\nG if 1 - -\nV Then 4 11 -\nV z 4 12 -\n\
+         N - 1 - -\nA - 9 10 -\nP - - - -\nR x - - -\nN - 2 - -\nR if.Then - - -\n",
+    );
+}

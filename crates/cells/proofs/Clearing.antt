@@ -1,4 +1,4 @@
--- Laws of `clearFrom`: the loop's step and end, and what the cleared buffer holds.
+-- Laws of `clearFrom`: the loop's step and end, and the cleared buffer as two parts.
 use mathlib.Core.Path.{_≡_, refl, sym, ap, _∙_}
 use mathlib.Core.List.{List, [], _∷_, _++_}
 use Prim.Native.Nat.{ℕ, suc, zero, _+_, _-_, _<_, _≤_}
@@ -7,7 +7,7 @@ use native.Mathlib.Nat.{not-suc-le-zero, le-of-suc-le-suc, sub-zero}
 use native.Mathlib.Numerals.{add-one}
 use lib.IntN.{ℤ, pos}
 use lib.ListN.{length, set, take}
-use Rattle.cells.specs.Cells.{intAt, zeros, clearFrom}
+use Rattle.cells.specs.Cells.{zeros, clearFrom}
 
 step : (t : List ℤ) (i : ℕ) → i < length t → clearFrom i t ≡ clearFrom (suc i) (set t i (pos 0))
 step [] i h = absurd (not-suc-le-zero h)
@@ -34,23 +34,3 @@ clear-split [] (suc i) h = absurd (not-suc-le-zero h)
 clear-split (x ∷ t) (suc i) h =
     let e : length t - i ≡ suc (length t) - suc i = omega arith in
     ap (λ (l : List ℤ). x ∷ l) (clear-split t i (le-of-suc-le-suc h) ∙ ap (λ (n : ℕ). take i t ++ zeros n) e)
-
-pub length-clear : (t : List ℤ) (i : ℕ) → length (clearFrom i t) ≡ length t
-length-clear [] zero = refl
-length-clear [] (suc i) = refl
-length-clear (x ∷ t) zero = ap suc (length-clear t zero)
-length-clear (x ∷ t) (suc i) = ap suc (length-clear t i)
-
-pub clear-before : (t : List ℤ) (i j : ℕ) → j < i → intAt (clearFrom i t) j ≡ intAt t j
-clear-before t zero j h = absurd (not-suc-le-zero h)
-clear-before [] (suc i) j h = refl
-clear-before (x ∷ t) (suc i) zero h = refl
-clear-before (x ∷ t) (suc i) (suc j) h = clear-before t i j (le-of-suc-le-suc h)
-
-pub clear-from : (t : List ℤ) (i j : ℕ) → i ≤ j → intAt (clearFrom i t) j ≡ pos 0
-clear-from [] zero j h = refl
-clear-from [] (suc i) j h = refl
-clear-from (x ∷ t) zero zero h = refl
-clear-from (x ∷ t) zero (suc j) h = clear-from t zero j (omega arith)
-clear-from (x ∷ t) (suc i) zero h = absurd (not-suc-le-zero h)
-clear-from (x ∷ t) (suc i) (suc j) h = clear-from t i j (le-of-suc-le-suc h)

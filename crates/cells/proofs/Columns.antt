@@ -1,19 +1,18 @@
 -- A column of a table: cell j of each label from 1 to n.
 use mathlib.Core.Path.{_≡_, refl, ap, sym, _∙_}
-use mathlib.Core.Bool.{Bool, true, false, cond}
+use mathlib.Core.Bool.{Bool, true, false}
 use mathlib.Core.List.{List}
-use Prim.Native.Nat.{ℕ, zero, suc, _+_, _-_, _*_, _/_, _%_, _<_, _≤_}
+use Prim.Native.Nat.{ℕ, zero, suc, _+_, _*_, _/_, _%_, _<_, _≤_}
 use native.Mathlib.Omega.{arith}
 use native.Mathlib.Nat.{not-suc-le-zero}
-use borrow.Author.Tests.{ltb-true, ltb-false, eqb-true, eqb-false, eq-eqb, ne-eqb}
+use borrow.Author.Tests.{ltb-true, ltb-false, eqb-true, eqb-false}
 use lib.Dec.{eqb, ltb}
 use lib.IntN.{ℤ, pos}
 use lib.ListN.{length, set, length-set}
-use lib.Seq.{set-set, set-comm, set-getD, ext-getD}
-use Rattle.cells.specs.Cells.{natOf, intAt, natAt}
-use Rattle.cells.specs.Table.{cell, entry, numberOf, withColumn, changed}
+use lib.Seq.{ext-getD}
+use Rattle.cells.specs.Cells.{natOf, intAt}
+use Rattle.cells.specs.Table.{cell, entry, numberOf, withColumn}
 use Rattle.cells.proofs.Stores.{intAt-put, intAt-other}
-use Rattle.cells.proofs.Table.{cell-at}
 
 pub column-length : (j : ℕ) (f : ℕ → ℕ) (n : ℕ) (t : List ℤ) → length (withColumn j f n t) ≡ length t
 column-length j f zero t = refl
@@ -52,7 +51,7 @@ module _ (j : ℕ) (f : ℕ → ℕ) (small : j < 8) where
   column-number n t zero d = refl
   column-number n t (suc l) d = column-keeps n t (8 * l + 3) (λ k m q. d (omega arith))
 
--- ---- equal columns, and a store in one
+-- ---- equal columns, and one written over another
 
 pub column-same : (j : ℕ) (f g : ℕ → ℕ) (n : ℕ) (t : List ℤ) → ((l : ℕ) → 1 ≤ l → l ≤ n → f l ≡ g l) → withColumn j f n t ≡ withColumn j g n t
 column-same j f g zero t h = refl
@@ -60,34 +59,6 @@ column-same j f g (suc k) t h =
     let e : f (suc k) ≡ g (suc k) = h (suc k) (omega arith) (omega arith) in
     let r = column-same j f g k t (λ l a b. h l a (omega arith)) in
     ap (λ (w : List ℤ). set w (8 * k + j) (pos (f (suc k)))) r ∙ ap (λ (v : ℕ). set (withColumn j g k t) (8 * k + j) (pos v)) e
-
-changed-other : (f : ℕ → ℕ) (x v l : ℕ) → (l ≡ x → ⊥) → f l ≡ changed f x v l
-changed-other f x v l d = rw (ne-eqb l x d)
-
-changed-own : (f : ℕ → ℕ) (x v : ℕ) → changed f x v x ≡ v
-changed-own f x v = rw (eq-eqb x x refl)
-
-put-go : (j : ℕ) (f : ℕ → ℕ) (k x v : ℕ) (t : List ℤ) → 1 ≤ x → x ≤ suc k
-    → (x ≤ k → set (withColumn j f k t) (8 * (x - 1) + j) (pos v) ≡ withColumn j (changed f x v) k t)
-    → (b : Bool) → eqb x (suc k) ≡ b → set (withColumn j f (suc k) t) (8 * (x - 1) + j) (pos v) ≡ withColumn j (changed f x v) (suc k) t
-put-go j f k x v t h m older true e =
-    let q : x ≡ suc k = eqb-true x (suc k) e in
-    let i : 8 * (x - 1) + j ≡ 8 * k + j = omega arith in
-    let own : v ≡ changed f x v (suc k) = sym (ap (changed f x v) (sym q) ∙ changed-own f x v) in
-    rw i (set-set (withColumn j f k t) (8 * k + j) (pos (f (suc k))) (pos v)
-    ∙ ap (λ (w : List ℤ). set w (8 * k + j) (pos v)) (column-same j f (changed f x v) k t (λ l a b. changed-other f x v l (λ z. omega arith)))
-    ∙ ap (λ (y : ℕ). set (withColumn j (changed f x v) k t) (8 * k + j) (pos y)) own)
-put-go j f k x v t h m older false e =
-    let d = eqb-false x (suc k) e in
-    let c : f (suc k) ≡ changed f x v (suc k) = changed-other f x v (suc k) (λ z. d (sym z)) in
-    set-comm (withColumn j f k t) (8 * k + j) (8 * (x - 1) + j) (pos (f (suc k))) (pos v) (λ z. d (omega arith))
-    ∙ ap (λ (w : List ℤ). set w (8 * k + j) (pos (f (suc k)))) (older (omega (arith, d)))
-    ∙ ap (λ (y : ℕ). set (withColumn j (changed f x v) k t) (8 * k + j) (pos y)) c
-
--- a store in a column changes one label of it
-pub column-put : (j : ℕ) (f : ℕ → ℕ) (n x v : ℕ) (t : List ℤ) → 1 ≤ x → x ≤ n → set (withColumn j f n t) (8 * (x - 1) + j) (pos v) ≡ withColumn j (changed f x v) n t
-column-put j f zero x v t h m = absurd (omega arith)
-column-put j f (suc k) x v t h m = put-go j f k x v t h m (λ g. column-put j f k x v t h g) (eqb x (suc k)) refl
 
 -- a column written over a column
 pub column-over : (j : ℕ) (f g : ℕ → ℕ) (n : ℕ) (t : List ℤ) → j < 8 → 8 * n ≤ length t → withColumn j g n (withColumn j f n t) ≡ withColumn j g n t
@@ -110,13 +81,6 @@ column-over j f g n t a room =
         ∙ sym (ap (intAt (withColumn j g n t)) q ∙ column-has j g a n t (i / 8) m room)
     at i true false e l = outside i (λ k m q. omega (arith, ltb-false (i / 8) n l))
     at i false y e l = outside i (λ k m q. eqb-false (i % 8) j e (omega arith))
-
--- a column of the cells that stand there
-pub column-is : (j : ℕ) (n : ℕ) (t : List ℤ) → ((k : ℕ) → k < n → intAt t (8 * k + j) ≡ pos (cell t (suc k) j)) → withColumn j (λ l. cell t l j) n t ≡ t
-column-is j zero t h = refl
-column-is j (suc k) t h =
-    let r = column-is j k t (λ i m. h i (omega arith)) in
-    ap (λ (w : List ℤ). set w (8 * k + j) (pos (cell t (suc k) j))) r ∙ ap (λ (z : ℤ). set t (8 * k + j) z) (sym (h k (omega arith))) ∙ set-getD t (8 * k + j) (pos 0)
 
 -- ---- cells as they stand
 

@@ -53,10 +53,6 @@ mag-le : (x : ℤ) → mag x ≤ natAbs x
 mag-le (pos n) = omega arith
 mag-le (negsuc n) = omega arith
 
-pub natOf-small : (x : ℤ) → mag x < 2 ^ 63 → natOf x < 2 ^ 63
-natOf-small (pos n) h = h
-natOf-small (negsuc n) h = omega arith
-
 -- a number of small size fits a cell, and so does its negation; `fits-by` takes a literal bound
 pub fits-below : (x : ℤ) → natAbs x < 2 ^ 63 → SFits w64 x
 fits-below x h = record { sfits = omega (arith, mag-le x) }

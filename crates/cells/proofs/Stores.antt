@@ -1,5 +1,5 @@
 -- What reads see after stores, and of zeros.
-use mathlib.Core.Path.{_≡_, refl, ap, _∙_}
+use mathlib.Core.Path.{_≡_, refl, _∙_}
 use mathlib.Core.List.{List, [], _∷_}
 use mathlib.Core.Logic.{_≢_}
 use Prim.Native.Nat.{ℕ, suc, zero, _+_, _<_, _≤_}
@@ -8,19 +8,13 @@ use native.Mathlib.Nat.{not-suc-le-zero, le-of-suc-le-suc, add-zero, add-suc, su
 use lib.IntN.{ℤ, pos}
 use lib.ListN.{length, length-set, set}
 use lib.Seq.{getD-set-same, getD-set-other, sets}
-use Rattle.cells.specs.Cells.{natOf, natAt, intAt, zeros}
+use Rattle.cells.specs.Cells.{intAt, zeros}
 
 pub intAt-put : (t : List ℤ) (i : ℕ) (z : ℤ) → i < length t → intAt (set t i z) i ≡ z
 intAt-put t i z h = getD-set-same t i z (pos 0) h
 
 pub intAt-other : (t : List ℤ) (i j : ℕ) (z : ℤ) → j ≢ i → intAt (set t i z) j ≡ intAt t j
 intAt-other t i j z h = getD-set-other t i j z (pos 0) h
-
-pub natAt-put : (t : List ℤ) (i v : ℕ) → i < length t → natAt (set t i (pos v)) i ≡ v
-natAt-put t i v h = ap natOf (intAt-put t i (pos v) h)
-
-pub natAt-other : (t : List ℤ) (i j : ℕ) (z : ℤ) → j ≢ i → natAt (set t i z) j ≡ natAt t j
-natAt-other t i j z h = ap natOf (intAt-other t i j z h)
 
 pub intAt-zeros : (n i : ℕ) → intAt (zeros n) i ≡ pos 0
 intAt-zeros zero i = refl

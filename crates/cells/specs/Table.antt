@@ -1,9 +1,8 @@
 -- A table has eight cells a label, labels from 1: label l's row starts at index 8 * (l - 1).
 -- Structure is read in ℕ: a cell is 0 of label 0, past the end, and where it is negative.
-use mathlib.Core.Bool.{Bool, cond}
+use mathlib.Core.Bool.{Bool}
 use Prim.Native.Nat.{ℕ, zero, suc, _+_, _*_}
 use mathlib.Core.List.{List}
-use lib.Dec.{eqb}
 use lib.IntN.{ℤ, pos}
 use lib.ListN.{set}
 use Rattle.kinds.specs.Kinds as kinds
@@ -70,7 +69,3 @@ numberOf t (suc k) = intAt t (8 * k + 3)
 abbrev pub withColumn : ℕ → (ℕ → ℕ) → ℕ → List ℤ → List ℤ
 withColumn j f zero t = t
 withColumn j f (suc k) t = set (withColumn j f k t) (8 * k + j) (pos (f (suc k)))
-
--- what f says, but for label x
-abbrev pub changed : (ℕ → ℕ) → ℕ → ℕ → ℕ → ℕ
-changed f x v l = cond (eqb l x) v (f l)

@@ -3,7 +3,7 @@
 use mathlib.Core.Path.{_≡_, refl, ap, _∙_}
 use mathlib.Core.Bool.{Bool, true, false, cond}
 use mathlib.Core.List.{List}
-use Prim.Native.Nat.{ℕ, zero, suc, _+_, _-_, _≤_}
+use Prim.Native.Nat.{ℕ, zero, suc, _+_, _≤_}
 use native.Mathlib.Omega.{arith}
 use native.Mathlib.Nat.{le-refl}
 use lib.Dec.{eqb}
@@ -147,9 +147,6 @@ module _ (t r : List ℤ) (v : ℕ) where
   pub left-most : valueOutcome t r v .left ≤ stepLimit
   unfolding valueOutcome
   left-most = left-less t r (fieldB t v) _ stepLimit 0
-
-  pub steps-most : evaluated t r v .steps ≤ stepLimit
-  steps-most = omega arith
 
   -- none is lost
   pub steps-exact : evaluated t r v .steps + valueOutcome t r v .left ≡ stepLimit

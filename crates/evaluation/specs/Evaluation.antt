@@ -76,7 +76,7 @@ Way = ℕ → Arguments → ℕ → ℕ → Outcome
 
 -- what C hands to the body of its target
 abbrev pub one : ℤ → Arguments
-one y = record { first = y; count = 1 }
+one y = record { first = y }
 
 -- "at depth 64 the state is then 5, else the target's body is worked out one deeper"
 unfoldable pub bodyBy : Bool → Way → List ℤ → ℕ → ℤ → ℕ → ℕ → Outcome
@@ -130,7 +130,7 @@ outcome t r l g s d = within s t r l g s d
 -- ---- a value
 
 abbrev pub nothing : Arguments
-nothing = record { first = pos 0; count = 0 }
+nothing = record { first = pos 0 }
 
 -- "Each V starts with a fresh allowance of 20,000 steps at call depth 0": its body, from the results stored so far
 unfoldable pub valueOutcome : List ℤ → List ℤ → ℕ → Outcome

@@ -46,7 +46,6 @@ pub struct Value {
 // What a call hands to the body of its target.
 pub struct Arguments {
     pub first: i64,
-    pub count: usize,
 }
 
 // How an expression is evaluated, by its kind. `Other` is what is no expression, and is never met in a table that Read accepts.
@@ -255,7 +254,6 @@ fn call(table: &[i64], results: &[i64], label: usize, given: Arguments, rest: Al
     let body = field(table, target, cells::B);
     let passed = Arguments {
         first: first.number,
-        count: 1,
     };
     let deeper = Allowance {
         left: first.left,
@@ -325,7 +323,7 @@ pub fn evaluate(table: &[i64], results: &[i64], label: usize) -> Value
     ensures { λ r. ⌜ r ≡ evaluated (now (table .entry)) (now (results .entry)) label ⌝ }
 {
     let body = field(table, label, cells::B);
-    let none = Arguments { first: 0, count: 0 };
+    let none = Arguments { first: 0 };
     let o = expression(table, results, body, none, Allowance::fresh());
     Value {
         number: o.number,

@@ -147,9 +147,6 @@ module _ (t : List ℤ) (n : ℕ) (ok : Accepted t n) where
     pub figures-value : NoCycle t → (v : ℕ) → kind t v ≡ 2 → figures t n v ≡ evaluated t (resultCells t n m) v
     figures-value nc v k = sym (stored-row cells v (figures t n v) (figure-row v k)) ∙ stored-row cells v (evaluated t cells v) (figures-solve nc .values v k)
 
-    pub figures-other : (l : ℕ) → (kind t l ≡ 2 → ⊥) → figures t n l ≡ blank
-    figures-other = round-blank _
-
     -- the buffer holds them
     pub figures-stored : (l : ℕ) → stored (resultCells t n m) l ≡ figures t n l
     figures-stored l = go (ℕ-discrete (kind t l) 2)

@@ -184,17 +184,3 @@ decimal-number max [] v h e = clash (sym (written max [] v e .plain))
 decimal-number max (c ∷ f) v h e =
     let d : 48 ≤ c = first-digit c f (written max (c ∷ f) v e .digits) in
     rw (ne-eqb c 45 (λ (p : c ≡ 45). omega arith), decimal-more max limit (c ∷ f) v h e)
-
--- ---- `-` alone and `0`
-
-pub decimal-missing : (max : ℕ) → decimalOf max (45 ∷ []) ≡ decimal.Not
-unfolding decimalOf digitsOf allDigits
-decimal-missing max = refl
-
-pub number-missing : numberOf (45 ∷ []) ≡ number.Not
-unfolding numberOf decimalOf
-number-missing = refl
-
-pub number-zero : numberOf (48 ∷ []) ≡ number.Is (pos 0)
-unfolding numberOf decimalOf digitsOf allDigits value
-number-zero = refl

@@ -3,14 +3,14 @@ use mathlib.Core.Path.{_≡_, refl}
 use mathlib.Core.Logic.{_⊎_, inl, inr, _↔_}
 use mathlib.Core.List.{List, [], _∷_}
 use mathlib.Core.Bool.{Bool, true, false, not, _&&_, _||_}
-use Prim.Native.Nat.{ℕ, zero, suc, _+_, _≤_, _<_}
+use Prim.Native.Nat.{ℕ, zero, suc, _+_, _<_}
 use native.Mathlib.Omega.{arith}
 use lib.ListN.{length}
 use borrow.Author.Tests.{not-true}
-use Rattle.order.specs.Lists.{count, _∈_, mem, any, filter}
+use Rattle.order.specs.Lists.{_∈_, mem, any, filter}
 use Rattle.order.specs.Closure.{grow, spread, closure}
 use Rattle.order.proofs.Tests.{and-left, and-right, or-cases, or-left, or-right, not-and}
-use Rattle.order.proofs.Lists.{mem-of, of-mem, in-here, any-true, any-none, any-intro, in-filter, in-filter-of, count-filter-le, filter-le, filter-in, tally-lt}
+use Rattle.order.proofs.Lists.{mem-of, of-mem, in-here, any-true, any-none, any-intro, in-filter, in-filter-of, filter-le, filter-in, tally-lt}
 
 pub data Chain (m : ℕ → ℕ → Bool) (d : ℕ) : ℕ → Type 0 where
   step : {e : ℕ} → m d e ≡ true → Chain m d e
@@ -43,14 +43,6 @@ module _ (m : ℕ → ℕ → Bool) (all : List ℕ) where
           go : (mem x S ≡ true) ⊎ (any (λ d. m d x) S ≡ true) → Chain m d x
           go (inl t) = h x (of-mem x S t)
           go (inr t) = let w = any-true (λ d. m d x) S t in then (h (w .0) (w .1)) (w .2)
-
-  spread-count : (k : ℕ) (S : List ℕ) → ((x : ℕ) → count x S ≤ count x all) → (x : ℕ) → count x (spread m all k S) ≤ count x all
-  spread-count zero S h = h
-  spread-count (suc k) S h = spread-count k (grow m all S) (λ x. count-filter-le (λ e. mem e S || any (λ d. m d e) S) x all)
-
-  -- no more often than in `all`
-  pub closure-count : (d x : ℕ) → count x (closure m all d) ≤ count x all
-  closure-count d x = spread-count (length all) (filter (m d) all) (λ x. count-filter-le (m d) x all) x
 
   module _ (target : (d e : ℕ) → m d e ≡ true → e ∈ all) where
     grow-closed : (S : List ℕ) → Of S → Closed S → Closed (grow m all S)

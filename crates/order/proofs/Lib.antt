@@ -16,5 +16,4 @@ pub mod Positions
 pub mod Following
 pub mod Evaluating
 pub mod Buffers
-pub mod Demand
 pub mod Samples

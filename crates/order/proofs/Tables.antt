@@ -17,7 +17,7 @@ use Rattle.order.specs.Lists.{one, count, _∈_}
 use Rattle.order.specs.Order.{isG, isV, isF, isDefinition, labels, values, isMember, members, hasPath, isMention, mentions, reached, reaches}
 use Rattle.order.proofs.Tests.{so-or-not, and-left, and-right, and-intro, or-cases, or-left, or-right}
 use Rattle.order.proofs.Lists.{mem-of, of-mem, any-true, any-intro, in-filter, count-filter-pass, count-filter-fail, count-filter-le, count-upFrom, upFrom-once}
-use Rattle.order.proofs.Closure.{Chain, step, then as on, closure-exact, closure-count}
+use Rattle.order.proofs.Closure.{Chain, step, then as on, closure-exact}
 
 -- ---- kinds
 
@@ -197,9 +197,6 @@ module _ (t : List ℤ) (n : ℕ) (ok : Accepted t n) where
       back : {e : ℕ} → Reaches t d e → Chain (mentions t n) d e
       back {e} (once m) = step (mentions-exact d e .1 m)
       back {e = f} (then {e = e} r m) = on (back r) (mentions-exact e f .1 m)
-
-  pub reached-once : (d e : ℕ) → count e (reached t n d) ≤ 1
-  reached-once d e = omega (arith, closure-count (mentions t n) (labels n) d e, upFrom-once e 1 n)
 
   pub reaches-exact : (d e : ℕ) → (reaches t n d e ≡ true) ↔ Reaches t d e
   reaches-exact d e = (λ h. reached-exact d e .0 (of-mem e (reached t n d) h), λ r. mem-of e (reached t n d) (reached-exact d e .1 r))

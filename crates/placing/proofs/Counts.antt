@@ -1,17 +1,17 @@
 -- Counts raised, lowered and cleared; marks of what is ready.
-use mathlib.Core.Path.{_≡_, refl, sym, ap, _∙_, subst}
+use mathlib.Core.Path.{_≡_, sym, ap, _∙_, subst}
 use mathlib.Core.Logic.{_⊎_, inl, inr, _↔_}
-use mathlib.Core.List.{List, []}
-use mathlib.Core.Bool.{Bool, true, false, _&&_}
-use Prim.Native.Nat.{ℕ, zero, suc, _+_, _-_, _*_, _/_, _%_, _≤_, _<_}
+use mathlib.Core.List.{List}
+use mathlib.Core.Bool.{true, false, _&&_}
+use Prim.Native.Nat.{ℕ, _+_, _-_, _*_, _≤_, _<_}
 use native.Mathlib.Omega.{arith}
-use native.Mathlib.Decide.{ℕ-discrete, decLt}
+use native.Mathlib.Decide.{ℕ-discrete}
 use lib.Dec.{eqb}
 use lib.ListN.{length, getD, set, take}
 use lib.Seq.{getD-set-same, getD-set-other, length-take-le}
 use borrow.Author.Tests.{eq-eqb, ne-eqb}
 use Rattle.order.specs.Lists.{one, count, _∈_, filter}
-use Rattle.order.proofs.Tests.{clash, so-or-not, and-left, and-right, one-in}
+use Rattle.order.proofs.Tests.{and-right, one-in}
 use Rattle.order.proofs.Lists.{filter-le}
 use Rattle.marks.specs.Marks.{mark, Added}
 use Rattle.placing.specs.Placing.{needed, Fits, Lowered}
@@ -26,9 +26,6 @@ ne-one x p e = ap one (ne-eqb x p e)
 -- ---- those that need q
 
 module _ (square mask : List ℕ) (w p q : ℕ) where
-  pub needed-left : needed square mask w p q ≡ true → mark mask w 0 q ≡ true
-  needed-left e = and-left (mark mask w 0 q) (mark square w q p && mark mask w 0 p) e
-
   pub needed-right : needed square mask w p q ≡ true → mark mask w 0 p ≡ true
   needed-right e = and-right (mark square w q p) (mark mask w 0 p) (and-right (mark mask w 0 q) (mark square w q p && mark mask w 0 p) e)
 

@@ -1,9 +1,9 @@
 -- Links, and what is around their ends, in an accepted table.
-use mathlib.Core.Path.{_≡_, refl, sym, ap, _∙_, subst}
+use mathlib.Core.Path.{_≡_, sym, subst}
 use mathlib.Core.Logic.{_⊎_, inl, inr, _↔_}
 use mathlib.Core.List.{List}
 use mathlib.Core.Bool.{true, false}
-use Prim.Native.Nat.{ℕ, zero, suc, _+_, _-_, _*_, _/_, _≤_, _<_}
+use Prim.Native.Nat.{ℕ, _-_, _*_, _≤_, _<_}
 use native.Mathlib.Omega.{arith}
 use native.Mathlib.Decide.{ℕ-discrete}
 use lib.IntN.{ℤ}
@@ -12,7 +12,7 @@ use Rattle.cells.specs.Accepted.{Accepted, HasBody}
 use Rattle.cells.specs.Reaches.{HasPath, Mentions, Reaches, once as mention, then as and}
 use lib.Dec.{eqb}
 use borrow.Author.Tests.{eqb-true, eq-eqb}
-use Rattle.order.specs.Order.{isG, isDefinition, Within, hasPath}
+use Rattle.order.specs.Order.{isDefinition, hasPath}
 use Rattle.order.proofs.Tests.{clash, or-cases, or-none-left, or-none-right}
 use Rattle.order.proofs.Tables.{g-kind, kind-v, v-def, kind-label}
 use Rattle.order.proofs.Tree.{within-owner, leaf}

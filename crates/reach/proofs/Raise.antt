@@ -2,10 +2,10 @@
 use mathlib.Core.Path.{_≡_, refl, sym, ap, _∙_, subst}
 use mathlib.Core.Logic.{_⊎_, inl, inr}
 use mathlib.Core.List.{List}
-use mathlib.Core.Bool.{Bool, true, false}
-use Prim.Native.Nat.{ℕ, zero, suc, _+_, _*_, _/_, _≤_, _<_}
+use mathlib.Core.Bool.{true}
+use Prim.Native.Nat.{ℕ, zero, suc, _*_, _≤_, _<_}
 use native.Mathlib.Omega.{arith}
-use native.Mathlib.Decide.{ℕ-discrete, decLe}
+use native.Mathlib.Decide.{ℕ-discrete}
 use lib.IntN.{ℤ}
 use Rattle.cells.specs.Table.{kind, owner}
 use Rattle.cells.specs.Accepted.{Accepted, HasBody}
@@ -14,7 +14,6 @@ use Rattle.order.proofs.Tree.{within-owner}
 use Rattle.marks.specs.Marks.{mark, Added}
 use Rattle.marks.proofs.Squares.{mark-in}
 use Rattle.reach.specs.Links.{Around}
-use Rattle.reach.specs.Rows.{width}
 use Rattle.reach.specs.Turns.{Raised}
 use Rattle.reach.proofs.Links.{body-group}
 

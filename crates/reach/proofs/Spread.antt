@@ -1,30 +1,28 @@
 -- How a row grows to what its definition touches.
 use mathlib.Core.Path.{_≡_, refl, sym, ap, _∙_, subst}
-use mathlib.Core.Logic.{_⊎_, inl, inr, _↔_}
+use mathlib.Core.Logic.{_⊎_, inl, inr}
 use mathlib.Core.List.{List, [], _∷_, _++_}
 use mathlib.Core.Bool.{Bool, true, false}
-use Prim.Native.Nat.{ℕ, zero, suc, _+_, _-_, _*_, _/_, _≤_, _<_}
+use Prim.Native.Nat.{ℕ, suc, _+_, _-_, _≤_, _<_}
 use native.Mathlib.Omega.{arith}
 use native.Mathlib.Numerals.{add-one}
 use native.Mathlib.Decide.{ℕ-discrete, decLt}
 use lib.IntN.{ℤ}
-use lib.ListN.{length, getD, set, take, length-append}
+use lib.ListN.{length, getD, take, length-append}
 use lib.Seq.{take-suc, take-suc-set, length-take-le}
 use Rattle.cells.specs.Table.{cell, kind, owner}
 use Rattle.cells.specs.Accepted.{Accepted, HasBody}
 use Rattle.order.specs.Lists.{one, count, _∈_}
 use Rattle.order.specs.Order.{labels}
 use Rattle.order.proofs.Tests.{clash, one-in}
-use Rattle.order.proofs.Lists.{count-append, count-here, count-there, in-append, in-single, in-left, in-right, in-here, length-mono, length-upFrom, zero-or-in}
+use Rattle.order.proofs.Lists.{count-append, count-here, count-there, in-append, in-single, in-left, in-right, in-here, length-mono, length-upFrom, filter-le, tally-lt, zero-or-in}
 use Rattle.order.proofs.Tables.{in-labels}
 use Rattle.marks.specs.Marks.{mark, Added}
 use Rattle.reach.specs.Links.{Column, Link, Links, once, then, Around, Touches}
 use Rattle.reach.specs.Rows.{width, Row, Blank}
 use Rattle.reach.specs.Chains.{Hangs, Last}
-use Rattle.reach.specs.Visits.{fan, found}
-use Rattle.reach.specs.Turns.{Raised, Met, marked, added, pushed, Spread, Grown, Filled}
-use Rattle.reach.proofs.Links.{body-label, links-body, in-row, path-label, end-body, link-body, around-body, around-owner, around-label, touch-label, touch-body, touch-on, touch-around, touch-owner}
-use Rattle.reach.proofs.Totals.{found-few, found-lt, found-fan}
+use Rattle.reach.specs.Turns.{Raised, Met, marked, added, pushed, Spread, markCount, Grown, Filled}
+use Rattle.reach.proofs.Links.{body-label, links-body, in-row, path-label, around-body, around-owner, around-label, touch-label, touch-body, touch-on, touch-around, touch-owner}
 
 one-le : (t : Bool) → one t ≤ 1
 one-le true = omega arith
@@ -40,7 +38,11 @@ pub record Growing (t : List ℤ) (n j d e : ℕ) (s₀ : List ℕ) (top₀ : �
   pub met : (l : ℕ) → x < l → Hangs t j e l → mark s (width n) d (cell t l j) ≡ true
   pub kept : (q : ℕ) → mark s₀ (width n) d q ≡ true → mark s (width n) d q ≡ true
   pub others : (a q : ℕ) → (a ≡ d → ⊥) → mark s (width n) a q ≡ mark s₀ (width n) a q
-  pub less : length S + found t n j d (mark s₀ (width n) d) ≤ top₀ + found t n j d (mark s (width n) d)
+  pub less : length S + markCount n (mark s₀ (width n) d) ≤ top₀ + markCount n (mark s (width n) d)
+
+count-few : (n : ℕ) (M : ℕ → Bool) → markCount n M ≤ n
+unfolding markCount
+count-few n M = omega (arith, filter-le M (labels n), length-upFrom 1 n)
 
 module _ (t : List ℤ) (n : ℕ) (ok : Accepted t n) (j : ℕ) (col : Column j) where
   -- ---- the stack is no higher than there are labels
@@ -55,6 +57,11 @@ module _ (t : List ℤ) (n : ℕ) (ok : Accepted t n) (j : ℕ) (col : Column j)
           omega (arith, h .held x, one-le (M x), in-labels t n ok x (b .0) (b .1))
 
   -- ---- what a row meets
+
+  -- a definition that is newly marked
+  more-marked : (M M′ : ℕ → Bool) → ((q : ℕ) → M q ≡ true → M′ q ≡ true) → (f : ℕ) → (1 ≤ f) × (f ≤ n) → M f ≡ false → M′ f ≡ true → markCount n M < markCount n M′
+  unfolding markCount
+  more-marked M M′ up f b p q = tally-lt M M′ (labels n) (λ q i. up q) f (in-labels t n ok f (b .0) (b .1)) p q
 
   module _ (d e : ℕ) (M M′ : ℕ → Bool) (S S′ : List ℕ) (h : Spread t j d e M S) (X : ℕ → Type 0)
       (up : (q : ℕ) → M q ≡ true → M′ q ≡ true) (new : (q : ℕ) → X q → M′ q ≡ true) (only : (q : ℕ) → M′ q ≡ true → (M q ≡ true) ⊎ X q)
@@ -241,7 +248,7 @@ module _ (t : List ℤ) (n : ℕ) (ok : Accepted t n) (j : ℕ) (col : Column j)
       on : (s′ S′ : List ℕ) → Spread t j d e (mark s′ (width n) d) S′ → mark s′ (width n) d (cell t x j) ≡ true
           → ((q : ℕ) → mark s (width n) d q ≡ true → mark s′ (width n) d q ≡ true)
           → ((a q : ℕ) → (a ≡ d → ⊥) → mark s′ (width n) a q ≡ mark s (width n) a q)
-          → length S′ + found t n j d (mark s (width n) d) ≤ length S + found t n j d (mark s′ (width n) d) → Growing t n j d e s₀ top₀ s′ S′ y
+          → length S′ + markCount n (mark s (width n) d) ≤ length S + markCount n (mark s′ (width n) d) → Growing t n j d e s₀ top₀ s′ S′ y
       on s′ S′ h here up same fewer = record {
         spread = h;
         met = λ l a p. met l a p (ℕ-discrete l x) (decLt x l);
@@ -272,7 +279,7 @@ module _ (t : List ℤ) (n : ℕ) (ok : Accepted t n) (j : ℕ) (col : Column j)
         turn (added m two q z add) =
             let up = add .kept in
             let here = add .new (cell t x j) (in-row t n ok (cell t x j) (f-label .1)) (inl (inl refl)) in
-            let more = found-lt t n ok j d (mark s (width n) d) (mark s′ (width n) d) up col (cell t x j) way m here in (
+            let more = more-marked (mark s (width n) d) (mark s′ (width n) d) up (cell t x j) f-label m here in (
               subst (λ (w : List ℕ). Growing t n j d e s₀ top₀ s′ w y) (is ∙ sym same)
                   (on s′ S (meet-made d e (cell t x j) way s s′ S (g .spread) (rows two) add) here up (add .others) (omega arith)),
               omega arith,
@@ -283,7 +290,7 @@ module _ (t : List ℤ) (n : ℕ) (ok : Accepted t n) (j : ℕ) (col : Column j)
         turn (pushed m q z add) =
             let up = add .kept in
             let here = add .new (cell t x j) (in-row t n ok (cell t x j) (f-label .1)) (inl refl) in
-            let more = found-lt t n ok j d (mark s (width n) d) (mark s′ (width n) d) up col (cell t x j) way m here in (
+            let more = more-marked (mark s (width n) d) (mark s′ (width n) d) up (cell t x j) f-label m here in (
               subst (λ (w : List ℕ). Growing t n j d e s₀ top₀ s′ w y) (ap (λ (w : List ℕ). w ++ cell t x j ∷ []) is ∙ sym same)
                   (on s′ (S ++ cell t x j ∷ []) (meet-push d e (cell t x j) way s s′ S (g .spread) m add) here up (add .others) (omega (arith, length-append S (cell t x j ∷ [])))),
               omega arith,
@@ -314,8 +321,8 @@ module _ (t : List ℤ) (n : ℕ) (ok : Accepted t n) (j : ℕ) (col : Column j)
 
   -- each turn of `fill` leaves less to do
   pub grown-less : (d e : ℕ) (s : List ℕ) (top : ℕ) (s′ stack′ : List ℕ) (r : ℕ) → Grown t n j d e s top s′ stack′ r
-      → r + (n - found t n j d (mark s′ (width n) d)) ≤ top + (n - found t n j d (mark s (width n) d))
-  grown-less d e s top s′ stack′ r g = omega (arith, g .less, found-few t n ok j d (mark s′ (width n) d), found-few t n ok j d (mark s (width n) d))
+      → r + (n - markCount n (mark s′ (width n) d)) ≤ top + (n - markCount n (mark s (width n) d))
+  grown-less d e s top s′ stack′ r g = omega (arith, g .less, count-few n (mark s′ (width n) d), count-few n (mark s (width n) d))
 
   -- ---- rows that are made
 
@@ -330,13 +337,12 @@ module _ (t : List ℤ) (n : ℕ) (ok : Accepted t n) (j : ℕ) (col : Column j)
       let e = same f q (λ z. not-made (subst (λ (x : ℕ). getD state x 0 ≡ 2) z two)) in
       (λ m. rows f two q .0 (sym e ∙ m), λ h. e ∙ rows f two q .1 h)
 
-  pub filled : (d : ℕ) (s₀ s : List ℕ) (r : ℕ) → Spread t j d 0 (mark s (width n) d) [] → ((z : ℕ) → Link t j d z → mark s (width n) d z ≡ true)
-      → ((a q : ℕ) → (a ≡ d → ⊥) → mark s (width n) a q ≡ mark s₀ (width n) a q) → r ≤ 1 + found t n j d (mark s (width n) d) → Filled t n j d s₀ s r
-  filled d s₀ s r h first same few = record {
+  pub filled : (d : ℕ) (s₀ s : List ℕ) → Spread t j d 0 (mark s (width n) d) [] → ((z : ℕ) → Link t j d z → mark s (width n) d z ≡ true)
+      → ((a q : ℕ) → (a ≡ d → ⊥) → mark s (width n) a q ≡ mark s₀ (width n) a q) → Filled t n j d s₀ s
+  filled d s₀ s h first same = record {
     row = h .sound;
     all = λ q x. h .around (x .end) q (all (x .links)) (links-body t n ok j col (x .links)) (x .around);
     others = same;
-    few = omega (arith, few, found-fan t n ok j d (mark s (width n) d));
   }
     where
       all : {y : ℕ} → Links t j d y → mark s (width n) d y ≡ true
@@ -350,8 +356,8 @@ module _ (t : List ℤ) (n : ℕ) (ok : Accepted t n) (j : ℕ) (col : Column j)
 
   -- a row taken from one that is linked to and links back
   pub shared : (d e : ℕ) (s s′ : List ℕ) → HasBody t d → Link t j d e → Row t n j s e → mark s (width n) e d ≡ true → Blank n s d
-      → Added (λ (q : ℕ). mark s (width n) e q ≡ true) s s′ (width n) d → Filled t n j d s s′ 0
-  shared d e s s′ b l row m blank add = record { row = λ q x. here q (add .only q x); all = all; others = add .others; few = omega arith }
+      → Added (λ (q : ℕ). mark s (width n) e q ≡ true) s s′ (width n) d → Filled t n j d s s′
+  shared d e s s′ b l row m blank add = record { row = λ q x. here q (add .only q x); all = all; others = add .others }
     where
       here : (q : ℕ) → (mark s (width n) d q ≡ true) ⊎ (mark s (width n) e q ≡ true) → Touches t j d q
       here q (inl x) = clash (mark s (width n) d q) x (blank q)

@@ -1,9 +1,8 @@
 -- The states of definitions while rows are made.
 use mathlib.Core.Path.{_≡_, refl, sym, ap, _∙_, subst}
-use mathlib.Core.Logic.{_⊎_, inl, inr}
+use mathlib.Core.Logic.{inl}
 use mathlib.Core.List.{List}
-use mathlib.Core.Bool.{true, false}
-use Prim.Native.Nat.{ℕ, _+_, _*_, _≤_, _<_}
+use Prim.Native.Nat.{ℕ, _+_, _≤_, _<_}
 use native.Mathlib.Omega.{arith}
 use native.Mathlib.Decide.{ℕ-discrete}
 use lib.Dec.{eqb}
@@ -18,12 +17,9 @@ use Rattle.order.specs.Lists.{filter}
 use Rattle.order.specs.Order.{labels}
 use Rattle.order.proofs.Lists.{tally-lt}
 use Rattle.order.proofs.Tables.{in-labels}
-use Rattle.marks.specs.Marks.{mark}
-use Rattle.reach.specs.Rows.{width, Row, Blank, AllRows, Rows, Room}
-use Rattle.reach.specs.Visits.{fan, spent}
+use Rattle.reach.specs.Rows.{Row, Blank, AllRows, Rows, Room}
 use Rattle.reach.specs.Turns.{Filled, Since, Visited}
 use Rattle.reach.proofs.Links.{body-label, body-group}
-use Rattle.reach.proofs.Totals.{spent-few, spent-begin, spent-made}
 
 pub since-same : (state : List ℕ) → Since state state
 since-same state = record { kept = λ e f. f; held = λ e h. h; unmade = λ e h. h }
@@ -31,14 +27,13 @@ since-same state = record { kept = λ e f. f; held = λ e h. h; unmade = λ e h.
 pub since-then : (a b c : List ℕ) → Since a b → Since b c → Since a c
 since-then a b c p q = record { kept = λ e f. q .kept e (p .kept e f); held = λ e h. q .held e (p .held e h); unmade = λ e h. p .unmade e (q .unmade e h) }
 
--- what holds between visits: since state₀, in buffers of these lengths, with so many visits
-pub record Going (t : List ℤ) (n j : ℕ) (state₀ square₀ stack₀ state square stack : List ℕ) (visits : ℕ) : Type 0 where
+-- what holds between visits: since state₀, in buffers of these lengths
+pub record Going (t : List ℤ) (n j : ℕ) (state₀ square₀ stack₀ state square stack : List ℕ) : Type 0 where
   pub states : length state ≡ length state₀
   pub squares : length square ≡ length square₀
   pub stacks : length stack ≡ length stack₀
   pub rows : Rows t n j state square
   pub since : Since state₀ state
-  pub few : visits + spent t n j state₀ ≤ spent t n j state
 
 -- how many labels are not begun
 abbrev pub unbegun : ℕ → List ℕ → ℕ
@@ -95,9 +90,9 @@ module _ (t : List ℤ) (n : ℕ) (ok : Accepted t n) (j : ℕ) where
             go (no y) = absurd (s .kept e (λ x. y (sym (other state d 1 room e z) ∙ x)) h)
 
     -- and made
-    pub finish : (square₀ stack₀ state₁ square₁ stack₁ square₂ : List ℕ) (k r v : ℕ) → Going t n j (set state d 1) square₀ stack₀ state₁ square₁ stack₁ k → Filled t n j d square₁ square₂ r
-        → v ≡ k + r → Visited t n j d state (set state₁ d 2) square₂ v
-    finish square₀ stack₀ state₁ square₁ stack₁ square₂ k r v g f e = record {
+    pub finish : (square₀ stack₀ state₁ square₁ stack₁ square₂ : List ℕ) → Going t n j (set state d 1) square₀ stack₀ state₁ square₁ stack₁ → Filled t n j d square₁ square₂
+        → Visited t n j d state (set state₁ d 2) square₂
+    finish square₀ stack₀ state₁ square₁ stack₁ square₂ g f = record {
       rows = record {
         small = λ e. small e (ℕ-discrete e d);
         begun = λ e y. begun e y (ℕ-discrete e d);
@@ -106,16 +101,6 @@ module _ (t : List ℤ) (n : ℕ) (ok : Accepted t n) (j : ℕ) where
       };
       here = λ z. omega (arith, own state₁ d 2 room₁);
       since = record { kept = λ e y. kept e y (ℕ-discrete e d); held = λ e y. held e y (ℕ-discrete e d); unmade = λ e y. unmade e y (ℕ-discrete e d) };
-      few =
-          let b = body-label t n ok d body in
-          omega (
-            arith,
-            e,
-            g .few,
-            f .few,
-            spent-begin t n ok j state d room 1 (λ z. omega arith) new,
-            spent-made t n ok j state₁ d room₁ (λ z. omega (arith, s .held d (own state d 1 room))) (in-labels t n ok d (b .0) (b .1)),
-          );
     }
       where
         s : Since (set state d 1) state₁
@@ -159,44 +144,36 @@ module _ (t : List ℤ) (n : ℕ) (ok : Accepted t n) (j : ℕ) where
         unmade e y (no z) = sym (other state d 1 room e z) ∙ s .unmade e (sym (other state₁ d 2 room₁ e z) ∙ y)
 
   -- d was begun already
-  pub stay : (state square : List ℕ) (d : ℕ) → (getD state d 0 ≡ 0 → ⊥) → Rows t n j state square → Visited t n j d state state square 0
-  stay state square d f r = record { rows = r; here = f; since = since-same state; few = omega arith }
+  pub stay : (state square : List ℕ) (d : ℕ) → (getD state d 0 ≡ 0 → ⊥) → Rows t n j state square → Visited t n j d state state square
+  stay state square d f r = record { rows = r; here = f; since = since-same state }
 
   -- ---- between visits
 
-  pub going-start : (state square stack : List ℕ) → Rows t n j state square → Going t n j state square stack state square stack 0
-  going-start state square stack r = record { states = refl; squares = refl; stacks = refl; rows = r; since = since-same state; few = omega arith }
+  pub going-start : (state square stack : List ℕ) → Rows t n j state square → Going t n j state square stack state square stack
+  going-start state square stack r = record { states = refl; squares = refl; stacks = refl; rows = r; since = since-same state }
 
-  module _ (state₀ square₀ stack₀ state square stack : List ℕ) (k : ℕ) (g : Going t n j state₀ square₀ stack₀ state square stack k) where
+  module _ (state₀ square₀ stack₀ state square stack : List ℕ) (g : Going t n j state₀ square₀ stack₀ state square stack) where
     pub going-room : Room n state₀ square₀ stack₀ → Room n state square stack
     going-room r = record { states = omega (arith, r .states, g .states); rows = omega (arith, r .rows, g .squares); heights = omega (arith, r .heights, g .stacks) }
 
-    pub going-few : k ≤ 1025 * n
-    going-few = omega (arith, g .few, spent-few t n ok j state)
+    pub going-still : (square′ : List ℕ) → square′ ≡ square → Going t n j state₀ square₀ stack₀ state square′ stack
+    going-still square′ e = subst (λ (s : List ℕ). Going t n j state₀ square₀ stack₀ state s stack) (sym e) g
 
-    pub going-still : (square′ : List ℕ) → square′ ≡ square → Going t n j state₀ square₀ stack₀ state square′ stack k
-    going-still square′ e = subst (λ (s : List ℕ). Going t n j state₀ square₀ stack₀ state s stack k) (sym e) g
-
-    module _ (state′ square′ : List ℕ) (d r : ℕ) (v : Visited t n j d state state′ square′ r) where
-      pub going-sum : k + r ≤ 1025 * n
-      going-sum = omega (arith, g .few, v .few, spent-few t n ok j state′)
-
-      pub going-more : (stack′ : List ℕ) → length state′ ≡ length state → length square′ ≡ length square → length stack′ ≡ length stack
-          → Going t n j state₀ square₀ stack₀ state′ square′ stack′ (k + r)
-      going-more stack′ a b c = record {
-        states = a ∙ g .states;
-        squares = b ∙ g .squares;
-        stacks = c ∙ g .stacks;
-        rows = v .rows;
-        since = since-then state₀ state state′ (g .since) (v .since);
-        few = omega (arith, g .few, v .few);
-      }
+    pub going-more : (state′ square′ stack′ : List ℕ) (d : ℕ) → Visited t n j d state state′ square′ → length state′ ≡ length state → length square′ ≡ length square → length stack′ ≡ length stack
+        → Going t n j state₀ square₀ stack₀ state′ square′ stack′
+    going-more state′ square′ stack′ d v a b c = record {
+      states = a ∙ g .states;
+      squares = b ∙ g .squares;
+      stacks = c ∙ g .stacks;
+      rows = v .rows;
+      since = since-then state₀ state state′ (g .since) (v .since);
+    }
 
   -- ---- all rows
 
-  pub begun-more : (v : ℕ) (state state′ square′ : List ℕ) (r : ℕ) → ((u : ℕ) → u < v → 1 ≤ u → kind t u ≡ 2 → getD state u 0 ≡ 0 → ⊥) → Visited t n j v state state′ square′ r
+  pub begun-more : (v : ℕ) (state state′ square′ : List ℕ) → ((u : ℕ) → u < v → 1 ≤ u → kind t u ≡ 2 → getD state u 0 ≡ 0 → ⊥) → Visited t n j v state state′ square′
       → (u : ℕ) → u < v + 1 → 1 ≤ u → kind t u ≡ 2 → getD state′ u 0 ≡ 0 → ⊥
-  begun-more v state state′ square′ r old h =
+  begun-more v state state′ square′ old h =
       below-more (λ (u : ℕ). 1 ≤ u → kind t u ≡ 2 → getD state′ u 0 ≡ 0 → ⊥) v (λ u l i k. h .since .kept u (old u l i k)) (λ i k. h .here)
 
   pub rows-none : (state square : List ℕ) → ((d : ℕ) → getD state d 0 ≡ 0) → ((d : ℕ) → Blank n square d) → Rows t n j state square

@@ -1,5 +1,4 @@
 pub mod Links
 pub mod Rows
 pub mod Chains
-pub mod Visits
 pub mod Turns

@@ -1,18 +1,18 @@
 -- How a row grows: what holds between two steps, and what each step does.
 use mathlib.Core.Path.{_≡_}
 use mathlib.Core.Logic.{_⊎_}
-use mathlib.Core.List.{List, []}
+use mathlib.Core.List.{List}
 use mathlib.Core.Bool.{Bool, true, false}
-use Prim.Native.Nat.{ℕ, _+_, _≤_, _<_}
+use Prim.Native.Nat.{ℕ, _+_, _≤_}
 use lib.IntN.{ℤ}
 use lib.ListN.{length, getD, set, take}
 use Rattle.cells.specs.Table.{kind, owner}
 use Rattle.cells.specs.Accepted.{HasBody}
-use Rattle.order.specs.Lists.{one, count, _∈_}
+use Rattle.order.specs.Lists.{one, count, _∈_, filter}
+use Rattle.order.specs.Order.{labels}
 use Rattle.marks.specs.Marks.{mark, Added}
-use Rattle.reach.specs.Links.{Link, Links, Around, Touches}
+use Rattle.reach.specs.Links.{Link, Around, Touches}
 use Rattle.reach.specs.Rows.{width, Rows}
-use Rattle.reach.specs.Visits.{fan, found, spent}
 
 -- with a Group, the Groups around it are marked
 abbrev pub Raised : List ℤ → (ℕ → Bool) → Type 0
@@ -37,20 +37,23 @@ pub record Spread (t : List ℤ) (j d e : ℕ) (M : ℕ → Bool) (S : List ℕ)
   pub held : (x : ℕ) → count x S ≤ one (M x)
   pub bodies : (x : ℕ) → x ∈ S → HasBody t x
 
+-- how many labels are marked: it grows by what is put on the stack, so that a row comes to an end
+unfoldable pub markCount : ℕ → (ℕ → Bool) → ℕ
+markCount n M = length (filter M (labels n))
+
 -- all that e links to is marked in row d; what is new on the stack is newly marked
 pub record Grown (t : List ℤ) (n j d e : ℕ) (s : List ℕ) (top : ℕ) (s′ stack′ : List ℕ) (r : ℕ) : Type 0 where
   pub spread : Spread t j d 0 (mark s′ (width n) d) (take r stack′)
   pub links : (z : ℕ) → Link t j e z → mark s′ (width n) d z ≡ true
   pub kept : (q : ℕ) → mark s (width n) d q ≡ true → mark s′ (width n) d q ≡ true
   pub others : (a q : ℕ) → (a ≡ d → ⊥) → mark s′ (width n) a q ≡ mark s (width n) a q
-  pub less : r + found t n j d (mark s (width n) d) ≤ top + found t n j d (mark s′ (width n) d)
+  pub less : r + markCount n (mark s (width n) d) ≤ top + markCount n (mark s′ (width n) d)
 
--- d's row is made by r visits, and no other changed
-pub record Filled (t : List ℤ) (n j d : ℕ) (s s′ : List ℕ) (r : ℕ) : Type 0 where
+-- d's row is made, and no other changed
+pub record Filled (t : List ℤ) (n j d : ℕ) (s s′ : List ℕ) : Type 0 where
   pub row : (q : ℕ) → mark s′ (width n) d q ≡ true → Touches t j d q
   pub all : (q : ℕ) → Touches t j d q → mark s′ (width n) d q ≡ true
   pub others : (a q : ℕ) → (a ≡ d → ⊥) → mark s′ (width n) a q ≡ mark s (width n) a q
-  pub few : r ≤ 1 + fan t n j d
 
 -- row d has become row e, which is made and has d; or nothing changed
 abbrev pub Shared : ℕ → List ℕ → ℕ → ℕ → List ℕ → List ℕ → Bool → Type 0
@@ -63,9 +66,8 @@ pub record Since (state state′ : List ℕ) : Type 0 where
   pub held : (e : ℕ) → getD state e 0 ≡ 1 → getD state′ e 0 ≡ 1
   pub unmade : (e : ℕ) → getD state′ e 0 ≡ 1 → getD state e 0 ≡ 1
 
--- d is begun, and the rows made meanwhile took r visits
-pub record Visited (t : List ℤ) (n j d : ℕ) (state state′ square′ : List ℕ) (r : ℕ) : Type 0 where
+-- d is begun
+pub record Visited (t : List ℤ) (n j d : ℕ) (state state′ square′ : List ℕ) : Type 0 where
   pub rows : Rows t n j state′ square′
   pub here : getD state′ d 0 ≡ 0 → ⊥
   pub since : Since state state′
-  pub few : r + spent t n j state ≤ spent t n j state′

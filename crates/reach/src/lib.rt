@@ -2,9 +2,8 @@
 // looked at twice for one value. With a V its row has the Groups around it, since Groups need what their values do.
 
 ghost use mathlib.Core.Path.{_≡_};
-ghost use mathlib.Core.Bool.{false};
 ghost use mathlib.Core.Logic.{_⊎_};
-ghost use Prim.Native.Nat.{ℕ, _+_, _*_, _/_, _≤_, _<_};
+ghost use Prim.Native.Nat.{ℕ, _+_, _*_, _≤_, _<_};
 ghost use lib.ListN.{length, getD, take};
 ghost use Rattle.cells.specs.Table.{cell, kind, owner};
 ghost use Rattle.cells.specs.Accepted.{Accepted, HasBody};
@@ -13,7 +12,6 @@ ghost use Rattle.marks.specs.Marks.{mark, Added};
 ghost use Rattle.reach.specs.Links.{Column, Links, Around};
 ghost use Rattle.reach.specs.Rows.{width, Row, Blank, AllRows, Rows, Room};
 ghost use Rattle.reach.specs.Chains.{Linked, Empty};
-ghost use Rattle.reach.specs.Visits.{visits};
 ghost use Rattle.reach.specs.Turns.{Raised, Met, Spread, Grown, Filled, Shared, Visited};
 
 // ---- cells of an accepted table
@@ -171,7 +169,7 @@ fn grow(
     height
 }
 
-// Makes row d, which is blank. Only those whose own rows are not made are visited, each once. Answers how many visits that took.
+// Makes row d, which is blank. Only those whose own rows are not made are visited, each once.
 fn fill(
     table: &[i64],
     n: usize,
@@ -181,23 +179,20 @@ fn fill(
     square: &mut [u64],
     stack: &mut [u16],
     d: usize,
-) -> usize
+)
     requires { ⌜ Accepted (now table) n ⌝ }
     requires { ⌜ Column j ⌝ }
     requires { ⌜ (2 * n < length (now chains)) × Linked (now table) n j n (now chains) ⌝ }
     requires { ⌜ Room n (now state) (now square) (now stack) ⌝ }
     requires { ⌜ (getD (now state) d 0 ≡ 2 → ⊥) × HasBody (now table) d ⌝ }
     requires { ⌜ ((f : ℕ) → getD (now state) f 0 ≡ 2 → Row (now table) n j (now square) f) × Blank n (now square) d ⌝ }
-    ensures { λ r. ⌜ Filled (now (table .entry)) n j d (now (square .entry)) (now (square .exit)) r ⌝ }
+    ensures { λ _. ⌜ Filled (now (table .entry)) n j d (now (square .entry)) (now (square .exit)) ⌝ }
 {
-    let mut visits = 1;
     let mut top = grow(table, n, j, chains, state, square, stack, d, d, 0);
     while 0 < top {
         let e = marks::widen(stack[top - 1]);
         top = grow(table, n, j, chains, state, square, stack, d, e, top - 1);
-        visits += 1;
     }
-    visits
 }
 
 // If row e is made and has d, which links to e, both reach the same: d has the same row. Answers whether it is so.
@@ -216,7 +211,7 @@ fn share_row(n: usize, state: &[u8], square: &mut [u64], d: usize, e: usize) -> 
     false
 }
 
-// Makes row d after the rows of what d links to, unless d is begun. Answers how many visits that took.
+// Makes row d after the rows of what d links to, unless d is begun.
 fn visit(
     table: &[i64],
     n: usize,
@@ -226,39 +221,37 @@ fn visit(
     square: &mut [u64],
     stack: &mut [u16],
     d: usize,
-) -> usize
+)
     requires { ⌜ Accepted (now table) n ⌝ }
     requires { ⌜ Column j ⌝ }
     requires { ⌜ (2 * n < length (now chains)) × Linked (now table) n j n (now chains) ⌝ }
     requires { ⌜ Room n (now state) (now square) (now stack) ⌝ }
     requires { ⌜ Rows (now table) n j (now state) (now square) × HasBody (now table) d ⌝ }
-    ensures { λ r. ⌜ Visited (now (table .entry)) n j d (now (state .entry)) (now (state .exit)) (now (square .exit)) r ⌝ }
+    ensures { λ _. ⌜ Visited (now (table .entry)) n j d (now (state .entry)) (now (state .exit)) (now (square .exit)) ⌝ }
 {
     if state[d] != 0 {
-        return 0;
+        return;
     }
     state[d] = 1;
-    let mut visits = 0;
     let mut x = marks::widen(chains[d]);
     while x != 0 {
         let e = cell_of(table, n, x, j);
         if state[e] == 0 {
-            visits += visit(table, n, j, chains, state, square, stack, e);
+            visit(table, n, j, chains, state, square, stack, e);
         }
         if share_row(n, state, square, d, e) {
             state[d] = 2;
-            return visits;
+            return;
         }
         x = marks::widen(chains[n + x]);
     }
-    visits += fill(table, n, j, chains, state, square, stack, d);
+    fill(table, n, j, chains, state, square, stack, d);
     state[d] = 2;
-    visits
 }
 
 // ---- all rows
 
-// The row of every V, in a blank square. Answers how many visits of definitions that took.
+// The row of every V, in a blank square.
 fn reach_rows(
     table: &[i64],
     n: usize,
@@ -267,23 +260,21 @@ fn reach_rows(
     state: &mut [u8],
     square: &mut [u64],
     stack: &mut [u16],
-) -> usize
+)
     requires { ⌜ Accepted (now table) n ⌝ }
     requires { ⌜ Column j ⌝ }
     requires { ⌜ (2 * n < length (now chains)) × Linked (now table) n j n (now chains) ⌝ }
     requires { ⌜ Room n (now state) (now square) (now stack) ⌝ }
     requires { ⌜ ((d : ℕ) → getD (now state) d 0 ≡ 0) × ((d : ℕ) → Blank n (now square) d) ⌝ }
-    ensures { λ r. ⌜ AllRows (now (table .entry)) n j (now (square .exit)) × (r ≤ visits (now (table .entry)) n) ⌝ }
+    ensures { λ _. ⌜ AllRows (now (table .entry)) n j (now (square .exit)) ⌝ }
 {
-    let mut visits = 0;
     let mut v = 1;
     while v <= n {
         if kind_of(table, n, v) == cells::VALUE {
-            visits += visit(table, n, j, chains, state, square, stack, v);
+            visit(table, n, j, chains, state, square, stack, v);
         }
         v += 1;
     }
-    visits
 }
 
 // Row 16: the smallest V that reaches itself, or 0.

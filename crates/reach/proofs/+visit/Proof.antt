@@ -1,4 +1,4 @@
-use mathlib.Core.Path.{_≡_, refl, sym, _∙_, subst}
+use mathlib.Core.Path.{_≡_, sym, _∙_, subst}
 use mathlib.Core.Logic.{⊎-elim}
 use Prim.Native.Nat.{ℕ, _+_, _-_, _≤_, _<_}
 use native.Mathlib.Omega.{arith}
@@ -11,8 +11,7 @@ use Rattle.reach.specs.Chains.{Hangs, Last}
 use Rattle.reach.specs.Rows.{Room}
 use Rattle.reach.specs.Turns.{Shared}
 use Rattle.reach.proofs.Links.{column-range, body-label, end-body}
-use Rattle.reach.proofs.Visits.{Going, unbegun, begin, fewer, finish, stay, going-start, going-room, going-few, going-still, going-sum, going-more}
-use Rattle.reach.proofs.Totals.{fan-few}
+use Rattle.reach.proofs.Visits.{Going, unbegun, begin, fewer, finish, stay, going-start, going-room, going-still, going-more}
 use Rattle.reach.proofs.Spread.{shared}
 use borrow.Fn.Kinds.{In}
 use borrow.Fn.PlainCycle.{Measures, is, falls, and}
@@ -50,11 +49,11 @@ claims t = (
 )
 
 abbrev visit-Inv-loop : visit-lts.InvT-loop
-visit-Inv-loop table n j chains state₀ square₀ stack₀ d visits₀ x₀ state square stack visits x =
-    Going table n j state₀ square₀ stack₀ state square stack visits × (x ≤ n) × ((x ≡ 0 → ⊥) → Hangs table j d x)
+visit-Inv-loop table n j chains state₀ square₀ stack₀ d x₀ state square stack x =
+    Going table n j state₀ square₀ stack₀ state square stack × (x ≤ n) × ((x ≡ 0 → ⊥) → Hangs table j d x)
 
 abbrev visit-μ-loop : visit-lts.MeasureT-loop
-visit-μ-loop table n j chains state₀ square₀ stack₀ d visits₀ x₀ state square stack visits x = x
+visit-μ-loop table n j chains state₀ square₀ stack₀ d x₀ state square stack x = x
 
 -- at the loop: d's state is there, and there is room
 module _ (t : ℕ) (l : visit-lts.At-loop (claims t) (visit-at t) visit.Post visit-Inv-loop visit-μ-loop) where
@@ -68,7 +67,7 @@ module _ (t : ℕ) (l : visit-lts.At-loop (claims t) (visit-at t) visit.Post vis
       record { states = omega (arith, r .states, length-set (a .args .state .now) (a .args .d) 1); rows = r .rows; heights = r .heights }
 
   room : Room (l .before .before .before .before .before .before .before .before .before .args .n) (l .loop .state) (l .loop .square) (l .loop .stack)
-  room = going-room _ _ (l .before .before .before .before .before .before .before .before .before .pre .1 .0) _ _ _ _ _ _ _ _ (l .loop .inv .0) first
+  room = going-room _ _ (l .before .before .before .before .before .before .before .before .before .pre .1 .0) _ _ _ _ _ _ _ (l .loop .inv .0) first
 
 -- in a turn: the line at hand, and where its link leads
 module _ (t : ℕ) (c : visit-lts.In-loop (claims t) (visit-at t) visit.Post visit-Inv-loop visit-μ-loop) where
@@ -89,17 +88,17 @@ module _ (t : ℕ) (c : visit-lts.In-loop (claims t) (visit-at t) visit.Post vis
 
 -- after e is visited, unless it was begun
 module _ (t : ℕ) (w : visit-lts.Joined2 (claims t) (visit-at t) visit.Post visit-Inv-loop visit-μ-loop) where
-  going : Going (w .before .before .before .before .before .before .before .before .before .before .before .before .before .args .table .now) (w .before .before .before .before .before .before .before .before .before .before .before .before .before .args .n) (w .before .before .before .before .before .before .before .before .before .before .before .before .before .args .j) (set (w .before .before .before .before .before .before .before .before .before .before .before .before .before .args .state .now) (w .before .before .before .before .before .before .before .before .before .before .before .before .before .args .d) 1) (w .before .before .before .before .before .before .before .before .before .before .before .before .before .args .square .now) (w .before .before .before .before .before .before .before .before .before .before .before .before .before .args .stack .now) (w .if2 .state) (w .if2 .square) (w .if2 .stack) (w .if2 .visits)
+  going : Going (w .before .before .before .before .before .before .before .before .before .before .before .before .before .args .table .now) (w .before .before .before .before .before .before .before .before .before .before .before .before .before .args .n) (w .before .before .before .before .before .before .before .before .before .before .before .before .before .args .j) (set (w .before .before .before .before .before .before .before .before .before .before .before .before .before .args .state .now) (w .before .before .before .before .before .before .before .before .before .before .before .before .before .args .d) 1) (w .before .before .before .before .before .before .before .before .before .before .before .before .before .args .square .now) (w .before .before .before .before .before .before .before .before .before .before .before .before .before .args .stack .now) (w .if2 .state) (w .if2 .square) (w .if2 .stack)
   going =
       let g = w .before .before .before .before .loop .inv .0 in
       ⊎-elim (λ u.
       let k = u .4 .kept .1 .1 .1 .1 in
-      rw (u .11, u .12, u .13, u .14) (going-more _ _ (w .before .before .before .before .before .before .before .before .before .before .before .before .before .pre .1 .0) _ _ _ _ _ _ _ _ g _ _ _ _ (u .4 .ensures) _ (k .0) (k .1 .0) (k .1 .1 .0)))
-      (λ u. rw (u .1, u .2, u .3, u .4) g)
+      rw (u .11, u .12, u .13) (going-more _ _ (w .before .before .before .before .before .before .before .before .before .before .before .before .before .pre .1 .0) _ _ _ _ _ _ _ g _ _ _ _ (u .4 .ensures) (k .0) (k .1 .0) (k .1 .1 .0)))
+      (λ u. rw (u .1, u .2, u .3) g)
       (w .if2 .came)
 
   after : Room (w .before .before .before .before .before .before .before .before .before .before .before .before .before .args .n) (w .if2 .state) (w .if2 .square) (w .if2 .stack)
-  after = going-room _ _ (w .before .before .before .before .before .before .before .before .before .before .before .before .before .pre .1 .0) _ _ _ _ _ _ _ _ going (first t (w .before .before .before .before))
+  after = going-room _ _ (w .before .before .before .before .before .before .before .before .before .before .before .before .before .pre .1 .0) _ _ _ _ _ _ _ going (first t (w .before .before .before .before))
 
   -- d is begun and not made
   not-made : getD (w .if2 .state) (w .before .before .before .before .before .before .before .before .before .before .before .before .before .args .d) 0 ≡ 2 → ⊥
@@ -155,12 +154,6 @@ visit-visit-requires t c κs =
       (p .0, (p .1 .0, (p .1 .1 .0, (room t l, (l .loop .inv .0 .rows, subst (HasBody (a .args .table .now)) (sym (c .before .before .before .before .before .cell-of .ensures)) (body t (c .before .before .before .before .before .before))))))),
     )
 
-visit-add-visits : (t : ℕ) → visit-lts.Need-add-visits (claims t) (visit-at t) visit.Post visit-Inv-loop visit-μ-loop
-visit-add-visits t c =
-    let a = c .before .before .before .before .before .before .before .before .before .before .before .before .before .before .before .before .before .before .before .before .before .before .before in
-    let sum = going-sum _ _ (a .pre .1 .0) _ _ _ _ _ _ _ _ (c .before .before .before .before .before .before .before .before .before .before .before .before .before .before .loop .inv .0) _ _ _ _ (c .before .before .before .before .before .before .visit .ensures) in
-    omega (arith, a .pre .1 .0 .few)
-
 visit-share-row-requires : (t : ℕ) → visit-lts.Need-share-row-requires (claims t) (visit-at t) visit.Post visit-Inv-loop visit-μ-loop
 visit-share-row-requires t c κs =
     let a = c .before .before .before .before .before .before .before .before .before .before .before .before .before .before .before in
@@ -190,9 +183,9 @@ visit-returns-2 t c =
     let k = c .before .before .before .share-row in
     let s = subst (Shared (a .args .n) (w .if2 .state) (a .args .d) (c .before .before .before .before .before .before .before .before .cell-of .result) (w .if2 .square) (k .last .1 .1 .0)) (c .if3 .taken) (k .ensures) in
     let g = going t w in
-    finish _ _ (p .0) _ _ _ _ (here t l) (l .before .before .before .if1 .left) (p .1 .1 .1 .1 .1) (p .1 .1 .1 .1 .0) _ _ _ _ _ _ _ 0 _ g
+    finish _ _ (p .0) _ _ _ _ (here t l) (l .before .before .before .if1 .left) (p .1 .1 .1 .1 .1) (p .1 .1 .1 .1 .0) _ _ _ _ _ _ g
     (shared _ _ (p .0) _ (p .1 .0) _ _ _ _ (p .1 .1 .1 .1 .1) (record { line = l .loop .x; path = h .path; from = h .from; to = sym (c .before .before .before .before .before .before .before .before .cell-of .ensures) })
-    (g .rows .made _ (s .0)) (s .1) (g .rows .blank _ (not-made t w)) (s .2)) (omega arith)
+    (g .rows .made _ (s .0)) (s .1) (g .rows .blank _ (not-made t w)) (s .2))
 
 visit-add-widen : (t : ℕ) → visit-lts.Need-add-widen (claims t) (visit-at t) visit.Post visit-Inv-loop visit-μ-loop
 visit-add-widen t c = let l = line t (c .before .before .before .before .before .before .before .before .before) in omega (arith, l, c .before .before .before .before .before .before .before .before .before .before .before .before .before .before .before .before .before .before .before .pre .1 .0 .few)
@@ -216,7 +209,7 @@ visit-loop-again t c =
     let x = last t (c .before .before .before .before .before .before .before .before .before .before .before) in
     let k = c .before .before .before .before .before .share-row in
     let same = subst (Shared (a .args .n) (w .if2 .state) (a .args .d) (c .before .before .before .before .before .before .before .before .before .before .cell-of .result) (w .if2 .square) (k .last .1 .1 .0)) (c .before .before .if3 .left) (k .ensures) in
-    rw (c .widen2 .ensures) (going-still _ _ (a .pre .1 .0) _ _ _ _ _ _ _ _ (going t w) _ same, omega (arith, x .within, line t (c .before .before .before .before .before .before .before .before .before .before .before)), x .hangs)
+    rw (c .widen2 .ensures) (going-still _ _ (a .pre .1 .0) _ _ _ _ _ _ _ (going t w) _ same, omega (arith, x .within, line t (c .before .before .before .before .before .before .before .before .before .before .before)), x .hangs)
 
 -- after the loop
 module _ (t : ℕ) (l : visit-lts.At-loop (claims t) (visit-at t) visit.Post visit-Inv-loop visit-μ-loop) where
@@ -230,12 +223,6 @@ visit-fill-requires t c κs =
     let l = c .before .before .before .before in
     let r = l .loop .inv .0 .rows in
     (p .0, (p .1 .0, (p .1 .1 .0, (room t l, ((open-still t l, p .1 .1 .1 .1 .1), (r .made, r .blank (a .args .d) (open-still t l)))))))
-
-visit-add-visits-2 : (t : ℕ) → visit-lts.Need-add-visits-2 (claims t) (visit-at t) visit.Post visit-Inv-loop visit-μ-loop
-visit-add-visits-2 t c =
-    let a = c .before .before .before .before .before .before .before .before .before .before .before .before .before .before .before .before .before .before in
-    let sum = going-few _ _ (a .pre .1 .0) _ _ _ _ _ _ _ _ (c .before .before .before .before .before .before .before .before .before .loop .inv .0) in
-    omega (arith, c .before .before .before .before .fill .ensures .few, fan-few _ _ (a .pre .1 .0) (a .args .j) (a .args .d), a .pre .1 .0 .few)
 
 visit-slice-write-state-3 : (t : ℕ) → visit-lts.Need-slice-write-state-3 (claims t) (visit-at t) visit.Post visit-Inv-loop visit-μ-loop
 visit-slice-write-state-3 t c = let a = c .before .before .before .before .before .before .before .before .before .before .before .before .before .before .before .before .before .before in omega (arith, room t (c .before .before .before .before .before .before .before .before .before) .states, body-label _ _ (a .pre .1 .0) (a .args .d) (a .pre .1 .1 .1 .1 .1 .1))
@@ -256,7 +243,7 @@ visit-returns-3 : (t : ℕ) → visit-lts.Need-returns-3 (claims t) (visit-at t)
 visit-returns-3 t c =
     let p = c .before .before .before .before .before .before .before .before .before .before .before .before .before .before .before .before .before .before .pre .1 in
     let l = c .before .before .before .before .before .before .before .before .before in
-    finish _ _ (p .0) _ _ _ _ (here t l) (l .before .before .before .if1 .left) (p .1 .1 .1 .1 .1) (p .1 .1 .1 .1 .0) _ _ _ _ _ _ _ _ _ (l .loop .inv .0) (c .before .before .before .before .fill .ensures) refl
+    finish _ _ (p .0) _ _ _ _ (here t l) (l .before .before .before .if1 .left) (p .1 .1 .1 .1 .1) (p .1 .1 .1 .1 .0) _ _ _ _ _ _ (l .loop .inv .0) (c .before .before .before .before .fill .ensures)
 
 pub +visit-spec : {M : Type 1} → statement M
 +visit-spec = close μ-visit λ t. visit-lts.spec (claims t)
@@ -274,7 +261,6 @@ pub +visit-spec : {M : Type 1} → statement M
     (visit-cell-of-requires t)
     (visit-slice-read-if2 t)
     (visit-visit-requires t)
-    (visit-add-visits t)
     (visit-share-row-requires t)
     (visit-slice-write-state-2 t)
     (visit-same-length t)
@@ -288,7 +274,6 @@ pub +visit-spec : {M : Type 1} → statement M
     (visit-loop-less t)
     (visit-loop-again t)
     (visit-fill-requires t)
-    (visit-add-visits-2 t)
     (visit-slice-write-state-3 t)
     (visit-same-length-4 t)
     (visit-same-length-5 t)

@@ -2,8 +2,6 @@ use borrow.Author.Needs.{needs}
 use Rattle.reach.proofs.Reading.{cast-natural, is-natural, cell-is}
 use Rattle.reach.proofs.cell_of.Statement.{statement}
 use Rattle.reach.proofs.cell_of.Tie as tie
-use Rattle.reach.proofs.cell_of.Reads as reads
-use Rattle.reach.proofs.cell_of.Lts as lts
 
 sub-result : tie.Need-sub-result
 sub-result c = search needs

@@ -16,7 +16,7 @@ first-cycle-requires : tie.Need-first-cycle-requires
 first-cycle-requires c κs =
     let p = c .before .before .before .before .before .before .before .before .before .before .before .before .before .before .before .before .before .before .before .before .pre in
     let k = c .before .before .before .before .before .before .before .reach-rows in
-    (p .0, (p .1 .0, (omega (arith, p .1 .1 .1 .0 .rows, k .kept .1 .1 .1 .1 .1 .0), k .ensures .0)))
+    (p .0, (p .1 .0, (omega (arith, p .1 .1 .1 .0 .rows, k .kept .1 .1 .1 .1 .1 .0), k .ensures)))
 
 same-length : tie.Need-same-length
 same-length c = search needs

@@ -1,34 +1,27 @@
-use mathlib.Core.Path.{_≡_, refl, sym, ap, _∙_, subst}
+use mathlib.Core.Path.{_≡_, refl, _∙_, subst}
 use mathlib.Core.Logic.{inl, inr}
 use mathlib.Core.Bool.{true}
-use Prim.Native.Nat.{ℕ, _+_, _-_, _*_, _≤_, _<_}
+use Prim.Native.Nat.{ℕ, _+_, _-_, _≤_}
 use native.Mathlib.Omega.{arith}
 use borrow.Author.Needs.{needs}
-use lib.ListN.{length, getD, take}
+use lib.ListN.{length, take}
 use Rattle.cells.specs.Accepted.{HasBody}
 use Rattle.marks.specs.Marks.{mark}
 use Rattle.reach.specs.Links.{Link, Links}
-use Rattle.reach.specs.Rows.{width, Row, Room}
-use Rattle.reach.specs.Visits.{found}
-use Rattle.reach.specs.Turns.{Spread}
+use Rattle.reach.specs.Rows.{width, Room}
+use Rattle.reach.specs.Turns.{Spread, markCount}
 use Rattle.reach.proofs.Links.{body-label}
 use Rattle.reach.proofs.Spread.{spread-none, popped, grown-less, rows-kept, filled}
-use Rattle.reach.proofs.Totals.{found-few}
 use Rattle.reach.proofs.fill.Statement.{statement}
 use Rattle.reach.proofs.fill.Tie as tie
-use Rattle.reach.proofs.fill.Reads as reads
-use Rattle.reach.proofs.fill.Lts as lts
-use Rattle.reach.proofs.grow.Reads as grow-reads
-use Rattle.marks.proofs.widen.Reads as widen-reads
 
 abbrev Inv-loop : tie.InvT-loop
-Inv-loop table n j chains state square₀ stack₀ d visits₀ top₀ square stack visits top =
+Inv-loop table n j chains state square₀ stack₀ d top₀ square stack top =
     (length square ≡ length square₀) × (length stack ≡ length stack₀) × (top ≤ n) × Spread table j d 0 (mark square (width n) d) (take top stack)
     × ((z : ℕ) → Link table j d z → mark square (width n) d z ≡ true) × ((a q : ℕ) → (a ≡ d → ⊥) → mark square (width n) a q ≡ mark square₀ (width n) a q)
-    × (visits + top ≤ 1 + found table n j d (mark square (width n) d))
 
 abbrev μ-loop : tie.MeasureT-loop
-μ-loop table n j chains state square₀ stack₀ d visits₀ top₀ square stack visits top = top + (n - found table n j d (mark square (width n) d))
+μ-loop table n j chains state square₀ stack₀ d top₀ square stack top = top + (n - markCount n (mark square (width n) d))
 
 -- in the loop, buffers are as long as at entry, and other rows as they were
 module _ (l : tie.At-loop Inv-loop μ-loop) where
@@ -71,7 +64,7 @@ grow-requires c κs =
 loop-holds : tie.Need-loop-holds Inv-loop μ-loop
 loop-holds c =
     let g = c .before .before .before .before .grow .ensures in
-    (refl, refl, g .1, g .0 .spread, g .0 .links, λ a q z. refl, omega (arith, g .0 .less))
+    (refl, refl, g .1, g .0 .spread, g .0 .links, λ a q z. refl)
 
 sub-widen : tie.Need-sub-widen Inv-loop μ-loop
 sub-widen c = omega (arith, c .loop-test .taken)
@@ -112,13 +105,6 @@ grow-requires-2 c κs =
       ),
     )
 
-add-visits : tie.Need-add-visits Inv-loop μ-loop
-add-visits c =
-    let l = c .before .before .before .before .before .before .before .before .before .before in
-    let a = c .before .before .before .before .before .before .before .before .before .before .before .before .before .before .before .before .before .before .before .before .before .before in
-    let few = found-few _ _ (a .pre .0) (a .args .j) (a .args .d) (mark (l .loop .square) (width (a .args .n)) (a .args .d)) in
-    omega (arith, l .loop .inv .6, a .pre .0 .few)
-
 loop-less : tie.Need-loop-less Inv-loop μ-loop
 loop-less c =
     let p = c .before .before .before .before .before .before .before .before .before .before .before .before .before .before .before .before .before .before .before .before .before .before .pre in
@@ -135,7 +121,6 @@ loop-again c =
       g .ensures .0 .spread,
       λ z k. g .ensures .0 .kept z (l .loop .inv .4 z k),
       λ a q z. g .ensures .0 .others a q z ∙ l .loop .inv .5 a q z,
-      omega (arith, l .loop .inv .6, g .ensures .0 .less),
     )
 
 same-length : tie.Need-same-length Inv-loop μ-loop
@@ -149,7 +134,7 @@ returns c =
     let l = c .before in
     let p = c .before .before .before .before .before .before .before .before .before .before .before .before .before .pre in
     let z : l .loop .top ≡ 0 = omega (arith, c .loop-test .left) in
-    filled _ _ (p .0) _ (p .1 .0) _ _ _ _ (subst (λ (k : ℕ). Spread (c .before .before .before .before .before .before .before .before .before .before .before .before .before .args .table .now) (c .before .before .before .before .before .before .before .before .before .before .before .before .before .args .j) (c .before .before .before .before .before .before .before .before .before .before .before .before .before .args .d) 0 (mark (l .loop .square) (width (c .before .before .before .before .before .before .before .before .before .before .before .before .before .args .n)) (c .before .before .before .before .before .before .before .before .before .before .before .before .before .args .d)) (take k (l .loop .stack))) z (l .loop .inv .3)) (l .loop .inv .4) (same l) (omega (arith, l .loop .inv .6))
+    filled _ _ (p .0) _ (p .1 .0) _ _ _ (subst (λ (k : ℕ). Spread (c .before .before .before .before .before .before .before .before .before .before .before .before .before .args .table .now) (c .before .before .before .before .before .before .before .before .before .before .before .before .before .args .j) (c .before .before .before .before .before .before .before .before .before .before .before .before .before .args .d) 0 (mark (l .loop .square) (width (c .before .before .before .before .before .before .before .before .before .before .before .before .before .args .n)) (c .before .before .before .before .before .before .before .before .before .before .before .before .before .args .d)) (take k (l .loop .stack))) z (l .loop .inv .3)) (l .loop .inv .4) (same l)
 
 pub fill-spec : {M : Type 1} → statement M
 fill-spec =
@@ -165,7 +150,6 @@ fill-spec =
     widen-requires
     sub-grow
     grow-requires-2
-    add-visits
     loop-less
     loop-again
     same-length

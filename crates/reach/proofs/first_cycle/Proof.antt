@@ -1,5 +1,5 @@
-use mathlib.Core.Path.{_≡_, refl, sym, ap, _∙_, subst}
-use mathlib.Core.Logic.{_⊎_, inl, ⊎-elim}
+use mathlib.Core.Path.{_≡_, sym, _∙_}
+use mathlib.Core.Logic.{⊎-elim}
 use Prim.Native.Nat.{ℕ, _+_, _-_, _≤_, _<_}
 use native.Mathlib.Omega.{arith}
 use borrow.Author.Needs.{needs}
@@ -11,9 +11,6 @@ use Rattle.reach.proofs.Reading.{row-room}
 use Rattle.reach.proofs.Cycle.{smallest-is, none-is, cycle-marked, cycle-unmarked}
 use Rattle.reach.proofs.first_cycle.Statement.{statement}
 use Rattle.reach.proofs.first_cycle.Tie as tie
-use Rattle.reach.proofs.first_cycle.Reads as reads
-use Rattle.reach.proofs.first_cycle.Lts as lts
-use Rattle.reach.proofs.kind_of.Reads as kind-of-reads
 
 abbrev Inv-loop : tie.InvT-loop
 Inv-loop table n j square v₀ v = (1 ≤ v) × (v ≤ n + 1) × ((u : ℕ) → u < v → kind table u ≡ 2 → Reaches table u u → ⊥)

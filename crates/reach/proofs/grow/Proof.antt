@@ -1,6 +1,6 @@
-use mathlib.Core.Path.{_≡_, refl, sym, ap, _∙_, subst}
+use mathlib.Core.Path.{_≡_, refl, sym, _∙_, subst}
 use mathlib.Core.Logic.{_⊎_, inl, inr}
-use Prim.Native.Nat.{ℕ, _+_, _-_, _*_, _≤_, _<_}
+use Prim.Native.Nat.{ℕ, _+_, _-_, _≤_}
 use native.Mathlib.Omega.{arith}
 use borrow.Author.Needs.{needs}
 use lib.ListN.{length, getD, take}
@@ -14,11 +14,6 @@ use Rattle.reach.proofs.Links.{column-range, body-label, end-body}
 use Rattle.reach.proofs.Spread.{Growing, growing-start, growing-turn, growing-end, row-above, rows-kept}
 use Rattle.reach.proofs.grow.Statement.{statement}
 use Rattle.reach.proofs.grow.Tie as tie
-use Rattle.reach.proofs.grow.Reads as reads
-use Rattle.reach.proofs.grow.Lts as lts
-use Rattle.reach.proofs.cell_of.Reads as cell-of-reads
-use Rattle.reach.proofs.meet.Reads as meet-reads
-use Rattle.marks.proofs.widen.Reads as widen-reads
 
 abbrev Inv-loop : tie.InvT-loop
 Inv-loop table n j chains state square₀ stack₀ d e top height₀ x₀ square stack height x =

@@ -1,15 +1,7 @@
-use mathlib.Core.Path.{_∙_}
-use Prim.Native.Nat.{ℕ}
 use borrow.Author.Needs.{needs}
 use borrow.Author.Tests.{eq-eqb, ne-eqb}
-use lib.Dec.{eqb}
-use mathlib.Core.Bool.{_||_}
-use Rattle.cells.specs.Table.{kind}
 use Rattle.reach.proofs.has_path.Statement.{statement}
 use Rattle.reach.proofs.has_path.Tie as tie
-use Rattle.reach.proofs.has_path.Reads as reads
-use Rattle.reach.proofs.has_path.Lts as lts
-use Rattle.reach.proofs.kind_of.Reads as kind-of-reads
 
 kind-of-requires : tie.Need-kind-of-requires
 kind-of-requires c κs = search needs

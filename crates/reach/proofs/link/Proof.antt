@@ -1,6 +1,6 @@
-use mathlib.Core.Path.{_≡_, refl, sym, ap, _∙_, subst}
+use mathlib.Core.Path.{_≡_, refl, sym, _∙_, subst}
 use mathlib.Core.Logic.{⊎-elim}
-use Prim.Native.Nat.{ℕ, _+_, _-_, _*_, _≤_, _<_}
+use Prim.Native.Nat.{ℕ, _+_, _-_, _≤_}
 use native.Mathlib.Omega.{arith}
 use borrow.Author.Needs.{needs}
 use lib.ListN.{length, getD, set, length-set}
@@ -11,10 +11,6 @@ use Rattle.reach.proofs.Links.{column-range, path-of, no-path, body-lab
 use Rattle.reach.proofs.Chains.{linked-none, linked-skip, linked-push}
 use Rattle.reach.proofs.link.Statement.{statement}
 use Rattle.reach.proofs.link.Tie as tie
-use Rattle.reach.proofs.link.Reads as reads
-use Rattle.reach.proofs.link.Lts as lts
-use Rattle.reach.proofs.cell_of.Reads as cell-of-reads
-use Rattle.reach.proofs.has_path.Reads as has-path-reads
 
 abbrev Inv-loop : tie.InvT-loop
 Inv-loop table n j chains₀ l₀ chains l = (1 ≤ l) × (l ≤ n + 1) × (length chains ≡ length chains₀) × Linked table n j (l - 1) chains

@@ -6,10 +6,6 @@ use Rattle.reach.proofs.Reading.{row-room}
 use Rattle.reach.proofs.Raise.{put-raised, around-value, around-other}
 use Rattle.reach.proofs.mark_around.Statement.{statement}
 use Rattle.reach.proofs.mark_around.Tie as tie
-use Rattle.reach.proofs.mark_around.Reads as reads
-use Rattle.reach.proofs.mark_around.Lts as lts
-use Rattle.reach.proofs.kind_of.Reads as kind-of-reads
-use Rattle.reach.proofs.mark_groups.Reads as mark-groups-reads
 
 add-put-mark : tie.Need-add-put-mark
 add-put-mark c = search needs

@@ -1,5 +1,5 @@
 use mathlib.Core.Path.{_≡_, refl, sym, _∙_}
-use Prim.Native.Nat.{ℕ, _+_, _*_, _/_, _≤_, _<_}
+use Prim.Native.Nat.{_+_, _*_, _/_, _≤_, _<_}
 use native.Mathlib.Omega.{arith}
 use borrow.Author.Needs.{needs}
 use lib.ListN.{length}
@@ -7,9 +7,6 @@ use Rattle.reach.proofs.Reading.{row-room}
 use Rattle.reach.proofs.Raise.{Climb, climb-start, climb-turn, climb-end, climb-found}
 use Rattle.reach.proofs.mark_groups.Statement.{statement}
 use Rattle.reach.proofs.mark_groups.Tie as tie
-use Rattle.reach.proofs.mark_groups.Reads as reads
-use Rattle.reach.proofs.mark_groups.Lts as lts
-use Rattle.reach.proofs.cell_of.Reads as cell-of-reads
 
 abbrev Inv-loop : tie.InvT-loop
 Inv-loop table n square₀ d v w g₀ square g = (length square ≡ length square₀) × Climb table n square₀ square w d v g

@@ -1,17 +1,13 @@
-use mathlib.Core.Path.{_≡_, refl, sym, _∙_, subst}
-use Prim.Native.Nat.{ℕ}
+use mathlib.Core.Path.{refl, sym, _∙_}
 use native.Mathlib.Omega.{arith}
 use borrow.Author.Needs.{needs}
-use lib.ListN.{getD, length-set}
+use lib.ListN.{length-set}
 use Rattle.reach.specs.Turns.{marked, added, pushed}
 use Rattle.reach.proofs.Links.{body-label}
 use Rattle.reach.proofs.Reading.{row-room}
 use Rattle.reach.proofs.Raise.{added-then, row-raised}
 use Rattle.reach.proofs.meet.Statement.{statement}
 use Rattle.reach.proofs.meet.Tie as tie
-use Rattle.reach.proofs.meet.Reads as reads
-use Rattle.reach.proofs.meet.Lts as lts
-use Rattle.reach.proofs.mark_around.Reads as mark-around-reads
 
 add-w : tie.Need-add-w
 add-w c = search needs

@@ -1,27 +1,21 @@
-use mathlib.Core.Path.{_≡_, refl, sym, ap, _∙_, subst}
+use mathlib.Core.Path.{_≡_, sym, _∙_}
 use mathlib.Core.Logic.{inl, ⊎-elim}
 use Prim.Native.Nat.{ℕ, _+_, _-_, _≤_, _<_}
 use native.Mathlib.Omega.{arith}
-use native.Mathlib.Decide.{ℕ-discrete}
 use borrow.Author.Needs.{needs}
 use borrow.Author.Count.{below-more}
-use lib.ListN.{length, getD}
+use lib.ListN.{getD}
 use Rattle.cells.specs.Table.{kind}
-use Rattle.reach.proofs.Visits.{Going, going-start, going-room, going-sum, going-more, begun-more, rows-none, rows-all}
-use Rattle.reach.proofs.Totals.{spent-visits}
+use Rattle.reach.proofs.Visits.{Going, going-start, going-room, going-more, begun-more, rows-none, rows-all}
 use Rattle.reach.proofs.reach_rows.Statement.{statement}
 use Rattle.reach.proofs.reach_rows.Tie as tie
-use Rattle.reach.proofs.reach_rows.Reads as reads
-use Rattle.reach.proofs.reach_rows.Lts as lts
-use Rattle.reach.proofs.kind_of.Reads as kind-of-reads
-use Rattle.reach.proofs.visit.Reads as visit-reads
 
 abbrev Inv-loop : tie.InvT-loop
-Inv-loop table n j chains state₀ square₀ stack₀ visits₀ v₀ state square stack visits v =
-    (1 ≤ v) × (v ≤ n + 1) × Going table n j state₀ square₀ stack₀ state square stack visits × ((u : ℕ) → u < v → 1 ≤ u → kind table u ≡ 2 → getD state u 0 ≡ 0 → ⊥)
+Inv-loop table n j chains state₀ square₀ stack₀ v₀ state square stack v =
+    (1 ≤ v) × (v ≤ n + 1) × Going table n j state₀ square₀ stack₀ state square stack × ((u : ℕ) → u < v → 1 ≤ u → kind table u ≡ 2 → getD state u 0 ≡ 0 → ⊥)
 
 abbrev μ-loop : tie.MeasureT-loop
-μ-loop table n j chains state₀ square₀ stack₀ visits₀ v₀ state square stack visits v = n + 1 - v
+μ-loop table n j chains state₀ square₀ stack₀ v₀ state square stack v = n + 1 - v
 
 loop-holds : tie.Need-loop-holds Inv-loop μ-loop
 loop-holds c =
@@ -36,13 +30,7 @@ visit-requires : tie.Need-visit-requires Inv-loop μ-loop
 visit-requires c κs =
     let p = c .before .before .before .before .before .before .before .before .before .before .before .pre in
     let g = c .before .before .before .before .before .before .loop .inv .2 in
-    (p .0, (p .1 .0, (p .1 .1 .0, (going-room _ _ (p .0) _ _ _ _ _ _ _ _ g (p .1 .1 .1 .0), (g .rows, inl (sym (c .before .before .before .before .kind-of .ensures) ∙ c .before .before .before .if1 .taken))))))
-
-add-visits : tie.Need-add-visits Inv-loop μ-loop
-add-visits c =
-    let p = c .before .before .before .before .before .before .before .before .before .before .before .before .before .before .before .before .before .before .pre in
-    let sum = going-sum _ _ (p .0) _ _ _ _ _ _ _ _ (c .before .before .before .before .before .before .before .before .before .before .before .before .before .loop .inv .2) _ _ _ _ (c .before .before .before .before .before .before .visit .ensures) in
-    omega (arith, p .0 .few)
+    (p .0, (p .1 .0, (p .1 .1 .0, (going-room _ _ (p .0) _ _ _ _ _ _ _ g (p .1 .1 .1 .0), (g .rows, inl (sym (c .before .before .before .before .kind-of .ensures) ∙ c .before .before .before .if1 .taken))))))
 
 add-v : tie.Need-add-v Inv-loop μ-loop
 add-v c = search needs
@@ -57,13 +45,13 @@ loop-again c =
     ⊎-elim (λ w.
     let v = w .4 in
     let k = v .kept .1 .1 .1 .1 in
-    rw (w .11, w .12, w .13, w .14) (
+    rw (w .11, w .12, w .13) (
       omega arith,
       omega arith,
-      going-more _ _ (a .pre .0) _ _ _ _ _ _ _ _ (l .loop .inv .2) _ _ _ _ (v .ensures) _ (k .0) (k .1 .0) (k .1 .1 .0),
-      begun-more _ _ (a .pre .0) _ _ _ _ _ _ (l .loop .inv .3) (v .ensures),
+      going-more _ _ (a .pre .0) _ _ _ _ _ _ _ (l .loop .inv .2) _ _ _ _ (v .ensures) (k .0) (k .1 .0) (k .1 .1 .0),
+      begun-more _ _ (a .pre .0) _ _ _ _ _ (l .loop .inv .3) (v .ensures),
     ))
-    (λ w. rw (w .1, w .2, w .3, w .4) (
+    (λ w. rw (w .1, w .2, w .3) (
       omega arith,
       omega arith,
       l .loop .inv .2,
@@ -85,10 +73,7 @@ returns c =
     let p = c .before .before .before .before .before .before .pre in
     let l = c .before in
     let g = l .loop .inv .2 in
-    let few = spent-visits _ _ (p .0) _ (p .1 .0) (l .loop .state) (λ d two. g .rows .begun d (λ z. omega arith)) in (
-      rows-all _ _ (p .0) _ _ _ _ (p .1 .1 .1 .1 .0) (g .since) (g .rows) (λ v a b. l .loop .inv .3 v (omega (arith, c .loop-test .left)) a),
-      omega (arith, few, g .few),
-    )
+    rows-all _ _ (p .0) _ _ _ _ (p .1 .1 .1 .1 .0) (g .since) (g .rows) (λ v a b. l .loop .inv .3 v (omega (arith, c .loop-test .left)) a)
 
 pub reach-rows-spec : {M : Type 1} → statement M
 reach-rows-spec =
@@ -99,7 +84,6 @@ reach-rows-spec =
     loop-holds
     kind-of-requires
     visit-requires
-    add-visits
     add-v
     loop-less
     loop-again

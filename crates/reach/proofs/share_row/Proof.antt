@@ -4,10 +4,6 @@ use borrow.Author.Needs.{needs}
 use Rattle.reach.proofs.Reading.{row-room}
 use Rattle.reach.proofs.share_row.Statement.{statement}
 use Rattle.reach.proofs.share_row.Tie as tie
-use Rattle.reach.proofs.share_row.Reads as reads
-use Rattle.reach.proofs.share_row.Lts as lts
-use Rattle.marks.proofs.has_mark.Reads as has-mark-reads
-use Rattle.marks.proofs.merge_row.Reads as merge-row-reads
 
 add-w : tie.Need-add-w
 add-w c = search needs

@@ -1,0 +1,17 @@
+//! Reads the Rattle crates of this repository: who uses whom.
+//!
+//! `uncited` finds what nothing cites, `mixed` the files that mix what readers
+//! believe with what functions promise each other, `page` writes what a reader has
+//! to believe.
+
+#![forbid(unsafe_code)]
+
+pub mod blocks;
+pub mod code;
+pub mod documents;
+pub mod files;
+pub mod graph;
+pub mod lexemes;
+pub mod scope;
+pub mod tokens;
+pub mod uncited;

@@ -19,8 +19,8 @@ use Rattle.order.proofs.Evaluating.{run-append, run-fits, run-other}
 use Rattle.evaluation.specs.Results.{stored}
 use Rattle.evaluation.specs.Ready.{Settled, Ready, Evaluable}
 use Rattle.evaluation.specs.declared.Arguments.{Arguments}
-use Rattle.evaluation.specs.declared.Kind.{Kind}
-use Rattle.evaluation.specs.declared.Kind.the-variants as kinds
+use Rattle.kinds.specs.declared.Clause.{Clause}
+use Rattle.kinds.specs.declared.Clause.the-variants as clause
 use Rattle.evaluation.proofs.Closure.{Within, From, from-closed, Leads, leads, body-within}
 use Rattle.evaluation.proofs.Stored.{ready-zeros, evaluated-own, settled-still, ready-stored}
 use Rattle.figures.specs.Figures.{figures, resultCells, evaluateInto}
@@ -34,28 +34,28 @@ module _ (t : List ℤ) (n : ℕ) (ok : Accepted t n) (v : ℕ) where
   abbrev Own : ℕ → Type 0
   Own x = Within t n (From t v) x
 
-  abbrev Leads-to : Kind → ℕ → Type 0
+  abbrev Leads-to : Clause → ℕ → Type 0
   Leads-to k l = Leads t n ok (From t v) (Reaches t v) (from-closed t v) k l
 
   -- what a line of v leads to, by its kind
-  leading : (k : Kind) (l : ℕ) → IsKind t k l → Own l → Leads-to k l
-  leading k l e o = subst (λ (k : Kind). Leads-to k l) e (leads t n ok (From t v) (Reaches t v) (from-closed t v) l o)
+  leading : (k : Clause) (l : ℕ) → IsKind t k l → Own l → Leads-to k l
+  leading k l e o = subst (λ (k : Clause). Leads-to k l) e (leads t n ok (From t v) (Reaches t v) (from-closed t v) l o)
 
   entered-own : (r : List ℤ) (x : ℕ) {l : ℕ} {g : Arguments} {s d : ℕ} → Enters t r x l g s d → Own l → Own x
   unfolding Leads
   entered-own r x itself o = o
-  entered-own r x (argument l e i) o = entered-own r x i (leading kinds.Call l e o .0)
-  entered-own r x (body l e f d i) o = entered-own r x i (leading kinds.Call l e o .1)
-  entered-own r x (first l op e i) o = entered-own r x i (leading (kinds.Operation op) l e o .0)
-  entered-own r x (second l op e f i) o = entered-own r x i (leading (kinds.Operation op) l e o .1)
-  entered-own r x (test l e i) o = entered-own r x i (leading kinds.Choice l e o .0)
-  entered-own r x (branch l e f i) o = entered-own r x i (leading kinds.Choice l e o .1 (firstOutcome t r l _ _ _ .number))
+  entered-own r x (argument l e i) o = entered-own r x i (leading (clause.Call n) l e o .0)
+  entered-own r x (body l e f d i) o = entered-own r x i (leading (clause.Call n) l e o .1)
+  entered-own r x (first l op e i) o = entered-own r x i (leading (clause.Operation op) l e o .0)
+  entered-own r x (second l op e f i) o = entered-own r x i (leading (clause.Operation op) l e o .1)
+  entered-own r x (test l e i) o = entered-own r x i (leading clause.Choice l e o .0)
+  entered-own r x (branch l e f i) o = entered-own r x i (leading clause.Choice l e o .1 (firstOutcome t r l _ _ _ .number))
 
   -- so an R that is entered reads a value that v reaches
   entered-read : (r : List ℤ) (x : ℕ) → kind t v ≡ 2 → EntersRead t r v x → (kind t (target t x) ≡ 2) × Reaches t v (target t x)
   unfolding Leads
   entered-read r x k e =
-      leading kinds.Read x (e .read) (entered-own r x (e .entered) (body-within t n ok (From t v) (Reaches t v) (from-closed t v) v (inl k) (inl refl)))
+      leading clause.Read x (e .read) (entered-own r x (e .entered) (body-within t n ok (From t v) (Reaches t v) (from-closed t v) v (inl k) (inl refl)))
 
 -- ---- down a proper order
 

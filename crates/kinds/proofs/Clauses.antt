@@ -82,6 +82,25 @@ module _ (c : ℕ) where
   unfolding wantedBy takes
   call-takes n e = eqb-true (takes (wantedBy c)) n (subst (λ x. told c (kindAt c) x ≡ true) e told-each)
 
+-- a call hands on one argument at least
+abbrev handsOn : Clause → Bool
+handsOn clause.None = true
+handsOn clause.Number = true
+handsOn (clause.Argument i) = true
+handsOn clause.Read = true
+handsOn (clause.Call n) = leb 1 n
+handsOn (clause.Operation op) = true
+handsOn clause.Choice = true
+
+pub call-some : (c n : ℕ) → clauseOf c ≡ clause.Call n → leb 1 n ≡ true
+unfolding clauseOf kinds
+call-some c n e = subst (λ x. handsOn x ≡ true) e (each (λ i k. handsOn (k .clause)) (λ i. refl) refl c)
+
+-- an N line has no operands
+pub number-plain : operandA numberCode ≡ false
+unfolding clauseOf kinds kindAt
+number-plain = a-uses numberCode
+
 -- what an arm `_` leaves: all clauses but an argument's, by their tags
 pub no-place : (x : Clause) → OneOf (0 ∷ 1 ∷ 3 ∷ 4 ∷ 5 ∷ 6 ∷ []) (tagOf tags.the-type x) → placeIn x ≡ 0
 no-place clause.None h = refl

@@ -12,10 +12,11 @@ use lib.IntN.{ℤ}
 use lib.ListN.{length, getD, set, take, drop, length-set, length-append, drop-of-length-le, take-append-drop}
 use lib.Seq.{getD-set-same, getD-set-other, take-suc-set, length-take-le, drop-cons, getD-take}
 use borrow.Author.Tests.{eq-eqb, ne-eqb}
-use Rattle.cells.specs.Table.{kind, owner}
+use Rattle.kinds.specs.Kinds.{groupCode, valueCode, functionCode}
+use Rattle.cells.specs.Table.{kind, owner, isDefinition}
 use Rattle.cells.specs.Accepted.{Accepted}
 use Rattle.order.specs.Lists.{count, _∈_, upFrom, filter}
-use Rattle.order.specs.Order.{isG, isV, isF, isDefinition, labels, isMember, members}
+use Rattle.order.specs.Order.{isG, isV, labels, isMember, members}
 use Rattle.order.proofs.Tests.{so-or-not, and-right}
 use Rattle.order.proofs.Lists.{in-here, in-there, in-right, in-filter, count-below, count-here, count-append, count-filter-le, upFrom-once, filter-le, length-upFrom}
 use Rattle.placing.specs.Placing.{Rising}
@@ -153,15 +154,15 @@ module _ (t : List ℤ) (n : ℕ) where
 pub def-of : (t : List ℤ) (l : ℕ) → 1 ≤ kind t l → kind t l ≤ 3 → isDefinition t l ≡ true
 def-of t l a b = go (ℕ-discrete (kind t l) 1) (ℕ-discrete (kind t l) 2)
   where
-    go : Dec (kind t l ≡ 1) → Dec (kind t l ≡ 2) → isDefinition t l ≡ true
-    go (yes e) _ = rw (eq-eqb (kind t l) 1 e)
-    go (no e) (yes f) = rw (ne-eqb (kind t l) 1 e, eq-eqb (kind t l) 2 f)
+    go : Dec (kind t l ≡ groupCode) → Dec (kind t l ≡ valueCode) → isDefinition t l ≡ true
+    go (yes e) _ = rw (eq-eqb (kind t l) groupCode e)
+    go (no e) (yes f) = rw (ne-eqb (kind t l) groupCode e, eq-eqb (kind t l) valueCode f)
     go (no e) (no f) =
-        let g : kind t l ≡ 3 = omega arith in
-        rw (ne-eqb (kind t l) 1 e, ne-eqb (kind t l) 2 f, eq-eqb (kind t l) 3 g)
+        let g : kind t l ≡ functionCode = omega arith in
+        rw (ne-eqb (kind t l) groupCode e, ne-eqb (kind t l) valueCode f, eq-eqb (kind t l) functionCode g)
 
 pub not-def : (t : List ℤ) (l : ℕ) → 3 < kind t l → isDefinition t l ≡ false
-not-def t l h = rw (ne-eqb (kind t l) 1 (λ e. omega arith), ne-eqb (kind t l) 2 (λ e. omega arith), ne-eqb (kind t l) 3 (λ e. omega arith))
+not-def t l h = rw (ne-eqb (kind t l) groupCode (λ e. omega arith), ne-eqb (kind t l) valueCode (λ e. omega arith), ne-eqb (kind t l) functionCode (λ e. omega arith))
 
 -- ---- walking a chain
 

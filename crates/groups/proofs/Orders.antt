@@ -12,11 +12,12 @@ use lib.IntN.{ℤ}
 use lib.ListN.{length, getD, take}
 use lib.Seq.{length-take-le}
 use borrow.Author.Tests.{eq-eqb, ne-eqb, eqb-true}
-use Rattle.cells.specs.Table.{kind, owner}
+use Rattle.kinds.specs.Kinds.{groupCode, functionCode}
+use Rattle.cells.specs.Table.{kind, owner, isDefinition}
 use Rattle.cells.specs.Accepted.{Accepted}
 use Rattle.order.specs.Lists.{one, count, _∈_, mem, any, first, filter}
 use Rattle.order.specs.Placing.{waits, next, place, rounds, placed, stuck}
-use Rattle.order.specs.Order.{isG, isV, isF, isDefinition, labels, isMember, members, values, reaches, needs, ordered, groupStuck, mixedPlan, place16, NoCycle}
+use Rattle.order.specs.Order.{isG, isV, labels, isMember, members, values, reaches, needs, ordered, groupStuck, mixedPlan, place16, NoCycle}
 use Rattle.order.proofs.Tests.{clash, so-or-not, not-so, or-cases}
 use Rattle.order.proofs.Lists.{in-here, in-there, zero-or-in, length-mono, length-upFrom}
 use Rattle.order.proofs.Placing.{placed-sub, placed-all}
@@ -88,13 +89,13 @@ module _ (t : List ℤ) (n : ℕ) (ok : Accepted t n) where
       go (inl e) = two (or-cases (isG t p) (isV t p) e)
       go (inr e) = inr e
 
-  f-kind : (p : ℕ) → isF t p ≡ true → kind t p ≡ 3
-  f-kind p e = eqb-true (kind t p) 3 e
+  f-kind : (p : ℕ) → isF t p ≡ true → kind t p ≡ functionCode
+  f-kind p e = eqb-true (kind t p) functionCode e
 
   f-empty : (p x : ℕ) → isDefinition t p ≡ true → isF t p ≡ true → holds t p x ≡ true → ⊥
   f-empty p x d e h =
       let k = f-kind p e in
-      let g : isG t p ≡ false = ne-eqb (kind t p) 1 (λ z. omega arith) in
+      let g : isG t p ≡ false = ne-eqb (kind t p) groupCode (λ z. omega arith) in
       let z : x ≡ p = only-itself t n ok p x d g h in
       omega (arith, v-kind t p (subst (λ (y : ℕ). isV t y ≡ true) z (holds-v t n ok p x h)))
 
@@ -242,7 +243,7 @@ scratch-as n a b c d e a′ b′ c′ d′ e′ p q r s u h = record {
 pub holder-of : (t : List ℤ) (p : ℕ) → 1 ≤ kind t p → kind t p ≤ 2 → Holder t p
 holder-of t p a b = go (ℕ-discrete (kind t p) 1)
   where
-    go : Dec (kind t p ≡ 1) → Holder t p
+    go : Dec (kind t p ≡ groupCode) → Holder t p
     go (yes e) = inl e
     go (no e) = inr (omega arith)
 

@@ -7,12 +7,13 @@ use Prim.Native.Nat.{ℕ, _-_, _*_, _≤_, _<_}
 use native.Mathlib.Omega.{arith}
 use native.Mathlib.Decide.{ℕ-discrete}
 use lib.IntN.{ℤ}
-use Rattle.cells.specs.Table.{cell, kind, owner, target}
+use Rattle.kinds.specs.Kinds.{groupCode, valueCode}
+use Rattle.cells.specs.Table.{cell, kind, owner, target, isDefinition, hasPath}
 use Rattle.cells.specs.Accepted.{Accepted, HasBody}
 use Rattle.cells.specs.Reaches.{HasPath, Mentions, Reaches, once as mention, then as and}
 use lib.Dec.{eqb}
 use borrow.Author.Tests.{eqb-true, eq-eqb}
-use Rattle.order.specs.Order.{isDefinition, hasPath}
+use Rattle.order.specs.Order.{}
 use Rattle.order.proofs.Tests.{clash, or-cases, or-none-left, or-none-right}
 use Rattle.order.proofs.Tables.{g-kind, kind-v, v-def, kind-label}
 use Rattle.order.proofs.Tree.{within-owner, leaf}
@@ -42,7 +43,7 @@ module _ (t : List ℤ) (n : ℕ) (ok : Accepted t n) where
   body-label y (inl e) = kind-label t n ok y (omega arith)
   body-label y (inr e) = kind-label t n ok y (omega arith)
 
-  pub body-group : (y : ℕ) → HasBody t y → kind t y ≡ 1 → ⊥
+  pub body-group : (y : ℕ) → HasBody t y → kind t y ≡ groupCode → ⊥
   body-group y (inl e) k = omega arith
   body-group y (inr e) k = omega arith
 
@@ -84,33 +85,33 @@ module _ (t : List ℤ) (n : ℕ) (ok : Accepted t n) where
 
     -- ---- what is around an end
 
-    v-definition : (y : ℕ) → kind t y ≡ 2 → isDefinition t y ≡ true
+    v-definition : (y : ℕ) → kind t y ≡ valueCode → isDefinition t y ≡ true
     v-definition y e = v-def t y (kind-v t y e)
 
     -- what is around a V is the V or a Group
-    pub around-case : (y q : ℕ) → Around t y q → (q ≡ y) ⊎ (kind t q ≡ 1)
+    pub around-case : (y q : ℕ) → Around t y q → (q ≡ y) ⊎ (kind t q ≡ groupCode)
     around-case y q (inl e) = inl e
     around-case y q (inr (k, h, u)) = go (ℕ-discrete q y)
       where
-        go : Dec (q ≡ y) → (q ≡ y) ⊎ (kind t q ≡ 1)
+        go : Dec (q ≡ y) → (q ≡ y) ⊎ (kind t q ≡ groupCode)
         go (yes e) = inl e
         go (no e) = inr (g-kind t q (leaf t n ok q y h (v-definition y k) u (λ z. e (sym z))))
 
     pub around-body : (y q : ℕ) → HasBody t q → Around t y q → q ≡ y
     around-body y q b a = go (around-case y q a)
       where
-        go : (q ≡ y) ⊎ (kind t q ≡ 1) → q ≡ y
+        go : (q ≡ y) ⊎ (kind t q ≡ groupCode) → q ≡ y
         go (inl e) = e
         go (inr e) = absurd (body-group q b e)
 
-    pub around-owner : (y g : ℕ) → HasBody t y → kind t g ≡ 1 → 1 ≤ owner t g → Around t y g → Around t y (owner t g)
-    around-owner y g b k h (inl e) = absurd (body-group y b (subst (λ (x : ℕ). kind t x ≡ 1) e k))
+    pub around-owner : (y g : ℕ) → HasBody t y → kind t g ≡ groupCode → 1 ≤ owner t g → Around t y g → Around t y (owner t g)
+    around-owner y g b k h (inl e) = absurd (body-group y b (subst (λ (x : ℕ). kind t x ≡ groupCode) e k))
     around-owner y g b k h (inr (v, p, u)) = inr (v, h, within-owner t n ok g y u)
 
     pub around-label : (y q : ℕ) → HasBody t y → Around t y q → (1 ≤ q) × (q ≤ n)
     around-label y q b a = go (around-case y q a)
       where
-        go : (q ≡ y) ⊎ (kind t q ≡ 1) → (1 ≤ q) × (q ≤ n)
+        go : (q ≡ y) ⊎ (kind t q ≡ groupCode) → (1 ≤ q) × (q ≤ n)
         go (inl e) = subst (λ (x : ℕ). (1 ≤ x) × (x ≤ n)) (sym e) (body-label y b)
         go (inr e) = kind-label t n ok q (omega arith)
 
@@ -128,7 +129,7 @@ module _ (t : List ℤ) (n : ℕ) (ok : Accepted t n) where
     pub touch-around : {d y q : ℕ} → Links t j d y → Around t y q → Touches t j d q
     touch-around {d} {y} r a = record { end = y; links = r; around = a }
 
-    pub touch-owner : {d g : ℕ} → Touches t j d g → kind t g ≡ 1 → 1 ≤ owner t g → Touches t j d (owner t g)
+    pub touch-owner : {d g : ℕ} → Touches t j d g → kind t g ≡ groupCode → 1 ≤ owner t g → Touches t j d (owner t g)
     touch-owner {d} {g} h k p = record { end = h .end; links = h .links; around = around-owner (h .end) g (links-body (h .links)) k p (h .around) }
 
 -- ---- links by column 7 are mentions, and links by column 6 lead back

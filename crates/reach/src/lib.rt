@@ -5,9 +5,10 @@ ghost use mathlib.Core.Path.{_≡_};
 ghost use mathlib.Core.Logic.{_⊎_};
 ghost use Prim.Native.Nat.{ℕ, _+_, _*_, _≤_, _<_};
 ghost use lib.ListN.{length, getD, take};
-ghost use Rattle.cells.specs.Table.{cell, kind, owner};
+ghost use Rattle.kinds.specs.Kinds.{valueCode};
+ghost use Rattle.cells.specs.Table.{cell, kind, owner, hasPath};
 ghost use Rattle.cells.specs.Accepted.{Accepted, HasBody};
-ghost use Rattle.order.specs.Order.{Within, hasPath, place16};
+ghost use Rattle.order.specs.Order.{Within, place16};
 ghost use Rattle.marks.specs.Marks.{mark, Added};
 ghost use Rattle.reach.specs.Links.{Column, Links, Around};
 ghost use Rattle.reach.specs.Rows.{width, Row, Blank, AllRows, Rows, Room};
@@ -74,7 +75,7 @@ fn link(table: &[i64], n: usize, j: usize, chains: &mut [u16])
 fn mark_groups(table: &[i64], n: usize, square: &mut [u64], d: usize, v: usize)
     requires { ⌜ Accepted (now table) n ⌝ }
     requires { ⌜ (d ≤ n) × (1 ≤ v) × (v ≤ n) × ((n + 1) * width n ≤ length (now square)) ⌝ }
-    requires { ⌜ kind (now table) v ≡ 2 ⌝ }
+    requires { ⌜ kind (now table) v ≡ valueCode ⌝ }
     requires { ⌜ Raised (now table) (mark (now square) (width n) d) ⌝ }
     ensures { λ _. ⌜ Added (λ (q : ℕ). (1 ≤ q) × Within (now (table .entry)) q (owner (now (table .entry)) v)) (now (square .entry)) (now (square .exit)) (width n) d ⌝ }
 {

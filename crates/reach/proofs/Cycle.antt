@@ -6,6 +6,7 @@ use mathlib.Core.Bool.{true, false}
 use Prim.Native.Nat.{ℕ, zero, suc, _≤_, _<_}
 use native.Mathlib.Omega.{arith}
 use lib.IntN.{ℤ}
+use Rattle.kinds.proofs.Laws.{value-body}
 use Rattle.kinds.specs.Kinds.{valueCode}
 use Rattle.cells.specs.Table.{kind}
 use Rattle.cells.specs.Accepted.{Accepted}
@@ -32,7 +33,7 @@ module _ (t : List ℤ) (n : ℕ) (ok : Accepted t n) where
 
   module _ (j : ℕ) (col : Column j) (square : List ℕ) (rows : AllRows t n j square) (v : ℕ) (k : kind t v ≡ valueCode) where
     pub cycle-marked : mark square (width n) v v ≡ true → Reaches t v v
-    cycle-marked m = itself-exact t j v col .0 (touch-body t n ok j col (rows .values v k v .0 m) (inl k))
+    cycle-marked m = itself-exact t j v col .0 (touch-body t n ok j col (rows .values v k v .0 m) (rw k value-body))
 
     pub cycle-unmarked : mark square (width n) v v ≡ false → Reaches t v v → ⊥
     cycle-unmarked m r = clash (mark square (width n) v v) (rows .values v k v .1 (record { end = v; links = itself-exact t j v col .1 r; around = inl refl })) m

@@ -2,19 +2,17 @@
 use mathlib.Core.Path.{_≡_, sym, subst}
 use mathlib.Core.Logic.{_⊎_, inl, inr, _↔_}
 use mathlib.Core.List.{List}
-use mathlib.Core.Bool.{true, false}
+use mathlib.Core.Bool.{true}
 use Prim.Native.Nat.{ℕ, _-_, _*_, _≤_, _<_}
 use native.Mathlib.Omega.{arith}
 use native.Mathlib.Decide.{ℕ-discrete}
 use lib.IntN.{ℤ}
 use Rattle.kinds.specs.Kinds.{groupCode, valueCode}
-use Rattle.cells.specs.Table.{cell, kind, owner, target, isDefinition, hasPath}
+use Rattle.kinds.proofs.Laws.{kind-low, definition-kind, expression-kind, body-definition, path-expression, path-body, group-bodiless}
+use Rattle.cells.specs.Table.{cell, kind, isDefinition, hasBody, owner, target}
 use Rattle.cells.specs.Accepted.{Accepted, HasBody}
 use Rattle.cells.specs.Reaches.{HasPath, Mentions, Reaches, once as mention, then as and}
-use lib.Dec.{eqb}
-use borrow.Author.Tests.{eqb-true, eq-eqb}
-use Rattle.order.specs.Order.{}
-use Rattle.order.proofs.Tests.{clash, or-cases, or-none-left, or-none-right}
+use Rattle.order.proofs.Tests.{clash}
 use Rattle.order.proofs.Tables.{g-kind, kind-v, v-def, kind-label}
 use Rattle.order.proofs.Tree.{within-owner, leaf}
 use Rattle.reach.specs.Links.{Column, Link, Links, once, then, Around, Touches}
@@ -24,47 +22,28 @@ pub column-range : (j : ℕ) → Column j → (6 ≤ j) × (j ≤ 7)
 column-range j (inl e) = (omega arith, omega arith)
 column-range j (inr e) = (omega arith, omega arith)
 
--- the test of a path
-pub path-of : (t : List ℤ) (x : ℕ) → hasPath t x ≡ true → HasPath t x
-path-of t x h = go (or-cases (eqb (kind t x) 6) (eqb (kind t x) 7) h)
-  where
-    go : (eqb (kind t x) 6 ≡ true) ⊎ (eqb (kind t x) 7 ≡ true) → HasPath t x
-    go (inl q) = inl (eqb-true (kind t x) 6 q)
-    go (inr q) = inr (eqb-true (kind t x) 7 q)
-
-pub no-path : (t : List ℤ) (x : ℕ) → hasPath t x ≡ false → HasPath t x → ⊥
-no-path t x h (inl q) = clash (eqb (kind t x) 6) (eq-eqb (kind t x) 6 q) (or-none-left (eqb (kind t x) 6) (eqb (kind t x) 7) h)
-no-path t x h (inr q) = clash (eqb (kind t x) 7) (eq-eqb (kind t x) 7 q) (or-none-right (eqb (kind t x) 6) (eqb (kind t x) 7) h)
-
 module _ (t : List ℤ) (n : ℕ) (ok : Accepted t n) where
   -- ---- what has a body is a label, and no Group
 
   pub body-label : (y : ℕ) → HasBody t y → (1 ≤ y) × (y ≤ n)
-  body-label y (inl e) = kind-label t n ok y (omega arith)
-  body-label y (inr e) = kind-label t n ok y (omega arith)
+  body-label y b = kind-label t n ok y (kind-low (kind t y) (definition-kind (kind t y) (body-definition (kind t y) b)))
 
   pub body-group : (y : ℕ) → HasBody t y → kind t y ≡ groupCode → ⊥
-  body-group y (inl e) k = omega arith
-  body-group y (inr e) k = omega arith
+  body-group y b k = clash (hasBody t y) b (rw k group-bodiless)
 
   pub in-row : (q : ℕ) → q ≤ n → q < 64 * width n
   in-row q h = omega arith
 
-  pub path-low : (l : ℕ) → HasPath t l → 4 ≤ kind t l
-  path-low l (inl e) = omega arith
-  path-low l (inr e) = omega arith
-
   pub path-label : (l : ℕ) → HasPath t l → (1 ≤ l) × (l ≤ n)
-  path-label l p = kind-label t n ok l (omega (arith, path-low l p))
+  path-label l p = kind-label t n ok l (kind-low (kind t l) (expression-kind (kind t l) (path-expression (kind t l) p)))
 
   -- ---- the ends of a link have bodies
 
   target-body : (l : ℕ) → HasPath t l → HasBody t (target t l)
-  target-body l (inl e) = inl (ok .reads l e)
-  target-body l (inr e) = inr (ok .calls l e)
+  target-body l p = rw (ok .leads l p) (path-body (kind t l) p)
 
   pub end-body : (j l : ℕ) → Column j → HasPath t l → HasBody t (cell t l j)
-  end-body j l (inl e) p = let b = path-label l p in rw e (ok .owners l (b .0) (b .1) (path-low l p))
+  end-body j l (inl e) p = rw e (ok .owners l (path-expression (kind t l) p))
   end-body j l (inr e) p = rw e (target-body l p)
 
   pub other-column : (j : ℕ) → Column j → Column (13 - j)

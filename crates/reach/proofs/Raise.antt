@@ -8,7 +8,8 @@ use native.Mathlib.Omega.{arith}
 use native.Mathlib.Decide.{ℕ-discrete}
 use lib.IntN.{ℤ}
 use Rattle.kinds.specs.Kinds.{groupCode, valueCode}
-use Rattle.cells.specs.Table.{kind, owner}
+use Rattle.kinds.proofs.Laws.{group-definition, value-definition}
+use Rattle.cells.specs.Table.{kind, isDefinition, owner}
 use Rattle.cells.specs.Accepted.{Accepted, HasBody}
 use Rattle.order.specs.Order.{up, Within}
 use Rattle.order.proofs.Tree.{within-owner}
@@ -35,7 +36,7 @@ pub record Climb (t : List ℤ) (n : ℕ) (s₀ s : List ℕ) (w d v g : ℕ) : 
 
 module _ (t : List ℤ) (n : ℕ) (ok : Accepted t n) where
   -- a label other than 1 has a Group
-  has-group : (l : ℕ) → 1 ≤ l → l ≤ n → kind t l ≤ 3 → (owner t l ≡ 0 → ⊥) → kind t (owner t l) ≡ groupCode
+  has-group : (l : ℕ) → 1 ≤ l → l ≤ n → isDefinition t l ≡ true → (owner t l ≡ 0 → ⊥) → kind t (owner t l) ≡ groupCode
   has-group l a b k z = ok .group l (at l a z) b k
     where
       at : (l : ℕ) → 1 ≤ l → (owner t l ≡ 0 → ⊥) → 2 ≤ l
@@ -47,7 +48,7 @@ module _ (t : List ℤ) (n : ℕ) (ok : Accepted t n) where
     pub climb-start : 1 ≤ v → v ≤ n → kind t v ≡ valueCode → Raised t (mark s₀ w d) → Climb t n s₀ s₀ w d v (owner t v)
     climb-start a b k r = record {
       low = omega (arith, ok .falls v a b);
-      group = λ z. (has-group v a b (omega arith) z, (0, refl));
+      group = λ z. (has-group v a b (rw k value-definition) z, (0, refl));
       others = λ x q e. refl;
       kept = λ q e. e;
       only = λ q e. inl e;
@@ -59,7 +60,7 @@ module _ (t : List ℤ) (n : ℕ) (ok : Accepted t n) where
       pub climb-turn : (g ≡ 0 → ⊥) → g < 64 * w → (s′ : List ℕ) → Added (λ (q : ℕ). q ≡ g) s s′ w d → Climb t n s₀ s′ w d v (owner t g)
       climb-turn z room s′ add = record {
         low = omega (arith, ok .falls g some (c .low), c .low);
-        group = λ y. (has-group g some (c .low) (omega (arith, c .group z .0)) y, within-owner t n ok g (owner t v) (c .group z .1));
+        group = λ y. (has-group g some (c .low) (rw (c .group z .0) group-definition) y, within-owner t n ok g (owner t v) (c .group z .1));
         others = λ a q e. add .others a q e ∙ c .others a q e;
         kept = λ q e. add .kept q (c .kept q e);
         only = λ q e. only q (add .only q e);
@@ -117,7 +118,7 @@ module _ (t : List ℤ) (n : ℕ) (ok : Accepted t n) where
               go (yes y) r =
                   let y₁ : up t i (owner t x) ≡ 0 = ap (up t i) y ∙ up-zero t i in
                   absurd (omega arith)
-              go (no y) r = r (omega arith) (omega (arith, ok .falls x a b)) (has-group x a b (omega arith) y) (full x k e (omega arith)) h
+              go (no y) r = r (omega arith) (omega (arith, ok .falls x a b)) (has-group x a b (rw k group-definition) y) (full x k e (omega arith)) h
 
           new : (q : ℕ) → (1 ≤ q) × Within t q (owner t v) → (mark s w d q ≡ true) ⊎ Within t q g → mark s w d q ≡ true
           new q p (inl e) = e

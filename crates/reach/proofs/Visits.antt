@@ -11,6 +11,7 @@ use lib.ListN.{length, getD, set, length-set}
 use lib.Seq.{getD-set-same, getD-set-other}
 use borrow.Author.Count.{below-more}
 use borrow.Author.Tests.{eqb-true, eq-eqb, ne-eqb}
+use Rattle.kinds.proofs.Laws.{value-body}
 use Rattle.kinds.specs.Kinds.{valueCode}
 use Rattle.cells.specs.Table.{kind}
 use Rattle.cells.specs.Accepted.{Accepted, HasBody}
@@ -188,7 +189,7 @@ module _ (t : List ℤ) (n : ℕ) (ok : Accepted t n) (j : ℕ) where
   pub rows-all : (state₀ state square : List ℕ) → ((d : ℕ) → getD state₀ d 0 ≡ 0) → Since state₀ state → Rows t n j state square
       → ((v : ℕ) → 1 ≤ v → v ≤ n → kind t v ≡ valueCode → getD state v 0 ≡ 0 → ⊥) → AllRows t n j square
   rows-all state₀ state square z s r all = record {
-    values = λ v k. r .made v (two v (body-label t n ok v (inl k)) k);
+    values = λ v k. r .made v (two v (body-label t n ok v (rw k value-body)) k);
     groups = λ g k. r .blank g (λ y. body-group t n ok g (r .begun g (λ x. omega arith)) k);
   }
     where

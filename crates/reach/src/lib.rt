@@ -35,17 +35,13 @@ pub fn cell_of(table: &[i64], n: usize, label: usize, j: usize) -> usize
     table[8 * (label - 1) + j] as usize
 }
 
-// Whether the line has a path: R or C.
+// Whether the line has a path.
 fn has_path(table: &[i64], n: usize, label: usize) -> bool
     requires { ⌜ Accepted (now table) n ⌝ }
     requires { ⌜ (1 ≤ label) × (label ≤ n) ⌝ }
     ensures { λ r. ⌜ r ≡ hasPath (now (table .entry)) label ⌝ }
 {
-    let k = kind_of(table, n, label);
-    if k == cells::READ {
-        return true;
-    }
-    k == cells::CALL
+    kinds::has_path(kind_of(table, n, label))
 }
 
 // ---- chains of lines
@@ -99,7 +95,7 @@ fn mark_around(table: &[i64], n: usize, square: &mut [u64], d: usize, e: usize)
     ensures { λ _. ⌜ Added (λ (q : ℕ). Around (now (table .entry)) e q) (now (square .entry)) (now (square .exit)) (width n) d ⌝ }
 {
     marks::put_mark(square, n / 64 + 1, d, e);
-    if kind_of(table, n, e) == cells::VALUE {
+    if kind_of(table, n, e) == kinds::VALUE {
         mark_groups(table, n, square, d, e);
     }
 }
@@ -271,7 +267,7 @@ fn reach_rows(
 {
     let mut v = 1;
     while v <= n {
-        if kind_of(table, n, v) == cells::VALUE {
+        if kind_of(table, n, v) == kinds::VALUE {
             visit(table, n, j, chains, state, square, stack, v);
         }
         v += 1;
@@ -288,7 +284,7 @@ fn first_cycle(table: &[i64], n: usize, j: usize, square: &[u64]) -> usize
 {
     let mut v = 1;
     while v <= n {
-        if kind_of(table, n, v) == cells::VALUE { // functions may reach themselves
+        if kind_of(table, n, v) == kinds::VALUE { // functions may reach themselves
             if marks::has_mark(square, n / 64 + 1, v, v) {
                 return v;
             }

@@ -5,6 +5,7 @@ use native.Mathlib.Omega.{arith}
 use borrow.Author.Needs.{needs}
 use borrow.Author.Count.{below-more}
 use lib.ListN.{getD}
+use Rattle.kinds.proofs.Laws.{value-body}
 use Rattle.kinds.specs.Kinds.{valueCode}
 use Rattle.cells.specs.Table.{kind}
 use Rattle.reach.proofs.Visits.{Going, going-start, going-room, going-more, begun-more, rows-none, rows-all}
@@ -31,7 +32,7 @@ visit-requires : tie.Need-visit-requires Inv-loop μ-loop
 visit-requires c κs =
     let p = c .before .before .before .before .before .before .before .before .before .before .before .pre in
     let g = c .before .before .before .before .before .before .loop .inv .2 in
-    (p .0, (p .1 .0, (p .1 .1 .0, (going-room _ _ (p .0) _ _ _ _ _ _ _ g (p .1 .1 .1 .0), (g .rows, inl (sym (c .before .before .before .before .kind-of .ensures) ∙ c .before .before .before .if1 .taken))))))
+    (p .0, (p .1 .0, (p .1 .1 .0, (going-room _ _ (p .0) _ _ _ _ _ _ _ g (p .1 .1 .1 .0), (g .rows, rw (sym (c .before .before .before .before .kind-of .ensures) ∙ c .before .before .before .if1 .taken) value-body)))))
 
 add-v : tie.Need-add-v Inv-loop μ-loop
 add-v c = search needs

@@ -10,7 +10,7 @@ use lib.IntN.{ℤ, natAbs}
 use lib.ListN.{length}
 use Rattle.kinds.specs.Kinds.{valueCode, numberCode, operandA, clauseOf}
 use Rattle.kinds.proofs.Tests.{clash}
-use Rattle.kinds.proofs.Laws.{value-body}
+use Rattle.kinds.proofs.Plans.{value-body}
 use Rattle.kinds.proofs.Clauses.{usesOf, a-uses, call-some, number-plain}
 use Rattle.cells.specs.Table.{kind, fieldA, fieldB, owner, target}
 use Rattle.cells.specs.Reaches.{Reaches}

@@ -149,21 +149,6 @@ module _ (t : List ℤ) (n : ℕ) where
       subst (λ (j : ℕ). Chain n next (getD next g 0) (filter (isMember t g) (upFrom 1 j))) b
       (subst (λ (j : ℕ). Chain n next (getD next g 0) (filter (isMember t g) (upFrom (suc j) (n - j)))) a (k g m))
 
--- ---- kinds of definitions
-
-pub def-of : (t : List ℤ) (l : ℕ) → 1 ≤ kind t l → kind t l ≤ 3 → isDefinition t l ≡ true
-def-of t l a b = go (ℕ-discrete (kind t l) 1) (ℕ-discrete (kind t l) 2)
-  where
-    go : Dec (kind t l ≡ groupCode) → Dec (kind t l ≡ valueCode) → isDefinition t l ≡ true
-    go (yes e) _ = rw (eq-eqb (kind t l) groupCode e)
-    go (no e) (yes f) = rw (ne-eqb (kind t l) groupCode e, eq-eqb (kind t l) valueCode f)
-    go (no e) (no f) =
-        let g : kind t l ≡ functionCode = omega arith in
-        rw (ne-eqb (kind t l) groupCode e, ne-eqb (kind t l) valueCode f, eq-eqb (kind t l) functionCode g)
-
-pub not-def : (t : List ℤ) (l : ℕ) → 3 < kind t l → isDefinition t l ≡ false
-not-def t l h = rw (ne-eqb (kind t l) groupCode (λ e. omega arith), ne-eqb (kind t l) valueCode (λ e. omega arith), ne-eqb (kind t l) functionCode (λ e. omega arith))
-
 -- ---- walking a chain
 
 take-one : (l : List ℕ) (m p : ℕ) → m < length l → take (m + 1) (set l m p) ≡ take m l ++ p ∷ []

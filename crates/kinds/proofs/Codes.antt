@@ -84,7 +84,7 @@ not-among (x ∷ xs) c h = rw (ne-eqb c x (h .1)) (not-among xs c (h .0))
 
 -- the rows that pass p have codes of those arms, so that its row does not
 module _ (p : Kind → Bool) (codes : List ℕ) (none : p noKind ≡ false) (rows : every (λ i k. implies (p k) (among codes i)) 1 kinds ≡ true) (c : ℕ) where
-  other : Other codes c → p (kindAt c) ≡ false
+  pub other : Other codes c → p (kindAt c) ≡ false
   other h = go (p (kindAt c)) refl
     where
       go : (b : Bool) → p (kindAt c) ≡ b → b ≡ false

@@ -8,7 +8,7 @@ use native.Mathlib.Omega.{arith}
 use borrow.Author.Tests.{leb-true, le-leb}
 use lib.Dec.{leb, eqb, leb·suc-zero, leb·suc-suc}
 use lib.ListN.{length, getD}
-use Rattle.kinds.specs.Kinds.{groupCode, valueCode, Kind, kinds, noKind, kindAt, fieldsAt, isKind, isGroup, isOperand, isPath, isDefinition, isExpression, hasBody, hasPath, wantedBy}
+use Rattle.kinds.specs.Kinds.{Kind, kinds, noKind, kindAt, fieldsAt, isKind, isGroup, isOperand, isPath, isDefinition, isExpression, hasBody, hasPath, wantedBy}
 use Rattle.kinds.proofs.Tests.{clash, and-left, and-right}
 use Rattle.kinds.proofs.Rows.{by-rule, by-rows}
 
@@ -132,21 +132,3 @@ module _ (c : ℕ) where
   pub path-wanted : not (eqb (wantedBy c) 0) ≡ hasPath c
   unfolding hasPath wantedBy kinds
   path-wanted = by-rows (λ k. not (eqb (k .wanted) 0)) leads refl refl c
-
--- ---- Groups and values
-
-pub group-definition : isDefinition groupCode ≡ true
-unfolding isDefinition kindAt kinds
-group-definition = refl
-
-pub value-definition : isDefinition valueCode ≡ true
-unfolding isDefinition kindAt kinds
-value-definition = refl
-
-pub group-bodiless : hasBody groupCode ≡ false
-unfolding hasBody isDefinition kindAt kinds
-group-bodiless = refl
-
-pub value-body : hasBody valueCode ≡ true
-unfolding hasBody isDefinition kindAt kinds
-value-body = refl

@@ -3,3 +3,4 @@ pub mod Rows
 pub mod Laws
 pub mod Clauses
 pub mod Codes
+pub mod Plans

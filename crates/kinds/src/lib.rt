@@ -2,7 +2,7 @@
 
 ghost use mathlib.Core.Path.{_≡_};
 ghost use mathlib.Core.Bool.{true};
-ghost use Rattle.kinds.specs.Kinds.{fieldsAt, codeOf, isKind, isDefinition, isExpression, hasPath, clauseOf, wantedBy, takes, placeOf};
+ghost use Rattle.kinds.specs.Kinds.{fieldsAt, codeOf, isKind, isDefinition, isExpression, hasPath, clauseOf, wantedBy, takes, placeOf, givesValues};
 
 // ---- what a row holds
 
@@ -248,5 +248,16 @@ pub fn place_of(code: usize) -> usize
     match clause_of(code) {
         Clause::Argument(place) => place,
         _ => 0,
+    }
+}
+
+// Whether they have values in a plan: Groups and values.
+pub fn gives_values(code: usize) -> bool
+    ensures { λ r. ⌜ r ≡ givesValues code ⌝ }
+{
+    match code {
+        GROUP => true,
+        VALUE => true,
+        _ => false,
     }
 }

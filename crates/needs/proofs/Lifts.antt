@@ -8,7 +8,8 @@ use native.Mathlib.Omega.{arith}
 use native.Mathlib.Decide.{ℕ-discrete}
 use lib.IntN.{ℤ}
 use Rattle.kinds.specs.Kinds.{groupCode, valueCode}
-use Rattle.cells.specs.Table.{kind, owner}
+use Rattle.kinds.proofs.Plans.{group-definition, value-definition}
+use Rattle.cells.specs.Table.{kind, isDefinition, owner}
 use Rattle.cells.specs.Accepted.{Accepted, HasBody}
 use Rattle.order.specs.Order.{isV, up, Within, needs, reaches}
 use Rattle.order.proofs.Tests.{clash, so-or-not, not-so}
@@ -19,7 +20,7 @@ use Rattle.marks.specs.Marks.{mark, Added, Dropped}
 use Rattle.marks.proofs.Squares.{mark-in}
 use Rattle.reach.specs.Links.{Links, Around, Touches}
 use Rattle.reach.specs.Rows.{width, AllRows}
-use Rattle.reach.proofs.Links.{links-body, around-label, back-exact}
+use Rattle.reach.proofs.Links.{body-group, links-body, around-label, back-exact}
 use Rattle.needs.specs.Needs.{Holder, Wanted, Lifting, Cut, NeedRows}
 
 module _ (t : List ℤ) (n : ℕ) (ok : Accepted t n) where
@@ -27,9 +28,9 @@ module _ (t : List ℤ) (n : ℕ) (ok : Accepted t n) where
   holder-label q (inl e) = kind-label t n ok q (omega arith)
   holder-label q (inr e) = kind-label t n ok q (omega arith)
 
-  holder-def : (q : ℕ) → Holder t q → kind t q ≤ 3
-  holder-def q (inl e) = omega arith
-  holder-def q (inr e) = omega arith
+  holder-def : (q : ℕ) → Holder t q → isDefinition t q ≡ true
+  holder-def q (inl e) = rw e group-definition
+  holder-def q (inr e) = rw e value-definition
 
   -- the Group of a label other than 1
   pub group-holder : (m : ℕ) → 2 ≤ m → m ≤ n → Holder t m → kind t (owner t m) ≡ groupCode
@@ -133,8 +134,7 @@ module _ (t : List ℤ) (n : ℕ) (ok : Accepted t n) where
 
         own : Holder t p → p ≡ x .touches .end → HasBody t (x .touches .end) → kind t (x .touches .end) ≡ valueCode
         own (inr k) e b = subst (λ (v : ℕ). kind t v ≡ valueCode) e k
-        own (inl k) e (inl b) = b
-        own (inl k) e (inr b) = absurd (omega (arith, subst (λ (v : ℕ). kind t v ≡ groupCode) e k))
+        own (inl k) e b = absurd (body-group t n ok (x .touches .end) b (subst (λ (v : ℕ). kind t v ≡ groupCode) e k))
 
         at : Around t (x .touches .end) p → needs t n p q ≡ true
         at (inl e) = with (own hp e (links-body t n ok 6 (inl refl) (x .touches .links))) (0, sym e)

@@ -44,10 +44,10 @@ fn list_group(
         let p = marks::widen(x);
         x = next[n + p];
         let k = reach::kind_of(table, n, p);
-        if k == cells::VALUE {
+        if k == kinds::VALUE {
             plan[to] = p as i64;
             to += 1;
-        } else if k == cells::GROUP {
+        } else if k == kinds::GROUP {
             to = list_group(table, n, next, plan, to, p);
         }
     }

@@ -5,8 +5,8 @@ ghost use mathlib.Core.Path.{_≡_};
 ghost use mathlib.Core.Logic.{_⊎_};
 ghost use Prim.Native.Nat.{ℕ, _+_, _*_, _≤_, _<_};
 ghost use lib.ListN.{length, getD, take};
-ghost use Rattle.kinds.specs.Kinds.{valueCode};
-ghost use Rattle.cells.specs.Table.{cell, kind, owner, hasPath};
+ghost use Rattle.kinds.specs.Kinds.{valueCode, givesValues};
+ghost use Rattle.cells.specs.Table.{cell, kind, isDefinition, hasPath, owner};
 ghost use Rattle.cells.specs.Accepted.{Accepted, HasBody};
 ghost use Rattle.order.specs.Order.{Within, place16};
 ghost use Rattle.marks.specs.Marks.{mark, Added};
@@ -42,6 +42,24 @@ fn has_path(table: &[i64], n: usize, label: usize) -> bool
     ensures { λ r. ⌜ r ≡ hasPath (now (table .entry)) label ⌝ }
 {
     kinds::has_path(kind_of(table, n, label))
+}
+
+// Whether it is a definition.
+pub fn is_definition(table: &[i64], n: usize, label: usize) -> bool
+    requires { ⌜ Accepted (now table) n ⌝ }
+    requires { ⌜ (1 ≤ label) × (label ≤ n) ⌝ }
+    ensures { λ r. ⌜ r ≡ isDefinition (now (table .entry)) label ⌝ }
+{
+    kinds::is_definition(kind_of(table, n, label))
+}
+
+// Whether it has values in a plan: a Group or a value.
+pub fn gives_values(table: &[i64], n: usize, label: usize) -> bool
+    requires { ⌜ Accepted (now table) n ⌝ }
+    requires { ⌜ (1 ≤ label) × (label ≤ n) ⌝ }
+    ensures { λ r. ⌜ r ≡ givesValues (kind (now (table .entry)) label) ⌝ }
+{
+    kinds::gives_values(kind_of(table, n, label))
 }
 
 // ---- chains of lines

@@ -11,11 +11,12 @@ use lib.ListN.{length, getD, drop, drop-of-length-le, List·getD-map}
 use lib.Seq.{drop-cons}
 use Rattle.kinds.specs.declared.Clause.{Clause}
 use Rattle.kinds.specs.declared.Clause.the-variants as clause
-use Rattle.kinds.specs.declared.Fields.{Fields}
-use Rattle.kinds.specs.Kinds.{Kind, kinds, noKind, kindAt, codeIn, codeOf, fieldsAt, isKind, isDefinition, clauseOf, wantedBy, takes}
+use Rattle.kinds.specs.declared.Form.{Form}
+use Rattle.kinds.specs.declared.Form.the-variants.{Missing, Name, Path, Group, Operand, Number}
+use Rattle.kinds.specs.Kinds.{Kind, kinds, noKind, kindAt, codeIn, codeOf, fieldsAt, isKind, isOperand, isDefinition, isExpression, hasBody, clauseOf, wantedBy, takes, groupCode, valueCode, numberCode}
 use Rattle.kinds.proofs.Tests.{clash}
-use Rattle.kinds.proofs.Rows.{every, implies, by-rule}
-use Rattle.kinds.proofs.Laws.{defines, kinds-length}
+use Rattle.kinds.proofs.Rows.{every, implies, by-rule, by-rows}
+use Rattle.kinds.proofs.Laws.{defines, kinds-length, body-definition}
 use Rattle.kinds.proofs.Clauses.{usesOf}
 
 -- ---- the row of a code
@@ -119,3 +120,58 @@ module _ (c : ℕ) where
   pub other-takes : Other (3 ∷ []) c → takes c ≡ 0
   unfolding takes kinds
   other-takes h = none-left (takes c) (other (λ k. leb 1 (k .takes)) (3 ∷ []) refl refl c h)
+
+-- ---- only the field a of an N line is a number
+
+abbrev pub isNumber : Form → Bool
+isNumber Missing = false
+isNumber Name = false
+isNumber Path = false
+isNumber Group = false
+isNumber Operand = false
+isNumber Number = true
+
+module _ (c : ℕ) where
+  pub number-a : (c ≡ numberCode → ⊥) → isNumber (fieldsAt c .a) ≡ false
+  unfolding kinds
+  number-a h = other (λ k. isNumber (k .fields .a)) (numberCode ∷ []) refl refl c (tt, h)
+
+  pub number-b : isNumber (fieldsAt c .b) ≡ false
+  unfolding kinds
+  number-b = by-rows (λ k. isNumber (k .fields .b)) (λ k. false) refl refl c
+
+  pub number-c : isNumber (fieldsAt c .c) ≡ false
+  unfolding kinds
+  number-c = by-rows (λ k. isNumber (k .fields .c)) (λ k. false) refl refl c
+
+pub number-form : fieldsAt numberCode .a ≡ Number
+unfolding kindAt kinds
+number-form = refl
+
+-- ---- the kinds that have a name
+
+pub group-definition : isDefinition groupCode ≡ true
+unfolding isDefinition kindAt kinds
+group-definition = refl
+
+pub group-bodiless : hasBody groupCode ≡ false
+unfolding hasBody isDefinition kindAt kinds
+group-bodiless = refl
+
+pub value-body : hasBody valueCode ≡ true
+unfolding hasBody isDefinition kindAt kinds
+value-body = refl
+
+pub value-definition : isDefinition valueCode ≡ true
+value-definition = body-definition valueCode value-body
+
+pub number-expression : isExpression numberCode ≡ true
+unfolding isExpression isKind isDefinition kindAt kinds
+number-expression = refl
+
+pub number-operand : isOperand (fieldsAt numberCode .a) ≡ false
+number-operand = ap isOperand number-form
+
+pub number-clause : clauseOf numberCode ≡ clause.Number
+unfolding clauseOf kindAt kinds
+number-clause = refl

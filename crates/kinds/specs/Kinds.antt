@@ -43,17 +43,17 @@ expression letter a b c by =
 -- ---- the table
 
 -- the codes of the kinds that have a name in the definitions
-abbrev pub group : ℕ
-group = 1
+abbrev pub groupCode : ℕ
+groupCode = 1
 
-abbrev pub value : ℕ
-value = 2
+abbrev pub valueCode : ℕ
+valueCode = 2
 
-abbrev pub function : ℕ
-function = 3
+abbrev pub functionCode : ℕ
+functionCode = 3
 
-abbrev pub number : ℕ
-number = 4
+abbrev pub numberCode : ℕ
+numberCode = 4
 
 -- in the paper's order
 unfoldable pub kinds : List Kind
@@ -63,8 +63,8 @@ kinds =
     ∷ definition (code "F") Operand 1
     ∷ expression (code "N") Number Missing Missing clause.Number
     ∷ expression (code "P") Missing Missing Missing (clause.Argument 1)
-    ∷ path (code "R") Missing Missing value clause.Read
-    ∷ path (code "C") Operand Missing function (clause.Call 1)
+    ∷ path (code "R") Missing Missing valueCode clause.Read
+    ∷ path (code "C") Operand Missing functionCode (clause.Call 1)
     ∷ expression (code "A") Operand Operand Missing (clause.Operation Sum)
     ∷ expression (code "S") Operand Operand Missing (clause.Operation Difference)
     ∷ expression (code "M") Operand Operand Missing (clause.Operation Product)

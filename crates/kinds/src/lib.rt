@@ -25,7 +25,7 @@ pub struct Fields {
     pub c: Form,
 }
 
-// What A, S, M and D do with their operands.
+// A, S, M and D of document 01; the difference is a - b.
 pub enum Operation {
     Sum,
     Difference,

@@ -9,6 +9,7 @@ ghost use Rattle.numbers.specs.Range.{limit};
 ghost use Rattle.numbers.specs.Rounding.{roundUp, quotient};
 ghost use Rattle.numbers.specs.Arithmetic.{rangedOf, calculated};
 ghost use Rattle.numbers.specs.Decimal.{AtMost, digitsOf, decimalOf, signedOf, numberOf};
+use kinds::Operation;
 
 // ---- rounding
 
@@ -49,14 +50,6 @@ pub fn nearest(tie: Tie, a: i64, b: i64) -> i64
 }
 
 // ---- the four operations
-
-// A, S, M and D of document 01; the difference is a - b.
-pub enum Operation {
-    Sum,
-    Difference,
-    Product,
-    Quotient,
-}
 
 // What an operation gives: a number of a sheet, or why there is none.
 pub enum Calculated {

@@ -2,48 +2,51 @@
 use mathlib.Core.Path.{_≡_, refl}
 use mathlib.Core.List.{List, [], _∷_}
 use Prim.Native.Nat.{ℕ}
+use Prim.Native.Char.{code}
 use lib.IntN.{ℤ, pos, negℤ}
+use Rattle.kinds.specs.Kinds.{kinds, kindAt, codeOf, isDefinition, hasPath}
 use Rattle.order.specs.Order.{plan, whole, place16}
 use Rattle.order.specs.Following.{place17, place18}
 
 -- ---- rows of a table, each before the rows after it; names have no part in planning, and are left out
 
+-- of the kind with this letter
 abbrev row : ℕ → ℤ → ℕ → ℕ → ℕ → List ℤ → List ℤ
-row k a b o t rest = pos k ∷ pos 0 ∷ pos 0 ∷ a ∷ pos b ∷ pos 0 ∷ pos o ∷ pos t ∷ rest
+row letter a b o t rest = pos (codeOf letter) ∷ pos 0 ∷ pos 0 ∷ a ∷ pos b ∷ pos 0 ∷ pos o ∷ pos t ∷ rest
 
 -- a Group in Group g; a value and a function in Group g with body b
 abbrev group : ℕ → List ℤ → List ℤ
-group g = row 1 (pos g) 0 g 0
+group g = row (code "G") (pos g) 0 g 0
 
 abbrev value : ℕ → ℕ → List ℤ → List ℤ
-value g b = row 2 (pos g) b g 0
+value g b = row (code "V") (pos g) b g 0
 
 abbrev function : ℕ → ℕ → List ℤ → List ℤ
-function g b = row 3 (pos g) b g 0
+function g b = row (code "F") (pos g) b g 0
 
 -- of definition d: a number; the argument; a read of e; a call of e on a; an operation on a and b
 abbrev number : ℕ → ℤ → List ℤ → List ℤ
-number d z = row 4 z 0 d 0
+number d z = row (code "N") z 0 d 0
 
 abbrev argument : ℕ → List ℤ → List ℤ
-argument d = row 5 (pos 0) 0 d 0
+argument d = row (code "P") (pos 0) 0 d 0
 
 abbrev read : ℕ → ℕ → List ℤ → List ℤ
-read d e = row 6 (pos 0) 0 d e
+read d e = row (code "R") (pos 0) 0 d e
 
 abbrev call : ℕ → ℕ → ℕ → List ℤ → List ℤ
-call d e a = row 7 (pos a) 0 d e
+call d e a = row (code "C") (pos a) 0 d e
 
 abbrev operation : ℕ → ℕ → ℕ → ℕ → List ℤ → List ℤ
-operation d k a b = row k (pos a) b d 0
+operation d letter a b = row letter (pos a) b d 0
 
 -- ---- the table of document 01's sample 1
 
 abbrev example : List ℤ
 example =
     group 0 (value 1 6 (group 1 (value 3 9 (value 3 14
-    (operation 2 8 7 8 (read 2 4 (number 2 (pos 5)
-    (operation 4 11 10 13 (operation 4 10 11 12 (read 4 5 (number 4 (pos 10) (number 4 (pos 100)
+    (operation 2 (code "A") 7 8 (read 2 4 (number 2 (pos 5)
+    (operation 4 (code "D") 10 13 (operation 4 (code "M") 11 12 (read 4 5 (number 4 (pos 10) (number 4 (pos 100)
     (number 5 (negℤ (pos 325)) [])))))))))))))
 
 -- ---- document 01's "Mistakes to shut out"
@@ -51,32 +54,39 @@ example =
 -- two functions that call each other are no cycle
 each-other : plan (group 0 (function 1 5 (function 1 7 (value 1 9 (call 2 3 6 (argument 2 (call 3 2 8 (argument 3 (call 4 2 10 (number 4 (pos 1) [])))))))))) 10
     ≡ whole (4 ∷ [])
+unfolding kinds kindAt codeOf isDefinition hasPath
 each-other = refl
 
 -- value 4 is read inside function 3, which value 2 calls: it comes first
 inside : plan (group 0 (value 1 5 (function 1 7 (value 1 8 (call 2 3 6 (number 2 (pos 1) (read 3 4 (number 4 (pos 1) [])))))))) 8 ≡ whole (4 ∷ 2 ∷ [])
+unfolding kinds kindAt codeOf isDefinition hasPath
 inside = refl
 
 -- Group 3 comes before Group 2, which needs it
 needed-first : plan (group 0 (group 1 (group 1 (value 2 6 (value 3 7 (read 4 5 (number 5 (pos 1) []))))))) 7 ≡ whole (5 ∷ 4 ∷ [])
+unfolding kinds kindAt codeOf isDefinition hasPath
 needed-first = refl
 
 -- ---- the smallest label: value 3 is free, and so comes before 4, though 2 needs 4 alone
 
 smallest : plan (group 0 (value 1 5 (value 1 6 (value 1 7 (read 2 4 (number 3 (pos 1) (number 4 (pos 1) []))))))) 7 ≡ whole (3 ∷ 4 ∷ 2 ∷ [])
+unfolding kinds kindAt codeOf isDefinition hasPath
 smallest = refl
 
 -- ---- row 16's place: the smallest V that reaches itself, not one that only reaches a cycle
 
 reaching : place16 (group 0 (value 1 5 (value 1 6 (value 1 7 (read 2 3 (read 3 4 (read 4 3 []))))))) 7 ≡ 3
+unfolding kinds kindAt codeOf isDefinition hasPath
 reaching = refl
 
 free : place16 example 14 ≡ 0
+unfolding kinds kindAt codeOf isDefinition hasPath
 free = refl
 
 -- ---- rows 17 and 18 for sample 1: proper; a Group, a repetition, a negative number, no label; too short; too early
 
 proper : (place17 example 14 (pos 5 ∷ pos 4 ∷ pos 2 ∷ []) ≡ 0) × (place18 example 14 (pos 5 ∷ pos 4 ∷ pos 2 ∷ []) ≡ 0)
+unfolding kinds kindAt codeOf isDefinition hasPath
 proper = (refl, refl)
 
 no-value :
@@ -85,10 +95,13 @@ no-value :
     × (place17 example 14 (negℤ (pos 5) ∷ pos 4 ∷ pos 2 ∷ []) ≡ 1)
     × (place17 example 14 (pos 5 ∷ pos 4 ∷ pos 2 ∷ pos 0 ∷ []) ≡ 4)
     × (place17 example 14 (pos 5 ∷ pos 4 ∷ pos 2 ∷ pos 15 ∷ []) ≡ 4)
+unfolding kinds kindAt codeOf isDefinition hasPath
 no-value = (refl, refl, refl, refl, refl)
 
 too-short : (place17 example 14 [] ≡ 1) × (place17 example 14 (pos 5 ∷ pos 4 ∷ []) ≡ 3) × (place17 (group 0 []) 1 [] ≡ 0)
+unfolding kinds kindAt codeOf isDefinition hasPath
 too-short = (refl, refl, refl)
 
 too-early : (place18 example 14 (pos 4 ∷ pos 5 ∷ pos 2 ∷ []) ≡ 1) × (place18 example 14 (pos 5 ∷ pos 2 ∷ pos 4 ∷ []) ≡ 2)
+unfolding kinds kindAt codeOf isDefinition hasPath
 too-early = (refl, refl)

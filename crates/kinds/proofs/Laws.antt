@@ -67,6 +67,10 @@ module _ (c : ℕ) where
   unfolding isKind
   kind-high e = leb-true c (length kinds) (and-right (leb 1 c) (leb c (length kinds)) e)
 
+  -- the row of a code that is one has a letter
+  pub kind-named : isKind c ≡ true → named (kindAt c) ≡ true
+  kind-named e = sym (is-kind c) ∙ e
+
   -- a code fits a cell
   pub kind-fits : isKind c ≡ true → c ≤ 65536
   kind-fits e = omega (arith, kind-high e, kinds-length)

@@ -6,7 +6,20 @@ ghost use Prim.Native.Nat.{ℕ, _+_, _*_, _≤_, _<_};
 ghost use lib.ListN.{length};
 ghost use Rattle.cells.specs.Accepted.{Accepted};
 ghost use Rattle.reach.specs.Rows.{width, AllRows};
-ghost use Rattle.needs.specs.Needs.{Lifting, Cut, NeedRows};
+ghost use Rattle.needs.specs.Needs.{holdsValues, Lifting, Cut, NeedRows};
+
+// Whether the label is a Group or a value.
+pub fn holds_values(table: &[i64], n: usize, label: usize) -> bool
+    requires { ⌜ Accepted (now table) n ⌝ }
+    requires { ⌜ (1 ≤ label) × (label ≤ n) ⌝ }
+    ensures { λ r. ⌜ r ≡ holdsValues (now (table .entry)) label ⌝ }
+{
+    let code = reach::kind_of(table, n, label);
+    if code == kinds::GROUP {
+        return true;
+    }
+    code == kinds::VALUE
+}
 
 // Members lie above their Group: going down, a Group's row is complete when it is met.
 fn lift(table: &[i64], n: usize, square: &mut [u64])
@@ -17,7 +30,7 @@ fn lift(table: &[i64], n: usize, square: &mut [u64])
 {
     let mut k = n;
     while 1 < k {
-        if reach::kind_of(table, n, k) <= cells::VALUE {
+        if holds_values(table, n, k) {
             let o = reach::cell_of(table, n, k, cells::OWNER);
             marks::merge_row(square, n / 64 + 1, k, o);
         }

@@ -11,17 +11,18 @@ use lib.IntN.{ℤ}
 use lib.ListN.{length, getD, set}
 use lib.Seq.{getD-set-same, getD-set-other}
 use borrow.Author.Tests.{eqb-true, eq-eqb, ne-eqb}
-use Rattle.cells.specs.Table.{kind, owner}
+use Rattle.kinds.proofs.Laws.{path-expression}
+use Rattle.cells.specs.Table.{kind, hasBody, owner}
 use Rattle.cells.specs.Accepted.{Accepted, HasBody}
 use Rattle.cells.specs.Reaches.{Reaches, once, then}
 use Rattle.order.specs.Lists.{one, count, _∈_, filter}
-use Rattle.order.specs.Order.{isV, isF, labels, reached, reaches}
-use Rattle.order.proofs.Tests.{clash, and-left, and-right, and-intro, or-left, or-right, so-or-not}
+use Rattle.order.specs.Order.{labels, reached, reaches}
+use Rattle.order.proofs.Tests.{clash, and-left, and-right, and-intro, so-or-not}
 use Rattle.order.proofs.Lists.{in-here, in-there, in-cons, length-upFrom, length-mono, count-filter-le, count-filter-fail, upFrom-once, of-mem, filter-le, tally-le, tally-lt}
 use Rattle.order.proofs.Tables.{in-labels, reaches-exact}
 use Rattle.reach.specs.Links.{Column, Links}
-use Rattle.reach.specs.Visits.{total, hasBody, visits, linked, fan, found, spent}
-use Rattle.reach.proofs.Links.{body-label, links-body, path-low, path-label, forth-exact, back-exact}
+use Rattle.reach.specs.Visits.{total, visits, linked, fan, found, spent}
+use Rattle.reach.proofs.Links.{body-label, links-body, forth-exact, back-exact}
 
 -- ---- sums
 
@@ -165,12 +166,8 @@ module _ (t : List ℤ) (n : ℕ) (ok : Accepted t n) where
 
   -- what reaches something has a body
   from-body : {d e : ℕ} → Reaches t d e → HasBody t d
-  from-body (once m) = let b = path-label t n ok (m .line) (m .path) in subst (HasBody t) (m .owned) (ok .owners (m .line) (b .0) (b .1) (path-low t n ok (m .line) (m .path)))
+  from-body (once m) = subst (HasBody t) (m .owned) (ok .owners (m .line) (path-expression (kind t (m .line)) (m .path)))
   from-body (then r m) = from-body r
-
-  body-test : (d : ℕ) → HasBody t d → hasBody t d ≡ true
-  body-test d (inl e) = or-left (isV t d) (isF t d) (eq-eqb (kind t d) 2 e)
-  body-test d (inr e) = or-right (isV t d) (isF t d) (eq-eqb (kind t d) 3 e)
 
   reached-fan : (d : ℕ) → fan t n 7 d ≤ length (reached t n d)
   unfolding fan
@@ -188,7 +185,7 @@ module _ (t : List ℤ) (n : ℕ) (ok : Accepted t n) where
 
   no-fan : (d : ℕ) → hasBody t d ≡ false → fan t n 7 d ≤ 0
   unfolding fan
-  no-fan d y = omega (arith, tally-le (reaches t n d) (λ _. false) (labels n) (λ e i r. clash (hasBody t d) (body-test d (from-body (reaches-exact t n ok d e .0 r))) y), tally-none (labels n))
+  no-fan d y = omega (arith, tally-le (reaches t n d) (λ _. false) (labels n) (λ e i r. clash (hasBody t d) (from-body (reaches-exact t n ok d e .0 r)) y), tally-none (labels n))
 
   pub spent-visits : (j : ℕ) → Column j → (state : List ℕ) → ((d : ℕ) → getD state d 0 ≡ 2 → HasBody t d) → spent t n j state ≤ visits t n
   unfolding spent visits
@@ -200,7 +197,7 @@ module _ (t : List ℤ) (n : ℕ) (ok : Accepted t n) where
       omega (arith, fans j col, total-filter (λ d. 1 + length (reached t n d)) (hasBody t) (labels n))
     where
       row : (d : ℕ) → (eqb (getD state d 0) 2 ≡ true) ⊎ (eqb (getD state d 0) 2 ≡ false) → cond (eqb (getD state d 0) 2) (1 + fan t n j d) 0 ≤ one (hasBody t d) + fan t n j d
-      row d (inl y) = rw (y, body-test d (made d (eqb-true (getD state d 0) 2 y))) (omega arith)
+      row d (inl y) = rw (y, made d (eqb-true (getD state d 0) 2 y)) (omega arith)
       row d (inr y) = rw y (omega arith)
 
       body : (d : ℕ) → (hasBody t d ≡ true) ⊎ (hasBody t d ≡ false) → one (hasBody t d) + fan t n 7 d ≤ cond (hasBody t d) (1 + length (reached t n d)) 0

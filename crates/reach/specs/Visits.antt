@@ -1,21 +1,19 @@
 -- How many definitions are visited while rows are made.
 use mathlib.Core.List.{List, [], _∷_}
-use mathlib.Core.Bool.{Bool, cond, _&&_, _||_}
+use mathlib.Core.Bool.{Bool, cond, _&&_}
 use Prim.Native.Nat.{ℕ, _+_}
 use lib.Dec.{eqb}
 use lib.IntN.{ℤ}
 use lib.ListN.{length, getD}
+use Rattle.cells.specs.Table.{hasBody}
 use Rattle.order.specs.Lists.{filter}
-use Rattle.order.specs.Order.{isV, isF, labels, reached, reaches}
+use Rattle.order.specs.Order.{labels, reached, reaches}
 
 abbrev pub total : (ℕ → ℕ) → List ℕ → ℕ
 total f [] = 0
 total f (x ∷ l) = f x + total f l
 
-abbrev pub hasBody : List ℤ → ℕ → Bool
-hasBody t d = isV t d || isF t d
-
--- the sum, over values and functions, of one plus the number of different definitions that it reaches
+-- the sum, over what has a body, of one plus the number of different definitions that it reaches
 unfoldable pub visits : List ℤ → ℕ → ℕ
 visits t n = total (λ d. 1 + length (reached t n d)) (filter (hasBody t) (labels n))
 

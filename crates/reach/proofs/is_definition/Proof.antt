@@ -1,0 +1,18 @@
+-- By the code in the kind cell.
+use mathlib.Core.Path.{_∙_, ap}
+use borrow.Author.Needs.{needs}
+use Rattle.kinds.specs.Kinds.{isDefinition}
+use Rattle.reach.proofs.is_definition.Statement.{statement}
+use Rattle.reach.proofs.is_definition.Tie as tie
+
+kind-of-requires : tie.Need-kind-of-requires
+kind-of-requires c κs = search needs
+
+is-definition-requires : tie.Need-is-definition-requires
+is-definition-requires c κs = search needs
+
+returns : tie.Need-returns
+returns c = c .is-definition .ensures ∙ ap isDefinition (c .before .kind-of .ensures)
+
+pub is-definition-spec : {M : Type 1} → statement M
+is-definition-spec = tie.close (tie.spec kind-of-requires is-definition-requires returns)

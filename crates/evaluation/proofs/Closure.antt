@@ -7,7 +7,7 @@ use mathlib.Core.Logic.{_⊎_, inl, inr}
 use Prim.Native.Nat.{ℕ, zero, suc, _-_, _≤_, _<_}
 use native.Mathlib.Omega.{arith}
 use lib.IntN.{ℤ, natAbs}
-use borrow.Author.Tests.{leb-true}
+use borrow.Author.Tests.{le-leb}
 use Rattle.kinds.specs.Kinds.{valueCode, numberCode, hasPath, hasBody, operandA, operandB, operandC, wantedBy, takes, clauseOf}
 use Rattle.kinds.proofs.Tests.{clash}
 use Rattle.kinds.proofs.Laws.{kind-low, definition-kind, body-definition, path-body}
@@ -124,7 +124,7 @@ module _ (t : List ℤ) (n : ℕ) (w : Accepted t n) where
 
       called : (k : ℕ) → clauseOf (kind t l) ≡ clause.Call k → HasPath t l → D (target t l)
       called k e p =
-          let some = leb-true 1 k (call-some (kind t l) k e) in
+          let some = call-some (kind t l) k e in
           c .back (target t l) (omega (arith, ap takes (w .leads l p), call-takes (kind t l) k e)) (aim p)
 
       pub leads : Leads (clauseOf (kind t l)) l
@@ -138,7 +138,7 @@ module _ (t : List ℤ) (n : ℕ) (w : Accepted t n) where
           go clause.Read e = let p = path-uses (kind t l) ∙ ap (λ k. usesOf k .target) e in (w .leads l p ∙ read-value (kind t l) e, aim p)
           go (clause.Call k) e =
               let p = path-uses (kind t l) ∙ ap (λ k. usesOf k .target) e in
-              let a = a-uses (kind t l) ∙ ap (λ k. usesOf k .a) e ∙ call-some (kind t l) k e in
+              let a = a-uses (kind t l) ∙ ap (λ k. usesOf k .a) e ∙ le-leb 1 k (call-some (kind t l) k e) in
               (first a, body-within (target t l) (target-body p) (called k e p), target-body p, called k e p)
           go (clause.Operation op) e = (first (a-uses (kind t l) ∙ ap (λ k. usesOf k .a) e), second (b-uses (kind t l) ∙ ap (λ k. usesOf k .b) e))
           go clause.Choice e =

@@ -8,10 +8,12 @@ use Prim.Native.Nat.{ℕ, _+_, _*_, _≤_, _<_}
 use native.Mathlib.Omega.{arith}
 use lib.IntN.{ℤ, natAbs}
 use lib.ListN.{length}
+use borrow.Author.Tests.{le-leb}
 use Rattle.kinds.specs.Kinds.{valueCode, numberCode, operandA, clauseOf}
 use Rattle.kinds.proofs.Tests.{clash}
-use Rattle.kinds.proofs.Plans.{value-body}
-use Rattle.kinds.proofs.Clauses.{usesOf, a-uses, call-some, number-plain}
+use Rattle.kinds.proofs.Codes.{value-body}
+use Rattle.kinds.proofs.Clauses.{usesOf, a-uses, call-some}
+use Rattle.kinds.proofs.Plans.{number-plain}
 use Rattle.cells.specs.Table.{kind, fieldA, fieldB, owner, target}
 use Rattle.cells.specs.Reaches.{Reaches}
 use Rattle.numbers.specs.Range.{limit}
@@ -98,7 +100,7 @@ module _ {t r : List ℤ} {l : ℕ} {g : Arguments} {d : ℕ} where
 
   -- a call evaluates its argument
   pub call-composite : (e : EnteredCall t r l g d) → Composite (clause.Call (e .count))
-  call-composite e = call-some (kind t l) (e .count) (e .entered .of)
+  call-composite e = le-leb 1 (e .count) (call-some (kind t l) (e .count) (e .entered .of))
 
   pub second-entry : {op : Operation} → Entered (clause.Operation op) t r l g d → {x : ℕ} → x ≡ fieldB t l → Entry t r x g d
   unfolding Leads

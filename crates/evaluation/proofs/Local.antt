@@ -9,7 +9,7 @@ use native.Mathlib.Omega.{arith}
 use native.Mathlib.Nat.{le-refl}
 use lib.IntN.{ℤ}
 use Rattle.kinds.specs.Kinds.{valueCode, clauseOf}
-use Rattle.kinds.proofs.Plans.{value-body}
+use Rattle.kinds.proofs.Codes.{value-body}
 use Rattle.cells.specs.Cells.{equals}
 use Rattle.cells.specs.Table.{kind, fieldA, fieldB, fieldC, owner, target, numberOf}
 use Rattle.cells.specs.Accepted.{Accepted}

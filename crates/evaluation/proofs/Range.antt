@@ -10,7 +10,7 @@ use borrow.Author.Tests.{eqb-true}
 use lib.Dec.{eqb}
 use lib.IntN.{ℤ, pos, natAbs}
 use Rattle.kinds.specs.Kinds.{valueCode, clauseOf}
-use Rattle.kinds.proofs.Plans.{value-body}
+use Rattle.kinds.proofs.Codes.{value-body}
 use Rattle.cells.specs.Table.{kind, fieldB, target}
 use Rattle.cells.specs.Accepted.{Accepted}
 use Rattle.cells.specs.Reaches.{Reaches}

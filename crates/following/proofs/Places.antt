@@ -9,6 +9,7 @@ use native.Mathlib.Decide.{ℕ-discrete}
 use native.Mathlib.Numerals.{add-one}
 use lib.IntN.{ℤ}
 use lib.ListN.{length}
+use Rattle.kinds.proofs.Codes.{value-body}
 use Rattle.kinds.specs.Kinds.{valueCode}
 use Rattle.cells.specs.Table.{kind}
 use Rattle.cells.specs.Accepted.{Accepted}
@@ -112,7 +113,7 @@ module _ (t : List ℤ) (n : ℕ) (ok : Accepted t n) (row : List ℕ) (is : Val
               let i : isV t q ≡ true = sym (is q) ∙ and-left (mark row (width n) 0 q) (not (mem q a)) b in
               any-intro reached (values t n) q (in-values t n ok q i)
               (and-intro (reaches t n v q) (not (mem q a))
-              (reaches-exact t n ok v q .1 (forth-exact v q .0 (touch-body t n ok 7 (inr refl) (rows .values v k q .0 m) (inl (v-kind t q i)))))
+              (reaches-exact t n ok v q .1 (forth-exact v q .0 (touch-body t n ok 7 (inr refl) (rows .values v k q .0 m) (rw (v-kind t q i) value-body))))
               (and-right (mark row (width n) 0 q) (not (mem q a)) b))
 
           back : any reached (values t n) ≡ true → any marked (upFrom 0 (64 * width n)) ≡ true

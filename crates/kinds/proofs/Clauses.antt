@@ -2,15 +2,16 @@
 use mathlib.Core.Path.{_≡_, refl, sym, subst, _∙_}
 use mathlib.Core.Bool.{Bool, true, false, _&&_}
 use mathlib.Core.List.{[], _∷_}
-use Prim.Native.Nat.{ℕ}
+use Prim.Native.Nat.{ℕ, _≤_}
 use types.Run.{OneOf, miss}
 use denote.Enum.Declared.{tagOf}
-use borrow.Author.Tests.{eqb-true}
+use borrow.Author.Tests.{eqb-true, leb-true}
 use lib.Dec.{leb, eqb}
 use Rattle.kinds.specs.declared.Clause.{Clause}
 use Rattle.kinds.specs.declared.Clause.the-variants as clause
 use Rattle.kinds.specs.Kinds.{Kind, kinds, kindAt, isOperand, isDefinition, isExpression, hasPath, operandA, operandB, operandC, wantedBy, clauseOf, placeIn, takes, valueCode, numberCode}
 use Rattle.kinds.proofs.Clause as tags
+use Rattle.kinds.proofs.Tests.{and-left, and-right}
 use Rattle.kinds.proofs.Rows.{each, by-rows}
 use Rattle.kinds.proofs.Laws.{expresses, leads, expression-row}
 
@@ -30,7 +31,7 @@ usesOf clause.None = uses false false false false false
 usesOf clause.Number = uses true false false false false
 usesOf (clause.Argument i) = uses true false false false false
 usesOf clause.Read = uses true true false false false
-usesOf (clause.Call n) = uses true true (leb 1 n) (leb 2 n) false
+usesOf (clause.Call n) = uses true true true (leb 2 n) false
 usesOf (clause.Operation op) = uses true false true true false
 usesOf clause.Choice = uses true false true true true
 
@@ -62,7 +63,7 @@ told c k clause.None = true
 told c k clause.Number = eqb c numberCode
 told c k (clause.Argument i) = true
 told c k clause.Read = eqb (k .wanted) valueCode
-told c k (clause.Call n) = eqb (kindAt (k .wanted) .takes) n
+told c k (clause.Call n) = leb 1 n && eqb (kindAt (k .wanted) .takes) n
 told c k (clause.Operation op) = true
 told c k clause.Choice = true
 
@@ -78,28 +79,16 @@ module _ (c : ℕ) where
   unfolding wantedBy
   read-value e = eqb-true (wantedBy c) valueCode (subst (λ x. told c (kindAt c) x ≡ true) e told-each)
 
-  pub call-takes : (n : ℕ) → clauseOf c ≡ clause.Call n → takes (wantedBy c) ≡ n
-  unfolding wantedBy takes
-  call-takes n e = eqb-true (takes (wantedBy c)) n (subst (λ x. told c (kindAt c) x ≡ true) e told-each)
+  module _ (n : ℕ) (e : clauseOf c ≡ clause.Call n) where
+    told-call : (leb 1 n && eqb (takes (wantedBy c)) n) ≡ true
+    unfolding wantedBy takes
+    told-call = subst (λ x. told c (kindAt c) x ≡ true) e told-each
 
--- a call hands on one argument at least
-abbrev handsOn : Clause → Bool
-handsOn clause.None = true
-handsOn clause.Number = true
-handsOn (clause.Argument i) = true
-handsOn clause.Read = true
-handsOn (clause.Call n) = leb 1 n
-handsOn (clause.Operation op) = true
-handsOn clause.Choice = true
+    pub call-some : 1 ≤ n
+    call-some = leb-true 1 n (and-left (leb 1 n) (eqb (takes (wantedBy c)) n) told-call)
 
-pub call-some : (c n : ℕ) → clauseOf c ≡ clause.Call n → leb 1 n ≡ true
-unfolding clauseOf kinds
-call-some c n e = subst (λ x. handsOn x ≡ true) e (each (λ i k. handsOn (k .clause)) (λ i. refl) refl c)
-
--- an N line has no operands
-pub number-plain : operandA numberCode ≡ false
-unfolding clauseOf kinds kindAt
-number-plain = a-uses numberCode
+    pub call-takes : takes (wantedBy c) ≡ n
+    call-takes = eqb-true (takes (wantedBy c)) n (and-right (leb 1 n) (eqb (takes (wantedBy c)) n) told-call)
 
 -- what an arm `_` leaves: all clauses but an argument's, by their tags
 pub no-place : (x : Clause) → OneOf (0 ∷ 1 ∷ 3 ∷ 4 ∷ 5 ∷ 6 ∷ []) (tagOf tags.the-type x) → placeIn x ≡ 0

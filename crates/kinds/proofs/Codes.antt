@@ -13,15 +13,15 @@ use Rattle.kinds.specs.declared.Clause.{Clause}
 use Rattle.kinds.specs.declared.Clause.the-variants as clause
 use Rattle.kinds.specs.declared.Form.{Form}
 use Rattle.kinds.specs.declared.Form.the-variants.{Missing, Name, Path, Group, Operand, Number}
-use Rattle.kinds.specs.Kinds.{Kind, kinds, noKind, kindAt, codeIn, codeOf, fieldsAt, isKind, isDefinition, clauseOf, wantedBy, takes, numberCode}
+use Rattle.kinds.specs.Kinds.{Kind, kinds, noKind, kindAt, codeIn, codeOf, fieldsAt, isKind, isOperand, isDefinition, isExpression, hasBody, clauseOf, placeIn, placeOf, wantedBy, takes, groupCode, valueCode, numberCode}
 use Rattle.kinds.proofs.Tests.{clash}
 use Rattle.kinds.proofs.Rows.{every, implies, by-rule, by-rows}
-use Rattle.kinds.proofs.Laws.{defines, kinds-length}
-use Rattle.kinds.proofs.Clauses.{usesOf}
+use Rattle.kinds.proofs.Laws.{defines, kinds-length, body-definition}
+use Rattle.kinds.proofs.Clauses.{usesOf, expression-uses}
 
 -- ---- the row of a code
 
-kind-from : (c : ℕ) → 1 ≤ c → kindAt c ≡ getD kinds (c - 1) noKind
+pub kind-from : (c : ℕ) → 1 ≤ c → kindAt c ≡ getD kinds (c - 1) noKind
 unfolding kindAt
 kind-from zero h = absurd (omega arith)
 kind-from (suc k) h = let z : suc k - 1 ≡ k = omega arith in rw z
@@ -104,6 +104,10 @@ no-clause (clause.Call n) e = clash e
 no-clause (clause.Operation op) e = clash e
 no-clause clause.Choice e = clash e
 
+-- only an expression stands for an argument
+pub other-place : (c : ℕ) → isExpression c ≡ false → placeOf c ≡ 0
+other-place c e = ap placeIn (no-clause (clauseOf c) (sym (expression-uses c) ∙ e))
+
 module _ (c : ℕ) where
   pub other-definition : Other (3 ∷ 2 ∷ 1 ∷ []) c → isDefinition c ≡ false
   unfolding isDefinition kinds
@@ -147,3 +151,31 @@ module _ (c : ℕ) where
 pub number-form : fieldsAt numberCode .a ≡ Number
 unfolding kindAt kinds
 number-form = refl
+
+-- ---- the kinds that have a name
+
+pub group-definition : isDefinition groupCode ≡ true
+unfolding isDefinition kindAt kinds
+group-definition = refl
+
+pub group-bodiless : hasBody groupCode ≡ false
+unfolding hasBody isDefinition kindAt kinds
+group-bodiless = refl
+
+pub value-body : hasBody valueCode ≡ true
+unfolding hasBody isDefinition kindAt kinds
+value-body = refl
+
+pub value-definition : isDefinition valueCode ≡ true
+value-definition = body-definition valueCode value-body
+
+pub number-expression : isExpression numberCode ≡ true
+unfolding isExpression isKind isDefinition kindAt kinds
+number-expression = refl
+
+pub number-operand : isOperand (fieldsAt numberCode .a) ≡ false
+number-operand = ap isOperand number-form
+
+pub number-clause : clauseOf numberCode ≡ clause.Number
+unfolding clauseOf kindAt kinds
+number-clause = refl

@@ -5,9 +5,9 @@ use mathlib.Core.Bool.{Bool, true, false, not, _&&_}
 use mathlib.Core.List.{List, [], _∷_}
 use Prim.Native.Nat.{ℕ, zero, suc, _≤_}
 use native.Mathlib.Omega.{arith}
-use borrow.Author.Tests.{leb-true, le-leb}
+use borrow.Author.Tests.{leb-true, leb-false, le-leb, not-true}
 use lib.Dec.{leb, eqb, leb·suc-zero, leb·suc-suc}
-use lib.ListN.{length, getD}
+use lib.ListN.{length, getD, List·getD-eq-default}
 use Rattle.kinds.specs.Kinds.{Kind, kinds, noKind, kindAt, fieldsAt, isKind, isGroup, isOperand, isPath, isDefinition, isExpression, hasBody, hasPath, wantedBy}
 use Rattle.kinds.proofs.Tests.{clash, and-left, and-right}
 use Rattle.kinds.proofs.Rows.{by-rule, by-rows}
@@ -51,6 +51,13 @@ pub kinds-length : length kinds ≡ 12
 unfolding kinds
 kinds-length = refl
 
+-- a code that no row has
+pub no-kind : (c : ℕ) → isKind c ≡ false → kindAt c ≡ noKind
+unfolding isKind kindAt
+no-kind zero e = refl
+no-kind (suc k) e =
+    List·getD-eq-default kinds noKind (omega (arith, leb-false (suc k) (length kinds) (rw (le-leb 1 (suc k) (omega arith)) at e)))
+
 module _ (c : ℕ) where
   pub kind-low : isKind c ≡ true → 1 ≤ c
   unfolding isKind
@@ -59,6 +66,10 @@ module _ (c : ℕ) where
   pub kind-high : isKind c ≡ true → c ≤ length kinds
   unfolding isKind
   kind-high e = leb-true c (length kinds) (and-right (leb 1 c) (leb c (length kinds)) e)
+
+  -- the row of a code that is one has a letter
+  pub kind-named : isKind c ≡ true → named (kindAt c) ≡ true
+  kind-named e = sym (is-kind c) ∙ e
 
   -- a code fits a cell
   pub kind-fits : isKind c ≡ true → c ≤ 65536
@@ -119,6 +130,15 @@ module _ (c : ℕ) where
   pub body-definition : hasBody c ≡ true → isDefinition c ≡ true
   unfolding hasBody
   body-definition e = and-left (isDefinition c) (isOperand (fieldsAt c .b)) e
+
+  -- the fields a and c of a definition hold no part of it
+  pub definition-a : isDefinition c ≡ true → isOperand (fieldsAt c .a) ≡ false
+  unfolding isDefinition kinds
+  definition-a e = not-true (isOperand (fieldsAt c .a)) (by-rule defines (λ i k. not (isOperand (k .fields .a))) refl refl c e)
+
+  pub definition-c : isDefinition c ≡ true → isOperand (fieldsAt c .c) ≡ false
+  unfolding isDefinition kinds
+  definition-c e = not-true (isOperand (fieldsAt c .c)) (by-rule defines (λ i k. not (isOperand (k .fields .c))) refl refl c e)
 
   pub path-expression : hasPath c ≡ true → isExpression c ≡ true
   unfolding hasPath kinds

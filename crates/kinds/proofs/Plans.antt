@@ -6,26 +6,11 @@ use mathlib.Core.List.{[], _∷_}
 use Prim.Native.Nat.{ℕ}
 use borrow.Author.Tests.{eqb-true}
 use lib.Dec.{eqb}
-use Rattle.kinds.specs.Kinds.{groupCode, valueCode, Kind, kinds, kindAt, isDefinition, hasBody, takes, givesValues}
+use Rattle.kinds.specs.Kinds.{groupCode, valueCode, numberCode, Kind, kinds, kindAt, isDefinition, operandA, takes, clauseOf, givesValues}
 use Rattle.kinds.proofs.Rows.{by-rule}
 use Rattle.kinds.proofs.Laws.{defines}
+use Rattle.kinds.proofs.Clauses.{a-uses}
 use Rattle.kinds.proofs.Codes.{Other, other}
-
-pub group-definition : isDefinition groupCode ≡ true
-unfolding isDefinition kindAt kinds
-group-definition = refl
-
-pub value-definition : isDefinition valueCode ≡ true
-unfolding isDefinition kindAt kinds
-value-definition = refl
-
-pub group-bodiless : hasBody groupCode ≡ false
-unfolding hasBody isDefinition kindAt kinds
-group-bodiless = refl
-
-pub value-body : hasBody valueCode ≡ true
-unfolding hasBody isDefinition kindAt kinds
-value-body = refl
 
 pub group-gives : givesValues groupCode ≡ true
 unfolding givesValues takes isDefinition kindAt kinds
@@ -55,3 +40,8 @@ gives-cases c e = go (either (eqb c groupCode) (eqb c valueCode) (by-rule gives 
 pub other-gives : (c : ℕ) → Other (valueCode ∷ groupCode ∷ []) c → givesValues c ≡ false
 unfolding givesValues takes isDefinition kinds
 other-gives c h = other gives (valueCode ∷ groupCode ∷ []) refl refl c h
+
+-- an N line has no operands
+pub number-plain : operandA numberCode ≡ false
+unfolding clauseOf kinds kindAt
+number-plain = a-uses numberCode

@@ -51,12 +51,23 @@ module _ (n k : ℕ) (s : List ℕ) (at : ℕ) where
       go true = refl
       go false = refl
 
+  -- and they end where the line does
+  row-end : row .end ≡ at + length (lineFrom s at)
+  row-end = go (eqb k 1)
+    where
+      go : (b : Bool) → cond b (rootAt s at) (rowAt n s at (fieldsFrom s at)) .end ≡ at + length (lineFrom s at)
+      go true = refl
+      go false = refl
+
+  at-next : (r : Row) (next : ℕ) → At (r .end + 1) ≡ At next → next ≡ r .end + 1
+  at-next r next f = cc
+
   pub went : (next : ℕ) → stepOf (lineRead n k s at) ≡ At next → Went n k s at next
   unfolding lineRead
   went next e = go (lineBad n k (lineFrom s at)) refl e
     where
       go : (b : ℕ) → lineBad n k (lineFrom s at) ≡ b → stepOf (decide b row) ≡ At next → Went n k s at next
-      go zero q f = record { fine = q; is = cc; cells = λ base t. rw q (ap (sets t base) row-cells) }
+      go zero q f = record { fine = q; is = at-next row next f ∙ ap (λ (x : ℕ). x + 1) row-end; cells = λ base t. rw q (ap (sets t base) row-cells) }
       go (suc b) q f = let z : _≡_ {A = ℕ} 0 1 = cc in absurd (omega arith)
 
   pub stopped : (b : ℕ) → stepOf (lineRead n k s at) ≡ Stop b → Stopped n k s at b
@@ -68,12 +79,15 @@ module _ (n k : ℕ) (s : List ℕ) (at : ℕ) where
       go (suc x) q f = let y : suc x ≡ b = cc in record { bad = q ∙ y; some = λ z. omega arith; cells = λ base t. rw q }
 
   -- a line that passes ends inside the text
+  same-end : (x : Row) {r : Row} → Passes x ≡ Passes r → x .end ≡ r .end
+  same-end x {r} f = let q : x ≡ r = cc in ap (λ (y : Row). y .end) q
+
   pub passes-inside : at < length s → endsLines s → (r : Row) → lineRead n k s at ≡ Passes r → r .end < length s
   unfolding lineRead
   passes-inside h ends r e = go (lineBad n k (lineFrom s at)) e
     where
       go : (b : ℕ) → decide b row ≡ Passes r → r .end < length s
-      go zero f = let q : row ≡ r = cc in omega (arith, line-inside s at h ends, ap (λ (x : Row). x .end) q)
+      go zero f = omega (arith, line-inside s at h ends, row-end, same-end row f)
       go (suc b) f = let z : _≡_ {A = ℕ} 0 1 = cc in absurd (omega arith)
 
 -- ---- the rows written so far

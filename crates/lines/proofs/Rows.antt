@@ -52,10 +52,7 @@ by-test false r = refl
 
 -- ---- by the places of the fields
 
-module _ (n : ℕ) (s : List ℕ) (from : ℕ) (e : Ends) (f : FiveAt s from e) where
-  abbrev code : ℕ
-  code = kindCode (slice from (e .kind) s)
-
+module _ (s : List ℕ) (from : ℕ) (e : Ends) (f : FiveAt s from e) where
   end-inside : e .c ≤ length s
   end-inside = omega (arith, f .ending .inside)
 
@@ -64,6 +61,18 @@ module _ (n : ℕ) (s : List ℕ) (from : ℕ) (e : Ends) (f : FiveAt s from e) 
 
   end-is : from + length (lineFrom s from) ≡ e .c
   end-is = omega (arith, ap length line-is, length-slice from (e .c) s end-inside, f .wide0, f .wide1, f .wide2, f .wide3, f .wide4)
+
+  -- label 1
+  pub root-right : same (slice from (e .c) s) rootLine ≡ true
+      → Passes (record { code = pos groupCode; start = pos 0; length = pos 0; a = pos 0; b = pos 0; c = pos 0; end = e .c }) ≡ rootRead s from
+  root-right g = rw (end-is, line-is, g)
+
+  pub root-wrong : same (slice from (e .c) s) rootLine ≡ false → Fails 7 ≡ rootRead s from
+  root-wrong g = rw (line-is, g)
+
+module _ (n : ℕ) (s : List ℕ) (from : ℕ) (e : Ends) (f : FiveAt s from e) where
+  abbrev code : ℕ
+  code = kindCode (slice from (e .kind) s)
 
   pub kind-is : kindCode (field (fieldsFrom s from) 0) ≡ code
   kind-is = rw (f .are)
@@ -74,18 +83,10 @@ module _ (n : ℕ) (s : List ℕ) (from : ℕ) (e : Ends) (f : FiveAt s from e) 
       (held (fieldOf (fieldsAt code .b) n (slice (e .a + 1) (e .b) s)))
       (held (fieldOf (fieldsAt code .c) n (slice (e .b + 1) (e .c) s)))
   row-is =
-      let l : length (slice from (e .kind) s) ≡ e .kind - from = length-slice from (e .kind) s (omega (arith, end-inside, f .wide1, f .wide2, f .wide3, f .wide4)) in
-      let m : length (slice (e .kind + 1) (e .name) s) ≡ e .name - (e .kind + 1) = length-slice (e .kind + 1) (e .name) s (omega (arith, end-inside, f .wide2, f .wide3, f .wide4)) in
+      let l : length (slice from (e .kind) s) ≡ e .kind - from = length-slice from (e .kind) s (omega (arith, end-inside s from e f, f .wide1, f .wide2, f .wide3, f .wide4)) in
+      let m : length (slice (e .kind + 1) (e .name) s) ≡ e .name - (e .kind + 1) = length-slice (e .kind + 1) (e .name) s (omega (arith, end-inside s from e f, f .wide2, f .wide3, f .wide4)) in
       let p : from + (length (slice from (e .kind) s) + 1 + 0) ≡ e .kind + 1 = omega (arith, f .wide0) in
-      rw (end-is, f .are, p, m)
-
-  -- label 1
-  pub root-right : same (slice from (e .c) s) rootLine ≡ true
-      → Passes (record { code = pos groupCode; start = pos 0; length = pos 0; a = pos 0; b = pos 0; c = pos 0; end = e .c }) ≡ rootRead s from
-  root-right g = rw (end-is, line-is, g)
-
-  pub root-wrong : same (slice from (e .c) s) rootLine ≡ false → Fails 7 ≡ rootRead s from
-  root-wrong g = rw (line-is, g)
+      rw (end-is s from e f, f .are, p, m)
 
   -- another label: its forms, its cells
   forms-are : formsRight n (fieldsAt code) (fieldsFrom s from)
@@ -136,7 +137,7 @@ module _ (n : ℕ) (s : List ℕ) (from : ℕ) (e : Ends) (f : FiveAt s from e) 
 
   fields-right : fieldsAre 5 (fieldsFrom s from) ≡ true
   fields-right =
-      let h = end-inside in
+      let h = end-inside s from e f in
       rw (
         f .are,
         full s 4 from (e .kind) _ (f .wide0) (omega (arith, h, f .wide1, f .wide2, f .wide3, f .wide4)),

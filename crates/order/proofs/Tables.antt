@@ -12,7 +12,7 @@ use borrow.Author.Tests.{eqb-true, eq-eqb, ne-eqb}
 use Rattle.cells.specs.Cells.{natOf}
 use Rattle.kinds.specs.Kinds.{groupCode, valueCode, wantedBy}
 use Rattle.kinds.proofs.Laws.{kind-low, definition-kind, expression-kind, path-expression, path-body, body-definition}
-use Rattle.kinds.proofs.Plans.{group-definition, value-definition}
+use Rattle.kinds.proofs.Codes.{group-definition, value-definition}
 use Rattle.cells.specs.Table.{cell, kind, isDefinition, hasPath, owner, target}
 use Rattle.cells.specs.Accepted.{Accepted}
 use Rattle.cells.specs.Reaches.{HasPath, Mentions, Reaches, once, then}

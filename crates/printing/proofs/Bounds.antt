@@ -6,6 +6,7 @@ use Prim.Native.Nat.{ℕ, _+_, _-_, _*_, _≤_, _<_}
 use native.Mathlib.Omega.{arith}
 use lib.IntN.{ℤ, natAbs}
 use lib.ListN.{length, take, drop, length-append, length-take, length-drop}
+use Rattle.kinds.specs.Kinds.{valueCode}
 use Rattle.cells.specs.Table.{kind, nameStart, nameLength}
 use Rattle.cells.specs.Accepted.{Accepted}
 use Rattle.lines.specs.Lines.{labels}
@@ -79,14 +80,14 @@ lines-length s t r word (v ∷ l) w h =
 -- ---- a value of an accepted table without a cycle, with the results of Working out
 
 module _ (t : List ℤ) (n m : ℕ) (ok : Accepted t n) (nc : NoCycle t) (fit : 3 * n ≤ m) where
-  value-is : (v : ℕ) → kind t v ≡ 2 → stored (resultCells t n m) v ≡ evaluated t (resultCells t n m) v
+  value-is : (v : ℕ) → kind t v ≡ valueCode → stored (resultCells t n m) v ≡ evaluated t (resultCells t n m) v
   value-is v k = figures-stored t n ok m fit v ∙ figures-value t n ok m fit nc v k
 
-  value-good : (v : ℕ) → kind t v ≡ 2 → Good 1 (valueOutcome t (resultCells t n m) v)
+  value-good : (v : ℕ) → kind t v ≡ valueCode → Good 1 (valueOutcome t (resultCells t n m) v)
   value-good v k = value-settled t (resultCells t n m) n ok v k (λ x j _. figures-settled t n ok nc m fit x j)
 
   -- its name is in a table w
-  value-short : (w : List ℤ) (v : ℕ) → kind t v ≡ 2 → nameLength w v ≤ 16 → Short w (resultCells t n m) v
+  value-short : (w : List ℤ) (v : ℕ) → kind t v ≡ valueCode → nameLength w v ≤ 16 → Short w (resultCells t n m) v
   value-short w v k h =
       let e = value-is v k in
       let g = value-good v k in

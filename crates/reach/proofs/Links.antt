@@ -9,7 +9,7 @@ use native.Mathlib.Decide.{ℕ-discrete}
 use lib.IntN.{ℤ}
 use Rattle.kinds.specs.Kinds.{groupCode, valueCode}
 use Rattle.kinds.proofs.Laws.{kind-low, definition-kind, expression-kind, body-definition, path-expression, path-body}
-use Rattle.kinds.proofs.Plans.{group-bodiless}
+use Rattle.kinds.proofs.Codes.{group-bodiless}
 use Rattle.cells.specs.Table.{cell, kind, isDefinition, hasBody, owner, target}
 use Rattle.cells.specs.Accepted.{Accepted, HasBody}
 use Rattle.cells.specs.Reaches.{HasPath, Mentions, Reaches, once as mention, then as and}

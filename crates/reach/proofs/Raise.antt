@@ -8,7 +8,7 @@ use native.Mathlib.Omega.{arith}
 use native.Mathlib.Decide.{ℕ-discrete}
 use lib.IntN.{ℤ}
 use Rattle.kinds.specs.Kinds.{groupCode, valueCode}
-use Rattle.kinds.proofs.Plans.{group-definition, value-definition}
+use Rattle.kinds.proofs.Codes.{group-definition, value-definition}
 use Rattle.cells.specs.Table.{kind, isDefinition, owner}
 use Rattle.cells.specs.Accepted.{Accepted, HasBody}
 use Rattle.order.specs.Order.{up, Within}

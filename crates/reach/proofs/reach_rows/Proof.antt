@@ -5,7 +5,7 @@ use native.Mathlib.Omega.{arith}
 use borrow.Author.Needs.{needs}
 use borrow.Author.Count.{below-more}
 use lib.ListN.{getD}
-use Rattle.kinds.proofs.Plans.{value-body}
+use Rattle.kinds.proofs.Codes.{value-body}
 use Rattle.kinds.specs.Kinds.{valueCode}
 use Rattle.cells.specs.Table.{kind}
 use Rattle.reach.proofs.Visits.{Going, going-start, going-room, going-more, begun-more, rows-none, rows-all}

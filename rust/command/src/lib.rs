@@ -8,6 +8,7 @@
 #![forbid(unsafe_code)]
 
 pub mod check;
+mod document;
 mod excerpt;
 pub mod explain;
 mod follow;
@@ -23,11 +24,14 @@ mod print;
 mod rules;
 mod run;
 pub mod sheets;
+mod show;
 pub mod status;
 mod svg;
 mod table;
 mod tree;
 mod values;
+mod why;
 pub mod words;
+mod write;
 
 pub use tree::{Node, Span};

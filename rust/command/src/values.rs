@@ -28,7 +28,7 @@ pub const NAME_FIELDS: [Field; 4] = [
 pub const OUTCOME_FIELDS: [Field; 4] = [
     (
         "values.state",
-        "1 a number, 2 out of range, 3 a zero divisor, 4 out of steps, 5 too deep",
+        "1 a number, 2 out of range, 3 a zero divisor, 4 no steps left, 5 too deep",
     ),
     ("values.number", "the number, in state 1"),
     (
@@ -131,15 +131,19 @@ pub fn name_object(label: Label, name: &str) -> Object {
 
 /// The fields of an outcome.
 pub fn outcome_object(outcome: Outcome) -> Object {
-    let failure = match outcome.state {
+    state_object(outcome.state).with("steps", outcome.steps)
+}
+
+/// The fields of a state.
+pub fn state_object(state: State) -> Object {
+    let failure = match state {
         State::Number(_) => None,
         failure => Some(failure.to_string()),
     };
     Object::new()
-        .with("state", outcome.state.code())
-        .with_some("number", outcome.state.number())
+        .with("state", state.code())
+        .with_some("number", state.number())
         .with_some("failure", failure)
-        .with("steps", outcome.steps)
 }
 
 pub fn json(values: &[Value]) -> Json {

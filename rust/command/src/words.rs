@@ -11,15 +11,18 @@ use crate::input;
 use crate::options::{Call, Opt, COMMON};
 use crate::output::{Output, NAME};
 use crate::status::{self, Status};
-use crate::{check, explain, follow, plan, run};
+use crate::{check, explain, follow, plan, run, show, why, write};
 
 /// The words, as `lindypo --help` lists them.
-pub const WORDS: [&Word; 5] = [
+pub const WORDS: [&Word; 8] = [
     &run::WORD,
     &plan::WORD,
     &follow::WORD,
     &explain::WORD,
+    &why::WORD,
     &check::WORD,
+    &show::WORD,
+    &write::WORD,
 ];
 
 pub struct Word {

@@ -102,26 +102,35 @@ impl Reader<'_> {
     }
 }
 
+/// A file that is not there.
+const NO_FILE: &str = "no \"such\" sheet\n";
+
+/// Texts of formulas, and a sheet, which is none.
+const FORMULAS: [&str; 3] = [
+    "examples/order.formulas",
+    "rust/command/tests/formulas/refused.formulas",
+    "sheets/01-example.sheet",
+];
+
 /// What to call a word with, so that every field comes up.
 fn calls(word: &Word) -> Vec<Vec<String>> {
-    let sheets: Vec<String> = sheets()
-        .iter()
-        .map(|sheet| sheet.display().to_string())
-        .collect();
-    let own: &[&[&str]] = match word.name {
-        "follow" => &[&["--order", "5,4,2"], &["--order", "endless"]],
-        "check" => &[&["sheets"]],
-        _ => &[&[]],
+    let sheets = sheets();
+    let sheets = sheets.iter().filter_map(|sheet| sheet.to_str());
+    let sheets: Vec<&str> = [NO_FILE].into_iter().chain(sheets).collect();
+    let formulas = [&[NO_FILE], &FORMULAS[..]].concat();
+    let own = |own: &[&'static str]| [own, &sheets[..]].concat();
+    let calls: Vec<Vec<&str>> = match word.name {
+        "follow" => vec![own(&["--order", "5,4,2"]), own(&["--order", "endless"])],
+        "check" => vec![own(&["sheets"]), own(&["--all"])],
+        "show" => sheets.iter().map(|&sheet| vec![sheet]).collect(),
+        "write" => formulas.iter().map(|&file| vec![file]).collect(),
+        _ => vec![own(&[])],
     };
-    let call = |own: &&[&str]| {
-        let words = [&[word.name, "--json", "no \"such\" sheet\n"], *own].concat();
-        [
-            words.iter().map(|word| word.to_string()).collect(),
-            sheets.clone(),
-        ]
-        .concat()
+    let in_json = |call: Vec<&str>| {
+        let words = [word.name, "--json"].into_iter().chain(call);
+        words.map(str::to_string).collect()
     };
-    own.iter().map(call).collect()
+    calls.into_iter().map(in_json).collect()
 }
 
 #[test]
@@ -133,6 +142,11 @@ fn every_field_is_said() {
             let said = stdout(&output(&words));
             names.extend(said.lines().flat_map(Reader::names));
         }
+        // a fault has the fields of a refusal
+        let names = names
+            .into_iter()
+            .map(|name| name.replace("faults.", "refusal."));
+        let names: BTreeSet<String> = names.collect();
         let fields = word.fields.concat();
         let fields = fields.iter().map(|(name, _)| name.to_string());
         assert_eq!(names, fields.collect(), "{}", word.name);

@@ -46,3 +46,8 @@ fn sheets_in_json() {
 fn wrong_words_files_and_outputs() {
     is_replayed("wrong.txt");
 }
+
+#[test]
+fn sheets_shown_and_formulas_written() {
+    is_replayed("formulas.txt");
+}

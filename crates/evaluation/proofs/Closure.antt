@@ -7,7 +7,6 @@ use mathlib.Core.Logic.{_⊎_, inl, inr}
 use Prim.Native.Nat.{ℕ, zero, suc, _-_, _≤_, _<_}
 use native.Mathlib.Omega.{arith}
 use lib.IntN.{ℤ, natAbs}
-use borrow.Author.Tests.{le-leb}
 use Rattle.kinds.specs.Kinds.{valueCode, numberCode, hasPath, hasBody, operandA, operandB, operandC, wantedBy, takes, clauseOf}
 use Rattle.kinds.proofs.Tests.{clash}
 use Rattle.kinds.proofs.Laws.{kind-low, definition-kind, body-definition, path-body}
@@ -138,7 +137,7 @@ module _ (t : List ℤ) (n : ℕ) (w : Accepted t n) where
           go clause.Read e = let p = path-uses (kind t l) ∙ ap (λ k. usesOf k .target) e in (w .leads l p ∙ read-value (kind t l) e, aim p)
           go (clause.Call k) e =
               let p = path-uses (kind t l) ∙ ap (λ k. usesOf k .target) e in
-              let a = a-uses (kind t l) ∙ ap (λ k. usesOf k .a) e ∙ le-leb 1 k (call-some (kind t l) k e) in
+              let a = a-uses (kind t l) ∙ ap (λ k. usesOf k .a) e in
               (first a, body-within (target t l) (target-body p) (called k e p), target-body p, called k e p)
           go (clause.Operation op) e = (first (a-uses (kind t l) ∙ ap (λ k. usesOf k .a) e), second (b-uses (kind t l) ∙ ap (λ k. usesOf k .b) e))
           go clause.Choice e =

@@ -8,11 +8,10 @@ use Prim.Native.Nat.{ℕ, _+_, _*_, _≤_, _<_}
 use native.Mathlib.Omega.{arith}
 use lib.IntN.{ℤ, natAbs}
 use lib.ListN.{length}
-use borrow.Author.Tests.{le-leb}
 use Rattle.kinds.specs.Kinds.{valueCode, numberCode, operandA, clauseOf}
 use Rattle.kinds.proofs.Tests.{clash}
 use Rattle.kinds.proofs.Codes.{value-body}
-use Rattle.kinds.proofs.Clauses.{usesOf, a-uses, call-some}
+use Rattle.kinds.proofs.Clauses.{usesOf, a-uses}
 use Rattle.kinds.proofs.Plans.{number-plain}
 use Rattle.cells.specs.Table.{kind, fieldA, fieldB, owner, target}
 use Rattle.cells.specs.Reaches.{Reaches}
@@ -97,10 +96,6 @@ module _ {t r : List ℤ} {l : ℕ} {g : Arguments} {d : ℕ} where
     pub first-entry : Composite k → {x : ℕ} → x ≡ fieldA t l → Entry t r x g d
     first-entry c p =
         enter (e .entry) p (first t (e .entry .ready .count) (e .entry .ready .accepted) Own Reached (from-closed t (owner t l)) l here (operand c))
-
-  -- a call evaluates its argument
-  pub call-composite : (e : EnteredCall t r l g d) → Composite (clause.Call (e .count))
-  call-composite e = le-leb 1 (e .count) (call-some (kind t l) (e .count) (e .entered .of))
 
   pub second-entry : {op : Operation} → Entered (clause.Operation op) t r l g d → {x : ℕ} → x ≡ fieldB t l → Entry t r x g d
   unfolding Leads

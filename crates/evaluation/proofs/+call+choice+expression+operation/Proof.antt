@@ -7,7 +7,7 @@ use mir.Syntax.{w64}
 use mir.Val.{toZ, ofZ}
 use Rattle.cells.proofs.Signed.{whole}
 use Rattle.evaluation.specs.Evaluation.{gives, callBy, operationBy, choiceBy, enteredBy}
-use Rattle.evaluation.proofs.Entries.{line-cell, number-cell, operand-cell, first-entry, second-entry, branch-entry, body-entry, body-cell, read-asks, as-kind, as-call, is-kind, call-composite, number-ranged, left-less-by}
+use Rattle.evaluation.proofs.Entries.{line-cell, number-cell, operand-cell, first-entry, second-entry, branch-entry, body-entry, body-cell, read-asks, as-kind, as-call, is-kind, number-ranged, left-less-by}
 use Rattle.evaluation.proofs.Answers.{first-fails, call-deep, call-goes, second-fails, combines, chooses, no-step, entered}
 use Prim.Native.Nat.{ℕ, _+_, _*_, _<_}
 use borrow.Fn.Kinds.{In}
@@ -88,10 +88,10 @@ abbrev operation-claims : ℕ → operation-lts.Claims
 operation-claims t = (field-reads.Asked, field-reads.Learnt, expression-below t, expression.Post, failure-reads.Asked, failure-reads.Learnt, combine-reads.Asked, combine-reads.Learnt)
 
 call-field-requires : (t : ℕ) → call-lts.Need-field-requires (call-claims t) (call-at t) call.Post
-call-field-requires t c κs = operand-cell (c .pre .1 .entered) (call-composite (c .pre .1)) _ (omega arith)
+call-field-requires t c κs = operand-cell (c .pre .1 .entered) refl _ (omega arith)
 
 call-expression-requires : (t : ℕ) → call-lts.Need-expression-requires (call-claims t) (call-at t) call.Post
-call-expression-requires t c κs = (omega (arith, c .before .pre .0), first-entry (c .before .pre .1 .entered) (call-composite (c .before .pre .1)) (c .field .ensures))
+call-expression-requires t c κs = (omega (arith, c .before .pre .0), first-entry (c .before .pre .1 .entered) refl (c .field .ensures))
 
 call-failure-requires : (t : ℕ) → call-lts.Need-failure-requires (call-claims t) (call-at t) call.Post
 call-failure-requires t c κs = search needs
@@ -107,7 +107,7 @@ call-returns-2 : (t : ℕ) → call-lts.Need-returns-2 (call-claims t) (call-at 
 call-returns-2 t c = call-deep _ _ _ _ _ _ (c .before .before .before .before .before .field .ensures) (c .before .before .before .before .expression .ensures) (c .before .before .if1 .left) (c .before .if2 .taken) (c .failure2 .ensures)
 
 call-field-requires-2 : (t : ℕ) → call-lts.Need-field-requires-2 (call-claims t) (call-at t) call.Post
-call-field-requires-2 t c κs = operand-cell (c .before .before .before .before .before .pre .1 .entered) (call-composite (c .before .before .before .before .before .pre .1)) _ (omega arith)
+call-field-requires-2 t c κs = operand-cell (c .before .before .before .before .before .pre .1 .entered) refl _ (omega arith)
 
 call-field-requires-3 : (t : ℕ) → call-lts.Need-field-requires-3 (call-claims t) (call-at t) call.Post
 call-field-requires-3 t c κs = body-cell (c .before .before .before .before .before .before .pre .1 .entered) (c .field2 .ensures)
@@ -116,7 +116,7 @@ call-add-t14 : (t : ℕ) → call-lts.Need-add-t14 (call-claims t) (call-at t) c
 call-add-t14 t c = record { fits = omega (arith, c .before .before .before .before .before .before .before .before .pre .1 .entered .entry .shallow) }
 
 call-expression-requires-2 : (t : ℕ) → call-lts.Need-expression-requires-2 (call-claims t) (call-at t) call.Post
-call-expression-requires-2 t c κs = (omega (arith, c .before .before .before .before .before .before .before .before .pre .0, left-less-by _ _ _ _ _ _ (c .before .before .before .before .before .before .expression .ensures)), body-entry (c .before .before .before .before .before .before .before .before .pre .1 .entered) (c .before .before .field2 .ensures) (c .before .field3 .ensures) (number-ranged _ _ _ _ _ _ (c .before .before .before .before .before .before .expression .ensures) (first-entry (c .before .before .before .before .before .before .before .before .pre .1 .entered) (call-composite (c .before .before .before .before .before .before .before .before .pre .1)) (c .before .before .before .before .before .before .before .field .ensures)) (whole (c .before .before .before .before .before .before .expression .result .number) (c .struct-told .given .0 .1))) (omega (arith, c .before .before .before .before .before .before .before .before .pre .1 .entered .entry .shallow, c .before .before .before .if2 .left)))
+call-expression-requires-2 t c κs = (omega (arith, c .before .before .before .before .before .before .before .before .pre .0, left-less-by _ _ _ _ _ _ (c .before .before .before .before .before .before .expression .ensures)), body-entry (c .before .before .before .before .before .before .before .before .pre .1 .entered) (c .before .before .field2 .ensures) (c .before .field3 .ensures) (number-ranged _ _ _ _ _ _ (c .before .before .before .before .before .before .expression .ensures) (first-entry (c .before .before .before .before .before .before .before .before .pre .1 .entered) refl (c .before .before .before .before .before .before .before .field .ensures)) (whole (c .before .before .before .before .before .before .expression .result .number) (c .struct-told .given .0 .1))) (omega (arith, c .before .before .before .before .before .before .before .before .pre .1 .entered .entry .shallow, c .before .before .before .if2 .left)))
 
 call-returns-3 : (t : ℕ) → call-lts.Need-returns-3 (call-claims t) (call-at t) call.Post
 call-returns-3 t c = call-goes _ _ _ _ _ _ (c .before .before .before .before .before .before .before .before .field .ensures) (c .before .before .before .before .before .before .before .expression .ensures) (c .before .before .before .before .before .if1 .left) (c .before .before .before .before .if2 .left) (whole (c .before .before .before .before .before .before .before .expression .result .number) (c .before .struct-told .given .0 .1)) (c .before .before .before .field2 .ensures) (c .before .before .field3 .ensures) (c .expression2 .ensures)

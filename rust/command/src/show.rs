@@ -2,12 +2,11 @@
 
 use lindypo::{formula, Sheet};
 
-use crate::document::{self, Document, Failure, Made, Maker};
-use crate::excerpt;
+use crate::document::{self, Document, Made, Maker};
 use crate::input::Source;
 use crate::json::Object;
 use crate::options::Call;
-use crate::output::{Output, Paint};
+use crate::output::Output;
 use crate::sheets;
 use crate::status::Status;
 use crate::words::{Example, Field, Word};
@@ -48,20 +47,13 @@ fn call(call: &Call, out: &mut Output) -> Result<Status, String> {
     document::one(call, out, maker)
 }
 
-fn make(text: &[u8], file: &str) -> Made {
-    match Sheet::read(text) {
-        Ok(sheet) => {
-            let formulas = formula::show(&sheet);
-            Ok(Document {
-                fields: Object::new().with("formulas", formulas.as_str()),
-                text: formulas.into_bytes(),
-            })
-        }
-        Err(refusal) => Err(Failure {
-            message: excerpt::refused(text, file, &refusal, Paint::default())
-                .trim_end()
-                .to_string(),
-            fields: Object::new().with("refusal", sheets::refusal_object(&refusal)),
-        }),
-    }
+fn make(text: &[u8], source: &Source) -> Made {
+    let read = Sheet::read(text);
+    let sheet = read.map_err(|refusal| document::refused(text, source, &refusal))?;
+    let formulas = formula::show(&sheet);
+    Ok(Document {
+        fields: Object::new().with("formulas", formulas.as_str()),
+        text: formulas.into_bytes(),
+        status: Status::Answered,
+    })
 }

@@ -105,14 +105,15 @@ fn call(call: &Call, out: &mut Output) -> Result<Status, String> {
     document::one(call, out, maker)
 }
 
-fn make(text: &[u8], file: &str) -> Made {
+fn make(text: &[u8], source: &Source) -> Made {
     match formula::write(text) {
         Ok(sheet) => Ok(Document {
             fields: Object::new().with("sheet", String::from_utf8_lossy(&sheet).as_ref()),
             text: sheet,
+            status: Status::Answered,
         }),
         Err(mistake) => Err(Failure {
-            message: message(text, file, &mistake),
+            message: message(text, &source.title(), &mistake),
             fields: Object::new().with("mistake", object(&mistake)),
         }),
     }

@@ -2,6 +2,7 @@
 
 use lindypo::{why, Kind, Label, Sheet};
 
+use crate::labels::{self, is_label};
 use crate::numerals::counted;
 
 /// The most values that a message names.
@@ -9,15 +10,7 @@ const NAMED: usize = 12;
 
 /// The line with this label or full name.
 pub fn label_of(sheet: &Sheet, name: &str) -> Option<Label> {
-    let label = match is_label(name) {
-        true => name.parse().ok(),
-        false => sheet.find(name),
-    };
-    label.filter(|&label| sheet.line(label).is_some())
-}
-
-fn is_label(name: &str) -> bool {
-    !name.is_empty() && name.bytes().all(|byte| byte.is_ascii_digit())
+    labels::of(sheet, name).filter(|&label| sheet.line(label).is_some())
 }
 
 /// What to say of a name that is no value's.

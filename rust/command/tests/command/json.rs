@@ -8,7 +8,7 @@ use crate::{output, sheets, stdout};
 
 /// A reader of one line of JSON that collects the names of its fields, those in
 /// an object in a field with its name and a dot before their own.
-struct Reader<'a> {
+pub struct Reader<'a> {
     rest: &'a [u8],
     within: Vec<String>,
     names: BTreeSet<String>,
@@ -16,7 +16,7 @@ struct Reader<'a> {
 
 impl Reader<'_> {
     /// The names of the fields of a line; it has to be an object.
-    fn names(line: &str) -> BTreeSet<String> {
+    pub fn names(line: &str) -> BTreeSet<String> {
         let mut reader = Reader {
             rest: line.as_bytes(),
             within: vec![],
@@ -102,42 +102,64 @@ impl Reader<'_> {
     }
 }
 
-/// A file that is not there.
-const NO_FILE: &str = "no \"such\" sheet\n";
+/// A sheet whose values fail in several ways.
+const FAILURES: &str = "rust/command/tests/sheets/failures.sheet";
 
-/// Texts of formulas, and a sheet, which is none.
-const FORMULAS: [&str; 3] = [
-    "examples/order.formulas",
-    "rust/command/tests/formulas/refused.formulas",
-    "sheets/01-example.sheet",
-];
+/// What to call a word with, so that every field comes up; `*` is every sample
+/// sheet, one with failures and one that is not there.
+fn calls(word: &Word) -> &'static [&'static str] {
+    match word.name {
+        "follow" => &["--order 5,4,2 *", "--order endless *"],
+        "check" => &["sheets *", "--all *"],
+        "why" => &[
+            "no.sheet x",
+            "sheets/09-used-twice.sheet total",
+            "sheets/01-example.sheet right.prism",
+            "sheets/03-mixed.sheet right",
+            "sheets/04b-even-of-1.sheet answer",
+            "sheets/05b-even-of-64.sheet answer",
+            "rust/command/tests/sheets/failures.sheet right.centre",
+            "rust/command/tests/sheets/failures.sheet rim",
+        ],
+        "show" => &[
+            "no.sheet",
+            "sheets/01-example.sheet",
+            "sheets/refusal-12-same-name.sheet",
+        ],
+        "write" => &[
+            "no.formulas",
+            "examples/order.formulas",
+            "rust/command/tests/formulas/refused.formulas",
+            "sheets/01-example.sheet",
+        ],
+        _ => &["*"],
+    }
+}
 
-/// What to call a word with, so that every field comes up.
-fn calls(word: &Word) -> Vec<Vec<String>> {
-    let sheets = sheets();
-    let sheets = sheets.iter().filter_map(|sheet| sheet.to_str());
-    let sheets: Vec<&str> = [NO_FILE].into_iter().chain(sheets).collect();
-    let formulas = [&[NO_FILE], &FORMULAS[..]].concat();
-    let own = |own: &[&'static str]| [own, &sheets[..]].concat();
-    let calls: Vec<Vec<&str>> = match word.name {
-        "follow" => vec![own(&["--order", "5,4,2"]), own(&["--order", "endless"])],
-        "check" => vec![own(&["sheets"]), own(&["--all"])],
-        "show" => sheets.iter().map(|&sheet| vec![sheet]).collect(),
-        "write" => formulas.iter().map(|&file| vec![file]).collect(),
-        _ => vec![own(&[])],
-    };
-    let in_json = |call: Vec<&str>| {
-        let words = [word.name, "--json"].into_iter().chain(call);
-        words.map(str::to_string).collect()
-    };
-    calls.into_iter().map(in_json).collect()
+/// The words of a call.
+fn spelled(word: &Word, call: &str) -> Vec<String> {
+    let sheets = sheets()
+        .into_iter()
+        .map(|sheet| sheet.display().to_string());
+    let sheets: Vec<String> = sheets
+        .chain([FAILURES, "no \"such\" sheet\n"].map(str::to_string))
+        .collect();
+    let mut words = vec![word.name.to_string(), "--json".to_string()];
+    for part in call.split(' ') {
+        match part {
+            "*" => words.extend(sheets.clone()),
+            part => words.push(part.to_string()),
+        }
+    }
+    words
 }
 
 #[test]
 fn every_field_is_said() {
     for word in WORDS {
         let mut names = BTreeSet::new();
-        for words in calls(word) {
+        for call in calls(word) {
+            let words = spelled(word, call);
             let words: Vec<&str> = words.iter().map(String::as_str).collect();
             let said = stdout(&output(&words));
             names.extend(said.lines().flat_map(Reader::names));

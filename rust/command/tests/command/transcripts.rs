@@ -43,6 +43,16 @@ fn sheets_in_json() {
 }
 
 #[test]
+fn values_and_why() {
+    is_replayed("why.txt");
+}
+
+#[test]
+fn every_word_on_bad_input() {
+    is_replayed("every.txt");
+}
+
+#[test]
 fn wrong_words_files_and_outputs() {
     is_replayed("wrong.txt");
 }

@@ -13,7 +13,8 @@ use Rattle.refusals.specs.declared.Verdict.{Verdict}
 use Rattle.refusals.specs.declared.Verdict.the-variants.{Fine, Refused}
 use Rattle.refusals.specs.declared.Reply.{Reply}
 use Rattle.refusals.specs.declared.Reply.the-variants as reply
-use Rattle.text.specs.Bytes.{all, countBy, isAllowed, isBad, isNewline, same, endsLines}
+use Rattle.text.specs.Bytes.{all, countBy, isAllowed, isNewline, same, endsLines}
+use Rattle.text.specs.Scans.{isBad}
 use Rattle.text.specs.Pieces.{cut, cutAt, firstOf}
 use Rattle.text.proofs.Bytes.{true-false, and-left, and-right, and-false, all-allowed, count-some, same-lengths, same-eq}
 use Rattle.text.proofs.Cuts.{first-onto}

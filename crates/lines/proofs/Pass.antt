@@ -14,12 +14,13 @@ use Rattle.refusals.specs.Refusal.{firstBad}
 use Rattle.refusals.specs.declared.Verdict.the-variants.{Fine, Refused}
 use Rattle.refusals.proofs.FirstBad.{first-start, first-fine, first-bad, first-end}
 use Rattle.text.specs.Bytes.{countBy, isNewline, endsLines}
-use Rattle.text.specs.Pieces.{rest, cut, place, firstOf, fieldsFrom}
+use Rattle.text.specs.Pieces.{cut, place, firstOf}
+use Rattle.text.specs.Scans.{rest, fieldsFrom}
 use Rattle.text.proofs.Slices.{whole}
 use Rattle.text.proofs.Cuts.{pieces, place-zero, piece-is, pieces-next, place-next}
 use Rattle.text.proofs.Fields.{line-inside, line-next}
-use Rattle.lines.specs.Lines.{line, firstLine, labels, headBad, lineBad, lineCheck, linesBad, rootRow, lineRow, rowOf, rows, linesWritten}
-use Rattle.lines.specs.Steps.{lineFrom, rowAt, rootAt, rowFor, cellsOf, decide, lineRead, stepOf, written}
+use Rattle.lines.specs.Lines.{line, firstLine, labels, headBad, lineBad, lineCheck, linesBad, rootRow, lineRow, rowOf, rows}
+use Rattle.lines.specs.Steps.{lineFrom, rowAt, rootAt, rowFor, cellsOf, decide, lineRead, stepOf, written, linesWritten}
 use Rattle.lines.specs.declared.Row.{Row}
 use Rattle.lines.specs.declared.Line.{Line}
 use Rattle.lines.specs.declared.Line.the-variants.{Passes, Fails}

@@ -10,7 +10,8 @@ use lib.ListN.{length, getD}
 use lib.Seq.{slice, length-slice}
 use borrow.Author.Tests.{eq-eqb, ne-eqb, eqb-true}
 use Rattle.text.specs.Bytes.{same}
-use Rattle.text.specs.Pieces.{rest, cut, place, firstOf, fieldsFrom, fieldsAre}
+use Rattle.text.specs.Pieces.{cut, place, firstOf, fieldsAre}
+use Rattle.text.specs.Scans.{rest, fieldsFrom}
 use Rattle.text.proofs.Bytes.{same-eq, and-false}
 use Rattle.lines.proofs.Splits.{full}
 use Rattle.kinds.specs.declared.Fields.{Fields}

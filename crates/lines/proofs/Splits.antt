@@ -7,8 +7,8 @@ use native.Mathlib.Omega.{arith}
 use lib.ListN.{length, getD}
 use lib.Seq.{slice}
 use Rattle.text.specs.Bytes.{all, isAllowed, endsLines}
-use Rattle.text.specs.Pieces.{rest, cut, fieldsFrom, fieldsAre}
-use Rattle.text.specs.Scans.{fieldEnd}
+use Rattle.text.specs.Pieces.{cut, fieldsAre}
+use Rattle.text.specs.Scans.{fieldEnd, rest, fieldsFrom}
 use Rattle.text.proofs.Slices.{slice-at}
 use Rattle.text.proofs.Fields.{Spaced, Last, space-end, space-none, last-end, last-none}
 use Rattle.lines.specs.declared.Ends.{Ends}

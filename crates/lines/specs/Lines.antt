@@ -1,10 +1,10 @@
 -- Rows 1 to 3 and 5 to 7 of document 01's table "Where each refusal is found", and the cells that Read writes of each line.
 use mathlib.Core.Bool.{Bool, cond, _&&_}
 use mathlib.Core.List.{List, [], _∷_, _++_}
-use Prim.Native.Nat.{ℕ, zero, suc, _+_, _-_, _*_}
+use Prim.Native.Nat.{ℕ, zero, suc, _+_, _-_}
 use lib.Dec.{leb, eqb}
 use lib.IntN.{ℤ, pos}
-use lib.ListN.{length, getD, drop}
+use lib.ListN.{length, getD}
 use Rattle.kinds.specs.declared.Fields.{Fields}
 use Rattle.kinds.specs.Kinds.{groupCode, fieldsAt}
 use Rattle.cells.specs.Cells.{zeros}
@@ -111,7 +111,3 @@ rowOf n k p fs = cond (eqb k 1) rootRow (lineRow n p fs)
 abbrev pub rows : List ℕ → ℕ → ℕ → List ℤ
 rows s n zero = []
 rows s n (suc k) = rows s n k ++ rowOf n (suc k) (place (cut 10 s) (suc k)) (cut 32 (line s (suc k)))
-
--- a table in which the cells of labels 1 to k are written, and the others are as they were
-abbrev pub linesWritten : List ℕ → ℕ → ℕ → List ℤ → List ℤ
-linesWritten s n k t = rows s n k ++ drop (8 * k) t

@@ -1,19 +1,22 @@
 -- What the code finds at one line of the text s, by positions.
 use mathlib.Core.Path.{_≡_}
-use mathlib.Core.Bool.{Bool, true, false, cond, _&&_}
-use mathlib.Core.List.{List, [], _∷_}
-use Prim.Native.Nat.{ℕ, zero, suc, _+_, _-_, _*_, _≤_, _<_}
+use mathlib.Core.Bool.{Bool, false, cond}
+use mathlib.Core.List.{List, [], _∷_, _++_}
+use Prim.Native.Nat.{ℕ, zero, suc, _+_, _-_, _*_, _<_}
 use lib.Dec.{eqb}
 use lib.IntN.{ℤ, pos}
-use lib.ListN.{length}
+use lib.ListN.{length, drop}
 use lib.Seq.{slice, sets}
 use Rattle.kinds.specs.declared.Fields.{Fields}
 use Rattle.kinds.specs.Kinds.{groupCode, fieldsAt}
 use Rattle.text.specs.Bytes.{same}
-use Rattle.text.specs.Pieces.{rest, cut, place, firstOf, fieldsFrom, fieldsAre}
+use Rattle.text.specs.Pieces.{cut, place, firstOf, fieldsAre}
+use Rattle.text.specs.Scans.{rest, fieldsFrom}
 use Rattle.refusals.specs.Rows.{formRow}
+use Rattle.refusals.specs.declared.Verdict.{Verdict}
+use Rattle.refusals.specs.declared.Verdict.the-variants.{Fine, Refused}
 use Rattle.lines.specs.Fields.{dash, fieldOf, held, kindCode}
-use Rattle.lines.specs.Lines.{field, formsRight, nameCell, rootLine, lineBad}
+use Rattle.lines.specs.Lines.{field, formsRight, nameCell, rootLine, lineBad, rows}
 use Rattle.lines.specs.declared.Ends.{Ends}
 use Rattle.lines.specs.declared.Split.{Split}
 use Rattle.lines.specs.declared.Split.the-variants.{Five, Other}
@@ -128,3 +131,12 @@ stepOf (Fails b) = Stop b
 abbrev pub written : Line → ℕ → List ℤ → List ℤ
 written (Passes r) base t = sets t base (cellsOf r)
 written (Fails b) base t = t
+
+-- how many of n labels a pass upward went by before it ended
+abbrev pub passed : Verdict → ℕ → ℕ
+passed Fine n = n
+passed (Refused r k) n = k - 1
+
+-- a table in which the cells of labels 1 to k are written, and the others are as they were
+abbrev pub linesWritten : List ℕ → ℕ → ℕ → List ℤ → List ℤ
+linesWritten s n k t = rows s n k ++ drop (8 * k) t

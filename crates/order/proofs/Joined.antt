@@ -13,6 +13,10 @@ use Rattle.order.proofs.Tests.{so-or-not, not-so, clash}
 use Rattle.order.proofs.Lists.{count-append, count-here, count-there, in-here, in-there, in-left, in-right, in-cons, in-append, count-parts, split}
 use Rattle.order.proofs.Placing.{Late, late-append}
 
+pub joined-same : (f g : ℕ → List ℕ) (l : List ℕ) → ((p : ℕ) → p ∈ l → f p ≡ g p) → joined f l ≡ joined g l
+joined-same f g [] h = refl
+joined-same f g (x ∷ l) h = ap (λ (a : List ℕ). a ++ joined f l) (h x (in-here x l)) ∙ ap (λ (b : List ℕ). g x ++ b) (joined-same f g l (λ p m. h p (in-there p x l m)))
+
 module _ (f : ℕ → List ℕ) where
   pub joined-append : (a b : List ℕ) → joined f (a ++ b) ≡ joined f a ++ joined f b
   joined-append [] b = refl

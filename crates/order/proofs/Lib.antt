@@ -10,6 +10,7 @@ pub mod Needs
 pub mod Listed
 pub mod Whole
 pub mod Free
+pub mod Unrolled
 pub mod Planned
 pub mod Same
 pub mod Positions

@@ -180,6 +180,10 @@ first-none f (y ∷ l) h x m = go (f y) refl (λ k. first-none f l k x)
         other (inl q) = rw q e
         other (inr k) = r (rw e at h) k
 
+pub first-refute : (f : ℕ → Bool) (l : List ℕ) → ((x : ℕ) → x ∈ l → f x ≡ false) → first f l ≡ none
+first-refute f [] h = refl
+first-refute f (y ∷ l) h = rw (h y (in-here y l)) (first-refute f l (λ x m. h x (in-there x y l m)))
+
 -- in an ascending list, nothing below the first that passes does
 pub first-least : (f g : ℕ → Bool) (m k v : ℕ) → first f (filter g (upFrom m k)) ≡ some v
     → (w : ℕ) → m ≤ w → w < v → g w ≡ true → f w ≡ false

@@ -11,9 +11,8 @@ use lib.Seq.{slice, length-slice}
 use borrow.Author.Tests.{eq-eqb, ne-eqb, eqb-true, ltb-true, ltb-false, lt-ltb, le-ltb, not-false}
 use Rattle.cells.specs.Table.{kind, nameStart, nameLength, owner, target}
 use Rattle.order.specs.Order.{isDefinition, hasPath}
-use Rattle.text.specs.Bytes.{run}
 use Rattle.text.specs.Pieces.{cut}
-use Rattle.text.specs.Scans.{runEnd}
+use Rattle.text.specs.Scans.{runEnd, run}
 use Rattle.text.proofs.Bytes.{run-le, run-fails}
 use Rattle.text.proofs.Slices.{take-slice, drop-slice}
 use Rattle.text.proofs.Cuts.{cut-more, cut-last}

@@ -3,18 +3,17 @@ use mathlib.Core.Path.{_≡_, refl, sym, ap, _∙_, subst}
 use mathlib.Core.Logic.{_⊎_, inl, inr, _↔_}
 use mathlib.Core.List.{List, [], _∷_, _++_}
 use mathlib.Core.Bool.{Bool, true, false, not, _&&_}
-use mathlib.Core.Option.{Option, none, some}
+use mathlib.Core.Option.{none, some}
 use Prim.Native.Nat.{ℕ, zero, suc, _+_, _-_, _*_, _≤_, _<_}
 use native.Mathlib.Omega.{arith}
 use native.Mathlib.Numerals.{add-one}
 use native.Mathlib.Decide.{ℕ-discrete}
 use lib.ListN.{length, getD, set, take}
 use lib.Seq.{take-suc-set}
-use borrow.Author.Tests.{not-true}
-use Rattle.order.specs.Lists.{one, count, _∈_, mem, any, filter}
+use Rattle.order.specs.Lists.{one, count, _∈_, mem, filter}
 use Rattle.order.specs.Placing.{waits, next, rounds, placed}
-use Rattle.order.proofs.Tests.{clash, so-or-not, and-left, and-right}
-use Rattle.order.proofs.Lists.{in-append, in-single, of-mem, of-not-mem, zero-or-in}
+use Rattle.order.proofs.Tests.{clash, so-or-not}
+use Rattle.order.proofs.Lists.{in-append, in-single, of-mem, zero-or-in}
 use Rattle.marks.specs.Marks.{mark, Dropped, First}
 use Rattle.marks.proofs.Squares.{mark-in}
 use Rattle.placing.specs.Placing.{Rising, blocks, State, Lowered, Placed}

@@ -9,9 +9,8 @@ use native.Mathlib.Omega.{arith}
 use native.Mathlib.Numerals.{add-one}
 use native.Mathlib.Decide.{ℕ-discrete}
 use lib.Dec.{eqb, ltb}
-use lib.ListN.{length, getD, take, drop, length-append, take-append-drop}
+use lib.ListN.{length, getD, take, drop, take-append-drop}
 use lib.Seq.{take-suc, getD-take, length-take-le, take-take}
-use borrow.Author.Tests.{eq-eqb, ne-eqb}
 use Rattle.order.specs.Lists.{one, count, _∈_, mem, filter, any, first}
 use Rattle.order.proofs.Tests.{clash, so-or-not}
 use Rattle.order.proofs.Lists.{count-append, count-here, count-there, in-here, in-there, in-right, in-cons, in-append, in-single, mem-of, zero-or-in}

@@ -9,11 +9,12 @@ use lib.Seq.{take-at}
 use borrow.Author.Tests.{le-leb, lt-leb}
 use Rattle.cells.specs.Cells.{zeros, clearFrom}
 use Rattle.cells.proofs.Clearing.{clear-split}
-use Rattle.refusals.specs.Refusal.{replyOf, passed}
+use Rattle.refusals.specs.Refusal.{replyOf}
 use Rattle.refusals.specs.declared.Verdict.{Verdict}
 use Rattle.refusals.specs.declared.Verdict.the-variants.{Fine, Refused}
 use Rattle.refusals.specs.declared.Reply.the-variants as reply
-use Rattle.lines.specs.Lines.{labels, headBad, linesBad, rows, linesWritten}
+use Rattle.lines.specs.Lines.{labels, headBad, linesBad, rows}
+use Rattle.lines.specs.Steps.{passed, linesWritten}
 use Rattle.lines.proofs.Pass.{rows-length, written-length}
 use Rattle.lines.specs.Lined.{linedTable, Lined}
 use Rattle.reading.specs.Read.{tableShort, resolvedBad, resolvedTable, sheetBad, sheetTable, bodyBad, readBad, readReply, readTable, tableOf}

@@ -8,7 +8,7 @@ use native.Mathlib.Numerals.{add-one}
 use native.Mathlib.Omega.{arith}
 use Rattle.refusals.specs.declared.Verdict.{Verdict}
 use Rattle.refusals.specs.declared.Verdict.the-variants.{Fine, Refused}
-use Rattle.refusals.specs.Refusal.{hit, firstBad, passed}
+use Rattle.refusals.specs.Refusal.{hit, firstBad}
 
 hit-bad : (r k : ℕ) (v : Verdict) → (r ≡ 0 → ⊥) → hit r k v ≡ Refused r k
 hit-bad zero k v h = absurd (h refl)

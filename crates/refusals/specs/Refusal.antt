@@ -1,5 +1,5 @@
 -- A refusal, and the shape that rows 5 to 15 share: a check of one label, and the first label that fails it.
-use Prim.Native.Nat.{ℕ, zero, suc, _-_}
+use Prim.Native.Nat.{ℕ, zero, suc}
 use Rattle.refusals.specs.declared.Verdict.{Verdict}
 use Rattle.refusals.specs.declared.Verdict.the-variants.{Fine, Refused}
 use Rattle.refusals.specs.declared.Reply.{Reply}
@@ -37,11 +37,6 @@ hit (suc r) k v = Refused (suc r) k
 abbrev pub firstBad : (ℕ → ℕ) → ℕ → ℕ → Verdict
 firstBad check k zero = Fine
 firstBad check k (suc m) = let v = firstBad check (suc k) m in hit (check k) k v
-
--- how many of n labels such a pass went by before it ended
-abbrev pub passed : Verdict → ℕ → ℕ
-passed Fine n = n
-passed (Refused r k) n = k - 1
 
 -- the verdict of a row that is told by its place, 0 where it finds nothing
 abbrev pub foundAt : ℕ → ℕ → Verdict

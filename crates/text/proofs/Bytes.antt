@@ -1,18 +1,17 @@
 -- Laws of tests over bytes: counts, and runs of bytes that pass a test, at the positions that a loop has.
 use mathlib.Core.Path.{_≡_, refl, ap, sym, _∙_}
-use mathlib.Core.Bool.{Bool, true, false, not, _&&_, _||_}
-use mathlib.Core.List.{List, [], _∷_, _++_}
-use Prim.Native.Nat.{ℕ, zero, suc, _+_, _-_, _≤_, _<_}
+use mathlib.Core.Bool.{Bool, true, false, not, _&&_}
+use mathlib.Core.List.{List, [], _∷_}
+use Prim.Native.Nat.{ℕ, zero, suc, _+_, _≤_, _<_}
 use native.Mathlib.Nat.{le-of-suc-le-suc, not-suc-le-zero}
-use native.Mathlib.Numerals.{add-one}
 use native.Mathlib.Omega.{arith}
-use lib.Dec.{eqb, leb, ltb, eqb·suc-suc, eqb·zero-suc}
-use lib.ListN.{length, getD, drop, take}
-use lib.Seq.{slice, length-slice}
-use borrow.Author.Tests.{eq-eqb, ne-eqb, eqb-true, leb-true, ltb-true, lt-ltb, le-ltb}
+use lib.Dec.{eqb, eqb·suc-suc, eqb·zero-suc}
+use lib.ListN.{length, getD, drop}
+use lib.Seq.{slice}
+use borrow.Author.Tests.{eq-eqb, ne-eqb, eqb-true}
 pub use Rattle.cells.proofs.Tests.{and-left, and-right}
-use Rattle.text.specs.Bytes.{all, one, countBy, oneMore, run, same, isAllowed, isBad, isNewline, isGraphic, endsLines}
-use Rattle.text.specs.Scans.{runEnd}
+use Rattle.text.specs.Bytes.{all, one, countBy, same, isAllowed}
+use Rattle.text.specs.Scans.{runEnd, oneMore, run, isBad}
 use Rattle.text.proofs.Slices.{at-drop, past-drop, slice-at, slice-none}
 
 pub true-false : true ≡ false → ⊥

@@ -1,16 +1,17 @@
 -- `cut` at the end of a run: the bridge from positions, which the code has, to pieces, of which the definitions speak.
 use mathlib.Core.Path.{_≡_, refl, ap, sym, _∙_}
-use mathlib.Core.Bool.{Bool, true, false, _&&_}
+use mathlib.Core.Bool.{Bool, true, false}
 use mathlib.Core.List.{List, [], _∷_, _++_}
-use Prim.Native.Nat.{ℕ, zero, suc, _+_, _-_, _≤_, _<_}
+use Prim.Native.Nat.{ℕ, zero, suc, _+_, _≤_, _<_}
 use native.Mathlib.Nat.{le-of-suc-le-suc, not-suc-le-zero}
 use native.Mathlib.Numerals.{add-one}
 use native.Mathlib.Omega.{arith}
-use lib.Dec.{eqb, ltb}
+use lib.Dec.{eqb}
 use lib.ListN.{length, getD, drop, take}
-use lib.Seq.{slice, getD-drop, drop-drop}
+use lib.Seq.{getD-drop, drop-drop}
 use borrow.Author.Tests.{eq-eqb, ne-eqb}
-use Rattle.text.specs.Bytes.{one, countBy, run, oneMore, isGraphic, isNewline}
+use Rattle.text.specs.Bytes.{one, countBy, isNewline}
+use Rattle.text.specs.Scans.{run, oneMore, isGraphic}
 use Rattle.text.specs.Pieces.{cut, cutAt, onto, place, firstOf, fieldsAre}
 use Rattle.text.proofs.Bytes.{true-false}
 

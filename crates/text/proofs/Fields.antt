@@ -3,18 +3,17 @@ use mathlib.Core.Path.{_≡_, refl, ap, sym, _∙_}
 use mathlib.Core.Bool.{Bool, true, false, not, _&&_, _||_, cond}
 use mathlib.Core.Logic.{_⊎_, inl, inr, ⊎-elim}
 use mathlib.Core.List.{List, [], _∷_, _++_}
-use Prim.Native.Nat.{ℕ, zero, suc, _+_, _-_, _≤_, _<_}
-use native.Mathlib.Nat.{eq-or-lt-of-le}
+use Prim.Native.Nat.{ℕ, suc, _+_, _-_, _≤_, _<_}
 use native.Mathlib.Omega.{arith}
 use lib.Dec.{eqb, ltb, leb}
 use lib.ListN.{length, getD, drop, take, take-append-drop}
-use lib.Seq.{slice, slice-empty, length-slice}
+use lib.Seq.{slice, length-slice}
 use borrow.Author.Tests.{eq-eqb, ne-eqb, eqb-true, eqb-false, leb-true, ltb-true, ltb-false, lt-ltb, le-ltb, not-false}
-use Rattle.text.specs.Bytes.{all, run, isAllowed, isGraphic, endsLines}
-use Rattle.text.specs.Pieces.{cut, firstOf, rest, fieldsFrom, fieldsAre}
-use Rattle.text.specs.Scans.{runEnd, fieldEnd}
-use Rattle.text.proofs.Slices.{slice-at, getD-slice, drop-slice, take-slice}
-use Rattle.text.proofs.Bytes.{true-false, run-le, run-until, run-fails, all-at, and-false}
+use Rattle.text.specs.Bytes.{all, isAllowed, endsLines}
+use Rattle.text.specs.Pieces.{cut, firstOf, fieldsAre}
+use Rattle.text.specs.Scans.{runEnd, fieldEnd, run, isGraphic, rest, fieldsFrom}
+use Rattle.text.proofs.Slices.{getD-slice, drop-slice, take-slice}
+use Rattle.text.proofs.Bytes.{true-false, run-until, run-fails, all-at, and-false}
 use Rattle.text.proofs.Cuts.{cut-more, fields-space, fields-newline, line-space, some}
 
 -- two parts side by side

@@ -1,22 +1,22 @@
 -- Names and paths at the positions that `name_end` finds.
 use mathlib.Core.Path.{_≡_, refl, ap, sym, _∙_}
-use mathlib.Core.Bool.{Bool, true, false, _&&_, _||_, cond}
+use mathlib.Core.Bool.{Bool, true, false, _&&_, cond}
 use mathlib.Core.Logic.{_⊎_, inl, inr, ⊎-elim}
-use mathlib.Core.List.{List, [], _∷_, _++_}
-use Prim.Native.Nat.{ℕ, zero, suc, _+_, _-_, _≤_, _<_}
+use mathlib.Core.List.{List, [], _∷_}
+use Prim.Native.Nat.{ℕ, suc, _+_, _-_, _≤_, _<_}
 use native.Mathlib.Nat.{le-of-suc-le-suc, not-suc-le-zero}
 use native.Mathlib.Omega.{arith}
-use lib.Dec.{eqb, ltb, leb}
+use lib.Dec.{eqb, leb}
 use lib.ListN.{length, getD, drop, take}
 use lib.Seq.{slice, length-slice, length-take-le, getD-take}
 use borrow.Author.Tests.{eq-eqb, ne-eqb, eqb-true, eqb-false, leb-true, leb-false, le-leb, lt-leb}
-use Rattle.text.specs.Bytes.{all, run, oneMore, isLetter, isAlphanumeric}
-use Rattle.text.specs.Pieces.{cut, cutAt, onto, firstOf}
+use Rattle.text.specs.Bytes.{isLetter, isAlphanumeric}
+use Rattle.text.specs.Pieces.{cut, cutAt, firstOf}
 use Rattle.text.specs.Forms.{isName, allNames, isPath}
-use Rattle.text.specs.Scans.{runEnd, nameEnd}
+use Rattle.text.specs.Scans.{runEnd, nameEnd, run, oneMore}
 use Rattle.text.proofs.Slices.{slice-at, getD-slice, drop-slice, take-slice}
-use Rattle.text.proofs.Bytes.{true-false, run-le, run-fails, all-run, and-false, and-true}
-use Rattle.text.proofs.Cuts.{cut-more, cut-last, take-run, first-onto, differs, some}
+use Rattle.text.proofs.Bytes.{true-false, run-le, all-run, and-false, and-true}
+use Rattle.text.proofs.Cuts.{cut-more, cut-last, take-run, first-onto, some}
 
 dot : isAlphanumeric 46 ≡ false
 unfolding isAlphanumeric isLetter

@@ -1,9 +1,9 @@
 -- Bytes, which are numbers below 256, and lists of them.
 use mathlib.Core.Path.{_≡_}
-use mathlib.Core.Bool.{Bool, true, false, not, _&&_, _||_}
+use mathlib.Core.Bool.{Bool, true, false, _&&_, _||_}
 use mathlib.Core.List.{List, [], _∷_}
-use Prim.Native.Nat.{ℕ, zero, suc, _+_, _-_}
-use lib.Dec.{leb, ltb, eqb}
+use Prim.Native.Nat.{ℕ, _+_, _-_}
+use lib.Dec.{leb, eqb}
 use lib.ListN.{length, getD}
 use Rattle.numbers.specs.Decimal.{isDigit}
 pub use Rattle.cells.specs.Lists.{one, all}
@@ -12,16 +12,6 @@ pub use Rattle.cells.specs.Lists.{one, all}
 abbrev pub countBy : (ℕ → Bool) → List ℕ → ℕ
 countBy p [] = 0
 countBy p (x ∷ xs) = one (p x) + countBy p xs
-
--- one more than n where a test passes, else 0
-abbrev pub oneMore : Bool → ℕ → ℕ
-oneMore true n = suc n
-oneMore false n = 0
-
--- how many bytes at the front pass the test p
-abbrev pub run : (ℕ → Bool) → List ℕ → ℕ
-run p [] = 0
-run p (x ∷ xs) = oneMore (p x) (run p xs)
 
 -- the same bytes
 abbrev pub same : List ℕ → List ℕ → Bool
@@ -36,9 +26,6 @@ same (x ∷ xs) (y ∷ ys) = eqb x y && same xs ys
 unfoldable pub isAllowed : ℕ → Bool
 isAllowed x = eqb x 10 || (leb 32 x && leb x 126)
 
-abbrev pub isBad : ℕ → Bool
-isBad x = not (isAllowed x)
-
 -- the byte that ends a line
 abbrev pub isNewline : ℕ → Bool
 isNewline x = eqb x 10
@@ -46,10 +33,6 @@ isNewline x = eqb x 10
 -- the last byte is 10
 abbrev pub endsLines : List ℕ → Type 0
 endsLines s = getD s (length s - 1) 0 ≡ 10
-
--- a byte above 32: what neither ends a line nor parts two fields
-abbrev pub isGraphic : ℕ → Bool
-isGraphic x = ltb 32 x
 
 unfoldable pub isLetter : ℕ → Bool
 isLetter x = (leb 65 x && leb x 90) || (leb 97 x && leb x 122)

@@ -1,5 +1,5 @@
 -- The forms of a field that document 01, "The sheet", defines: name, path and label field. Its numbers are those of the crate `numbers`.
-use mathlib.Core.Bool.{Bool, true, false, _&&_}
+use mathlib.Core.Bool.{Bool, true, _&&_}
 use mathlib.Core.List.{List, [], _∷_}
 use Prim.Native.Nat.{ℕ, zero, suc}
 use lib.Dec.{leb}

@@ -3,8 +3,7 @@ use mathlib.Core.Bool.{Bool, true, false}
 use mathlib.Core.List.{List, [], _∷_, _++_}
 use Prim.Native.Nat.{ℕ, zero, suc, _+_}
 use lib.Dec.{eqb}
-use lib.ListN.{length, getD}
-use lib.Seq.{slice}
+use lib.ListN.{length}
 
 -- a byte put before the first piece; `cut` always gives a piece
 abbrev pub onto : ℕ → List (List ℕ) → List (List ℕ)
@@ -36,13 +35,6 @@ place (p ∷ ps) (suc k) = length p + 1 + place ps k
 abbrev pub firstOf : List (List ℕ) → List ℕ
 firstOf [] = []
 firstOf (p ∷ ps) = p
-
--- what a text holds from position i on, and the fields of the line that begins there
-abbrev pub rest : List ℕ → ℕ → List ℕ
-rest s i = slice i (length s) s
-
-abbrev pub fieldsFrom : List ℕ → ℕ → List (List ℕ)
-fieldsFrom s i = cut 32 (firstOf (cut 10 (rest s i)))
 
 -- k pieces, none of them empty
 abbrev pub fieldsAre : ℕ → List (List ℕ) → Bool

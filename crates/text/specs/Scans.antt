@@ -1,15 +1,46 @@
--- What the scanners find, as positions of the text s.
-use mathlib.Core.Bool.{Bool, true, false, cond, _&&_}
-use mathlib.Core.List.{List}
-use Prim.Native.Nat.{ℕ, _+_, _-_}
+-- What the scanners look for and find, as positions of the text s.
+use mathlib.Core.Bool.{Bool, true, false, cond, not, _&&_}
+use mathlib.Core.List.{List, [], _∷_}
+use Prim.Native.Nat.{ℕ, suc, _+_, _-_}
 use lib.Dec.{leb, ltb, eqb}
 use lib.ListN.{length, getD}
 use lib.Seq.{slice}
-use Rattle.text.specs.Bytes.{run, isGraphic, isLetter, isAlphanumeric}
+use Rattle.text.specs.Bytes.{isAllowed, isLetter, isAlphanumeric}
+use Rattle.text.specs.Pieces.{cut, firstOf}
+
+-- ---- bytes
+
+abbrev pub isBad : ℕ → Bool
+isBad x = not (isAllowed x)
+
+-- a byte above 32: what neither ends a line nor parts two fields
+abbrev pub isGraphic : ℕ → Bool
+isGraphic x = ltb 32 x
+
+-- ---- runs
+
+-- one more than n where a test passes, else 0
+abbrev pub oneMore : Bool → ℕ → ℕ
+oneMore true n = suc n
+oneMore false n = 0
+
+-- how many bytes at the front pass the test p
+abbrev pub run : (ℕ → Bool) → List ℕ → ℕ
+run p [] = 0
+run p (x ∷ xs) = oneMore (p x) (run p xs)
 
 -- where the bytes end that pass the test p, from `from` on and before `to`
 unfoldable pub runEnd : (ℕ → Bool) → List ℕ → ℕ → ℕ → ℕ
 runEnd p s from to = from + run p (slice from to s)
+
+-- ---- fields and names
+
+-- what a text holds from position i on, and the fields of the line that begins there
+abbrev pub rest : List ℕ → ℕ → List ℕ
+rest s i = slice i (length s) s
+
+abbrev pub fieldsFrom : List ℕ → ℕ → List (List ℕ)
+fieldsFrom s i = cut 32 (firstOf (cut 10 (rest s i)))
 
 -- where the field that begins at `from` ends, if it is not empty and the byte `stop` ends it; else 0
 unfoldable pub fieldEnd : List ℕ → ℕ → ℕ → ℕ

@@ -2,12 +2,12 @@
 // A part of the text is given by two positions, `from` and `to`, the second past its last byte.
 
 ghost use mathlib.Core.Path.{_≡_};
-ghost use Prim.Native.Nat.{_+_, _-_, _≤_, _<_};
-ghost use lib.ListN.{length, getD};
+ghost use Prim.Native.Nat.{_≤_, _<_};
+ghost use lib.ListN.{length};
 ghost use lib.Seq.{slice};
-ghost use Rattle.text.specs.Bytes.{one, countBy, isBad, isNewline, isLetter, isAlphanumeric, isGraphic, same, endsLines};
+ghost use Rattle.text.specs.Bytes.{one, countBy, isNewline, isLetter, isAlphanumeric, same, endsLines};
 ghost use Rattle.text.specs.Forms.{isName, isPath, labelOf};
-ghost use Rattle.text.specs.Scans.{runEnd, fieldEnd, nameEnd};
+ghost use Rattle.text.specs.Scans.{runEnd, fieldEnd, nameEnd, isBad, isGraphic};
 use numbers::Decimal;
 
 // ---- the bytes of a text

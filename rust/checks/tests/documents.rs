@@ -1,5 +1,5 @@
 //! The documents name what is there: every file of `crates/`, every name that
-//! is said to stand in it, every must-fail edit.
+//! is said to stand in it, every must-fail edit, function, sheet and test.
 
 use std::fs;
 use std::path::{Path, PathBuf};
@@ -67,20 +67,93 @@ fn check_line(line: &str) -> Vec<String> {
     wrong
 }
 
-/// `crate/edit`, where the crate has must-fail edits; a file of the folder
-/// `sheets` is none of the crate of that name.
+/// `crate/edit`, where the crate has must-fail edits; `sheets/file` and
+/// `rust/file`.
 fn check_edits(line: &str) -> Vec<String> {
     let edit = |(name, _): &(&str, &str)| {
         let (of, edit) = name.split_once('/')?;
-        let is_name = |c: char| c.is_ascii_alphanumeric() || c == '_';
-        if edit.is_empty() || !edit.chars().all(is_name) {
-            return None;
-        }
         let folder = root().join("crates").join(of).join("must-fail");
-        let is_edit = folder.is_dir() && !folder.join(format!("{edit}.edit")).exists();
-        is_edit.then(|| format!("there is no edit {name}"))
+        let is_file = root().join(name).exists();
+        let is_edit = folder.join(format!("{edit}.edit")).exists();
+        let is_asked = folder.is_dir() || ["sheets", "rust"].contains(&of);
+        (is_asked && !is_file && !is_edit).then(|| format!("there is no {name}"))
     };
     quoted(line).iter().filter_map(edit).collect()
+}
+
+/// Whether a file has a function or a module of that name.
+fn has_function(path: &Path, name: &str) -> bool {
+    let text = fs::read_to_string(path).unwrap_or_default();
+    let forms = [
+        format!("fn {name}("),
+        format!("fn {name}<"),
+        format!("mod {name};"),
+    ];
+    forms.iter().any(|form| text.contains(form))
+}
+
+/// Whether a crate has a function of that name, in Rattle or in Rust; a name in
+/// capitals is a type's.
+fn has_item(of: &str, name: &str) -> bool {
+    let folders = [format!("crates/{of}/src"), format!("rust/{of}/src")];
+    let folders = folders.map(|folder| root().join(folder));
+    let mut files = folders
+        .iter()
+        .filter_map(|folder| fs::read_dir(folder).ok())
+        .flatten();
+    let is_word = name.starts_with(|c: char| c.is_lowercase());
+    let is_crate = folders.iter().any(|folder| folder.is_dir());
+    !is_word || !is_crate || files.any(|file| file.is_ok_and(|f| has_function(&f.path(), name)))
+}
+
+/// `crate::function`, and `rules::file::test` and `calls::file::test`, the tests of
+/// the reference and of the library.
+fn check_functions(line: &str) -> Vec<String> {
+    let function = |(name, _): &(&str, &str)| {
+        let name = name.split('(').next().unwrap_or(name);
+        let parts: Vec<&str> = name.split("::").collect();
+        let is_there = match parts[..] {
+            ["rules", file, test] => {
+                let file = format!("rust/reference/tests/rules/{file}.rs");
+                has_function(&root().join(file), test)
+            }
+            ["calls", file, test] => {
+                let file = format!("rust/checks/tests/calls/{file}.rs");
+                has_function(&root().join(file), test)
+            }
+            [of, function] => has_item(of, function),
+            _ => true,
+        };
+        (!is_there).then(|| format!("there is no {name}"))
+    };
+    quoted(line).iter().filter_map(function).collect()
+}
+
+/// The cells of a row of a table.
+fn cells(line: &str) -> Vec<&str> {
+    let inner = line
+        .strip_prefix("| ")
+        .and_then(|row| row.strip_suffix(" |"));
+    inner.map_or(vec![], |row| row.split(" | ").collect())
+}
+
+/// Rows that have not as many cells as the first row of their table, or an empty one.
+fn check_rows(text: &str) -> Vec<String> {
+    let mut wrong = Vec::new();
+    let mut columns = 0;
+    for (number, line) in (1..).zip(text.lines()) {
+        let row = cells(line);
+        if row.is_empty() {
+            columns = if line.starts_with('|') { columns } else { 0 };
+            continue;
+        }
+        columns = if columns == 0 { row.len() } else { columns };
+        let is_empty = row.iter().any(|cell| cell.trim().is_empty());
+        if row.len() != columns || is_empty {
+            wrong.push(format!("{number}: {} cells of {columns}", row.len()));
+        }
+    }
+    wrong
 }
 
 #[test]
@@ -89,11 +162,24 @@ fn documents_name_what_is_there() {
     for document in DOCUMENTS {
         let text = fs::read_to_string(root().join(document)).expect("a document");
         for (number, line) in (1..).zip(text.lines()) {
-            let found = check_line(line).into_iter().chain(check_edits(line));
-            wrong.extend(found.map(|what| format!("{document}:{number}: {what}")));
+            let found = [check_line(line), check_edits(line), check_functions(line)].concat();
+            let place = |what| format!("{document}:{number}: {what}");
+            wrong.extend(found.into_iter().map(place));
         }
     }
     assert!(wrong.is_empty(), "{}", wrong.join("\n"));
+}
+
+/// A sentence has its definition, its code and its test.
+#[test]
+fn every_sentence_has_all_columns() {
+    let text = fs::read_to_string(root().join("docs/RULES.md")).expect("a document");
+    let wrong = check_rows(&text);
+    assert!(wrong.is_empty(), "docs/RULES.md:{}", wrong.join("\n"));
+    let has_all = |line: &str| cells(line)[1..] == ["definition", "code", "test"];
+    let is_head = |line: &&str| cells(line).len() > 1 && cells(line)[1] == "definition";
+    let mut heads = text.lines().filter(is_head);
+    assert!(heads.all(has_all));
 }
 
 #[test]
@@ -104,4 +190,13 @@ fn a_wrong_name_is_found() {
     assert_eq!(check_line("`crates/order/specs/Orders.antt`").len(), 1);
     assert!(check_edits("`order/groups_by_label`").is_empty());
     assert_eq!(check_edits("`order/groups_by_name`").len(), 1);
+    assert!(check_edits("`sheets/01-example.sheet`").is_empty());
+    assert_eq!(check_edits("`sheets/01-example.shed`").len(), 1);
+    assert!(check_functions("`reading::read`, `calls::texts::text_lengths`").is_empty());
+    assert_eq!(check_functions("`reading::write`").len(), 1);
+    assert_eq!(check_functions("`rules::orders::no_such_test`").len(), 1);
+    assert_eq!(
+        check_rows("| a | b |\n|---|---|\n| c |  |\n| d |\n").len(),
+        2
+    );
 }

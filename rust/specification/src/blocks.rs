@@ -183,7 +183,9 @@ fn pieces(tokens: &[Token]) -> Vec<&[Token]> {
 const MARKS: [&str; 4] = ["pub", "abbrev", "unfoldable", "axiom"];
 
 fn has_mark(piece: &[Token], mark: &str) -> bool {
-    let marks = piece.iter().take_while(|t| MARKS.contains(&t.text.as_str()));
+    let marks = piece
+        .iter()
+        .take_while(|t| MARKS.contains(&t.text.as_str()));
     marks.into_iter().any(|t| t.is(mark))
 }
 
@@ -194,7 +196,9 @@ fn last_line(piece: &[Token]) -> usize {
 impl Reader {
     fn block(&mut self, tokens: &[Token]) {
         for piece in pieces(tokens) {
-            let marks = piece.iter().take_while(|t| MARKS.contains(&t.text.as_str()));
+            let marks = piece
+                .iter()
+                .take_while(|t| MARKS.contains(&t.text.as_str()));
             let body = &piece[marks.count()..];
             let Some(word) = body.first() else { continue };
             match word.text.as_str() {
@@ -413,7 +417,10 @@ pub data D : ℕ → Type 0 where
         let source = source(TEXT);
         assert_eq!(find(&source, "g").sections, [0]);
         assert_eq!(find(&source, "deep").sections, [0, 1]);
-        assert_eq!((source.sections[0].first, source.sections[0].headed), (14, 15));
+        assert_eq!(
+            (source.sections[0].first, source.sections[0].headed),
+            (14, 15)
+        );
         assert!(find(&source, "R").sections.is_empty());
     }
 

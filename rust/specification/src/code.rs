@@ -35,7 +35,9 @@ pub struct Item {
     pub comment: Vec<String>,
     pub parameters: Vec<String>,
     pub contracts: Vec<Contract>,
-    pub words: Vec<Word>,
+    /// What its head names: parameters, results, the types of fields; and its body.
+    pub head: Vec<Word>,
+    pub body: Vec<Word>,
     pub variants: Vec<String>,
 }
 
@@ -106,32 +108,38 @@ fn end(lexemes: &[Lexeme]) -> (usize, usize) {
     }
 }
 
-fn words(lexemes: &[Lexeme]) -> Vec<Word> {
+fn words<'a>(lexemes: impl Iterator<Item = &'a Lexeme>) -> Vec<Word> {
     let word = |lexeme: &Lexeme| match &lexeme.sort {
         Sort::Word(word) => Some(word.clone()),
         _ => None,
     };
-    lexemes.iter().filter_map(word).collect()
+    lexemes.filter_map(word).collect()
 }
 
-/// The words before a sign, just inside the first brackets.
-fn labels(lexemes: &[Lexeme], open: char, before: &[char]) -> Vec<String> {
-    let Some(at) = outside(lexemes, |lexeme| lexeme.is_sign(open)) else {
+/// The places of the words before a sign, just inside the first brackets.
+fn labels(lexemes: &[Lexeme], open: char, before: &[char]) -> Vec<usize> {
+    let Some(open) = outside(lexemes, |lexeme| lexeme.is_sign(open)) else {
         return vec![];
     };
-    let inner = &lexemes[at + 1..at + closing(&lexemes[at..])];
+    let close = open + closing(&lexemes[open..]);
     let mut depth = 0;
     let mut labels = vec![];
-    for (at, lexeme) in inner.iter().enumerate() {
-        let ends = inner.get(at + 1).map_or(before.contains(&','), |next| {
-            before.iter().any(|sign| next.is_sign(*sign))
-        });
-        if let (0, true, Some(word)) = (depth, ends, lexeme.word()) {
-            labels.push(word.to_string());
+    for at in open + 1..close {
+        let ends = match at + 1 < close {
+            true => before.iter().any(|sign| lexemes[at + 1].is_sign(*sign)),
+            false => before.contains(&','),
+        };
+        if depth == 0 && ends && lexemes[at].word().is_some() {
+            labels.push(at);
         }
-        depth += depth_change(lexeme);
+        depth += depth_change(&lexemes[at]);
     }
     labels
+}
+
+fn texts(lexemes: &[Lexeme], places: &[usize]) -> Vec<String> {
+    let words = places.iter().filter_map(|at| lexemes[*at].word());
+    words.map(str::to_string).collect()
 }
 
 const FORMS: [(&str, Form); 5] = [
@@ -198,7 +206,19 @@ impl Reader {
             _ => None,
         };
         let first = lexemes[0].line;
-        let is_enum = rest[0].word() == Some("enum");
+        let variants = match rest[0].word() {
+            Some("enum") => labels(rest, '{', &[',', '(', '{']),
+            _ => vec![],
+        };
+        let named = |from: usize, to: usize| {
+            let named = (from..to).filter(|at| !variants.contains(at));
+            words(named.map(|at| &rest[at]))
+        };
+        let headed = if form == Form::Function {
+            open
+        } else {
+            close + 1
+        };
         self.code.items.push(Item {
             name: rest[1].word().unwrap_or_default().to_string(),
             form,
@@ -209,13 +229,11 @@ impl Reader {
             headed: rest[open.saturating_sub(1)].line,
             last: rest[close].line,
             comment: self.above(first),
-            parameters: labels(&rest[..open], '(', &[':']),
+            parameters: texts(rest, &labels(&rest[..open], '(', &[':'])),
             contracts: rest[..open].iter().filter_map(contract).collect(),
-            words: words(&rest[2..=close]),
-            variants: match is_enum {
-                true => labels(rest, '{', &[',', '(', '{']),
-                false => vec![],
-            },
+            head: named(2, headed),
+            body: named(headed, close + 1),
+            variants: texts(rest, &variants),
         });
         close + 1
     }
@@ -275,6 +293,8 @@ pub extern \"C\" fn g(
         let names: Vec<&str> = code.items.iter().map(|item| &item.name[..]).collect();
         assert_eq!(names, ["Kind", "TABLE", "number", "g"]);
         assert_eq!(code.items[0].variants, ["One", "Two"]);
+        let words: Vec<&str> = code.items[0].head.iter().map(|w| &w.path[0][..]).collect();
+        assert_eq!(words, ["u8"]);
         assert_eq!(code.items[2].of.as_deref(), Some("Kind"));
         assert_eq!((code.ghosts.len(), code.uses.len()), (1, 1));
     }

@@ -1,31 +1,56 @@
 //! What the documents quote: names between backquotes, and the files that stand
 //! with them on a line.
 
+use std::collections::HashSet;
+
+use crate::code::Form;
 use crate::files::Folder;
 use crate::graph::{is_entry, Graph};
 
 /// A line of a document.
+#[derive(Clone, Debug)]
 pub struct Line {
     /// Where it stands, as `docs/RULES.md:12`.
     pub place: String,
+    /// The line; a row of a table without its columns `code` and `test`.
     pub text: String,
+    /// What stands in the column `test`.
+    pub tests: String,
 }
 
 /// The lines of a document, those that show code left out.
 pub fn lines(name: &str, text: &str) -> Vec<Line> {
     let mut shows_code = false;
+    let mut columns = vec![];
     let mut lines = vec![];
     for (number, line) in (1..).zip(text.lines()) {
         let fence = line.trim_start().starts_with("```");
         shows_code ^= fence;
-        if !fence && !shows_code {
-            lines.push(Line {
-                place: format!("{name}:{number}"),
-                text: line.to_string(),
-            });
+        if fence || shows_code {
+            continue;
         }
+        let row = cells(line).unwrap_or_default();
+        if columns.is_empty() || row.is_empty() {
+            columns = row.iter().map(|cell| cell.to_string()).collect();
+        }
+        let (text, tests) = parted(line, &row, &columns);
+        let place = format!("{name}:{number}");
+        lines.push(Line { place, text, tests });
     }
     lines
+}
+
+/// A row of a table with these columns, its tests apart and its code left out.
+fn parted(line: &str, row: &[&str], columns: &[String]) -> (String, String) {
+    let at = |name: &str| columns.iter().position(|column| column == name);
+    let [code, test] = ["code", "test"].map(at);
+    if code.is_none() && test.is_none() {
+        return (line.to_string(), String::new());
+    }
+    let tests = test.and_then(|at| row.get(at)).copied().unwrap_or_default();
+    let kept = (0..row.len()).filter(|at| Some(*at) != code && Some(*at) != test);
+    let kept: Vec<&str> = kept.map(|at| row[at]).collect();
+    (format!("| {} |", kept.join(" | ")), tests.to_string())
 }
 
 /// What stands between backquotes.
@@ -44,76 +69,114 @@ pub fn cells(line: &str) -> Option<Vec<&str>> {
 fn is_about_edit(graph: &Graph, line: &str) -> bool {
     let first = cells(line).and_then(|cells| cells.first().copied());
     let names = first.map(quoted).unwrap_or_default();
-    let crates = |name: &str| graph.files.iter().any(|file| file.package == name);
-    let is_edit = |name: &&str| name.split_once('/').is_some_and(|(of, _)| crates(of));
-    names.iter().any(|name| is_edit(&name))
+    let is_edit = |name: &str| {
+        name.split_once('/')
+            .is_some_and(|(of, _)| graph.is_crate(of))
+    };
+    names.into_iter().any(is_edit)
+}
+
+/// A law that a line of a document quotes.
+#[derive(Clone, Copy, Debug, PartialEq, Eq)]
+pub struct Quote {
+    pub law: usize,
+    /// The place of the line among the lines.
+    pub line: usize,
+    /// Whether it stands in a column of tests.
+    pub is_test: bool,
 }
 
 /// The laws that documents quote, and the names that could be several.
-pub fn quotes(graph: &Graph, lines: &[Line]) -> (Vec<usize>, Vec<String>) {
-    let mut laws = vec![];
+pub fn quotes(graph: &Graph, lines: &[Line]) -> (Vec<Quote>, Vec<String>) {
+    let mut quotes = vec![];
     let mut unclear = vec![];
-    for line in lines.iter().filter(|line| !is_about_edit(graph, &line.text)) {
-        let names = quoted(&line.text);
-        let is_path = |name: &&&str| name.starts_with("crates/");
-        let paths: Vec<&str> = names.iter().filter(is_path).copied().collect();
-        for name in names.iter().filter(|name| !is_path(name)) {
-            match law(graph, name, &paths) {
-                Ok(found) => laws.extend(found),
-                Err(files) => {
-                    let place = &line.place;
-                    unclear.push(format!("{place}: which `{name}` is meant: {files}?"));
-                }
+    for (at, line) in lines.iter().enumerate() {
+        if is_about_edit(graph, &line.text) {
+            continue;
+        }
+        for (text, is_test) in [(&line.text, false), (&line.tests, true)] {
+            match laws(graph, text) {
+                Ok(found) => quotes.extend(found.into_iter().map(|law| Quote {
+                    law,
+                    line: at,
+                    is_test,
+                })),
+                Err(which) => unclear.push(format!("{}: {which}", line.place)),
             }
         }
     }
-    laws.sort_unstable();
-    laws.dedup();
-    (laws, unclear)
+    (quotes, unclear)
+}
+
+/// The laws that a text quotes.
+fn laws(graph: &Graph, text: &str) -> Result<Vec<usize>, String> {
+    let names = quoted(text);
+    let is_path = |name: &&&str| name.starts_with("crates/");
+    let paths: Vec<&str> = names.iter().filter(is_path).copied().collect();
+    let mut laws = vec![];
+    for name in names.iter().filter(|name| !is_path(name)) {
+        laws.extend(law(graph, name, &paths)?);
+    }
+    Ok(laws)
 }
 
 /// The laws of that name: those in a file or folder that stands on the line; else
-/// the one that there is. A name that `specs/` or `src/` has too is no law's.
+/// the one that there is. A name that `specs/` or `src/` has too is then no law's,
+/// and neither is a crate's.
 fn law(graph: &Graph, name: &str, paths: &[&str]) -> Result<Vec<usize>, String> {
-    let all = 0..graph.nodes.len();
-    let has_name = |node: &usize| {
-        graph.nodes[*node].name == name && graph.folder(*node) != Folder::FunctionProof
-    };
-    let named: Vec<usize> = all.filter(has_name).collect();
-    let path = |node: &usize| &graph.files[graph.nodes[*node].file].path;
-    let stands = |node: &usize| paths.iter().any(|at| path(node).starts_with(at));
+    let is_asked = |node: &usize| graph.folder(*node) != Folder::FunctionProof;
+    let named = graph.named(name).iter().copied().filter(is_asked);
+    let named: Vec<usize> = named.collect();
+    let stands = |node: &usize| paths.iter().any(|at| graph.path(*node).starts_with(at));
     let is_law = |node: &usize| graph.folder(*node) == Folder::Proofs;
     let here: Vec<usize> = named.iter().copied().filter(stands).collect();
     if !here.is_empty() {
         return Ok(here.into_iter().filter(is_law).collect());
     }
-    match named.iter().all(is_law) {
-        true if named.len() > 1 => {
-            let files: Vec<&str> = named.iter().map(|node| &path(node)[..]).collect();
-            Err(files.join(" or "))
+    if graph.is_crate(name) || !named.iter().all(is_law) {
+        return Ok(vec![]);
+    }
+    match named.len() {
+        0 | 1 => Ok(named),
+        _ => {
+            let files: Vec<&str> = named.iter().map(|node| graph.path(*node)).collect();
+            let files = files.join(" or of ");
+            Err(format!("which `{name}` is meant, of {files}?"))
         }
-        true => Ok(named),
-        false => Ok(vec![]),
     }
 }
 
-/// The public calls: exported functions and programs, and functions that a document
-/// names with their crate, `crate::function`, and that ask nothing.
+/// The public calls: functions that a document names with their crate,
+/// `crate::function`, and that ask nothing, in the order in which they are named;
+/// then exported functions and programs.
 pub fn calls(graph: &Graph, lines: &[Line]) -> Vec<usize> {
-    let texts: Vec<&str> = lines.iter().flat_map(|line| quoted(&line.text)).collect();
-    let is_named = |node: usize| {
-        let of = &graph.nodes[node];
-        let name = format!("{}::{}", graph.files[of.file].package, of.name);
-        let stands = |text: &&str| text.split('(').next() == Some(&name[..]);
-        texts.iter().any(stands)
-    };
-    let is_call = |node: &usize| {
-        graph.item(*node).is_some_and(|item| {
-            let asks = item.contracts.iter().any(|of| of.keyword == "requires");
-            is_entry(item) || !asks && item.form == crate::code::Form::Function && is_named(*node)
-        })
-    };
-    (0..graph.nodes.len()).filter(is_call).collect()
+    let mut calls = vec![];
+    for text in lines.iter().flat_map(|line| quoted(&line.text)) {
+        let name = text.split('(').next().unwrap_or(text);
+        if let Some((of, name)) = name.split_once("::") {
+            let of = |node: &&usize| graph.files[graph.nodes[**node].file].package == of;
+            calls.extend(
+                graph
+                    .named(name)
+                    .iter()
+                    .filter(of)
+                    .filter(|node| asks_nothing(graph, **node)),
+            );
+        }
+    }
+    let is_entry = |node: &usize| graph.item(*node).is_some_and(is_entry);
+    calls.extend((0..graph.nodes.len()).filter(is_entry));
+    let mut seen = HashSet::new();
+    calls.retain(|node| seen.insert(*node));
+    calls
+}
+
+/// Whether it is a function without a `requires`.
+fn asks_nothing(graph: &Graph, node: usize) -> bool {
+    graph.item(node).is_some_and(|item| {
+        let asks = item.contracts.iter().any(|of| of.keyword == "requires");
+        item.form == Form::Function && !asks
+    })
 }
 
 #[cfg(test)]
@@ -127,6 +190,16 @@ mod tests {
         let places: Vec<&str> = lines.iter().map(|line| &line.place[..]).collect();
         assert_eq!(places, ["x.md:1", "x.md:5"]);
         assert_eq!(quoted(&lines[0].text), ["b"]);
+    }
+
+    #[test]
+    fn tests_stand_apart() {
+        let text =
+            "| sentence | test | code |\n|---|---|---|\n| a | `b` | c |\n\n| d | e |\n| f | g |\n";
+        let lines = lines("x.md", text);
+        let texts: Vec<(&str, &str)> = lines.iter().map(|l| (&l.text[..], &l.tests[..])).collect();
+        assert_eq!(texts[2], ("| a |", "`b`"));
+        assert_eq!(texts[4], ("| d | e |", ""));
     }
 
     #[test]

@@ -6,12 +6,20 @@
 
 #![forbid(unsafe_code)]
 
+pub mod belief;
 pub mod blocks;
 pub mod code;
 pub mod documents;
+pub mod excerpts;
 pub mod files;
 pub mod graph;
+pub mod index;
 pub mod lexemes;
+pub mod names;
+pub mod page;
+pub mod repository;
+pub mod rules;
 pub mod scope;
 pub mod tokens;
 pub mod uncited;
+pub mod words;

@@ -7,23 +7,24 @@ use std::fs;
 use std::path::Path;
 use std::process::ExitCode;
 
-use specification::documents::{self, Line};
-use specification::files;
-use specification::graph::Graph;
-use specification::uncited;
+use specification::page::PLACE;
+use specification::repository::Repository;
 
 const USAGE: &str = "\
-Usage: specification WORD [ROOT]
+Usage: specification uncited [ROOT]
+       specification mixed [ROOT]
+       specification page [--check] [ROOT]
 
-Reads the Rattle crates of the repository at ROOT, the folder here where it is left out.
+Reads the Rattle crates of the repository at ROOT, or here.
 
-  uncited   lists what nothing cites: definitions, laws, functions and imports
+  uncited   lists the definitions, laws, functions and imports that nothing cites
+  mixed     lists the files of specs/ that hold both what readers believe and what
+            functions promise each other
+  page      writes docs/SPECIFICATION.md, what a reader has to believe;
+            with --check it only says whether the page there is that one
 
 Status: 0 where nothing is found, 1 where something is, 2 where it cannot be read.
 ";
-
-/// The documents whose quotes are roots.
-const QUOTING: [&str; 2] = ["docs/CONTRACTS.md", "docs/RULES.md"];
 
 const FOUND: u8 = 1;
 const FAILED: u8 = 2;
@@ -36,40 +37,63 @@ fn main() -> ExitCode {
             print!("{USAGE}");
             Ok(0)
         }
-        ["uncited"] => list_uncited("."),
-        ["uncited", root] => list_uncited(root),
-        _ => Err(USAGE.to_string()),
+        ["page", "--check"] => check(Path::new(".")),
+        ["page", "--check", root] => check(Path::new(root)),
+        [word] => run(word, Path::new(".")),
+        [word, root] => run(word, Path::new(root)),
+        _ => Err(USAGE.trim_end().to_string()),
     };
     match done {
         Ok(status) => ExitCode::from(status),
         Err(message) => {
-            eprint!("{message}");
+            eprintln!("specification: {message}");
             ExitCode::from(FAILED)
         }
     }
 }
 
-fn graph(root: &Path) -> Result<Graph, String> {
-    let failed = |error| format!("specification: {}: {error}\n", root.display());
-    files::read(root).map_err(failed).map(Graph::new)
-}
-
-fn quoting(root: &Path) -> Result<Vec<Line>, String> {
-    let mut lines = vec![];
-    for name in QUOTING {
-        let failed = |error| format!("specification: {name}: {error}\n");
-        let text = fs::read_to_string(root.join(name)).map_err(failed)?;
-        lines.extend(documents::lines(name, &text));
+fn run(word: &str, root: &Path) -> Result<u8, String> {
+    match word {
+        "uncited" => Ok(list(&Repository::read(root)?.uncited())),
+        "mixed" => Ok(list(&Repository::read(root)?.mixed())),
+        "page" => write(root),
+        _ => Err(format!("there is no word {word}\n{}", USAGE.trim_end())),
     }
-    Ok(lines)
 }
 
-fn list_uncited(root: &str) -> Result<u8, String> {
-    let root = Path::new(root);
-    let found = uncited::uncited(&graph(root)?, &quoting(root)?);
-    for line in &found {
+/// Prints what is found, and how much that is.
+fn list(found: &[String]) -> u8 {
+    for line in found {
         println!("{line}");
     }
     println!("{} found", found.len());
-    Ok(if found.is_empty() { 0 } else { FOUND })
+    if found.is_empty() {
+        0
+    } else {
+        FOUND
+    }
+}
+
+fn write(root: &Path) -> Result<u8, String> {
+    let page = Repository::read(root)?.page();
+    let failed = |error| format!("{PLACE}: {error}");
+    fs::write(root.join(PLACE), page).map_err(failed)?;
+    Ok(0)
+}
+
+fn check(root: &Path) -> Result<u8, String> {
+    let wanted = Repository::read(root)?.page();
+    let failed = |error| format!("{PLACE}: {error}");
+    let there = fs::read_to_string(root.join(PLACE)).map_err(failed)?;
+    if there == wanted {
+        println!(
+            "{PLACE}: {} lines, as the crates have it",
+            there.lines().count()
+        );
+        return Ok(0);
+    }
+    let lines = there.lines().zip(wanted.lines());
+    let line = 1 + lines.take_while(|(is, wanted)| is == wanted).count();
+    println!("{PLACE}:{line}: not as the crates have it; `specification page` writes it anew");
+    Ok(FOUND)
 }

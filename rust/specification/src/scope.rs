@@ -352,7 +352,10 @@ mod tests {
         assert_eq!(body("let x : T = x in (x, y)"), "T x y");
         assert_eq!(body("let x = λ y. y in y"), "y");
         assert_eq!(body("let (a, b) = p in a b c"), "p c");
-        assert_eq!(body("elim n [ zero ↦ n | suc (k → h) ↦ h k ] k"), "elim n zero n suc k");
+        assert_eq!(
+            body("elim n [ zero ↦ n | suc (k → h) ↦ h k ] k"),
+            "elim n zero n suc k"
+        );
         assert_eq!(body("record { x = y; z = λ q. q } x"), "record y x");
         assert_eq!(body("g {x = y} p .x q.y"), "g y p q");
         assert_eq!(body("(x : A) × B x"), "A × B");

@@ -134,7 +134,10 @@ impl Lexer {
     }
 
     fn length(&self, part: impl Fn(char) -> bool) -> usize {
-        self.rest[self.at..].iter().take_while(|c| part(**c)).count()
+        self.rest[self.at..]
+            .iter()
+            .take_while(|c| part(**c))
+            .count()
     }
 
     fn word(&self, length: usize) -> String {
@@ -233,8 +236,14 @@ mod tests {
     #[test]
     fn names_are_runs_between_spaces_and_brackets() {
         assert_eq!(texts("n+n (x .y)"), ["n+n", "(", "x", ".", "y", ")"]);
-        assert_eq!(texts("λ r. ⌜ a ≡ b ⌝"), ["λ", "r", ".", "⌜", "a", "≡", "b", "⌝"]);
-        assert_eq!(texts("f \"a (b\\\" c\" ∷ []"), ["f", "\"a (b\\\" c\"", "∷", "[]"]);
+        assert_eq!(
+            texts("λ r. ⌜ a ≡ b ⌝"),
+            ["λ", "r", ".", "⌜", "a", "≡", "b", "⌝"]
+        );
+        assert_eq!(
+            texts("f \"a (b\\\" c\" ∷ []"),
+            ["f", "\"a (b\\\" c\"", "∷", "[]"]
+        );
     }
 
     #[test]

@@ -11,13 +11,13 @@ use crate::graph::Graph;
 
 /// What `crates/` has and nothing needs, a line each; what documents leave unclear.
 pub fn uncited(graph: &Graph, documents: &[Line]) -> Vec<String> {
-    let (laws, mut found) = documents::quotes(graph, documents);
-    let roots = [laws, documents::calls(graph, documents)].concat();
+    let (quotes, mut found) = documents::quotes(graph, documents);
+    let mut roots = documents::calls(graph, documents);
+    roots.extend(quotes.iter().map(|quote| quote.law));
     let reached = graph.reached(&roots);
     for node in (0..graph.nodes.len()).filter(|node| !reached.contains(node)) {
-        let of = &graph.nodes[node];
-        let path = &graph.files[of.file].path;
-        let (line, name) = (graph.line(node), &of.name);
+        let (path, line) = (graph.path(node), graph.line(node));
+        let name = &graph.nodes[node].name;
         let what = match graph.folder(node) {
             Folder::Specs => "definition",
             Folder::Proofs | Folder::FunctionProof => "law",

@@ -4,7 +4,7 @@ use Prim.Native.Nat.{_+_, _-_, _*_}
 use native.Mathlib.Omega.{arith}
 use lib.ListN.{length}
 use borrow.Author.Needs.{needs}
-use Rattle.lines.specs.Lines.{linesWritten}
+use Rattle.lines.specs.Steps.{linesWritten}
 use Rattle.lines.proofs.Heads.{headed}
 use Rattle.lines.proofs.Pass.{Going, Stopped, start, inside, went, stopped, turn, stop, done}
 use Rattle.lines.proofs.read_lines.Statement.{statement}

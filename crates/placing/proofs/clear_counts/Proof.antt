@@ -1,22 +1,15 @@
-use mathlib.Core.Path.{_≡_, refl, sym, ap, _∙_, subst}
-use mathlib.Core.Logic.{_⊎_, inl, inr, ⊎-elim, _↔_}
+use mathlib.Core.Path.{_≡_, refl, sym, _∙_, subst}
 use mathlib.Core.List.{List}
-use mathlib.Core.Bool.{true, false}
-use Prim.Native.Nat.{ℕ, _+_, _-_, _*_, _≤_, _<_}
+use Prim.Native.Nat.{ℕ, _-_, _≤_, _<_}
 use native.Mathlib.Omega.{arith}
-use native.Mathlib.Nat.{le-antisymm}
 use borrow.Author.Needs.{needs}
-use lib.ListN.{length, getD, take, set, length-set}
-use Rattle.order.specs.Lists.{count, _∈_}
-use Rattle.marks.specs.Marks.{mark}
+use lib.ListN.{length, getD, take, length-set}
+use Rattle.order.specs.Lists.{_∈_}
 use lib.Seq.{take-all}
 use Rattle.placing.proofs.Lists.{in-at}
 use Rattle.placing.proofs.Counts.{clear-turn}
 use Rattle.placing.proofs.clear_counts.Statement.{statement}
 use Rattle.placing.proofs.clear_counts.Tie as tie
-use Rattle.placing.proofs.clear_counts.Reads as reads
-use Rattle.placing.proofs.clear_counts.Lts as lts
-use Rattle.marks.proofs.widen.Reads as widen-reads
 
 abbrev Inv-loop : tie.InvT-loop
 Inv-loop items unmet₀ i₀ unmet i = (length unmet ≡ length unmet₀) × (i ≤ length items) × ((p : ℕ) → p ∈ take i items → getD unmet p 0 ≡ 0)

@@ -1,21 +1,16 @@
 use mathlib.Core.Path.{_≡_, refl, sym, ap, _∙_, subst}
 use mathlib.Core.List.{List}
-use Prim.Native.Nat.{ℕ, _+_, _-_, _*_, _≤_, _<_}
+use Prim.Native.Nat.{ℕ, _-_, _≤_}
 use native.Mathlib.Omega.{arith}
 use borrow.Author.Needs.{needs}
-use lib.ListN.{length, getD, take, set, length-set}
-use Rattle.order.specs.Lists.{count, _∈_, filter}
-use Rattle.placing.specs.Placing.{needed, Fits}
+use lib.ListN.{length, getD, take}
+use Rattle.order.specs.Lists.{_∈_, filter}
+use Rattle.placing.specs.Placing.{needed}
 use lib.Seq.{take-all}
 use Rattle.placing.proofs.Lists.{in-at}
 use Rattle.placing.proofs.Counts.{need-item, count-room, count-turn}
 use Rattle.placing.proofs.count_needs.Statement.{statement}
 use Rattle.placing.proofs.count_needs.Tie as tie
-use Rattle.placing.proofs.count_needs.Reads as reads
-use Rattle.placing.proofs.count_needs.Lts as lts
-use Rattle.placing.proofs.needed_by.Reads as needed-by-reads
-use Rattle.placing.proofs.raise.Reads as raise-reads
-use Rattle.marks.proofs.widen.Reads as widen-reads
 
 abbrev Inv-loop : tie.InvT-loop
 Inv-loop items square w mask unmet₀ list₀ i₀ unmet list i =

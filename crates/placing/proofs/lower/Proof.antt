@@ -1,22 +1,17 @@
-use mathlib.Core.Path.{_≡_, refl, sym, ap, _∙_, subst}
-use mathlib.Core.Logic.{_⊎_, inl, inr, ⊎-elim, _↔_}
-use mathlib.Core.Bool.{true, false}
-use Prim.Native.Nat.{ℕ, _+_, _-_, _*_, _≤_, _<_}
+use mathlib.Core.Path.{_≡_, refl, sym, _∙_, subst}
+use mathlib.Core.Logic.{inl, inr, ⊎-elim}
+use Prim.Native.Nat.{ℕ, _+_, _-_, _≤_, _<_}
 use native.Mathlib.Omega.{arith}
 use native.Mathlib.Nat.{le-antisymm}
 use borrow.Author.Needs.{needs}
 use lib.Seq.{getD-set-same}
 use lib.ListN.{length, getD, take, set, length-set}
 use Rattle.order.specs.Lists.{count, _∈_}
-use Rattle.marks.specs.Marks.{mark}
 use Rattle.placing.specs.Placing.{Lowered}
 use Rattle.placing.proofs.Lists.{in-take, count-take-le}
 use Rattle.placing.proofs.Counts.{lowered-none, lowered-turn, can-lower}
 use Rattle.placing.proofs.lower.Statement.{statement}
 use Rattle.placing.proofs.lower.Tie as tie
-use Rattle.placing.proofs.lower.Reads as reads
-use Rattle.placing.proofs.lower.Lts as lts
-use Rattle.marks.proofs.widen.Reads as widen-reads
 
 abbrev Inv-loop : tie.InvT-loop
 Inv-loop list m w unmet₀ ready₀ i₀ unmet ready i = (length unmet ≡ length unmet₀) × (length ready ≡ length ready₀) × (i ≤ m) × Lowered list unmet₀ ready₀ unmet ready i w

@@ -1,13 +1,12 @@
-use mathlib.Core.Path.{_≡_, refl, sym, ap, _∙_, subst}
-use mathlib.Core.Logic.{_⊎_, inl, inr, ⊎-elim, _↔_}
+use mathlib.Core.Path.{_≡_, refl, sym, _∙_, subst}
+use mathlib.Core.Logic.{⊎-elim, _↔_}
 use mathlib.Core.List.{List}
-use mathlib.Core.Bool.{true, false}
-use Prim.Native.Nat.{ℕ, _+_, _-_, _*_, _≤_, _<_}
+use mathlib.Core.Bool.{true}
+use Prim.Native.Nat.{ℕ, _-_, _≤_}
 use native.Mathlib.Omega.{arith}
-use native.Mathlib.Nat.{le-antisymm}
 use borrow.Author.Needs.{needs}
-use lib.ListN.{length, getD, take, set, length-set}
-use Rattle.order.specs.Lists.{count, _∈_}
+use lib.ListN.{length, getD, take}
+use Rattle.order.specs.Lists.{_∈_}
 use Rattle.marks.specs.Marks.{mark}
 use lib.Seq.{take-all}
 use Rattle.order.proofs.Tests.{clash}
@@ -15,9 +14,6 @@ use Rattle.placing.proofs.Lists.{in-at}
 use Rattle.placing.proofs.Counts.{ready-put, ready-skip}
 use Rattle.placing.proofs.mark_ready.Statement.{statement}
 use Rattle.placing.proofs.mark_ready.Tie as tie
-use Rattle.placing.proofs.mark_ready.Reads as reads
-use Rattle.placing.proofs.mark_ready.Lts as lts
-use Rattle.marks.proofs.widen.Reads as widen-reads
 
 abbrev Inv-loop : tie.InvT-loop
 Inv-loop items w unmet ready₀ i₀ ready i =

@@ -1,18 +1,8 @@
-use mathlib.Core.Path.{_≡_, refl, sym, ap, _∙_, subst}
-use mathlib.Core.Logic.{_⊎_, inl, inr, ⊎-elim, _↔_}
-use mathlib.Core.Bool.{true, false}
-use Prim.Native.Nat.{ℕ, _+_, _-_, _*_, _≤_, _<_}
+use mathlib.Core.Path.{sym, _∙_}
 use native.Mathlib.Omega.{arith}
-use native.Mathlib.Nat.{le-antisymm}
-use borrow.Author.Needs.{needs}
-use lib.ListN.{length, getD, take, set, length-set}
-use Rattle.order.specs.Lists.{count, _∈_}
-use Rattle.marks.specs.Marks.{mark}
 use Rattle.placing.proofs.Counts.{needed-masked, needed-none}
 use Rattle.placing.proofs.needed_by.Statement.{statement}
 use Rattle.placing.proofs.needed_by.Tie as tie
-use Rattle.placing.proofs.needed_by.Reads as reads
-use Rattle.placing.proofs.needed_by.Lts as lts
 
 has-mark-requires : tie.Need-has-mark-requires
 has-mark-requires c κs = (c .before .before .before .pre .0, omega (arith, c .before .before .before .pre .2))

@@ -1,21 +1,13 @@
-use mathlib.Core.Path.{_≡_, refl, sym, ap, _∙_, subst}
-use mathlib.Core.List.{List}
-use Prim.Native.Nat.{ℕ, _+_, _-_, _*_, _≤_, _<_}
+use mathlib.Core.Path.{_≡_, refl, _∙_}
+use Prim.Native.Nat.{_-_, _*_, _<_}
 use native.Mathlib.Omega.{arith}
-use borrow.Author.Needs.{needs}
-use lib.ListN.{length, getD, take, set, length-set}
-use Rattle.order.specs.Lists.{count, _∈_, filter}
-use Rattle.placing.specs.Placing.{needed, Fits}
-use Rattle.marks.specs.Marks.{mark}
+use lib.ListN.{length, take, length-set}
+use Rattle.order.specs.Lists.{_∈_}
+use Rattle.placing.specs.Placing.{needed}
 use Rattle.placing.proofs.Counts.{need-item, need-once}
 use Rattle.placing.proofs.Going.{Going, going-start, going-end, going-none, item-is, unmet-of, going-step}
 use Rattle.placing.proofs.place.Statement.{statement}
 use Rattle.placing.proofs.place.Tie as tie
-use Rattle.placing.proofs.place.Reads as reads
-use Rattle.placing.proofs.place.Lts as lts
-use Rattle.placing.proofs.lower.Reads as lower-reads
-use Rattle.placing.proofs.needed_by.Reads as needed-by-reads
-use Rattle.placing.proofs.start.Reads as start-reads
 
 abbrev Inv-loop : tie.InvT-loop
 Inv-loop items square w mask unmet₀ ready₀ list₀ order₀ k₀ unmet ready list order k =

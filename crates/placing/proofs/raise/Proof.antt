@@ -1,20 +1,14 @@
 use mathlib.Core.Path.{_≡_, refl, sym, ap, _∙_, subst}
-use mathlib.Core.Logic.{_⊎_, inl, inr, ⊎-elim, _↔_}
-use mathlib.Core.Bool.{true, false}
-use Prim.Native.Nat.{ℕ, _+_, _-_, _*_, _≤_, _<_}
+use Prim.Native.Nat.{ℕ, _+_, _-_, _≤_, _<_}
 use native.Mathlib.Omega.{arith}
 use native.Mathlib.Nat.{le-antisymm}
 use borrow.Author.Needs.{needs}
-use lib.ListN.{length, getD, take, set, length-set}
+use lib.ListN.{length, getD, take, length-set}
 use Rattle.order.specs.Lists.{count, _∈_}
-use Rattle.marks.specs.Marks.{mark}
 use Rattle.placing.proofs.Lists.{in-take, count-more, count-take-le}
 use Rattle.placing.proofs.Counts.{eq-one, raise-turn}
 use Rattle.placing.proofs.raise.Statement.{statement}
 use Rattle.placing.proofs.raise.Tie as tie
-use Rattle.placing.proofs.raise.Reads as reads
-use Rattle.placing.proofs.raise.Lts as lts
-use Rattle.marks.proofs.widen.Reads as widen-reads
 
 abbrev Inv-loop : tie.InvT-loop
 Inv-loop list m unmet₀ i₀ unmet i = (length unmet ≡ length unmet₀) × (i ≤ m) × ((p : ℕ) → getD unmet p 0 ≡ getD unmet₀ p 0 + count p (take i list))

@@ -1,21 +1,9 @@
-use mathlib.Core.Path.{_≡_, refl, sym, ap, _∙_, subst}
-use mathlib.Core.List.{List}
-use Prim.Native.Nat.{ℕ, _+_, _-_, _*_, _≤_, _<_}
+use mathlib.Core.Path.{_∙_}
 use native.Mathlib.Omega.{arith}
-use borrow.Author.Needs.{needs}
-use lib.ListN.{length, getD, take, set, length-set}
-use Rattle.order.specs.Lists.{count, _∈_, filter}
-use Rattle.placing.specs.Placing.{needed, Fits}
 use Rattle.placing.proofs.Counts.{fits-as}
 use Rattle.placing.proofs.Going.{state-none}
 use Rattle.placing.proofs.start.Statement.{statement}
 use Rattle.placing.proofs.start.Tie as tie
-use Rattle.placing.proofs.start.Reads as reads
-use Rattle.placing.proofs.start.Lts as lts
-use Rattle.placing.proofs.clear_counts.Reads as clear-counts-reads
-use Rattle.marks.proofs.clear_marks.Reads as clear-marks-reads
-use Rattle.placing.proofs.count_needs.Reads as count-needs-reads
-use Rattle.placing.proofs.mark_ready.Reads as mark-ready-reads
 
 clear-counts-requires : tie.Need-clear-counts-requires
 clear-counts-requires c κs = c .before .before .before .before .before .before .before .pre .0 .counted

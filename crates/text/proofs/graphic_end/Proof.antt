@@ -7,8 +7,7 @@ use lib.ListN.{getD, length}
 use borrow.Author.Needs.{needs}
 use borrow.Author.Tests.{lt-ltb, le-ltb}
 use Rattle.text.proofs.Bytes.{run-more, run-stop}
-use Rattle.text.specs.Bytes.{isGraphic}
-use Rattle.text.specs.Scans.{runEnd}
+use Rattle.text.specs.Scans.{runEnd, isGraphic}
 use Rattle.text.proofs.graphic_end.Statement.{statement}
 use Rattle.text.proofs.graphic_end.Tie as tie
 

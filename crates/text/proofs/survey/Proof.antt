@@ -4,7 +4,8 @@ use Prim.Native.Nat.{_<_, _+_, _-_, _≤_}
 use native.Mathlib.Omega.{arith}
 use lib.ListN.{getD, length, drop}
 use borrow.Author.Needs.{needs}
-use Rattle.text.specs.Bytes.{countBy, isBad, isNewline}
+use Rattle.text.specs.Bytes.{countBy, isNewline}
+use Rattle.text.specs.Scans.{isBad}
 use Rattle.text.proofs.Bytes.{count-step, count-end, one-le}
 use Rattle.text.proofs.survey.Statement.{statement}
 use Rattle.text.proofs.survey.Tie as tie

@@ -1,0 +1,73 @@
+//! What a reader has to believe: the definitions and declared types that the public
+//! contracts and the quoted theorems rest on.
+
+use std::collections::HashSet;
+
+use crate::documents::{self, Line, Quote};
+use crate::files::Folder;
+use crate::graph::Graph;
+
+pub struct Belief {
+    /// The public calls that have a contract, in the order of their files.
+    pub calls: Vec<usize>,
+    /// The quoted theorems, in the order of the documents, each with the line that
+    /// quotes it first.
+    pub theorems: Vec<Quote>,
+    /// All that these rest on.
+    pub definitions: HashSet<usize>,
+}
+
+/// By documents in this order: what they quote comes first that comes first there.
+pub fn belief(graph: &Graph, lines: &[Line]) -> Belief {
+    let has_contract = |node: &usize| {
+        let item = graph.item(*node);
+        item.is_some_and(|item| !item.contracts.is_empty())
+    };
+    let calls = documents::calls(graph, lines).into_iter();
+    let calls: Vec<usize> = calls.filter(has_contract).collect();
+    let mut theorems: Vec<Quote> = vec![];
+    for quote in documents::quotes(graph, lines).0 {
+        let is_new = theorems.iter().all(|other| other.law != quote.law);
+        if is_new && !quote.is_test {
+            theorems.push(quote);
+        }
+    }
+    let laws = theorems.iter().map(|quote| quote.law);
+    let stated = calls.iter().copied().chain(laws);
+    let from: Vec<usize> = stated
+        .flat_map(|node| graph.nodes[node].stated.nodes.clone())
+        .collect();
+    let definitions = graph.reached(&from);
+    Belief {
+        calls,
+        theorems,
+        definitions,
+    }
+}
+
+/// The files of `specs/` that hold what readers believe and what they need not,
+/// each with the names of both.
+pub fn mixed(graph: &Graph, belief: &Belief) -> Vec<String> {
+    let mut found = vec![];
+    for (file, of) in graph.files.iter().enumerate() {
+        if of.folder != Folder::Specs {
+            continue;
+        }
+        let nodes = (0..graph.nodes.len()).filter(|node| graph.nodes[*node].file == file);
+        let (believed, others): (Vec<usize>, Vec<usize>) =
+            nodes.partition(|node| belief.definitions.contains(node));
+        if !believed.is_empty() && !others.is_empty() {
+            let path = &of.path;
+            let [believed, others] = [believed, others].map(|nodes| names(graph, &nodes));
+            found.push(format!("{path}: readers believe {believed}; not {others}"));
+        }
+    }
+    found
+}
+
+fn names(graph: &Graph, nodes: &[usize]) -> String {
+    let names = nodes
+        .iter()
+        .map(|node| format!("`{}`", graph.nodes[*node].name));
+    names.collect::<Vec<String>>().join(", ")
+}

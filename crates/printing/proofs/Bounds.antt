@@ -2,7 +2,7 @@
 use mathlib.Core.Path.{_≡_, ap, _∙_}
 use mathlib.Core.Bool.{true}
 use mathlib.Core.List.{List, [], _∷_, _++_}
-use Prim.Native.Nat.{ℕ, _+_, _-_, _*_, _≤_, _<_}
+use Prim.Native.Nat.{ℕ, _+_, _-_, _*_, _≤_}
 use native.Mathlib.Omega.{arith}
 use lib.IntN.{ℤ, natAbs}
 use lib.ListN.{length, take, length-append, length-take, length-drop}
@@ -120,7 +120,7 @@ module _ (s : List ℕ) (m p q : ℕ) (a : answers (runReply s m p q) ≡ true) 
       let o = plan-proper s m p q a in
       let k = listed-value o v i in
       let name : nameLength (tableOf Fine s m) v ≤ 16 =
-              rw (cell-padded (sheetTable s) (m - 8 * labels s) v 2) (read-short s (reads s m p q a) v k) in
+      rw (cell-padded (sheetTable s) (m - 8 * labels s) v 2) (read-short s (reads s m p q a) v k) in
       rw (table-is s m p q a, results-are)
       (value-short (sheetTable s) (labels s) q ok (proper-no-cycle o) (results-fit s m p q a) (tableOf Fine s m) v k name)
 

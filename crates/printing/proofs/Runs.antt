@@ -25,7 +25,7 @@ use Rattle.reading.proofs.Padding.{cell-padded}
 use Rattle.reading.proofs.Accepted.{read-names}
 use Rattle.calls.specs.Buffers.{planShort, resultsShort, runBuffers}
 use Rattle.calls.specs.Plan.{planOf, answerBy, listedBy, lengthOf}
-use Rattle.calls.specs.Run.{runBad, runReply, runTable, runPlan, runResults}
+use Rattle.calls.specs.Run.{runBad, runReply, runTable, runPlan}
 use Rattle.calls.specs.Leaves.{RunLeaves}
 use Rattle.calls.specs.declared.PlanReply.{PlanReply}
 use Rattle.calls.proofs.Answers.{answers, answers-number, answers-fine}

@@ -4,8 +4,8 @@
 
 #include "lindypo.h"
 
-static uint8_t text[65537]; /* one byte more than a sheet may have */
-static int64_t table[8 * 1024], plan[1024], results[3 * 1024];
+static uint8_t text[LINDYPO_TEXT_MOST + 1]; /* one byte more than a sheet may have */
+static int64_t table[LINDYPO_TABLE_MOST], plan[LINDYPO_PLAN_MOST], results[LINDYPO_RESULTS_MOST];
 
 int main(int count, char **words)
 {
@@ -21,17 +21,21 @@ int main(int count, char **words)
     }
     fclose(file);
 
-    lindypo_reply reply = lindypo_run(text, length, table, 8 * 1024, plan, 1024, results, 3 * 1024);
+    lindypo_reply reply = lindypo_run(text, length, table, LINDYPO_TABLE_MOST, plan,
+                                      LINDYPO_PLAN_MOST, results, LINDYPO_RESULTS_MOST);
     if (reply.refusal != 0) {
         printf("refusal %" PRIu64 " at %" PRIu64 "\n", reply.refusal, reply.place);
         return 1;
     }
-    printf("%" PRIu64 " values, %s\n", reply.count, reply.order == 1 ? "whole" : "mixed");
+    printf("%" PRIu64 " values, %s\n", reply.count,
+           reply.order == LINDYPO_ORDER_WHOLE ? "whole" : "mixed");
     for (uint64_t i = 0; i < reply.count; i++) {
-        const int64_t *line = table + 8 * (plan[i] - 1);
-        const int64_t *result = results + 3 * (plan[i] - 1);
-        printf("%.*s: state %" PRId64 ", number %" PRId64 ", %" PRId64 " steps\n", (int)line[2],
-               (const char *)text + line[1], result[0], result[1], result[2]);
+        const int64_t *line = table + LINDYPO_TABLE_CELLS * (plan[i] - 1);
+        const int64_t *result = results + LINDYPO_RESULT_CELLS * (plan[i] - 1);
+        printf("%.*s: state %" PRId64 ", number %" PRId64 ", %" PRId64 " steps\n",
+               (int)line[LINDYPO_COLUMN_NAME_LENGTH],
+               (const char *)text + line[LINDYPO_COLUMN_NAME_START], result[LINDYPO_RESULT_STATE],
+               result[LINDYPO_RESULT_NUMBER], result[LINDYPO_RESULT_STEPS]);
     }
     return 0;
 }

@@ -228,6 +228,20 @@ static void lengths_of_buffers(void)
     CHECK(is_short(run_in(cells, 2, result_cells - 1), LINDYPO_PLACE_RESULTS));
 }
 
+/* The print of as many values as a sheet has room for, with the longest names and
+ * numbers; it needs all but a part of what is enough for every print. */
+static void length_of_a_print(void)
+{
+    static uint8_t out[LINDYPO_PRINT_MOST + 1];
+    begin();
+    for (int value = 0; value < 511; value++)
+        add("V decentration%04d 1 %d -\nN - %d - -\n", value, 2 * value + 3, -LINDYPO_NUMBER_MOST);
+    lindypo_printed printed = lindypo_print(bytes(), length, out, sizeof out);
+    CHECK(printed.refusal == 0);
+    CHECK(printed.length > LINDYPO_PRINT_MOST / 3 && printed.length <= LINDYPO_PRINT_MOST);
+    CHECK(out[printed.length - 1] == '\n' && out[printed.length] == 0);
+}
+
 /* ---- kinds, columns and orders */
 
 static void kinds(void)
@@ -320,6 +334,7 @@ int main(void)
     limits_of_a_sheet();
     limits_of_evaluating();
     lengths_of_buffers();
+    length_of_a_print();
     kinds();
     columns();
     orders();

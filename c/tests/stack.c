@@ -22,6 +22,7 @@ static size_t length;
 static int64_t table[LINDYPO_TABLE_MOST], plan[LINDYPO_PLAN_MOST], results[LINDYPO_RESULTS_MOST];
 static int64_t order[LINDYPO_PLAN_MOST];
 static size_t order_length;
+static uint8_t out[LINDYPO_PRINT_MOST];
 
 static void *make_read(void *unused)
 {
@@ -58,6 +59,12 @@ static void *make_follow(void *unused)
     return unused;
 }
 
+static void *make_print(void *unused)
+{
+    lindypo_print(text, length, out, sizeof out);
+    return unused;
+}
+
 static struct call {
     const char *name;
     void *(*make)(void *);
@@ -70,6 +77,7 @@ static struct call {
     {"Plan", make_plan, LINDYPO_PLAN_STACK, 0, ""},
     {"Run", make_run, LINDYPO_RUN_STACK, 0, ""},
     {"Follow", make_follow, LINDYPO_FOLLOW_STACK, 0, ""},
+    {"print", make_print, LINDYPO_PRINT_STACK, 0, ""},
 };
 
 static void must(int holds, const char *what)

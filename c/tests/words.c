@@ -191,6 +191,49 @@ static void no_end(void)
     expect("a Group in its member", find(sheet, round, CELLS, "right.right.right"), 0);
 }
 
+/* Tables with a definition that no sheet has: without a name, with one that is too
+ * long, a member of a value, or after the last label that a sheet may have. */
+static void no_definitions(void)
+{
+    static int64_t cells[LINDYPO_TABLE_MOST + LINDYPO_TABLE_CELLS];
+    int64_t *left = cells + 2 * LINDYPO_TABLE_CELLS;
+    int64_t *last = cells + LINDYPO_TABLE_MOST;
+    memcpy(cells, table, CELLS * sizeof *cells);
+    left[LINDYPO_COLUMN_NAME_LENGTH] = 0;
+    expect("no name", find(sheet, cells, CELLS, ""), 0);
+    left[LINDYPO_COLUMN_NAME_START] = 0;
+    left[LINDYPO_COLUMN_NAME_LENGTH] = LINDYPO_NAME_MOST + 1;
+    expect("a long name", find(sheet, cells, CELLS, "kind name a b c\nG"), 0);
+    left[LINDYPO_COLUMN_KIND] = LINDYPO_KIND_VALUE;
+    left[LINDYPO_COLUMN_NAME_LENGTH] = 4;
+    expect("a value", find(sheet, cells, CELLS, "kind"), 3);
+    expect("a member of a value", find(sheet, cells, CELLS, "kind.far"), 0);
+    last[LINDYPO_COLUMN_KIND] = LINDYPO_KIND_GROUP;
+    last[LINDYPO_COLUMN_NAME_LENGTH] = 1;
+    last[LINDYPO_COLUMN_OWNER] = 1;
+    size_t all = sizeof cells / sizeof *cells;
+    expect("after the last label", find(sheet, cells, all, "k"), 0);
+}
+
+/* A table whose name begins with the text's last byte, a line end, and has more
+ * bytes than are left. */
+static void past_the_text(void)
+{
+    char path[LINDYPO_NAME_MOST + 1] = "\n";
+    int64_t cells[CELLS];
+    memcpy(cells, table, sizeof cells);
+    int64_t *right = cells + LINDYPO_TABLE_CELLS;
+    right[LINDYPO_COLUMN_NAME_START] = (int64_t)strlen(sheet) - 1;
+    for (int64_t length = 1; length <= LINDYPO_NAME_MOST; length++) {
+        right[LINDYPO_COLUMN_NAME_LENGTH] = length;
+        expect("past the text", find(sheet, cells, CELLS, path), length == 1 ? 2 : 0);
+        path[length] = length < LINDYPO_NAME_MOST ? 'x' : '\0';
+    }
+    right[LINDYPO_COLUMN_NAME_START] = (int64_t)strlen(sheet);
+    right[LINDYPO_COLUMN_NAME_LENGTH] = 1;
+    expect("after the text", find(sheet, cells, CELLS, "\n"), 0);
+}
+
 int main(void)
 {
     print_words();
@@ -203,6 +246,8 @@ int main(void)
     refused_table();
     rubbish();
     no_end();
+    past_the_text();
+    no_definitions();
     printf("%d wrong\n", failures);
     return failures != 0;
 }

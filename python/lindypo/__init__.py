@@ -43,7 +43,7 @@ proved.
 from .constants import VERSION as __version__
 from .constants import Kind, Order, State
 from .library import LibraryError
-from .sheet import Line, Outcome, Plan, Refusal, Run, Sheet
+from .sheet import Line, Outcome, Plan, Refusal, Run, Sheet, print_text
 
 __all__ = [
     "Kind",
@@ -57,4 +57,5 @@ __all__ = [
     "Sheet",
     "State",
     "__version__",
+    "print_text",
 ]

@@ -143,25 +143,27 @@ class Group:
     """The members of a Group, in sequence; the outermost Group is a sheet."""
 
     def __init__(self):
-        # each Group followed by all under it
+        # each Group followed by all under it; of more than a sheet can have none is kept
         self._definitions = []
+        # how many lines they take
+        self._lines = 0
 
     def value(self, name, body):
         """Adds a value after the members that are there; gives this Group."""
-        return self._add(Kind.VALUE, name, _expression(body))
+        return self._add(0, Kind.VALUE, name, _expression(body))
 
     def function(self, name, body):
         """Adds a function of one argument after the members that are there."""
-        return self._add(Kind.FUNCTION, name, _expression(body))
+        return self._add(0, Kind.FUNCTION, name, _expression(body))
 
     def group(self, name, members):
         """Adds a Group with the members that another has now."""
         if not isinstance(members, Group):
             raise TypeError(f"the members of a Group are a Group, not {type(members).__name__}")
         deeper = [it._replace(depth=it.depth + 1) for it in members._definitions]
-        self._add(Kind.GROUP, name, None)
-        self._definitions += deeper
-        return self
+        lines = members._lines
+        self._add(0, Kind.GROUP, name, None)
+        return self._extend(lines, deeper)
 
     def text(self):
         """The text, as bytes, of the sheet whose outermost Group this is.
@@ -183,11 +185,11 @@ class Group:
             ...
         lindypo.build.Mistake: the value `two`: the argument stands in it; only a function has one
         """
-        _check_count(self._definitions)
+        _check_within(1 + self._lines, LABELS_MOST, "lines", RefusalNumber.LABELS)
         for at, definition in enumerate(self._definitions):
             _check_definition(definition, lambda at=at: _title(self._definitions, at))
         text = _text_of(self._definitions)
-        _check_bytes(text)
+        _check_within(len(text), TEXT_MOST, "bytes", RefusalNumber.TEXT)
         return text
 
     @classmethod
@@ -207,12 +209,19 @@ class Group:
                 entered.pop()
                 continue
             body = _of_sheet(sheet, line.b) if line.b else None
-            group._definitions.append(_Definition(len(entered) - 1, line.kind, line.name, body))
+            group._add(len(entered) - 1, line.kind, line.name, body)
             entered.append(iter(members[line.label]))
         return group
 
-    def _add(self, kind, name, body):
-        self._definitions.append(_Definition(0, kind, _string(name), body))
+    def _add(self, depth, kind, name, body):
+        definition = _Definition(depth, kind, _string(name), body)
+        return self._extend(1 + (body._size if body else 0), [definition])
+
+    def _extend(self, lines, definitions):
+        self._lines += lines
+        self._definitions += definitions
+        if self._lines >= LABELS_MOST:
+            self._definitions.clear()
         return self
 
 
@@ -249,28 +258,11 @@ def _quoted(field):
 # the definitions are made
 
 
-def _check_count(definitions):
-    """Row 3, by sizes: what would be too long is never written."""
-    expressions = sum(it.body._size for it in definitions if it.body)
-    lines = 1 + len(definitions) + expressions
-    if lines > LABELS_MOST:
-        raise Mistake(
-            RefusalNumber.LABELS,
-            None,
-            f"the sheet would have {lines} lines, one for the outermost Group, "
-            f"{len(definitions)} for definitions and {expressions} for expressions; "
-            f"at most {LABELS_MOST} are allowed",
-        )
-
-
-def _check_bytes(text):
-    """Row 1."""
-    if len(text) > TEXT_MOST:
-        raise Mistake(
-            RefusalNumber.TEXT,
-            None,
-            f"the sheet would have {len(text)} bytes; at most {TEXT_MOST} are allowed",
-        )
+def _check_within(count, most, what, row):
+    """Rows 1 and 3."""
+    if count > most:
+        sentence = f"the sheet would have {count} {what}; at most {most} are allowed"
+        raise Mistake(row, None, sentence)
 
 
 def _check_definition(definition, title):
@@ -302,9 +294,9 @@ def _wrong_form(expression):
     """What is wrong with a number or path."""
     kind, content = expression._kind, expression._content
     if kind is Kind.NUMBER and abs(content) > NUMBER_MOST:
-        written = f"`{content}`" if abs(content) < 2**63 else "what is beyond 64 bits"
+        written = f"`{content}`" if -(2**63) <= content < 2**63 else "what is beyond 64 bits"
         return (
-            f"{written} is not a number: -{NUMBER_MOST} to {NUMBER_MOST}, "
+            f"{written} is not a whole number: -{NUMBER_MOST} to {NUMBER_MOST}, "
             "with no leading zero, plus sign or `-0`"
         )
     if kind in (Kind.READ, Kind.CALL) and not _IS_PATH.fullmatch(content):

@@ -12,6 +12,9 @@ PATH_MOST = 8
 NUMBER_MOST = 1000000000
 LEVELS_MOST = 32
 
+# bytes of a print
+PRINT_MOST = 49188
+
 # cells for each label
 TABLE_CELLS = 8
 RESULT_CELLS = 3

@@ -34,6 +34,12 @@ class Part(ctypes.Structure):
     _fields_ = [(name, ctypes.c_uint64) for name in ("start", "length")]
 
 
+class Printed(ctypes.Structure):
+    """What the print answers: `lindypo_printed`."""
+
+    _fields_ = [(name, ctypes.c_uint64) for name in ("refusal", "place", "length")]
+
+
 _TEXT = [ctypes.c_char_p, ctypes.c_size_t]
 _CELLS = [ctypes.POINTER(ctypes.c_int64), ctypes.c_size_t]
 
@@ -44,6 +50,7 @@ _CALLS = {
     "lindypo_plan": (Reply, _TEXT + _CELLS + _CELLS),
     "lindypo_run": (Reply, _TEXT + _CELLS + _CELLS + _CELLS),
     "lindypo_follow": (Reply, _TEXT + _CELLS + _CELLS + _CELLS),
+    "lindypo_print": (Printed, _TEXT + [ctypes.c_char_p, ctypes.c_size_t]),
     "lindypo_find": (ctypes.c_int64, _TEXT + _CELLS + [ctypes.c_char_p]),
     "lindypo_refusal_words": (ctypes.c_char_p, [ctypes.c_uint64]),
     "lindypo_state_words": (ctypes.c_char_p, [ctypes.c_int64]),

@@ -1,10 +1,11 @@
 """Sheets that read, and what they come to."""
 
+import ctypes
 import re
 from operator import index
 from typing import Dict, NamedTuple, Optional, Tuple
 
-from .constants import LABELS_MOST, RESULT_CELLS, TABLE_CELLS, TEXT_MOST
+from .constants import LABELS_MOST, PRINT_MOST, RESULT_CELLS, TABLE_CELLS, TEXT_MOST
 from .constants import Column, Kind, Order, RefusalNumber, Result, State
 from .library import cells, library
 
@@ -89,7 +90,7 @@ class Sheet:
     """
 
     def __init__(self, text):
-        self._text = _bytes_of(text) if isinstance(text, str) else bytes(memoryview(text))
+        self._text = _bytes_of(text)
         labels = min(max(self._text.count(b"\n") - 1, 0), LABELS_MOST)
         self._table = cells(TABLE_CELLS * labels)
         self._labels = self._call("lindypo_read", *self._table).count
@@ -126,7 +127,7 @@ class Sheet:
 
     def find(self, full_name):
         """The label of the definition with this full name, or None."""
-        path = _bytes_of(full_name)
+        path = full_name.encode("utf-8", "surrogatepass")
         if b"\0" in path:
             return None
         return library().lindypo_find(*self._lent_text(), *self._table, path) or None
@@ -219,9 +220,29 @@ class Sheet:
         return {self._full_names[label]: _outcome_of(table, label) for label in labels}
 
 
-def _bytes_of(string):
-    """Any string as bytes; what is not ASCII is for the library to refuse."""
-    return string.encode("utf-8", "surrogatepass")
+def print_text(text):
+    """The program's print of a text, bytes or a string: a line for each value in the
+    order of the plan, or the number and the place of the refusal.
+
+    >>> print(print_text("kind name a b c\\nG - 0 - -\\nV x 1 3 -\\nN - 7 - -\\n"), end="")
+    label name order state number steps
+    2 x whole 1 7 1
+    >>> print(print_text(""), end="")
+    refusal place
+    1 0
+    """
+    text = _bytes_of(text)
+    out = ctypes.create_string_buffer(PRINT_MOST)
+    printed = library().lindypo_print(text, len(text), out, PRINT_MOST)
+    return out.raw[: printed.length].decode()
+
+
+def _bytes_of(text):
+    """Bytes as they are, and any string as bytes: what is not ASCII is for the library to
+    refuse."""
+    if isinstance(text, str):
+        return text.encode("utf-8", "surrogatepass")
+    return bytes(memoryview(text))
 
 
 def _plan_of(reply, plan):

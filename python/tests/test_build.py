@@ -1,10 +1,13 @@
 """The builder: what it builds, and what it says is wrong."""
 
+import json
 import random
 import unittest
 
 from lindypo import Refusal, Sheet, State
 from lindypo.build import Expression, Group, Mistake, argument, call, choice, number, read
+
+from places import CASES
 
 
 def number_of(group, name="x"):
@@ -109,7 +112,7 @@ class Mistakes(unittest.TestCase):
         for bad in (1_000_000_001, -1_000_000_001, 2**64, -(2**64), 10**5000):
             row, words = mistake_of(Group().value("x", bad))
             self.assertEqual(row, 7)
-            self.assertIn("is not a number: -1000000000 to 1000000000", words)
+            self.assertIn("is not a whole number: -1000000000 to 1000000000", words)
         for good in (1_000_000_000, -1_000_000_000, 0):
             self.assertEqual(number_of(Group().value("x", good)), good)
 
@@ -137,19 +140,20 @@ class Mistakes(unittest.TestCase):
             return group
 
         self.assertEqual(len(Sheet.read(values(511).text()).lines), 1023)
-        row, words = mistake_of(values(512))
-        self.assertEqual(row, 3)
-        self.assertEqual(
-            words,
-            "the sheet would have 1025 lines, one for the outermost Group, 512 for definitions "
-            "and 512 for expressions; at most 1024 are allowed",
-        )
+        words = "the sheet would have {} lines; at most 1024 are allowed"
+        self.assertEqual(mistake_of(values(512)), (3, words.format(1025)))
+        self.assertEqual(mistake_of(values(5_000)), (3, words.format(10_001)))
 
-    def test_what_doubles_is_found_at_once(self):
-        body = number(1)
+    def test_nothing_is_too_large_to_be_judged(self):
+        body, group = number(1), Group().value("x", 1)
         for _ in range(1000):
-            body = body + body
+            body, group = body + body, Group().group("a", group).group("b", group)
         self.assertEqual(mistake_of(Group().value("x", body))[0], 3)
+        self.assertEqual(mistake_of(group)[0], 3)
+        for _ in range(100_000):
+            body, group = 1 + body, Group().group("a", group)
+        self.assertEqual(mistake_of(Group().value("x", body))[0], 3)
+        self.assertEqual(mistake_of(group)[0], 3)
 
     def test_bytes(self):
         group = Group()
@@ -172,6 +176,35 @@ class Mistakes(unittest.TestCase):
                 read(name)
         with self.assertRaises(TypeError):
             Group().group("x", Expression)
+
+
+class SameWords(unittest.TestCase):
+    """What is said of each mistake is what the builder in Rust says."""
+
+    def test_mistakes(self):
+        nested = number(1)
+        for _ in range(32):
+            nested = 1 + nested
+        cases = (
+            ("1x", number(1), 1),
+            ("abcdefghijklmnopq", number(1), 1),
+            ("x", number(1_000_000_001), 1),
+            ("x", read("x..y"), 1),
+            ("x", 2 * read("a.b.c.d.e.f.g.h.i"), 1),
+            ("x", 1 + argument(), 1),
+            ("x", nested, 1),
+            ("x", number(1), 512),
+            ("x", read(".".join(["decentration0001"] * 8)), 500),
+            ("abcdefghijklmnopqrstuvwxyzabcdefghijklmnop", number(1), 1),
+        )
+        said = []
+        for name, body, count in cases:
+            right = Group()
+            for _ in range(count):
+                right.value(name, body)
+            row, words = mistake_of(Group().group("right", right))
+            said.append(f"{row:d} {words}")
+        self.assertEqual(said, json.loads((CASES / "mistakes.json").read_text()))
 
 
 class RandomBuilder:

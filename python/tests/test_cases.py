@@ -3,17 +3,18 @@
 import json
 import unittest
 
-from lindypo import Refusal, Sheet
+from lindypo import Refusal, Sheet, print_text
 from lindypo.build import Group
 from lindypo.constants import Column, RESULT_CELLS, TABLE_CELLS
 
 from places import CASES
+from prints import printed
 
 
 def cases():
     """Each case's name, text, and what the reference wants."""
-    for file in sorted(CASES.glob("*.json")):
-        yield file.stem, file.with_suffix(".sheet").read_bytes(), json.loads(file.read_text())
+    for file in sorted(CASES.glob("*.sheet")):
+        yield file.stem, file.read_bytes(), json.loads(file.with_suffix(".json").read_text())
 
 
 def rows(cells, width):
@@ -27,6 +28,7 @@ class Cases(unittest.TestCase):
             with self.subTest(name):
                 met_here = self.check(text, wanted)
                 met[met_here] = met.get(met_here, 0) + 1
+                self.assertEqual(print_text(text), printed(text))
         # row 4 is about buffers, and those of the module are long enough; 17 and 18 are Follow's
         self.assertEqual(sorted(met), [0, 1, 2, 3] + list(range(5, 17)))
 
@@ -97,12 +99,13 @@ class Built(unittest.TestCase):
         for name, text, wanted in cases():
             if wanted["read"]["reply"][0] == 0:
                 with self.subTest(name):
-                    self.check(Sheet.read(text))
+                    self.check(Sheet.read(text), wanted["built"])
                     built += 1
         self.assertGreater(built, 100)
 
-    def check(self, sheet):
+    def check(self, sheet, wanted):
         again = Sheet.read(Group.of_sheet(sheet).text())
+        self.assertEqual(again.text.decode(), wanted)
         self.assertEqual(set(again.names), set(sheet.names))
         self.assertEqual(Group.of_sheet(again).text(), again.text)
         try:

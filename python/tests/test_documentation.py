@@ -5,10 +5,11 @@ import unittest
 
 import lindypo
 import lindypo.build
+import lindypo.sheet
 
 
 def load_tests(loader, tests, pattern):
-    for module in (lindypo, lindypo.build):
+    for module in (lindypo, lindypo.build, lindypo.sheet):
         tests.addTests(doctest.DocTestSuite(module))
     return tests
 

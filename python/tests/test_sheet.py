@@ -3,9 +3,10 @@
 import threading
 import unittest
 
-from lindypo import Kind, Order, Refusal, Sheet, State
+from lindypo import Kind, Order, Refusal, Sheet, State, print_text
 
 from places import ROOT
+from prints import printed
 
 HEAD = "kind name a b c\nG - 0 - -\n"
 EXAMPLE = (ROOT / "sheets/01-example.sheet").read_bytes()
@@ -172,21 +173,6 @@ class Refusals(unittest.TestCase):
         self.assertEqual(str(early), f"refusal 18, position 1 of the order: {early.words}")
 
 
-def printed(text):
-    """The program's print, by the module."""
-    try:
-        sheet = Sheet.read(text)
-        run = sheet.run()
-    except Refusal as refusal:
-        return f"refusal place\n{refusal.number} {refusal.place}\n"
-    lines = ["label name order state number steps\n"]
-    order = run.plan.order.name.lower()
-    for label, (state, number, steps) in zip(run.plan.labels, run.values.values()):
-        name = sheet.name(label)
-        lines.append(f"{label} {name} {order} {state.value} {number or 0} {steps}\n")
-    return "".join(lines)
-
-
 class SampleSheets(unittest.TestCase):
     def test_prints(self):
         files = sorted((ROOT / "sheets").glob("*.sheet"))
@@ -194,4 +180,5 @@ class SampleSheets(unittest.TestCase):
         for file in files:
             with self.subTest(file.name):
                 wanted = file.with_suffix(".print").read_text()
+                self.assertEqual(print_text(file.read_bytes()), wanted)
                 self.assertEqual(printed(file.read_bytes()), wanted)

@@ -9,7 +9,7 @@ use native.Mathlib.Nat.{eq-or-lt-of-le}
 use lib.Dec.{eqb}
 use lib.IntN.{ℤ, pos}
 use lib.ListN.{length}
-use borrow.Author.Tests.{eqb-true, ne-eqb}
+use borrow.Author.Tests.{ne-eqb}
 use Rattle.cells.specs.Cells.{natOf, intAt}
 use Rattle.cells.specs.Table.{cell, kind, owner, withColumn}
 use Rattle.cells.proofs.Columns.{column-length, column-has, column-other}

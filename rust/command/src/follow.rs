@@ -7,6 +7,7 @@ use lindypo::{Label, Refusal, Sheet};
 
 use crate::input::{self, Source};
 use crate::json::Object;
+use crate::labels;
 use crate::options::{Call, Opt};
 use crate::output::{Output, Paint};
 use crate::sheets::{self, Answer, Asked, Text};
@@ -45,8 +46,12 @@ position  label  name          number  steps  state     formula
             words: "follow --order 4,5,2 sheets/01-example.sheet",
             print: "\
 refusal 18: `right.prism` reaches `right.sphere`, which is not listed earlier
- --> sheets/01-example.sheet, position 1 of the order
-  = rule: an order lists a value after all that it reaches
+  --> sheets/01-example.sheet, position 1 of the order
+   |
+12 | R sphere - - -
+   |   ------ `right.prism` reads `right.sphere`
+   = help: put `right.sphere` (label 5), now at position 2, before position 1
+   = rule: an order lists a value after all that it reaches
 ",
         },
     ],
@@ -99,21 +104,13 @@ fn ask<'a>(text: &'a Text, list: &[String]) -> Asked<'a> {
     // 0 is no label: the library then refuses the list at this position
     let labels = list
         .iter()
-        .map(|entry| label_of(&sheet, entry).unwrap_or(0));
+        .map(|entry| labels::of(&sheet, entry).unwrap_or(0));
     let labels: Vec<Label> = labels.collect();
     let results = sheet
         .follow(&labels)
         .map_err(|refusal| named(refusal, list, &labels))?;
     let values = values::listed(&sheet, &labels, &results);
     Ok(Box::new(Followed { sheet, values }))
-}
-
-/// A label as it stands, or that of a full name.
-fn label_of(sheet: &Sheet, entry: &str) -> Option<Label> {
-    match entry.bytes().all(|byte| byte.is_ascii_digit()) {
-        true => entry.parse().ok(),
-        false => sheet.find(entry),
-    }
 }
 
 /// The refusal of a list; an entry that names nothing is said as it was given.

@@ -135,7 +135,7 @@ impl Paint {
 /// Writes a file of its own. One that is there already is written over where
 /// `force` says so; one that cannot be written whole is taken away again.
 pub fn write_file(path: &Path, bytes: &[u8], force: bool) -> Result<(), String> {
-    let failed = |error: io::Error| format!("{}: {}", input::shown(path), wrong_file(&error));
+    let failed = |error: io::Error| format!("{}: {}", input::shown(path), unwritten(path, &error));
     if force {
         return fs::write(path, bytes).map_err(failed);
     }
@@ -150,8 +150,10 @@ fn new_file(path: &Path) -> io::Result<File> {
     OpenOptions::new().write(true).create_new(true).open(path)
 }
 
-fn wrong_file(error: &io::Error) -> String {
+/// Why a file cannot be written, and what to do about it.
+fn unwritten(path: &Path, error: &io::Error) -> String {
     match error.kind() {
+        ErrorKind::AlreadyExists if path.is_dir() => input::reason(&ErrorKind::IsADirectory.into()),
         ErrorKind::AlreadyExists => "is there already; --force writes over it".to_string(),
         _ => input::reason(error),
     }

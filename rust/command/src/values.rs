@@ -17,6 +17,17 @@ pub struct Value {
     pub outcome: Outcome,
 }
 
+/// What the numbers of the states mean.
+pub const STATES: &str = "1 a number, 2 out of range, 3 a zero divisor, 4 out of steps, 5 too deep";
+
+/// Every state in which a value has no number, by its number from 2.
+pub const FAILURES: [State; 4] = [
+    State::OutOfRange,
+    State::ZeroDivisor,
+    State::OutOfSteps,
+    State::TooDeep,
+];
+
 /// The JSON of a plan, of a value, and of one that has been evaluated.
 pub const ORDER_FIELDS: [Field; 1] = [("order", "whole or mixed")];
 pub const NAME_FIELDS: [Field; 4] = [
@@ -26,10 +37,7 @@ pub const NAME_FIELDS: [Field; 4] = [
     ("values.line", "the line that it stands in, from 1"),
 ];
 pub const OUTCOME_FIELDS: [Field; 4] = [
-    (
-        "values.state",
-        "1 a number, 2 out of range, 3 a zero divisor, 4 out of steps, 5 too deep",
-    ),
+    ("values.state", STATES),
     ("values.number", "the number, in state 1"),
     (
         "values.failure",
@@ -65,7 +73,8 @@ pub fn status(values: &[Value]) -> Status {
 
 /// "3 of 4 values have a number".
 pub fn headline(numbers: u64, count: u64) -> String {
-    let verb = if count == 1 { "has" } else { "have" };
+    let is_one = numbers == 1 || count == 1;
+    let verb = if is_one { "has" } else { "have" };
     let values = counted(count, "value");
     match count {
         0 => values,
@@ -131,15 +140,19 @@ pub fn name_object(label: Label, name: &str) -> Object {
 
 /// The fields of an outcome.
 pub fn outcome_object(outcome: Outcome) -> Object {
-    let failure = match outcome.state {
+    state_object(outcome.state).with("steps", outcome.steps)
+}
+
+/// The fields of a state.
+pub fn state_object(state: State) -> Object {
+    let failure = match state {
         State::Number(_) => None,
         failure => Some(failure.to_string()),
     };
     Object::new()
-        .with("state", outcome.state.code())
-        .with_some("number", outcome.state.number())
+        .with("state", state.code())
+        .with_some("number", state.number())
         .with_some("failure", failure)
-        .with("steps", outcome.steps)
 }
 
 pub fn json(values: &[Value]) -> Json {

@@ -3,8 +3,10 @@
 mod checks;
 mod helps;
 mod json;
+mod language;
 mod pages;
 mod pictures;
+mod random;
 mod transcripts;
 mod trees;
 

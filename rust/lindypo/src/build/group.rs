@@ -11,7 +11,7 @@ pub struct Group {
     /// Each Group followed by all under it. Of more than a sheet can have none
     /// is kept.
     definitions: Vec<Definition>,
-    /// How many lines they take.
+    /// How many lines they take with their bodies.
     lines: usize,
 }
 

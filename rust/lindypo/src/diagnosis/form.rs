@@ -2,7 +2,7 @@
 
 use super::forms::{self, Form};
 use super::rows::{Rows, A, FIELDS, KIND};
-use super::{numbers, rewrite, words, Finding};
+use super::{named, numbers, rewrite, words, Finding};
 use crate::{Kind, Label};
 
 /// What label 1 has to be.
@@ -55,12 +55,7 @@ pub fn form(rows: &Rows, label: Label, at: usize) -> Finding {
         Form::Path => path_instead(field),
         Form::Missing => None,
     };
-    let is_helped = help.is_some();
-    let found = found.may_help(help);
-    match is_helped {
-        true => found,
-        false => found.help(line_instead(rows, label, kind)),
-    }
+    found.help(help.unwrap_or_else(|| line_instead(rows, label, kind)))
 }
 
 /// The line with its fields in their places, another kind, or how a line of
@@ -77,7 +72,7 @@ fn line_instead(rows: &Rows, label: Label, kind: Kind) -> String {
         [] => format!("a {kind} is written {template}"),
         others => format!(
             "a {kind} is written {template}; the fields are those of {}",
-            words::and(others).replace(" and ", " or ")
+            words::or(others)
         ),
     }
 }
@@ -99,7 +94,10 @@ fn label_instead(rows: &Rows, label: Label, at: usize) -> Option<String> {
     if forms::is_path(field) {
         return named_instead(rows, field, is_group);
     }
-    let number: i64 = field.parse().ok()?;
+    let Ok(number) = field.parse::<i64>() else {
+        let is_decimal = numbers::is_decimal(field);
+        return is_decimal.then(|| "a label is the number of a line, and whole".to_string());
+    };
     match number {
         0 if is_group => Some("the outermost Group is label 1: write `1`".to_string()),
         0 => Some("labels count from 1, the first line after line one".to_string()),
@@ -120,33 +118,22 @@ fn label_instead(rows: &Rows, label: Label, at: usize) -> Option<String> {
 fn named_instead(rows: &Rows, path: &str, is_group: bool) -> Option<String> {
     let is_meant = |&label: &Label| {
         let is_kind = (rows.kind(label) == Some(Kind::Group)) == is_group;
-        rows.is_definition(label) && is_kind && ends_with(&rows.full_name(label), path)
+        rows.is_definition(label) && is_kind && words::ends_with(&rows.full_name(label), path)
     };
     let label = rows.labels().find(is_meant)?;
-    let title = rows.title(label);
-    Some(match rows.kind(label)? {
-        Kind::Group => format!("{title} is label {label}: write `{label}`"),
-        Kind::Value => {
-            format!("to read {title}, write the label of a line `R {path} - - -`")
-        }
-        _ => format!("to call {title}, write the label of a line `C {path} ARGUMENT - -`"),
-    })
-}
-
-/// Whether a full name is this path, or ends with it after a dot.
-fn ends_with(full_name: &str, path: &str) -> bool {
-    let before = full_name.strip_suffix(path);
-    before.is_some_and(|before| before.is_empty() || before.ends_with('.'))
+    let group = || format!("{} is label {label}: write `{label}`", rows.title(label));
+    named::by_label(rows, label, path).or_else(|| Some(group()))
 }
 
 fn name_instead(rows: &Rows, field: &str) -> Option<String> {
     if let Some((group, name)) = field.rsplit_once('.') {
         let is_meant = |&label: &Label| {
-            rows.kind(label) == Some(Kind::Group) && ends_with(&rows.full_name(label), group)
+            rows.kind(label) == Some(Kind::Group) && words::ends_with(&rows.full_name(label), group)
         };
         let label = rows.labels().skip(1).find(is_meant)?;
         return Some(format!(
-            "a definition has one name: write `{name}`, and in field a {label}, the label of `{group}`"
+            "a definition has one name: write `{name}`, \
+             and in field a {label}, the label of `{group}`"
         ));
     }
     let is_part = |letter: &char| letter.is_ascii_alphanumeric();
@@ -156,6 +143,7 @@ fn name_instead(rows: &Rows, field: &str) -> Option<String> {
             Some(format!("letters and digits alone: is `{plain}` meant?"))
         }
         length if length > forms::NAME_LETTERS => Some(format!("this one has {length} letters")),
+        1.. => Some("a name begins with a letter".to_string()),
         _ => None,
     }
 }

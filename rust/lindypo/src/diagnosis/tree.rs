@@ -1,9 +1,7 @@
 //! Refusals 8 to 11: who uses whom.
 
-use super::paths;
 use super::rows::{Rows, Use, A, FIELDS, NAME};
-use super::words;
-use super::Finding;
+use super::{named, paths, words, Finding};
 use crate::{Kind, Label};
 
 /// The most users that a sentence names.
@@ -106,28 +104,21 @@ fn mended(rows: &Rows, label: Label, field: usize) -> Option<String> {
         Kind::Group if is_group => "a Group stands above its members: move its line up".to_string(),
         _ if is_group => "write the label of a Group; the outermost Group is `1`".to_string(),
         Kind::Group => "a Group has no number: read a value of it".to_string(),
-        Kind::Value => format!(
-            "to read {}, write the label of a line `R {} - - -`",
-            rows.title(part),
-            path_here(rows, label, part)
-        ),
-        Kind::Function => format!(
-            "to call {}, write the label of a line `C {} ARGUMENT - -`",
-            rows.title(part),
-            path_here(rows, label, part)
-        ),
+        Kind::Value | Kind::Function => {
+            return named::by_label(rows, part, &path_here(rows, label, part));
+        }
         _ => "an expression stands below the line that uses it: move its line down".to_string(),
     })
 }
 
-/// The path by which a line can name a definition.
+/// The path by which a line can name a definition, or what stands for it.
 fn path_here(rows: &Rows, label: Label, definition: Label) -> String {
     let owner = match rows.is_definition(label) {
         true => label,
         false => rows.owner(label),
     };
     let path = paths::path_to(rows, rows.link(owner, A), definition);
-    path.unwrap_or_else(|| rows.full_name(definition))
+    path.unwrap_or_else(|| "PATH".to_string())
 }
 
 /// Refusal 9.

@@ -23,7 +23,12 @@ fn bytes_and_characters() {
     let nothing = "means nothing in a formula; names are letters and digits, \
                    the signs are + - * / ( ) { } =";
     formula_says("a_b", 6, &format!("`_` {nothing}"));
-    formula_says("1;", 6, &format!("`;` {nothing}"));
+    formula_says("1 % 2", 7, &format!("`%` {nothing}"));
+    formula_says("1;", 6, "nothing stands between definitions");
+    let test = "means nothing in a formula: a test is a number, and holds where it is not 0";
+    formula_says("if a > 1 then 2 else 3", 10, &format!("`>` {test}"));
+    let dot = "a dot stands between two names, with no space: `right.prism`";
+    formula_says("right .prism", 11, dot);
     let ascii = "may stand in a comment, after `#`, and nowhere else: formulas are printable ASCII";
     formula_says("3 \u{d7} 4", 7, &format!("byte 195 {ascii}"));
     formula_says("3 \0", 7, &format!("byte 0 {ascii}"));
@@ -32,7 +37,7 @@ fn bytes_and_characters() {
 #[test]
 fn numbers() {
     let form =
-        "is not a number: -1000000000 to 1000000000, with no leading zero, plus sign or `-0`";
+        "is not a whole number: -1000000000 to 1000000000, with no leading zero, plus sign or `-0`";
     for number in ["007", "-0", "00", "1000000001", "-1000000001", "-05"] {
         formula_says(number, 5, &format!("`{number}` {form}"));
     }
@@ -110,6 +115,10 @@ fn what_is_open() {
         "`)` is missing: the call at line 1, column 5 is not closed",
     );
     formula_says("1 + 2)", 10, "this `)` closes nothing");
+}
+
+#[test]
+fn choices_that_are_open() {
     formula_says(
         "if 1",
         9,
@@ -136,6 +145,10 @@ fn what_is_open() {
         11,
         "`)` is missing: the `(` at line 1, column 8 is not closed",
     );
+}
+
+#[test]
+fn groups() {
     says(
         "a {\n  b {\n  }\n",
         "line 1, column 1: this Group is not closed: `}` is missing",
@@ -146,7 +159,18 @@ fn what_is_open() {
 #[test]
 fn definitions() {
     let wanted = "a definition has to begin here, with its name, not";
-    says("= 5", &format!("line 1, column 1: {wanted} `=`"));
+    let none = "its name is missing, or the formula before it ends with a sign too many \
+                and took the name in";
+    let none = |symbol| format!("no definition begins before this `{symbol}`: {none}");
+    says("= 5", &format!("line 1, column 1: {}", none('=')));
+    says(
+        "a = 1 +\nb = 5",
+        &format!("line 2, column 3: {}", none('=')),
+    );
+    says(
+        "a = 1 -\nb {\n}",
+        &format!("line 2, column 3: {}", none('{')),
+    );
     formula_says("1 2", 7, &format!("{wanted} `2`"));
     formula_says("a (1) (2)", 11, &format!("{wanted} `(`"));
     formula_says(
@@ -173,6 +197,12 @@ fn definitions() {
 }
 
 #[test]
+fn a_sheet() {
+    let sentence = "line 1, column 1: this is the first line of a sheet, not of formulas";
+    says("kind name a b c\nG - 0 - -\n", sentence);
+}
+
+#[test]
 fn arguments() {
     let text = |head: &str| {
         format!(
@@ -187,9 +217,9 @@ fn arguments() {
 }
 
 /// Rows that the sheet itself would be refused by, at their places in the
-/// formulas.
+/// formulas: here 7 and 11.
 #[test]
-fn rows() {
+fn forms_and_levels() {
     let name = "a name: 1 to 16 letters or digits, a letter first";
     says(
         "right {\n  abcdefghijklmnopq = 1 }",
@@ -213,9 +243,14 @@ fn rows() {
         5 + 5 * 31,
         "the value `v`: an expression is at level 33; at most 32 levels are allowed",
     );
+}
+
+/// Rows 12 to 16.
+#[test]
+fn names_and_paths_of_the_sheet() {
     says(
         "g { a = 1\nb = 2\na = 3 }",
-        "line 3, column 1: the Group `g` has a member `a` already, at line 1",
+        "line 3, column 1: the Group `g` has a member `a` already: line 1",
     );
     says(
         "a = 1 +\n b",
@@ -223,7 +258,7 @@ fn rows() {
     );
     says(
         "a = b.c\nb = 1",
-        "line 1, column 5: the value `b` is no Group, so it has no member `c`",
+        "line 1, column 7: the value `b` is no Group, so it has no member `c`",
     );
     says(
         "a = 1 + b(2)\nb = 1",
@@ -233,6 +268,57 @@ fn rows() {
         "a = b\nb = a",
         "line 1, column 1: the value `a` reaches itself: a -> b -> a",
     );
+}
+
+/// Formulas and what is hinted at, with line, column and width where it has a
+/// place.
+const HINTS: [(&str, &[&str]); 5] = [
+    (
+        "# one\nright { sphere = 1 }\nprism = rigth.sphere",
+        &[
+            "2:1:5 is `right` (line 2) meant?",
+            "the outermost Group has `right` and `prism`",
+        ],
+    ),
+    (
+        "a = 1\n  b = 2\na = 3",
+        &[
+            "1:1:1 `a` is here first",
+            "give one of them another name, or another Group",
+        ],
+    ),
+    (
+        "f(x) = x\na = f",
+        &["1:1:1 the function `f` is here", "call it: `f(...)`"],
+    ),
+    (
+        "g { f = 1 }\na = g.f(2)",
+        &["1:5:1 the value `g.f` is here", "read it: `g.f`"],
+    ),
+    (
+        "a = 1 + `b`\nb = a",
+        &[
+            "1:9:3 `a` reads `b`",
+            "2:5:1 `b` reads `a`",
+            "no value may reach itself: change one of these lines",
+        ],
+    ),
+];
+
+/// Hints speak of lines of the formulas, and show formulas.
+#[test]
+fn hints() {
+    for (formulas, hints) in HINTS {
+        let mistake = formula::write(formulas.as_bytes()).expect_err("a mistake");
+        let said = mistake.help.iter().map(|help| {
+            let Some(mark) = help.mark else {
+                return help.sentence.clone();
+            };
+            let (line, column, width) = (mark.line, mark.column, mark.width);
+            format!("{line}:{column}:{width} {}", help.sentence)
+        });
+        assert_eq!(said.collect::<Vec<String>>(), hints, "{formulas}");
+    }
 }
 
 #[test]

@@ -48,7 +48,8 @@ text-kept s e =
 kept-text : (s : List ℕ) → TextKept s → headBad s ≡ Fine
 unfolding headBad isText firstLine
 kept-text s k =
-    rw (le-leb 1 (length s) (k .some), le-leb (length s) 65536 (k .size), eq-eqb (getD s (length s - 1) 0) 10 (k .ends), k .allowed, k .first, le-leb 1 (labels s) (k .low), le-leb (labels s) 1024 (k .high))
+    let ends = eq-eqb (getD s (length s - 1) 0) 10 (k .ends) in
+    rw (le-leb 1 (length s) (k .some), le-leb (length s) 65536 (k .size), ends, k .allowed, k .first, le-leb 1 (labels s) (k .low), le-leb (labels s) 1024 (k .high))
 
 -- ---- the lines
 
@@ -142,7 +143,8 @@ module _ (t : List ℤ) (n : ℕ) (s : Formed t n) where
     kept-tree : treeBad t n ≡ Fine
     unfolding treeBad
     kept-tree =
-        rw (none-first (structureBad t) n 1 (λ l h g. kept-structure l (omega arith)), none-first (usesBad t n) n 1 (λ x h g. kept-uses x), none-first (argumentBad t n) n 1 (λ x h g. kept-argument x))
+        let structure = none-first (structureBad t) n 1 (λ l h g. kept-structure l (omega arith)) in
+        rw (structure, none-first (usesBad t n) n 1 (λ x h g. kept-uses x), none-first (argumentBad t n) n 1 (λ x h g. kept-argument x))
         (none-first (levelBad t n) n 1 (λ x h g. kept-level x))
 
 -- ---- the tree, and names and paths

@@ -8,6 +8,7 @@ use native.Mathlib.Omega.{arith}
 use native.Mathlib.Nat.{eq-or-lt-of-le}
 use lib.IntN.{ℤ, pos}
 use lib.ListN.{length}
+use borrow.Author.Tests.{ne-eqb}
 use Rattle.kinds.specs.Kinds.{groupCode, isOperand}
 use Rattle.kinds.specs.Kinds as kinds
 use Rattle.kinds.proofs.Laws.{kind-low, definition-kind}
@@ -27,6 +28,8 @@ use Rattle.paths.specs.Buckets.{Rows}
 use Rattle.paths.specs.Paths.{targetCell, pathsBad}
 use Rattle.lines.specs.Lined.{Lined}
 use Rattle.reading.specs.Read.{ownedTable, resolvedBad, resolvedTable}
+use Rattle.reading.specs.Stages.{Resolves}
+use Rattle.reading.proofs.Stage.{refused-judged}
 
 operand : (f : Form) → isOperand f ≡ true → f ≡ Operand
 operand Missing e = let z : _≡_ {A = Bool} false true = e in cc
@@ -114,13 +117,13 @@ module _ (s : List ℕ) (t : List ℤ) (n : ℕ) (v : Verdict) (w : List ℤ) (f
   pub paths-rows : Lined s t n → v ≡ Fine → Written v t n w → Rows s w n
   paths-rows is f h = rw (owned-is t n v w f h) (rows s t n is (sym found ∙ f))
 
-  pub resolved-fine : (r : Verdict) (x : List ℤ) → v ≡ Fine → Written v t n w → r ≡ pathsBad s w n → (r ≡ Fine → x ≡ withColumn 7 (targetCell s w n) n w)
-      → (r ≡ resolvedBad s t n) × (r ≡ Fine → x ≡ resolvedTable s t n)
+  pub resolved-fine : (r : Verdict) (x : List ℤ) → v ≡ Fine → Written v t n w → r ≡ pathsBad s w n
+      → (r ≡ Fine → x ≡ withColumn 7 (targetCell s w n) n w) → Resolves s t n r x
   unfolding resolvedBad resolvedTable
   resolved-fine r x f h e g =
       let o = owned-is t n v w f h in
-      (rw (sym found ∙ f, ← o) e, λ q. rw (← o) (g q))
+      record { found = rw (sym found ∙ f, ← o) e; left = λ q. rw (← o) (g q) }
 
-  pub resolved-refused : (r p : ℕ) (x : List ℤ) → v ≡ Refused r p → (Refused r p ≡ resolvedBad s t n) × (Refused r p ≡ Fine → x ≡ resolvedTable s t n)
+  pub resolved-refused : (r p : ℕ) (x : List ℤ) → v ≡ Refused r p → Resolves s t n (Refused r p) x
   unfolding resolvedBad
-  resolved-refused r p x f = (rw (sym found ∙ f), λ q. let z : _≡_ {A = ℕ} 0 1 = cc in absurd (omega arith))
+  resolved-refused r p x f = refused-judged _ _ r p x (rw (sym found ∙ f))

@@ -86,7 +86,9 @@ module _ (s : List ℕ) (t : List ℤ) (r : List ℕ) (u : List ℤ) (a : Like s
   duplicate-like : (l : ℕ) → duplicateBad r u l ≡ duplicateBad s t l
   unfolding duplicateBad
   duplicate-like l =
-      rw (definition-like l, a .owners l, a .names l, first-same (isNamed r u (owner t l) (nameOf s t l)) (isNamed s t (owner t l) (nameOf s t l)) (l - 1) 1 (λ x p q. named-like (owner t l) (nameOf s t l) x))
+      let g = owner t l in
+      let w = nameOf s t l in
+      rw (definition-like l, a .owners l, a .names l, first-same (isNamed r u g w) (isNamed s t g w) (l - 1) 1 (λ x p q. named-like g w x))
 
   path-head-like : (n x : ℕ) → pathHeadBad r u n x ≡ pathHeadBad s t n x
   unfolding pathHeadBad
@@ -103,7 +105,11 @@ module _ (s : List ℕ) (t : List ℤ) (r : List ℕ) (u : List ℤ) (a : Like s
   pub paths-like : (n : ℕ) → pathsBad r u n ≡ pathsBad s t n
   unfolding pathsBad
   paths-like n =
-      rw (same-found (duplicateBad r u) (duplicateBad s t) n 1 (λ x h g. duplicate-like x), same-found (pathHeadBad r u n) (pathHeadBad s t n) n 1 (λ x h g. path-head-like n x), same-found (laterBad r u n) (laterBad s t n) n 1 (λ x h g. later-bad-like n x), same-found (targetBad r u n) (targetBad s t n) n 1 (λ x h g. target-bad-like n x))
+      let row12 = same-found (duplicateBad r u) (duplicateBad s t) n 1 (λ x h g. duplicate-like x) in
+      let row13 = same-found (pathHeadBad r u n) (pathHeadBad s t n) n 1 (λ x h g. path-head-like n x) in
+      let row14 = same-found (laterBad r u n) (laterBad s t n) n 1 (λ x h g. later-bad-like n x) in
+      let row15 = same-found (targetBad r u n) (targetBad s t n) n 1 (λ x h g. target-bad-like n x) in
+      rw (row12, row13, row14, row15)
 
 -- ---- two tables over one text
 

@@ -222,7 +222,8 @@ module _ {s : List ℕ} {t : List ℤ} {n k : ℕ} {starts first next : List ℕ
       meets : (x : ℕ) → 1 ≤ x → x < k → chained x ≡ true → named x ≡ sameName (nameOf s t x) w
       meets x u v c =
           let inside = bucket-high starts g (hashOf w) (hash-small w) some in
-          member-named s t g w x (and-left (isDefinition t x) (eqb (bucketAt s t starts x) bucket) c) (owner-is rows (h .allotted) g bucket x in-table (omega arith) inside u (omega (arith, h .most)) c)
+          let owned = owner-is rows (h .allotted) g bucket x in-table (omega arith) inside u (omega (arith, h .most)) c in
+          member-named s t g w x (and-left (isDefinition t x) (eqb (bucketAt s t starts x) bucket) c) owned
 
       -- the next of the chain
       follows : (x : ℕ) → 1 ≤ x → x < k → chained x ≡ true → getD next x 0 ≡ lastBelow chained x
@@ -280,8 +281,8 @@ pub record Own (s : List ℕ) (t : List ℤ) (l from to hash group : ℕ) : Type
   pub hashed : hash ≡ hashOf (slice from to s)
   pub owned : group ≡ owner t l
 
-pub own-read : (s : List ℕ) (t : List ℤ) (l : ℕ) {from size hash group : ℕ} → from ≡ nameStart t l → size ≡ nameLength t l → hash ≡ hashOf (slice from (from + size) s) → group ≡ owner t l
-    → Own s t l from (from + size) hash group
+pub own-read : (s : List ℕ) (t : List ℤ) (l : ℕ) {from size hash group : ℕ} → from ≡ nameStart t l → size ≡ nameLength t l
+    → hash ≡ hashOf (slice from (from + size) s) → group ≡ owner t l → Own s t l from (from + size) hash group
 own-read s t l p q e f = record { name = rw (p, q); hashed = e; owned = f }
 
 module _ {s : List ℕ} {t : List ℤ} {n l : ℕ} {starts first next : List ℕ} (rows : Rows s t n) (h : LinkedBelow s t n l starts first next) (low : 1 ≤ l) (high : l ≤ n)

@@ -96,7 +96,7 @@ module _ (s : List ℕ) (t : List ℤ) (n : ℕ) where
 
   pub apart-fine : NamesApart s t n → firstBad (duplicateBad s t) 1 n ≡ Fine
   unfolding duplicateBad
-  apart-fine apart = none-first (duplicateBad s t) n 1 (λ k low high. keeps-quiet (isDefinition t k) (not (eqb (firstLabel (namesake k) 1 (k - 1)) 0)) duplicateRow (λ d. ap not (none k low (omega arith) d)))
+  apart-fine apart = none-first (duplicateBad s t) n 1 (λ k low high. quiet-at k low (omega arith))
     where
       none : (k : ℕ) → 1 ≤ k → k ≤ n → isDefinition t k ≡ true → eqb (firstLabel (namesake k) 1 (k - 1)) 0 ≡ true
       none k low high d = go (firstLabel (namesake k) 1 (k - 1)) refl
@@ -107,6 +107,10 @@ module _ (s : List ℕ) (t : List ℤ) (n : ℕ) where
               let f : Passing (namesake k) 1 (k - 1) (suc x) = first-found (namesake k) (k - 1) 1 (suc x) e (λ z. omega arith) in
               let p = named-parts s t (owner t k) (nameOf s t k) (suc x) (f .passes) in
               absurd (apart (suc x) k (f .low) (omega (arith, f .high)) high (p .definition) d (p .owned) (p .named))
+
+      quiet-at : (k : ℕ) → 1 ≤ k → k ≤ n → duplicateBad s t k ≡ 0
+      quiet-at k low high =
+          keeps-quiet (isDefinition t k) (not (eqb (firstLabel (namesake k) 1 (k - 1)) 0)) duplicateRow (λ d. ap not (none k low high d))
 
   -- ---- the head
 
@@ -228,7 +232,14 @@ module _ (s : List ℕ) (t : List ℤ) (n : ℕ) where
       let a = both-fine (firstBad (duplicateBad s t) 1 n) (headRows s t n) e in
       let b = both-fine (firstBad (pathHeadBad s t n) 1 n) (laterRows s t n) (a .1) in
       let c = both-fine (firstBad (laterBad s t n) 1 n) (firstBad (targetBad s t n) 1 n) (b .1) in
-      record { apart = fine-apart (a .0); targets = λ x low high p. (targetOf s t n x, ends x p (first-none (laterBad s t n) n 1 (c .0) x low (omega arith)), fits x p (first-none (targetBad s t n) n 1 (c .1) x low (omega arith))) }
+      record {
+        apart = fine-apart (a .0);
+        targets = λ x low high p. (
+          targetOf s t n x,
+          ends x p (first-none (laterBad s t n) n 1 (c .0) x low (omega arith)),
+          fits x p (first-none (targetBad s t n) n 1 (c .1) x low (omega arith)),
+        );
+      }
     where
       ends : (x : ℕ) → hasPath t x ≡ true → laterBad s t n x ≡ 0 → Leads s t n x (targetOf s t n x)
       ends x p q = target-leads x (targetOf s t n x) refl (eqb-false (targetOf s t n x) 0 (quiet (hasPath t x) (eqb (targetOf s t n x) 0) laterRow (omega arith) q p))
@@ -260,5 +271,7 @@ module _ (s : List ℕ) (t : List ℤ) (n : ℕ) where
     pub kept-paths : PathsKept s t n → pathsBad s t n ≡ Fine
     unfolding pathsBad
     kept-paths k =
-        rw (apart-fine (k .apart), none-first (pathHeadBad s t n) n 1 (λ x low high. head-kept k x low (omega arith)), none-first (laterBad s t n) n 1 (λ x low high. later-kept k x low (omega arith)))
+        let row13 = none-first (pathHeadBad s t n) n 1 (λ x low high. head-kept k x low (omega arith)) in
+        let row14 = none-first (laterBad s t n) n 1 (λ x low high. later-kept k x low (omega arith)) in
+        rw (apart-fine (k .apart), row13, row14)
         (none-first (targetBad s t n) n 1 (λ x low high. target-kept k x low (omega arith)))

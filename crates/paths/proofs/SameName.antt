@@ -142,5 +142,7 @@ module _ {s : List ℕ} {a b size i : ℕ} (h : Comparing s a b size i) where
   pub compare-done : size ≤ i → true ≡ sameName (slice a (a + size) s) (slice b (b + size) s)
   compare-done l =
       let m = h .upto in
-      let e : sameName (slice (a + i) (a + size) s) (slice (b + i) (b + size) s) ≡ true = rw (slice-none s (a + i) (a + size) (omega arith), slice-none s (b + i) (b + size) (omega arith)) (same-self []) in
+      let x = slice-none s (a + i) (a + size) (omega arith) in
+      let y = slice-none s (b + i) (b + size) (omega arith) in
+      let e : sameName (slice (a + i) (a + size) s) (slice (b + i) (b + size) s) ≡ true = rw (x, y) (same-self []) in
       sym e ∙ h .rest

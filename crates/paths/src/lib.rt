@@ -13,8 +13,10 @@ ghost use Rattle.order.specs.Order.{isDefinition, hasPath};
 ghost use Rattle.refusals.specs.Refusal.{firstBad};
 ghost use Rattle.text.specs.Pieces.{cut};
 ghost use Rattle.text.specs.Scans.{runEnd};
-ghost use Rattle.paths.specs.Names.{nameOf, sameName, member};
-ghost use Rattle.paths.specs.Buckets.{notDot, comparedByte, hashOf, hashes, Placed, Rows, startOf, Stretch, bucketOf, firstIn, Walkable, walk, countedAt, Counted, sumTo, Allotted, LinkedBelow, Linked, Fresh};
+ghost use Rattle.paths.specs.Names.{nameOf, sameName, isNamed};
+ghost use Rattle.paths.specs.Buckets.{notDot, Placed, Rows, comparedByte, hashOf, hashes};
+ghost use Rattle.paths.specs.Buckets.{startOf, Stretch, Allotted, countedAt, sumTo, Counted, bucketOf};
+ghost use Rattle.paths.specs.Buckets.{lastBelow, LinkedBelow, Linked, Fresh, firstIn, Walkable, walk};
 ghost use Rattle.paths.specs.Paths.{headFrom, descended, headCell, targetBy, targetCell, duplicateBad, pathHeadBad, laterBad, wrongTarget, laterRows, headRows, pathsBad};
 use refusals::Verdict;
 
@@ -209,7 +211,7 @@ fn push(first: &mut [u16], next: &mut [u16], b: usize, label: usize)
     first[b] = label as u16;
 }
 
-// Row 12 at a definition, which is linked.
+// Links a definition. Answers the last one before it with its name in its Group; 0 where there is none.
 fn link_definition(
     text: &[u8],
     table: &[i64],
@@ -218,10 +220,10 @@ fn link_definition(
     first: &mut [u16],
     next: &mut [u16],
     label: usize,
-) -> u64
+) -> usize
     requires { ⌜ Rows (now text) (now table) n × LinkedBelow (now text) (now table) n label (now starts) (now first) (now next) ⌝ }
     requires { ⌜ (1 ≤ label) × (label ≤ n) × (isDefinition (now table) label ≡ true) ⌝ }
-    ensures { λ r. ⌜ r ≡ duplicateBad (now (text .entry)) (now (table .entry)) label ⌝ }
+    ensures { λ r. ⌜ r ≡ lastBelow (isNamed (now (text .entry)) (now (table .entry)) (owner (now (table .entry)) label) (nameOf (now (text .entry)) (now (table .entry)) label)) label ⌝ }
     ensures { λ _. ⌜ LinkedBelow (now (text .entry)) (now (table .entry)) n (label + 1) (now (starts .entry)) (now (first .exit)) (now (next .exit)) ⌝ }
 {
     let from = cells::cell_at(table, label, cells::NAME_START);
@@ -230,10 +232,7 @@ fn link_definition(
     let group = cells::cell_at(table, label, cells::OWNER);
     let found = member_in(text, table, starts, first, next, group, hash, from, to);
     push(first, next, bucket(starts, group, hash), label);
-    if found != 0 {
-        return refusals::DUPLICATE;
-    }
-    0
+    found
 }
 
 // Row 12 at one label. A definition is linked.
@@ -252,7 +251,10 @@ fn link_label(
     ensures { λ _. ⌜ LinkedBelow (now (text .entry)) (now (table .entry)) n (label + 1) (now (starts .entry)) (now (first .exit)) (now (next .exit)) ⌝ }
 {
     if is_definition(table, label) {
-        return link_definition(text, table, n, starts, first, next, label);
+        let found = link_definition(text, table, n, starts, first, next, label);
+        if found != 0 {
+            return refusals::DUPLICATE;
+        }
     }
     0
 }

@@ -18,34 +18,58 @@ mul-starts : tie.Need-mul-starts Inv-loop μ-loop
 mul-starts c = omega (arith, c .before .before .pre .0, c .before .loop .inv .1 .long)
 
 slice-read-starts : tie.Need-slice-read-starts Inv-loop μ-loop
-slice-read-starts c = omega (arith, c .before .before .before .pre .0, c .before .before .loop .inv .1 .long)
+slice-read-starts c =
+    let p = c .before .before .before .pre in
+    omega (arith, p .0, c .before .before .loop .inv .1 .long)
 
 add-starts : tie.Need-add-starts Inv-loop μ-loop
-add-starts c = omega (arith, c .before .before .before .pre .0, c .before .before .loop .inv .1 .long)
+add-starts c =
+    let p = c .before .before .before .pre in
+    omega (arith, p .0, c .before .before .loop .inv .1 .long)
 
 mul-starts-2 : tie.Need-mul-starts-2 Inv-loop μ-loop
-mul-starts-2 c = omega (arith, c .before .before .before .pre .0, c .before .before .loop .inv .1 .long)
+mul-starts-2 c =
+    let p = c .before .before .before .pre in
+    omega (arith, p .0, c .before .before .loop .inv .1 .long)
 
 slice-read-starts-2 : tie.Need-slice-read-starts-2 Inv-loop μ-loop
-slice-read-starts-2 c = omega (arith, c .before .before .before .before .pre .0, c .before .before .before .loop .inv .1 .long)
+slice-read-starts-2 c =
+    let p = c .before .before .before .before .pre in
+    let l = c .before .before .before .loop in
+    omega (arith, p .0, l .inv .1 .long)
 
 add-starts-2 : tie.Need-add-starts-2 Inv-loop μ-loop
 add-starts-2 c =
+    let a = c .before .before .before .before .args in
+    let p = c .before .before .before .before .pre in
     let l = c .before .before .before .loop in
-    let c₀ = c .before .before .before .before .args .starts .now in
-    omega (arith, c .before .before .before .before .pre .1, sum-next c₀ (l .inv .1), sum-rises c₀ (l .group + 1) (c .before .before .before .before .args .n + 1) (omega arith))
+    let c₀ = a .starts .now in
+    omega (arith, p .1, sum-next c₀ (l .inv .1), sum-rises c₀ (l .group + 1) (a .n + 1) (omega arith))
 
 slice-write-starts : tie.Need-slice-write-starts Inv-loop μ-loop
-slice-write-starts c = omega (arith, c .before .before .before .before .pre .0, c .before .before .before .loop .inv .1 .long)
+slice-write-starts c =
+    let p = c .before .before .before .before .pre in
+    let l = c .before .before .before .loop in
+    omega (arith, p .0, l .inv .1 .long)
 
 add-group : tie.Need-add-group Inv-loop μ-loop
-add-group c = omega (arith, c .before .before .before .before .pre .0, c .before .before .before .loop .inv .1 .long)
+add-group c =
+    let p = c .before .before .before .before .pre in
+    let l = c .before .before .before .loop in
+    omega (arith, p .0, l .inv .1 .long)
 
 loop-less : tie.Need-loop-less Inv-loop μ-loop
-loop-less c = omega (arith, c .before .before .before .before .pre .0, c .before .before .before .loop .inv .1 .long)
+loop-less c =
+    let p = c .before .before .before .before .pre in
+    let l = c .before .before .before .loop in
+    omega (arith, p .0, l .inv .1 .long)
 
 loop-again : tie.Need-loop-again Inv-loop μ-loop
-loop-again c = (omega arith, sum-turn (c .before .before .before .before .args .starts .now) (c .before .before .before .loop .inv .1) (omega (arith, c .before .before .before .before .pre .0)) refl)
+loop-again c =
+    let a = c .before .before .before .before .args in
+    let p = c .before .before .before .before .pre in
+    let l = c .before .before .before .loop in
+    (omega arith, sum-turn (a .starts .now) (l .inv .1) (omega (arith, p .0)) refl)
 
 same-length : tie.Need-same-length Inv-loop μ-loop
 same-length c = c .before .loop .inv .1 .long

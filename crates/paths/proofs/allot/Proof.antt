@@ -1,6 +1,6 @@
 use Rattle.paths.proofs.Allotting.{allotted}
-use borrow.Author.Needs.{needs}
 use native.Mathlib.Omega.{arith}
+use borrow.Author.Needs.{needs}
 use Rattle.paths.proofs.allot.Statement.{statement}
 use Rattle.paths.proofs.allot.Tie as tie
 
@@ -9,14 +9,19 @@ count-buckets-requires c κs = search needs
 
 add-up-requires : tie.Need-add-up-requires
 add-up-requires c κs =
-    let h = c .before .before .before .count-buckets .ensures in
-    (h .long, omega (arith, h .total, c .before .before .before .before .before .before .pre .0))
+    let p = c .before .before .before .before .before .before .pre in
+    let count-buckets = c .before .before .before .count-buckets in
+    let h = count-buckets .ensures in
+    (h .long, omega (arith, h .total, p .0))
 
 same-length : tie.Need-same-length
 same-length c = search needs
 
 returns : tie.Need-returns
-returns c = allotted (c .before .before .before .before .before .before .before .before .before .pre .1) (c .before .before .before .before .before .before .count-buckets .ensures) (c .before .before .add-up .kept .1 .0) (c .before .before .add-up .ensures)
+returns c =
+    let p = c .before .before .before .before .before .before .before .before .before .pre in
+    let count-buckets = c .before .before .before .before .before .before .count-buckets in
+    allotted (p .1) (count-buckets .ensures) (c .before .before .add-up .kept .1 .0) (c .before .before .add-up .ensures)
 
 pub allot-spec : {M : Type 1} → statement M
 allot-spec =

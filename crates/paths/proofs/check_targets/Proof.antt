@@ -2,8 +2,8 @@ use mathlib.Core.Path.{_∙_, sym}
 use Prim.Native.Nat.{_+_, _-_}
 use Rattle.paths.specs.Paths.{wrongTarget}
 use Rattle.paths.proofs.Passes.{Pass, pass-start, pass-turn, pass-stop, pass-done}
-use borrow.Author.Needs.{needs}
 use native.Mathlib.Omega.{arith}
+use borrow.Author.Needs.{needs}
 use Rattle.paths.proofs.check_targets.Statement.{statement}
 use Rattle.paths.proofs.check_targets.Tie as tie
 
@@ -20,7 +20,9 @@ wrong-target-at-requires : tie.Need-wrong-target-at-requires Inv-loop μ-loop
 wrong-target-at-requires c κs = search needs
 
 returns : tie.Need-returns Inv-loop μ-loop
-returns c = pass-stop (c .before .before .before .loop .inv) (omega arith) (c .before .wrong-target-at .ensures) (c .if1 .taken)
+returns c =
+    let l = c .before .before .before .loop in
+    pass-stop (l .inv) (omega arith) (c .before .wrong-target-at .ensures) (c .if1 .taken)
 
 add-label : tie.Need-add-label Inv-loop μ-loop
 add-label c = omega arith
@@ -29,7 +31,9 @@ loop-less : tie.Need-loop-less Inv-loop μ-loop
 loop-less c = omega arith
 
 loop-again : tie.Need-loop-again Inv-loop μ-loop
-loop-again c = pass-turn (c .before .before .before .loop .inv) (omega arith) (sym (c .before .wrong-target-at .ensures) ∙ c .if1 .left)
+loop-again c =
+    let l = c .before .before .before .loop in
+    pass-turn (l .inv) (omega arith) (sym (c .before .wrong-target-at .ensures) ∙ c .if1 .left)
 
 returns-2 : tie.Need-returns-2 Inv-loop μ-loop
 returns-2 c = pass-done (c .before .loop .inv) (omega arith)

@@ -22,15 +22,19 @@ count-label-requires c κs =
     (count-room _ _ (h .counts) (omega arith) falls, count-small _ _ (h .counts) (omega arith) falls (p .0))
 
 add-label : tie.Need-add-label Inv-loop μ-loop
-add-label c = omega (arith, c .before .before .before .before .before .before .before .pre .0)
+add-label c =
+    let p = c .before .before .before .before .before .before .before .pre in
+    omega (arith, p .0)
 
 loop-less : tie.Need-loop-less Inv-loop μ-loop
 loop-less c = omega arith
 
 loop-again : tie.Need-loop-again Inv-loop μ-loop
 loop-again c =
-    let h = c .before .before .before .before .before .loop .inv in
-    counting-turn h (omega arith) (c .before .before .before .before .before .before .before .pre .1 (c .before .before .before .before .before .loop .label) (h .low) (omega arith)) (c .before .before .count-label .kept .1 .1 .0) (c .before .before .count-label .ensures)
+    let p = c .before .before .before .before .before .before .before .pre in
+    let l = c .before .before .before .before .before .loop in
+    let h = l .inv in
+    counting-turn h (omega arith) (p .1 (l .label) (h .low) (omega arith)) (c .before .before .count-label .kept .1 .1 .0) (c .before .before .count-label .ensures)
 
 same-length : tie.Need-same-length Inv-loop μ-loop
 same-length c = c .before .loop .inv .size

@@ -1,8 +1,8 @@
 use mathlib.Core.Path.{_≡_, _∙_, sym, ap}
 use Prim.Native.Nat.{_+_, _≤_}
 use lib.ListN.{length, getD, set}
-use borrow.Author.Needs.{needs}
 use native.Mathlib.Omega.{arith}
+use borrow.Author.Needs.{needs}
 use Rattle.paths.proofs.count_label.Statement.{statement}
 use Rattle.paths.proofs.count_label.Tie as tie
 
@@ -13,29 +13,41 @@ cell-at-requires : tie.Need-cell-at-requires
 cell-at-requires c κs = search needs
 
 add-starts : tie.Need-add-starts
-add-starts c = omega (arith, c .cell-at .ensures, c .before .before .before .before .pre .0)
+add-starts c =
+    let p = c .before .before .before .before .pre in
+    omega (arith, c .cell-at .ensures, p .0)
 
 mul-starts : tie.Need-mul-starts
-mul-starts c = omega (arith, c .cell-at .ensures, c .before .before .before .before .pre .0)
+mul-starts c =
+    let p = c .before .before .before .before .pre in
+    omega (arith, c .cell-at .ensures, p .0)
 
 slice-read-starts : tie.Need-slice-read-starts
-slice-read-starts c = omega (arith, c .before .cell-at .ensures, c .before .before .before .before .before .pre .0)
+slice-read-starts c =
+    let p = c .before .before .before .before .before .pre in
+    omega (arith, c .before .cell-at .ensures, p .0)
 
 add-starts-2 : tie.Need-add-starts-2
 add-starts-2 c =
-    let small : getD (c .before .before .before .before .before .args .starts .now) (c .before .cell-at .result + 1) 0 ≤ 2048 = rw (c .before .cell-at .ensures) (c .before .before .before .before .before .pre .1) in
+    let a = c .before .before .before .before .before .args in
+    let p = c .before .before .before .before .before .pre in
+    let small : getD (a .starts .now) (c .before .cell-at .result + 1) 0 ≤ 2048 = rw (c .before .cell-at .ensures) (p .1) in
     omega arith
 
 slice-write-starts : tie.Need-slice-write-starts
-slice-write-starts c = omega (arith, c .before .cell-at .ensures, c .before .before .before .before .before .pre .0)
+slice-write-starts c =
+    let p = c .before .before .before .before .before .pre in
+    omega (arith, c .before .cell-at .ensures, p .0)
 
 same-length : tie.Need-same-length
 same-length c = search needs
 
 returns : tie.Need-returns
 returns c =
-    let c₀ = c .before .before .before .before .before .args .starts .now in
-    rw (sym (c .before .before .before .is-definition .ensures) ∙ c .before .before .if1 .taken) (ap (λ g. set c₀ (g + 1) (getD c₀ (g + 1) 0 + 2)) (c .before .cell-at .ensures))
+    let a = c .before .before .before .before .before .args in
+    let is-definition = c .before .before .before .is-definition in
+    let c₀ = a .starts .now in
+    rw (sym (is-definition .ensures) ∙ c .before .before .if1 .taken) (ap (λ g. set c₀ (g + 1) (getD c₀ (g + 1) 0 + 2)) (c .before .cell-at .ensures))
 
 returns-2 : tie.Need-returns-2
 returns-2 c = rw (sym (c .before .is-definition .ensures) ∙ c .if1 .left)

@@ -9,8 +9,8 @@ use Rattle.paths.specs.Paths.{descended}
 use Rattle.paths.proofs.SameName.{hash-small}
 use Rattle.paths.proofs.Chains.{linked-walkable, member-is}
 use Rattle.paths.proofs.Resolving.{later, stop-low, stop-high, names-cut, member-high, later-stop, later-on, later-end}
-use borrow.Author.Needs.{needs}
 use native.Mathlib.Omega.{arith}
+use borrow.Author.Needs.{needs}
 use Rattle.paths.proofs.descend.Statement.{statement}
 use Rattle.paths.proofs.descend.Tie as tie
 
@@ -49,9 +49,10 @@ name-stop-requires-2 c κs = omega arith
 
 hash-name-requires : tie.Need-hash-name-requires Inv-loop μ-loop
 hash-name-requires c κs =
+    let l = c .before .before .before .before .loop in
     let a = c .before .before .before .before .before .before .before .before .before .before .args in
-    let low = stop-low (a .text .now) (c .before .before .before .before .loop .at + 1) (a .to) (omega arith) (omega arith) in
-    let high = stop-high (a .text .now) (c .before .before .before .before .loop .at + 1) (a .to) (omega arith) (omega arith) in
+    let low = stop-low (a .text .now) (l .at + 1) (a .to) (omega arith) (omega arith) in
+    let high = stop-high (a .text .now) (l .at + 1) (a .to) (omega arith) (omega arith) in
     (omega (arith, c .name-stop2 .ensures), omega (arith, c .name-stop2 .ensures))
 
 member-in-requires : tie.Need-member-in-requires Inv-loop μ-loop
@@ -67,12 +68,15 @@ member-in-requires c κs =
 
 loop-less : tie.Need-loop-less Inv-loop μ-loop
 loop-less c =
+    let l = c .before .before .before .before .before .before .loop in
     let a = c .before .before .before .before .before .before .before .before .before .before .before .before .args in
-    let low = stop-low (a .text .now) (c .before .before .before .before .before .before .loop .at + 1) (a .to) (omega arith) (omega arith) in
+    let low = stop-low (a .text .now) (l .at + 1) (a .to) (omega arith) (omega arith) in
     omega (arith, c .before .before .name-stop2 .ensures)
 
 loop-again : tie.Need-loop-again Inv-loop μ-loop
 loop-again c =
+    let cell-at = c .before .before .before .before .cell-at in
+    let if1 = c .before .before .before .if1 in
     let e = c .before .before .before .before .before .before .before .before .before .before .before .before in
     let a = e .args in
     let p = e .pre .0 in
@@ -81,7 +85,7 @@ loop-again c =
     let high = stop-high (a .text .now) (l .at + 1) (a .to) (omega arith) (omega arith) in
     let w = slice (l .at + 1) (c .before .before .name-stop2 .result) (a .text .now) in
     let r = member-is (p .0) (p .1) (l .m) (l .inv .0) w (c .before .hash-name .ensures) (c .member-in .ensures) in
-    let k = sym (c .before .before .before .before .cell-at .ensures) ∙ c .before .before .before .if1 .left in
+    let k = sym (cell-at .ensures) ∙ if1 .left in
     let on = later-on (a .text .now) (a .table .now) (a .n) (l .m) (l .at) (a .to) (omega arith) (omega arith) k in
     (omega (arith, r, member-high (a .text .now) (a .table .now) (a .n) (l .m) w), omega arith, rw (r, stop) on ∙ l .inv .2)
 

@@ -25,10 +25,11 @@ same-name-requires c κs = search needs
 
 returns-2 : tie.Need-returns-2
 returns-2 c =
+    let cell-at = c .before .before .before .cell-at in
     let a = c .before .before .before .before .before .args in
     let p = c .before .before .before .before .before .pre in
     name-compared (a .text .now) (a .table .now) (a .m) (a .from) (a .to) (p .1) (p .0)
-    (c .before .cell-at2 .ensures) (c .before .before .before .cell-at .ensures) (c .before .before .if1 .left) (c .same-name .ensures)
+    (c .before .cell-at2 .ensures) (cell-at .ensures) (c .before .before .if1 .left) (c .same-name .ensures)
 
 pub has-name-spec : {M : Type 1} → statement M
 has-name-spec =

@@ -1,7 +1,7 @@
 use Prim.Native.Nat.{_-_}
 use Rattle.paths.proofs.SameName.{Hashing, hash-start, hash-turn, hash-done}
-use borrow.Author.Needs.{needs}
 use native.Mathlib.Omega.{arith}
+use borrow.Author.Needs.{needs}
 use Rattle.paths.proofs.hash_name.Statement.{statement}
 use Rattle.paths.proofs.hash_name.Tie as tie
 
@@ -23,10 +23,14 @@ compared-byte-requires : tie.Need-compared-byte-requires Inv-loop μ-loop
 compared-byte-requires c κs = search needs
 
 add-hash : tie.Need-add-hash Inv-loop μ-loop
-add-hash c = omega (arith, c .before .before .before .loop .inv .small, c .compared-byte .ensures .1)
+add-hash c =
+    let l = c .before .before .before .loop in
+    omega (arith, l .inv .small, c .compared-byte .ensures .1)
 
 mul-hash : tie.Need-mul-hash Inv-loop μ-loop
-mul-hash c = omega (arith, c .before .before .before .loop .inv .small, c .compared-byte .ensures .1)
+mul-hash c =
+    let l = c .before .before .before .loop in
+    omega (arith, l .inv .small, c .compared-byte .ensures .1)
 
 add-i : tie.Need-add-i Inv-loop μ-loop
 add-i c = omega arith
@@ -35,7 +39,9 @@ loop-less : tie.Need-loop-less Inv-loop μ-loop
 loop-less c = omega arith
 
 loop-again : tie.Need-loop-again Inv-loop μ-loop
-loop-again c = hash-turn (c .before .before .before .loop .inv) (omega arith) (omega arith) (c .compared-byte .ensures .0)
+loop-again c =
+    let l = c .before .before .before .loop in
+    hash-turn (l .inv) (omega arith) (omega arith) (c .compared-byte .ensures .0)
 
 returns : tie.Need-returns Inv-loop μ-loop
 returns c = hash-done (c .before .loop .inv) (omega arith)

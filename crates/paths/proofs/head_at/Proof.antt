@@ -4,17 +4,19 @@ use lib.ListN.{length}
 use lib.Seq.{slice}
 use Rattle.cells.specs.Table.{nameStart, nameLength, owner}
 use Rattle.paths.proofs.Resolving.{stop-low, stop-high, head-high, head-is, owner-small}
-use borrow.Author.Needs.{needs}
 use native.Mathlib.Omega.{arith}
+use borrow.Author.Needs.{needs}
 use Rattle.paths.proofs.head_at.Statement.{statement}
 use Rattle.paths.proofs.head_at.Tie as tie
 
 -- the name field lies in the text
-inside : (c : tie.After-cell-at2) → c .before .cell-at .result + c .cell-at2 .result ≤ length (c .before .before .before .before .before .before .before .before .args .text .now)
-inside c = omega (arith, c .before .cell-at .ensures, c .cell-at2 .ensures, c .before .before .before .before .before .before .before .before .pre .0 .0 .names (c .before .before .before .before .before .before .before .before .args .label))
+inside : (c : tie.After-cell-at2) → let a = c .before .before .before .before .before .before .before .before .args in c .before .cell-at .result + c .cell-at2 .result ≤ length (a .text .now)
+inside c =
+    let e = c .before .before .before .before .before .before .before .before in
+    omega (arith, c .before .cell-at .ensures, c .cell-at2 .ensures, e .pre .0 .0 .names (e .args .label))
 
 -- the Group around the owner is a label
-grouped : (c : tie.After-cell-at4) → c .cell-at4 .result ≤ c .before .before .before .before .before .before .before .before .before .before .before .args .n
+grouped : (c : tie.After-cell-at4) → let a = c .before .before .before .before .before .before .before .before .before .before .before .args in c .cell-at4 .result ≤ a .n
 grouped c =
     let e = c .before .before .before .before .before .before .before .before .before .before .before in
     let r = e .pre .0 .0 in
@@ -46,28 +48,37 @@ cell-at-requires-4 c κs = search needs
 
 search-requires : tie.Need-search-requires
 search-requires c κs =
+    let cell-at = c .before .before .before .before .cell-at in
+    let cell-at2 = c .before .before .before .cell-at2 in
     let e = c .before .before .before .before .before .before .before .before .before .before .before in
     let s = e .args .text .now in
-    let from = c .before .before .before .before .cell-at .result in
-    let to = from + c .before .before .before .cell-at2 .result in
-    let i = inside (c .before .before .before) in
+    let from = cell-at .result in
+    let to = from + cell-at2 .result in
+    let named = c .before .before .before in
+    let i = inside named in
     let stop = c .before .before .name-stop .ensures in
     (e .pre .0, (grouped c, omega (arith, stop, stop-low s from to (omega arith) i), omega (arith, stop, stop-high s from to (omega arith) i)))
 
 returns : tie.Need-returns
 returns c =
+    let has-path = c .before .before .before .before .before .before .before .has-path in
+    let if1 = c .before .before .before .before .before .before .if1 in
+    let cell-at = c .before .before .before .before .before .cell-at in
+    let cell-at2 = c .before .before .before .before .cell-at2 in
+    let name-stop = c .before .before .before .name-stop in
     let e = c .before .before .before .before .before .before .before .before .before .before .before .before in
     let a = e .args in
     let s = a .text .now in
     let t = a .table .now in
-    let from = c .before .before .before .before .before .cell-at .result in
-    let to = from + c .before .before .before .before .cell-at2 .result in
-    let end : to ≡ nameStart t (a .label) + nameLength t (a .label) = omega (arith, c .before .before .before .before .before .cell-at .ensures, c .before .before .before .before .cell-at2 .ensures) in
+    let from = cell-at .result in
+    let to = from + cell-at2 .result in
+    let end : to ≡ nameStart t (a .label) + nameLength t (a .label) = omega (arith, cell-at .ensures, cell-at2 .ensures) in
     let g : c .before .cell-at4 .result ≡ owner t (owner t (a .label)) = c .before .cell-at4 .ensures ∙ ap (owner t) (c .before .before .cell-at3 .ensures) in
-    let path = sym (c .before .before .before .before .before .before .before .has-path .ensures) ∙ c .before .before .before .before .before .before .if1 .taken in
-    let head = head-is s t (a .n) (a .label) from to (c .before .before .before .before .before .cell-at .ensures) end (inside (c .before .before .before .before)) path in
-    let w = slice from (c .before .before .before .name-stop .result) s in
-    (c .search .ensures ∙ rw (g, c .before .before .before .name-stop .ensures) head, omega (arith, c .search .ensures, head-high s t (a .n) w (c .before .cell-at4 .result)))
+    let named = c .before .before .before .before in
+    let path = sym (has-path .ensures) ∙ if1 .taken in
+    let head = head-is s t (a .n) (a .label) from to (cell-at .ensures) end (inside named) path in
+    let w = slice from (name-stop .result) s in
+    (c .search .ensures ∙ rw (g, name-stop .ensures) head, omega (arith, c .search .ensures, head-high s t (a .n) w (c .before .cell-at4 .result)))
 
 returns-2 : tie.Need-returns-2
 returns-2 c = (rw (sym (c .before .has-path .ensures) ∙ c .if1 .left), omega arith)

@@ -13,32 +13,48 @@ abbrev μ-loop : tie.MeasureT-loop
 μ-loop text table n starts first₀ next₀ label₀ first next label = n + 1 - label
 
 loop-holds : tie.Need-loop-holds Inv-loop μ-loop
-loop-holds c = linking-start (c .before .before .before .before .pre .1)
+loop-holds c =
+    let p = c .before .before .before .before .pre in
+    linking-start (p .1)
 
 link-label-requires : tie.Need-link-label-requires Inv-loop μ-loop
 link-label-requires c κs =
-    let g = c .before .before .before .loop .inv in
-    ((c .before .before .before .before .before .before .before .before .pre .0, g .linked), (g .pass .low, omega arith))
+    let p = c .before .before .before .before .before .before .before .before .pre in
+    let l = c .before .before .before .loop in
+    let g = l .inv in
+    ((p .0, g .linked), (g .pass .low, omega arith))
 
 same-length : tie.Need-same-length Inv-loop μ-loop
-same-length c = c .before .before .before .before .before .link-label .kept .1 .1 .1 .1 .0 ∙ c .before .before .before .before .before .before .before .before .before .loop .inv .buckets
+same-length c =
+    let l = c .before .before .before .before .before .before .before .before .before .loop in
+    let link-label = c .before .before .before .before .before .link-label in
+    link-label .kept .1 .1 .1 .1 .0 ∙ l .inv .buckets
 
 same-length-2 : tie.Need-same-length-2 Inv-loop μ-loop
-same-length-2 c = c .before .before .before .before .before .link-label .kept .1 .1 .1 .1 .1 .0 ∙ c .before .before .before .before .before .before .before .before .before .loop .inv .room
+same-length-2 c =
+    let l = c .before .before .before .before .before .before .before .before .before .loop in
+    let link-label = c .before .before .before .before .before .link-label in
+    link-label .kept .1 .1 .1 .1 .1 .0 ∙ l .inv .room
 
 returns : tie.Need-returns Inv-loop μ-loop
-returns c = (pass-stop (c .before .before .before .before .before .before .before .before .before .loop .inv .pass) (omega arith) (c .before .before .before .before .before .link-label .ensures .0) (c .if1 .taken), λ z. not-fine z)
+returns c =
+    let l = c .before .before .before .before .before .before .before .before .before .loop in
+    let link-label = c .before .before .before .before .before .link-label in
+    (pass-stop (l .inv .pass) (omega arith) (link-label .ensures .0) (c .if1 .taken), λ z. not-fine z)
 
 add-label : tie.Need-add-label Inv-loop μ-loop
-add-label c = omega (arith, c .before .before .before .before .before .before .before .before .before .before .before .before .before .before .pre .0 .few)
+add-label c =
+    let p = c .before .before .before .before .before .before .before .before .before .before .before .before .before .before .pre in
+    omega (arith, p .0 .few)
 
 loop-less : tie.Need-loop-less Inv-loop μ-loop
 loop-less c = omega arith
 
 loop-again : tie.Need-loop-again Inv-loop μ-loop
 loop-again c =
-    let l = c .before .before .before .before .before .link-label in
-    linking-turn (c .before .before .before .before .before .before .before .before .before .loop .inv) (omega arith) (sym (l .ensures .0) ∙ c .if1 .left) (l .ensures .1) (l .kept .1 .1 .1 .1 .0) (l .kept .1 .1 .1 .1 .1 .0)
+    let l = c .before .before .before .before .before .before .before .before .before .loop in
+    let k = c .before .before .before .before .before .link-label in
+    linking-turn (l .inv) (omega arith) (sym (k .ensures .0) ∙ c .if1 .left) (k .ensures .1) (k .kept .1 .1 .1 .1 .0) (k .kept .1 .1 .1 .1 .1 .0)
 
 same-length-3 : tie.Need-same-length-3 Inv-loop μ-loop
 same-length-3 c = c .before .loop .inv .buckets

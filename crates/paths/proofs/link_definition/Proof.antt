@@ -3,22 +3,24 @@ use Prim.Native.Nat.{_+_, _≤_}
 use lib.ListN.{length}
 use Rattle.paths.proofs.SameName.{hash-small}
 use Rattle.paths.proofs.Chains.{stretch, walkable, Own, own-read, own-group, own-found, own-room, own-linked}
-use Rattle.paths.proofs.Resolving.{duplicate-none, duplicate-some}
-use borrow.Author.Needs.{needs}
 use native.Mathlib.Omega.{arith}
+use borrow.Author.Needs.{needs}
 use Rattle.paths.proofs.link_definition.Statement.{statement}
 use Rattle.paths.proofs.link_definition.Tie as tie
 
 -- the name field lies in the text
-inside : (c : tie.After-cell-at2) → c .before .cell-at .result + c .cell-at2 .result ≤ length (c .before .before .before .before .before .before .args .text .now)
-inside c = omega (arith, c .before .cell-at .ensures, c .cell-at2 .ensures, c .before .before .before .before .before .before .pre .0 .0 .names (c .before .before .before .before .before .before .args .label))
+inside : (c : tie.After-cell-at2) → let a = c .before .before .before .before .before .before .args in c .before .cell-at .result + c .cell-at2 .result ≤ length (a .text .now)
+inside c =
+    let e = c .before .before .before .before .before .before in
+    omega (arith, c .before .cell-at .ensures, c .cell-at2 .ensures, e .pre .0 .0 .names (e .args .label))
 
 -- what is read of the definition
-own : (c : tie.After-cell-at3) → let a = c .before .before .before .before .before .before .before .before .args in let from = c .before .before .before .cell-at .result in
-    Own (a .text .now) (a .table .now) (a .label) from (from + c .before .before .cell-at2 .result) (c .before .hash-name .result) (c .cell-at3 .result)
+own : (c : tie.After-cell-at3) → let a = c .before .before .before .before .before .before .before .before .args in let f = c .before .before .before .cell-at .result in
+    Own (a .text .now) (a .table .now) (a .label) f (f + c .before .before .cell-at2 .result) (c .before .hash-name .result) (c .cell-at3 .result)
 own c =
     let a = c .before .before .before .before .before .before .before .before .args in
-    own-read (a .text .now) (a .table .now) (a .label) (c .before .before .before .cell-at .ensures) (c .before .before .cell-at2 .ensures) (c .before .hash-name .ensures) (c .cell-at3 .ensures)
+    let start = c .before .before .before .cell-at .ensures in
+    own-read (a .text .now) (a .table .now) (a .label) start (c .before .before .cell-at2 .ensures) (c .before .hash-name .ensures) (c .cell-at3 .ensures)
 
 cell-at-requires : tie.Need-cell-at-requires
 cell-at-requires c κs = search needs
@@ -38,23 +40,28 @@ cell-at-requires-3 c κs = search needs
 member-in-requires : tie.Need-member-in-requires
 member-in-requires c κs =
     let p = c .before .before .before .before .before .before .before .before .before .before .pre in
-    let o = own (c .before .before) in
+    let read = c .before .before in
+    let named = c .before .before .before .before in
+    let o = own read in
     let group = own-group (p .0 .0) (p .0 .1) (p .1 .0) (p .1 .1) o in
-    ((walkable (p .0 .0) (p .0 .1) (p .1 .0) (c .before .before .cell-at3 .result) group, rw (o .hashed) (hash-small _)), (omega arith, inside (c .before .before .before .before), p .0 .0 .names))
+    let walks = walkable (p .0 .0) (p .0 .1) (p .1 .0) (read .cell-at3 .result) group in
+    ((walks, rw (o .hashed) (hash-small _)), (omega arith, inside named, p .0 .0 .names))
 
 bucket-requires : tie.Need-bucket-requires
 bucket-requires c κs =
     let p = c .before .before .before .before .before .before .before .before .before .before .before .before .before .pre in
-    let o = own (c .before .before .before .before .before) in
+    let read = c .before .before .before .before .before in
+    let o = own read in
     let group = own-group (p .0 .0) (p .0 .1) (p .1 .0) (p .1 .1) o in
-    (stretch (p .0 .1 .allotted) (c .before .before .before .before .before .cell-at3 .result) group (p .0 .0 .few), rw (o .hashed) (hash-small _))
+    (stretch (p .0 .1 .allotted) (read .cell-at3 .result) group (p .0 .0 .few), rw (o .hashed) (hash-small _))
 
 push-requires : tie.Need-push-requires
 push-requires c κs =
     let p = c .before .before .before .before .before .before .before .before .before .before .before .before .before .before .pre in
     let r = p .0 .0 in
     let h = p .0 .1 in
-    (own-room r h (p .1 .0) (p .1 .1) (own (c .before .before .before .before .before .before)) (p .1 .2) (c .bucket .ensures), omega (arith, h .room), omega (arith, r .few))
+    let read = c .before .before .before .before .before .before in
+    (own-room r h (p .1 .0) (p .1 .1) (own read) (p .1 .2) (c .bucket .ensures), omega (arith, h .room), omega (arith, r .few))
 
 same-length : tie.Need-same-length
 same-length c = search needs
@@ -64,29 +71,15 @@ same-length-2 c = search needs
 
 returns : tie.Need-returns
 returns c =
-    let e = c .before .before .before .before .before .before .before .before .before .before .before .before .before .before .before .before .before .before .before .before in
-    let a = e .args in
-    let p = e .pre in
-    let o = own (c .before .before .before .before .before .before .before .before .before .before .before .before) in
-    let found = own-found (p .0 .0) (p .0 .1) (p .1 .0) (p .1 .1) o (c .before .before .before .before .before .before .before .before .before .member-in .ensures) in
-    let linked = own-linked (p .0 .0) (p .0 .1) (p .1 .0) (p .1 .1) o (p .1 .2) (c .before .before .before .before .before .before .bucket .ensures) (c .before .before .before .before .before .push .ensures .0) (c .before .before .before .before .before .push .ensures .1) in
-    (duplicate-some (a .text .now) (a .table .now) (a .n) (a .label) (p .1 .2) found (c .if1 .taken), linked)
-
-same-length-3 : tie.Need-same-length-3
-same-length-3 c = search needs
-
-same-length-4 : tie.Need-same-length-4
-same-length-4 c = search needs
-
-returns-2 : tie.Need-returns-2
-returns-2 c =
-    let e = c .before .before .before .before .before .before .before .before .before .before .before .before .before .before .before .before .before .before .before .before in
-    let a = e .args in
-    let p = e .pre in
-    let o = own (c .before .before .before .before .before .before .before .before .before .before .before .before) in
-    let found = own-found (p .0 .0) (p .0 .1) (p .1 .0) (p .1 .1) o (c .before .before .before .before .before .before .before .before .before .member-in .ensures) in
-    let linked = own-linked (p .0 .0) (p .0 .1) (p .1 .0) (p .1 .1) o (p .1 .2) (c .before .before .before .before .before .before .bucket .ensures) (c .before .before .before .before .before .push .ensures .0) (c .before .before .before .before .before .push .ensures .1) in
-    (duplicate-none (a .text .now) (a .table .now) (a .n) (a .label) (p .1 .2) found (c .if1 .left), linked)
+    let push = c .before .before .before .before .push in
+    let p = c .before .before .before .before .before .before .before .before .before .before .before .before .before .before .before .before .before .before .before .pre in
+    let r = p .0 .0 in
+    let h = p .0 .1 in
+    let read = c .before .before .before .before .before .before .before .before .before .before .before in
+    let found = c .before .before .before .before .before .before .before .before .member-in in
+    let b = c .before .before .before .before .before .bucket in
+    let pushed = push .ensures in
+    (own-found r h (p .1 .0) (p .1 .1) (own read) (found .ensures), own-linked r h (p .1 .0) (p .1 .1) (own read) (p .1 .2) (b .ensures) (pushed .0) (pushed .1))
 
 pub link-definition-spec : {M : Type 1} → statement M
 link-definition-spec =
@@ -102,7 +95,4 @@ link-definition-spec =
     push-requires
     same-length
     same-length-2
-    returns
-    same-length-3
-    same-length-4
-    returns-2)
+    returns)

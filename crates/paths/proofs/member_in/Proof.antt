@@ -15,36 +15,53 @@ abbrev μ-loop : tie.MeasureT-loop
 
 first-in-requires : tie.Need-first-in-requires Inv-loop μ-loop
 first-in-requires c κs =
-    let h = c .before .before .before .before .pre .0 .0 in
-    (h .stretch, c .before .before .before .before .pre .0 .1, h .buckets)
+    let p = c .before .before .before .before .pre in
+    let h = p .0 .0 in
+    (h .stretch, p .0 .1, h .buckets)
 
 loop-holds : tie.Need-loop-holds Inv-loop μ-loop
 loop-holds c =
+    let p = c .before .before .before .before .before .pre in
     let a = c .before .before .before .before .before .args in
-    walking-start (a .text .now) (a .table .now) (slice (a .from) (a .to) (a .text .now)) (a .hash) (c .before .before .before .before .before .pre .0 .0) (c .first-in .ensures)
+    walking-start (a .text .now) (a .table .now) (slice (a .from) (a .to) (a .text .now)) (a .hash) (p .0 .0) (c .first-in .ensures)
 
 has-name-requires : tie.Need-has-name-requires Inv-loop μ-loop
 has-name-requires c κs =
-    let p = c .before .before .before .before .before .before .before .pre .1 in
+    let p = c .before .before .before .before .before .before .before .pre in
+    let p = p .1 in
     (p .0, p .1, p .2 (c .before .loop .m))
 
 returns : tie.Need-returns Inv-loop μ-loop
-returns c = walking-hit (c .before .before .before .loop .inv) (c .before .before .loop-test .taken) (sym (c .before .has-name .ensures) ∙ c .if1 .taken)
+returns c =
+    let l = c .before .before .before .loop in
+    walking-hit (l .inv) (c .before .before .loop-test .taken) (sym (c .before .has-name .ensures) ∙ c .if1 .taken)
 
 mul-m : tie.Need-mul-m Inv-loop μ-loop
-mul-m c = omega (arith, c .before .before .before .loop .inv .inside)
+mul-m c =
+    let l = c .before .before .before .loop in
+    omega (arith, l .inv .inside)
 
 shared-slice-read-m : tie.Need-shared-slice-read-m Inv-loop μ-loop
-shared-slice-read-m c = omega (arith, c .before .before .before .before .loop .inv .inside)
+shared-slice-read-m c =
+    let l = c .before .before .before .before .loop in
+    omega (arith, l .inv .inside)
 
 cast-m : tie.Need-cast-m Inv-loop μ-loop
-cast-m c = omega (arith, c .shared-slice-known5 .given (c .before .before .before .before .loop .m))
+cast-m c =
+    let l = c .before .before .before .before .loop in
+    omega (arith, c .shared-slice-known5 .given (l .m))
 
 loop-less : tie.Need-loop-less Inv-loop μ-loop
-loop-less c = walking-less (c .before .before .before .before .loop .inv) (c .before .before .before .loop-test .taken)
+loop-less c =
+    let l = c .before .before .before .before .loop in
+    let loop-test = c .before .before .before .loop-test in
+    walking-less (l .inv) (loop-test .taken)
 
 loop-again : tie.Need-loop-again Inv-loop μ-loop
-loop-again c = walking-turn (c .before .before .before .before .loop .inv) (c .before .before .before .loop-test .taken) (sym (c .before .before .has-name .ensures) ∙ c .before .if1 .left)
+loop-again c =
+    let l = c .before .before .before .before .loop in
+    let loop-test = c .before .before .before .loop-test in
+    walking-turn (l .inv) (loop-test .taken) (sym (c .before .before .has-name .ensures) ∙ c .before .if1 .left)
 
 returns-2 : tie.Need-returns-2 Inv-loop μ-loop
 returns-2 c = walking-end (c .before .loop .inv) (c .loop-test .left)

@@ -6,8 +6,8 @@ use borrow.Author.Tests.{eq-eqb, ne-eqb}
 use Rattle.text.specs.Scans.{runEnd}
 use Rattle.text.proofs.Bytes.{run-more, run-stop, run-end}
 use Rattle.paths.specs.Buckets.{notDot}
-use borrow.Author.Needs.{needs}
 use native.Mathlib.Omega.{arith}
+use borrow.Author.Needs.{needs}
 use Rattle.paths.proofs.name_stop.Statement.{statement}
 use Rattle.paths.proofs.name_stop.Tie as tie
 

@@ -1,6 +1,6 @@
 use Rattle.paths.proofs.Chains.{fresh-zeros}
-use borrow.Author.Needs.{needs}
 use native.Mathlib.Omega.{arith}
+use borrow.Author.Needs.{needs}
 use Rattle.paths.proofs.read_large.Statement.{statement}
 use Rattle.paths.proofs.read_large.Tie as tie
 
@@ -15,8 +15,9 @@ slice-aggregate-read-with-3 c = search needs
 
 read-with-requires : tie.Need-read-with-requires
 read-with-requires c κs =
+    let a = c .before .before .before .before .before .args in
     let r = c .before .before .before .before .before .pre in
-    (r, fresh-zeros (c .before .before .before .before .before .args .n) 1025 (omega (arith, r .few)))
+    (r, fresh-zeros (a .n) 1025 (omega (arith, r .few)))
 
 same-length : tie.Need-same-length
 same-length c = search needs

@@ -13,7 +13,10 @@ slice-aggregate-read-with-3 : tie.Need-slice-aggregate-read-with-3
 slice-aggregate-read-with-3 c = search needs
 
 read-with-requires : tie.Need-read-with-requires
-read-with-requires c κs = (c .before .before .before .before .before .pre .0, fresh-zeros (c .before .before .before .before .before .args .n) 128 (c .before .before .before .before .before .pre .1))
+read-with-requires c κs =
+    let p = c .before .before .before .before .before .pre in
+    let a = c .before .before .before .before .before .args in
+    (p .0, fresh-zeros (a .n) 128 (p .1))
 
 same-length : tie.Need-same-length
 same-length c = search needs

@@ -13,9 +13,10 @@ allot-requires c κs =
 
 resolve-requires : tie.Need-resolve-requires
 resolve-requires c κs =
+    let allot = c .before .before .before .before .before .before .allot in
     let e = c .before .before .before .before .before .before .before .before .before .before .before .before .before in
     let a = e .args in
-    (e .pre .0, link-fresh (a .text .now) (a .table .now) (c .before .before .before .before .before .before .allot .ensures) (e .pre .1))
+    (e .pre .0, link-fresh (a .text .now) (a .table .now) (allot .ensures) (e .pre .1))
 
 same-length : tie.Need-same-length
 same-length c = search needs

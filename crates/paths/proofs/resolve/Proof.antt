@@ -13,7 +13,11 @@ enum-told : tie.Need-enum-told
 enum-told c = search needs
 
 resolve-heads-requires : tie.Need-resolve-heads-requires
-resolve-heads-requires c κs = (c .before .before .before .before .before .before .before .before .before .before .before .before .before .before .before .before .before .pre .0, c .before .before .before .before .before .before .before .before .before .link .ensures .1 (c .before .before .before .enum-told .given .1))
+resolve-heads-requires c κs =
+    let p = c .before .before .before .before .before .before .before .before .before .before .before .before .before .before .before .before .before .pre in
+    let link = c .before .before .before .before .before .before .before .before .before .link in
+    let enum-told = c .before .before .before .enum-told in
+    (p .0, link .ensures .1 (enum-told .given .1))
 
 enum-known-row : tie.Need-enum-known-row
 enum-known-row c = search needs
@@ -30,8 +34,10 @@ same-length-3 c = search needs
 returns : tie.Need-returns
 unfolding pathsBad
 returns c =
+    let link = c .before .before .before .before .before .before .before .before .before .before .before .link in
+    let enum-told = c .before .before .before .before .before .enum-told in
     let r = c .before .resolve-heads .ensures in
-    (or-next _ _ _ _ (c .before .before .before .before .before .before .before .before .before .before .before .link .ensures .0) (c .before .before .before .before .before .enum-told .given .1) (r .0), r .1)
+    (or-next _ _ _ _ (link .ensures .0) (enum-told .given .1) (r .0), r .1)
 
 same-length-4 : tie.Need-same-length-4
 same-length-4 c = search needs
@@ -45,8 +51,9 @@ same-length-6 c = search needs
 returns-2 : tie.Need-returns-2
 unfolding pathsBad
 returns-2 c =
+    let link = c .before .before .before .before .before .before .before .link in
     let r = c .before .row .given in
-    (refused-first _ _ (r .0 .0) (r .0 .1 .0) (sym (c .before .before .before .before .before .before .before .link .ensures .0) ∙ r .1), λ z. not-fine z)
+    (refused-first _ _ (r .0 .0) (r .0 .1 .0) (sym (link .ensures .0) ∙ r .1), λ z. not-fine z)
 
 pub resolve-spec : {M : Type 1} → statement M
 resolve-spec =

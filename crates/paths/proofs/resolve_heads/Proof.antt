@@ -15,13 +15,14 @@ enum-told c = search needs
 
 resolve-later-requires : tie.Need-resolve-later-requires
 resolve-later-requires c κs =
+    let settle-heads = c .before .before .before .before .settle-heads in
     let e = c .before .before .before .before .before .before .before .before .before .before in
     let a = e .args in
     let s = a .text .now in
     let t = a .table .now in
     let p = e .pre in
-    let u = c .before .before .before .before .settle-heads .last .1 .0 in
-    let w = c .before .before .before .before .settle-heads .ensures .1 (c .before .enum-told .given .1) in
+    let u = settle-heads .last .1 .0 in
+    let w = settle-heads .ensures .1 (c .before .enum-told .given .1) in
     let al = heads-alike s t u (a .n) w (p .0 .room) in
     let rows = rows-alike s t u al (a .n) (heads-size s t u (a .n) w (p .0 .room)) (p .0) in
     ((rows, linked-alike s t u al (p .1)), heads-held s t u (a .n) w (p .0 .room))
@@ -34,12 +35,13 @@ same-length c = search needs
 
 returns : tie.Need-returns
 returns c =
+    let enum-told = c .before .before .before .enum-told in
     let e = c .before .before .before .before .before .before .before .before .before .before .before .before in
     let a = e .args in
     let s = a .text .now in
     let t = a .table .now in
     let h = c .before .before .before .before .before .before .settle-heads in
-    let f = c .before .before .before .enum-told .given .1 in
+    let f = enum-told .given .1 in
     let w = h .ensures .1 f in
     let u = h .last .1 .0 in
     let r = c .before .resolve-later .ensures in
@@ -51,8 +53,9 @@ same-length-2 c = search needs
 
 returns-2 : tie.Need-returns-2
 returns-2 c =
+    let settle-heads = c .before .before .before .before .settle-heads in
     let r = c .before .row .given in
-    (refused-first _ _ (r .0 .0) (r .0 .1 .0) (sym (c .before .before .before .before .settle-heads .ensures .0) ∙ r .1), λ z. not-fine z)
+    (refused-first _ _ (r .0 .0) (r .0 .1 .0) (sym (settle-heads .ensures .0) ∙ r .1), λ z. not-fine z)
 
 pub resolve-heads-spec : {M : Type 1} → statement M
 resolve-heads-spec =

@@ -23,11 +23,12 @@ same-length c = search needs
 
 returns : tie.Need-returns
 returns c =
+    let p = c .before .before .before .before .before .before .before .before .before .before .before .pre in
     let a = c .before .before .before .before .before .before .before .before .before .before .before .args in
     let u = c .before .before .before .before .before .settle-targets in
     let f = c .before .before .enum-told .given .1 in
     let e = u .ensures .1 f in
-    let checked = targets-checked (a .text .now) (a .table .now) (u .last .1 .0) (a .n) e (c .before .before .before .before .before .before .before .before .before .before .before .pre .0 .0 .room) in
+    let checked = targets-checked (a .text .now) (a .table .now) (u .last .1 .0) (a .n) e (p .0 .0 .room) in
     (or-next _ _ _ _ (u .ensures .0) f (c .check-targets .ensures ∙ checked), λ _. e)
 
 same-length-2 : tie.Need-same-length-2
@@ -35,8 +36,9 @@ same-length-2 c = search needs
 
 returns-2 : tie.Need-returns-2
 returns-2 c =
+    let settle-targets = c .before .before .before .before .settle-targets in
     let r = c .before .row .given in
-    (refused-first _ _ (r .0 .0) (r .0 .1 .0) (sym (c .before .before .before .before .settle-targets .ensures .0) ∙ r .1), λ z. not-fine z)
+    (refused-first _ _ (r .0 .0) (r .0 .1 .0) (sym (settle-targets .ensures .0) ∙ r .1), λ z. not-fine z)
 
 pub resolve-later-spec : {M : Type 1} → statement M
 resolve-later-spec =

@@ -1,7 +1,7 @@
 use Prim.Native.Nat.{_-_}
 use Rattle.paths.proofs.SameName.{Comparing, compare-start, compare-turn, compare-miss, compare-done}
-use borrow.Author.Needs.{needs}
 use native.Mathlib.Omega.{arith}
+use borrow.Author.Needs.{needs}
 use Rattle.paths.proofs.same_name.Statement.{statement}
 use Rattle.paths.proofs.same_name.Tie as tie
 
@@ -35,7 +35,10 @@ compared-byte-requires-2 : tie.Need-compared-byte-requires-2 Inv-loop μ-loop
 compared-byte-requires-2 c κs = search needs
 
 returns : tie.Need-returns Inv-loop μ-loop
-returns c = compare-miss (c .before .before .before .before .before .before .loop .inv) (omega arith) (c .before .before .before .compared-byte .ensures .0) (c .before .compared-byte2 .ensures .0) (c .if1 .taken)
+returns c =
+    let l = c .before .before .before .before .before .before .loop in
+    let compared-byte = c .before .before .before .compared-byte in
+    compare-miss (l .inv) (omega arith) (compared-byte .ensures .0) (c .before .compared-byte2 .ensures .0) (c .if1 .taken)
 
 add-i : tie.Need-add-i Inv-loop μ-loop
 add-i c = omega arith
@@ -44,7 +47,10 @@ loop-less : tie.Need-loop-less Inv-loop μ-loop
 loop-less c = omega arith
 
 loop-again : tie.Need-loop-again Inv-loop μ-loop
-loop-again c = compare-turn (c .before .before .before .before .before .before .loop .inv) (omega arith) (c .before .before .before .compared-byte .ensures .0) (c .before .compared-byte2 .ensures .0) (c .if1 .left)
+loop-again c =
+    let l = c .before .before .before .before .before .before .loop in
+    let compared-byte = c .before .before .before .compared-byte in
+    compare-turn (l .inv) (omega arith) (compared-byte .ensures .0) (c .before .compared-byte2 .ensures .0) (c .if1 .left)
 
 returns-2 : tie.Need-returns-2 Inv-loop μ-loop
 returns-2 c = compare-done (c .before .loop .inv) (omega arith)

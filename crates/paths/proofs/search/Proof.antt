@@ -33,49 +33,72 @@ groups-holds c = (omega arith, refl, refl)
 
 first-in-requires : tie.Need-first-in-requires Inv-loop μ-loop Inv-groups μ-groups
 first-in-requires c κs =
+    let p = c .before .before .before .before .before .before .before .pre in
     let a = c .before .before .before .before .before .before .before .args in
-    let p = c .before .before .before .before .before .before .before .pre .0 in
+    let p = p .0 in
     let h = linked-walkable (p .0) (p .1) (c .before .groups .g) (omega arith) in
     let small = hash-small (slice (a .from) (a .to) (a .text .now)) in
     (h .stretch, omega (arith, c .before .before .hash-name .ensures), h .buckets)
 
 loop-holds : tie.Need-loop-holds Inv-loop μ-loop Inv-groups μ-groups
 loop-holds c =
+    let p = c .before .before .before .before .before .before .before .before .pre in
+    let hash-name = c .before .before .before .hash-name in
     let a = c .before .before .before .before .before .before .before .before .args in
-    let p = c .before .before .before .before .before .before .before .before .pre .0 in
+    let p = p .0 in
     let w = slice (a .from) (a .to) (a .text .now) in
-    (c .before .before .groups .inv .1, member-walking (p .0) (p .1) (c .before .before .groups .g) (omega arith) w (c .before .before .before .hash-name .ensures) (c .first-in .ensures))
+    (c .before .before .groups .inv .1, member-walking (p .0) (p .1) (c .before .before .groups .g) (omega arith) w (hash-name .ensures) (c .first-in .ensures))
 
 has-name-requires : tie.Need-has-name-requires Inv-loop μ-loop Inv-groups μ-groups
-has-name-requires c κs = (omega arith, omega arith, c .before .before .before .before .before .before .before .before .before .before .pre .0 .0 .names (c .before .loop .m))
+has-name-requires c κs =
+    let p = c .before .before .before .before .before .before .before .before .before .before .pre in
+    (omega arith, omega arith, p .0 .0 .names (c .before .loop .m))
 
 mul-m : tie.Need-mul-m Inv-loop μ-loop Inv-groups μ-groups
-mul-m c = omega (arith, c .before .before .before .loop .inv .1 .inside)
+mul-m c =
+    let l = c .before .before .before .loop in
+    omega (arith, l .inv .1 .inside)
 
 shared-slice-read-m : tie.Need-shared-slice-read-m Inv-loop μ-loop Inv-groups μ-groups
-shared-slice-read-m c = omega (arith, c .before .before .before .before .loop .inv .1 .inside)
+shared-slice-read-m c =
+    let l = c .before .before .before .before .loop in
+    omega (arith, l .inv .1 .inside)
 
 cast-m : tie.Need-cast-m Inv-loop μ-loop Inv-groups μ-groups
-cast-m c = omega (arith, c .shared-slice-known5 .given (c .before .before .before .before .loop .m))
+cast-m c =
+    let l = c .before .before .before .before .loop in
+    omega (arith, c .shared-slice-known5 .given (l .m))
 
 loop-less : tie.Need-loop-less Inv-loop μ-loop Inv-groups μ-groups
-loop-less c = walking-less (c .before .before .before .before .loop .inv .1) (c .before .before .before .loop-test .taken)
+loop-less c =
+    let l = c .before .before .before .before .loop in
+    let loop-test = c .before .before .before .loop-test in
+    walking-less (l .inv .1) (loop-test .taken)
 
 loop-again : tie.Need-loop-again Inv-loop μ-loop Inv-groups μ-groups
-loop-again c = (c .before .before .before .before .loop .inv .0, walking-turn (c .before .before .before .before .loop .inv .1) (c .before .before .before .loop-test .taken) (sym (c .before .before .has-name .ensures) ∙ c .before .if1 .left))
+loop-again c =
+    let l = c .before .before .before .before .loop in
+    let loop-test = c .before .before .before .loop-test in
+    (l .inv .0, walking-turn (l .inv .1) (loop-test .taken) (sym (c .before .before .has-name .ensures) ∙ c .before .if1 .left))
 
 natural-cell-requires : tie.Need-natural-cell-requires Inv-loop μ-loop Inv-groups μ-groups
 natural-cell-requires c κs =
-    let r = c .before .before .before .before .before .before .before .before .before .before .pre .0 .0 in
-    (omega arith, omega (arith, r .room), omega arith, r .owners (c .before .before .before .before .groups .g) (omega arith) (omega arith))
+    let p = c .before .before .before .before .before .before .before .before .before .before .pre in
+    let g = c .before .before .before .before .groups in
+    let r = p .0 .0 in
+    (omega arith, omega (arith, r .room), omega arith, r .owners (g .g) (omega arith) (omega arith))
 
 groups-less : tie.Need-groups-less Inv-loop μ-loop Inv-groups μ-groups
-groups-less c = omega (arith, c .natural-cell .ensures, c .before .before .before .before .before .before .before .before .before .before .before .pre .0 .0 .falls (c .before .before .before .before .before .groups .g) (omega arith) (omega arith))
+groups-less c =
+    let p = c .before .before .before .before .before .before .before .before .before .before .before .pre in
+    let g = c .before .before .before .before .before .groups in
+    omega (arith, c .natural-cell .ensures, p .0 .0 .falls (g .g) (omega arith) (omega arith))
 
 groups-again : tie.Need-groups-again Inv-loop μ-loop Inv-groups μ-groups
 groups-again c =
+    let p = c .before .before .before .before .before .before .before .before .before .before .before .pre in
     let a = c .before .before .before .before .before .before .before .before .before .before .before .args in
-    let r = c .before .before .before .before .before .before .before .before .before .before .before .pre .0 .0 in
+    let r = p .0 .0 in
     let g = c .before .before .before .before .before .groups in
     let f = r .falls (g .g) (omega arith) (omega arith) in
     let w = slice (a .from) (a .to) (a .text .now) in
@@ -85,18 +108,21 @@ groups-again c =
 
 returns : tie.Need-returns Inv-loop μ-loop Inv-groups μ-groups
 returns c =
+    let p = c .before .before .before .before .before .before .before .pre in
     let a = c .before .before .before .before .before .before .before .args in
     let g = c .before .groups in
     let w = slice (a .from) (a .to) (a .text .now) in
-    g .inv .1 ∙ sym (head-end (a .text .now) (a .table .now) (a .n) w (c .before .before .before .before .before .before .before .pre .0 .0 .falls) (g .g) (omega arith)) ∙ g .inv .2
+    g .inv .1 ∙ sym (head-end (a .text .now) (a .table .now) (a .n) w (p .0 .0 .falls) (g .g) (omega arith)) ∙ g .inv .2
 
 returns-2 : tie.Need-returns-2 Inv-loop μ-loop Inv-groups μ-groups
 returns-2 c =
+    let p = c .before .before .before .before .before .before .before .before .before .before .before .before .pre in
+    let l = c .before .before .before .loop in
     let a = c .before .before .before .before .before .before .before .before .before .before .before .before .args in
     let g = c .before .before .before .before .before .before .groups in
     let w = slice (a .from) (a .to) (a .text .now) in
-    let hit = walking-hit (c .before .before .before .loop .inv .1) (c .before .before .loop-test .taken) (sym (c .before .has-name .ensures) ∙ c .if1 .taken) in
-    sym (head-found (a .text .now) (a .table .now) (a .n) w (c .before .before .before .before .before .before .before .before .before .before .before .before .pre .0 .0 .falls) (g .g) (c .before .before .before .loop .m) (omega arith) (sym hit) (c .before .before .loop-test .taken)) ∙ g .inv .2
+    let hit = walking-hit (l .inv .1) (c .before .before .loop-test .taken) (sym (c .before .has-name .ensures) ∙ c .if1 .taken) in
+    sym (head-found (a .text .now) (a .table .now) (a .n) w (p .0 .0 .falls) (g .g) (l .m) (omega arith) (sym hit) (c .before .before .loop-test .taken)) ∙ g .inv .2
 
 pub search-spec : {M : Type 1} → statement M
 search-spec =

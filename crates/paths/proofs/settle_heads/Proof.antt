@@ -2,9 +2,10 @@ use mathlib.Core.Path.{_≡_}
 use Prim.Native.Nat.{_+_, _-_}
 use Rattle.paths.specs.Paths.{headCell, pathHeadBad}
 use Rattle.paths.proofs.Alike.{head-cell-alike, rows-alike, linked-alike}
-use Rattle.paths.proofs.Passes.{Settling, settle-start, settle-size, settle-alike, settle-all, settle-kept, settle-turn, settle-stop, pass-done, head-rule, not-fine}
-use borrow.Author.Needs.{needs}
+use Rattle.paths.proofs.Passes.{Settling, settle-start, settle-size, settle-alike, settle-all, settle-kept}
+use Rattle.paths.proofs.Passes.{settle-turn, settle-stop, pass-done, head-rule, not-fine}
 use native.Mathlib.Omega.{arith}
+use borrow.Author.Needs.{needs}
 use Rattle.paths.proofs.settle_heads.Statement.{statement}
 use Rattle.paths.proofs.settle_heads.Tie as tie
 
@@ -42,28 +43,40 @@ is-unresolved-requires : tie.Need-is-unresolved-requires Inv-loop μ-loop
 is-unresolved-requires c κs = search needs
 
 same-length : tie.Need-same-length Inv-loop μ-loop
-same-length c = settle-kept (c .before .before .before .before .before .before .before .loop .inv) (same (c .before .before .before .before .before .before .before)) (c .before .before .before .before .settle-head .ensures .1)
+same-length c =
+    let l = c .before .before .before .before .before .before .before .loop in
+    let settle-head = c .before .before .before .before .settle-head in
+    let at = c .before .before .before .before .before .before .before in
+    settle-kept (l .inv) (same at) (settle-head .ensures .1)
 
 returns : tie.Need-returns Inv-loop μ-loop
 returns c =
+    let l = c .before .before .before .before .before .before .before .loop in
+    let settle-head = c .before .before .before .before .settle-head in
     let a = c .before .before .before .before .before .before .before .before .before .before .before .before .args in
-    let h = c .before .before .before .before .settle-head .ensures in
+    let at = c .before .before .before .before .before .before .before in
+    let h = settle-head .ensures in
     let rule = head-rule (a .text .now) (a .table .now) (a .n) in
-    let stop = settle-stop (c .before .before .before .before .before .before .before .loop .inv) (same (c .before .before .before .before .before .before .before)) (h .1) 13 rule (h .0) (c .before .is-unresolved .ensures) in
+    let stop = settle-stop (l .inv) (same at) (h .1) 13 rule (h .0) (c .before .is-unresolved .ensures) in
     (stop (omega arith) (c .if1 .taken) (λ z. omega arith), λ z. not-fine z)
 
 add-label : tie.Need-add-label Inv-loop μ-loop
-add-label c = omega (arith, c .before .before .before .before .before .before .before .before .before .before .before .before .pre .0 .few)
+add-label c =
+    let p = c .before .before .before .before .before .before .before .before .before .before .before .before .pre in
+    omega (arith, p .0 .few)
 
 loop-less : tie.Need-loop-less Inv-loop μ-loop
 loop-less c = omega arith
 
 loop-again : tie.Need-loop-again Inv-loop μ-loop
 loop-again c =
+    let l = c .before .before .before .before .before .before .before .loop in
+    let settle-head = c .before .before .before .before .settle-head in
     let a = c .before .before .before .before .before .before .before .before .before .before .before .before .args in
-    let h = c .before .before .before .before .settle-head .ensures in
+    let at = c .before .before .before .before .before .before .before in
+    let h = settle-head .ensures in
     let rule = head-rule (a .text .now) (a .table .now) (a .n) in
-    settle-turn (c .before .before .before .before .before .before .before .loop .inv) (same (c .before .before .before .before .before .before .before)) (h .1) 13 rule (h .0) (c .before .is-unresolved .ensures) (omega arith) (c .if1 .left)
+    settle-turn (l .inv) (same at) (h .1) 13 rule (h .0) (c .before .is-unresolved .ensures) (omega arith) (c .if1 .left)
 
 same-length-2 : tie.Need-same-length-2 Inv-loop μ-loop
 same-length-2 c = settle-size (c .before .loop .inv)

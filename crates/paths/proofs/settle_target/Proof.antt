@@ -21,8 +21,10 @@ same-length c = search needs
 
 returns : tie.Need-returns
 returns c =
+    let cell-at = c .before .before .before .before .before .cell-at in
+    let target-at = c .before .before .before .target-at in
     let a = c .before .before .before .before .before .before .before .before .before .before .before .args in
-    let e = c .before .before .before .target-at .ensures .0 ∙ ap (targetBy (a .text .now) (a .table .now) (a .n) (a .label)) (c .before .before .before .before .before .cell-at .ensures) in
+    let e = target-at .ensures .0 ∙ ap (targetBy (a .text .now) (a .table .now) (a .n) (a .label)) (cell-at .ensures) in
     (e, c .before .put-cell .ensures ∙ ap (λ v. set (a .table .now) (8 * (a .label - 1) + 7) (pos v)) e)
 
 pub settle-target-spec : {M : Type 1} → statement M

@@ -3,14 +3,16 @@ use Prim.Native.Nat.{_+_, _≤_}
 use lib.ListN.{length}
 use Rattle.cells.specs.Table.{nameStart, nameLength}
 use Rattle.paths.proofs.Resolving.{target-is}
-use borrow.Author.Needs.{needs}
 use native.Mathlib.Omega.{arith}
+use borrow.Author.Needs.{needs}
 use Rattle.paths.proofs.target_at.Statement.{statement}
 use Rattle.paths.proofs.target_at.Tie as tie
 
 -- the name field lies in the text
-inside : (c : tie.After-cell-at2) → c .before .cell-at .result + c .cell-at2 .result ≤ length (c .before .before .before .before .before .before .before .before .args .text .now)
-inside c = omega (arith, c .before .cell-at .ensures, c .cell-at2 .ensures, c .before .before .before .before .before .before .before .before .pre .0 .0 .names (c .before .before .before .before .before .before .before .before .args .label))
+inside : (c : tie.After-cell-at2) → let a = c .before .before .before .before .before .before .before .before .args in c .before .cell-at .result + c .cell-at2 .result ≤ length (a .text .now)
+inside c =
+    let e = c .before .before .before .before .before .before .before .before in
+    omega (arith, c .before .cell-at .ensures, c .cell-at2 .ensures, e .pre .0 .0 .names (e .args .label))
 
 has-path-requires : tie.Need-has-path-requires
 has-path-requires c κs = search needs
@@ -31,13 +33,16 @@ descend-requires c κs =
 
 returns : tie.Need-returns
 returns c =
+    let has-path = c .before .before .before .before .has-path in
+    let if1 = c .before .before .before .if1 in
     let a = c .before .before .before .before .before .before .before .before .before .args in
     let t = a .table .now in
     let from = c .before .before .cell-at .result in
     let to = from + c .before .cell-at2 .result in
     let end : to ≡ nameStart t (a .label) + nameLength t (a .label) = omega (arith, c .before .before .cell-at .ensures, c .before .cell-at2 .ensures) in
-    let path = sym (c .before .before .before .before .has-path .ensures) ∙ c .before .before .before .if1 .taken in
-    let is = target-is (a .text .now) t (a .n) (a .label) from to (c .before .before .cell-at .ensures) end (inside (c .before)) (a .head) path in
+    let named = c .before in
+    let path = sym (has-path .ensures) ∙ if1 .taken in
+    let is = target-is (a .text .now) t (a .n) (a .label) from to (c .before .before .cell-at .ensures) end (inside named) (a .head) path in
     (c .descend .ensures .0 ∙ is, c .descend .ensures .1)
 
 returns-2 : tie.Need-returns-2

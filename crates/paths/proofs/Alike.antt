@@ -6,10 +6,10 @@ use Prim.Native.Nat.{ℕ, zero, suc, _+_, _-_, _*_, _≤_}
 use native.Mathlib.Omega.{arith}
 use lib.IntN.{ℤ, pos}
 use lib.ListN.{length, drop}
-use Rattle.cells.specs.Table.{kind, nameStart, nameLength, owner, withColumn}
+use Rattle.cells.specs.Table.{kind, nameStart, nameLength, owner, withColumn, isDefinition, hasPath}
 use Rattle.cells.specs.Cells.{intAt}
 use Rattle.cells.proofs.Columns.{column-keeps, column-other}
-use Rattle.order.specs.Order.{isDefinition, hasPath}
+use Rattle.order.specs.Order.{}
 use Rattle.text.specs.Pieces.{firstOf}
 use Rattle.paths.specs.Names.{nameOf, isNamed, member}
 use Rattle.refusals.proofs.FirstBad.{first-same as same-found}

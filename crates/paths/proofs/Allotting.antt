@@ -12,8 +12,8 @@ use lib.IntN.{ℤ}
 use lib.ListN.{length, getD, set, length-set}
 use lib.Seq.{getD-set-same, getD-set-other}
 use borrow.Author.Tests.{eqb-true, eqb-false}
-use Rattle.cells.specs.Table.{owner}
-use Rattle.order.specs.Order.{isDefinition}
+use Rattle.cells.specs.Table.{owner, isDefinition}
+use Rattle.order.specs.Order.{}
 use Rattle.text.proofs.Bytes.{true-false}
 use Rattle.paths.specs.Buckets.{startOf, countedAt, sumTo, Counted, Allotted}
 

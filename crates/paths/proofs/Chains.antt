@@ -12,9 +12,9 @@ use lib.IntN.{ℤ}
 use lib.ListN.{length, getD, set, replicate, length-set, length-replicate}
 use lib.Seq.{slice, getD-set-same, getD-set-other}
 use borrow.Author.Tests.{eq-eqb, eqb-true, eqb-false, ltb-true, ltb-false}
-use Rattle.cells.specs.Table.{nameStart, nameLength, owner}
+use Rattle.cells.specs.Table.{nameStart, nameLength, owner, isDefinition}
 use Rattle.cells.proofs.Scratch.{zero-at}
-use Rattle.order.specs.Order.{isDefinition}
+use Rattle.order.specs.Order.{}
 use Rattle.text.proofs.Bytes.{true-false, and-left, and-right}
 use Rattle.paths.specs.Names.{nameOf, sameName, isNamed, member}
 use Rattle.paths.specs.Buckets.{Rows, hashes, hashOf, startOf, Stretch, Allotted, bucketOf, bucketAt, inBucket, lastBelow, LinkedBelow, Linked, Fresh, firstIn, Walkable, walkBy, walk}

@@ -8,8 +8,9 @@ use lib.Dec.{eqb, ltb}
 use lib.IntN.{ℤ}
 use lib.ListN.{drop}
 use borrow.Author.Tests.{eq-eqb, ne-eqb, eqb-true, eqb-false, ltb-true, ltb-false, not-false}
-use Rattle.cells.specs.Table.{kind, owner}
-use Rattle.order.specs.Order.{isDefinition, isMember, hasPath}
+use Rattle.kinds.specs.Kinds.{groupCode}
+use Rattle.cells.specs.Table.{kind, owner, isDefinition, hasPath}
+use Rattle.order.specs.Order.{isMember}
 use Rattle.refusals.specs.Rows.{duplicateRow, headRow, laterRow, targetRow}
 use Rattle.refusals.specs.Refusal.{firstBad}
 use Rattle.refusals.specs.declared.Verdict.the-variants.{Fine}
@@ -154,17 +155,17 @@ module _ (s : List ℕ) (t : List ℤ) (n : ℕ) where
 
   down-go : (m e : ℕ) (w : List ℕ) (ws : List (List ℕ)) → descended s t n m (w ∷ ws) ≡ e → (e ≡ 0 → ⊥)
       → (descended s t n (member s t n m w) ws ≡ e → Descends s t n (member s t n m w) ws e)
-      → (b : Bool) → eqb (kind t m) 1 ≡ b → Descends s t n m (w ∷ ws) e
+      → (b : Bool) → eqb (kind t m) groupCode ≡ b → Descends s t n m (w ∷ ws) e
   down-go m e w ws q f rest true k =
-      let g : kind t m ≡ 1 = eqb-true (kind t m) 1 k in
+      let g : kind t m ≡ groupCode = eqb-true (kind t m) groupCode k in
       let r : descended s t n (member s t n m w) ws ≡ e = sym (down-on s t n m w ws g) ∙ q in
       let some : member s t n m w ≡ 0 → ⊥ = λ z. f (sym r ∙ ap (λ (x : ℕ). descended s t n x ws) z ∙ down-none s t n ws) in
       inward g (member-found m w (above-zero t m g) (member s t n m w) refl some) (rest r)
-  down-go m e w ws q f rest false k = absurd (f (sym q ∙ down-stop s t n m w ws (eqb-false (kind t m) 1 k)))
+  down-go m e w ws q f rest false k = absurd (f (sym q ∙ down-stop s t n m w ws (eqb-false (kind t m) groupCode k)))
 
   descended-ends : (ws : List (List ℕ)) (m e : ℕ) → descended s t n m ws ≡ e → (e ≡ 0 → ⊥) → Descends s t n m ws e
   descended-ends [] m e q f = rw (← q) ended
-  descended-ends (w ∷ ws) m e q f = down-go m e w ws q f (λ r. descended-ends ws (member s t n m w) e r f) (eqb (kind t m) 1) refl
+  descended-ends (w ∷ ws) m e q f = down-go m e w ws q f (λ r. descended-ends ws (member s t n m w) e r f) (eqb (kind t m) groupCode) refl
 
   ends-low : {m e : ℕ} {ws : List (List ℕ)} → 1 ≤ m → Descends s t n m ws e → 1 ≤ e
   ends-low h ended = h

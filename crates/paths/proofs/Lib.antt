@@ -1,5 +1,4 @@
 pub mod SameName
-pub mod Definitions
 pub mod FirstLabel
 pub mod LastBelow
 pub mod Members

@@ -9,8 +9,8 @@ use lib.IntN.{ℤ}
 use lib.ListN.{length}
 use lib.Seq.{slice, length-slice}
 use borrow.Author.Tests.{eq-eqb, eqb-true}
-use Rattle.cells.specs.Table.{nameStart, nameLength, owner}
-use Rattle.order.specs.Order.{isDefinition, isMember}
+use Rattle.cells.specs.Table.{nameStart, nameLength, owner, isDefinition}
+use Rattle.order.specs.Order.{isMember}
 use Rattle.text.proofs.Bytes.{and-left, and-right}
 use Rattle.paths.specs.Names.{nameOf, sameName, isNamed, member}
 use Rattle.paths.specs.Leads.{NamesApart}

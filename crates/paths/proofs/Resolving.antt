@@ -9,8 +9,10 @@ use lib.IntN.{ℤ}
 use lib.ListN.{length, getD, drop}
 use lib.Seq.{slice, length-slice}
 use borrow.Author.Tests.{eq-eqb, ne-eqb, eqb-true, ltb-true, ltb-false, lt-ltb, le-ltb, not-false}
-use Rattle.cells.specs.Table.{kind, nameStart, nameLength, owner, target}
-use Rattle.order.specs.Order.{isDefinition, hasPath}
+use Rattle.kinds.specs.Kinds.{wantedBy, groupCode}
+use Rattle.kinds.specs.Kinds as kinds
+use Rattle.cells.specs.Table.{kind, nameStart, nameLength, owner, target, isDefinition, hasPath}
+use Rattle.order.specs.Order.{}
 use Rattle.text.specs.Pieces.{cut}
 use Rattle.text.specs.Scans.{runEnd, run}
 use Rattle.text.proofs.Bytes.{run-le, run-fails}
@@ -66,7 +68,7 @@ module _ (s : List ℕ) (from to : ℕ) (h : from ≤ to) (k : to ≤ length s) 
   names-cut = names-go (ltb (from + r) to) refl
 
 -- label 0 has no kind
-pub above-zero : (t : List ℤ) (m : ℕ) → kind t m ≡ 1 → 1 ≤ m
+pub above-zero : (t : List ℤ) (m : ℕ) → kind t m ≡ groupCode → 1 ≤ m
 above-zero t zero e = absurd (omega arith)
 above-zero t (suc m) e = omega arith
 
@@ -137,11 +139,11 @@ module _ (s : List ℕ) (t : List ℤ) (n : ℕ) where
   down-none [] = refl
   down-none (w ∷ ws) = down-none ws
 
-  pub down-stop : (m : ℕ) (w : List ℕ) (ws : List (List ℕ)) → (kind t m ≡ 1 → ⊥) → descended s t n m (w ∷ ws) ≡ 0
-  down-stop m w ws f = rw (ne-eqb (kind t m) 1 f) (down-none ws)
+  pub down-stop : (m : ℕ) (w : List ℕ) (ws : List (List ℕ)) → (kind t m ≡ groupCode → ⊥) → descended s t n m (w ∷ ws) ≡ 0
+  down-stop m w ws f = rw (ne-eqb (kind t m) groupCode f) (down-none ws)
 
-  pub down-on : (m : ℕ) (w : List ℕ) (ws : List (List ℕ)) → kind t m ≡ 1 → descended s t n m (w ∷ ws) ≡ descended s t n (member s t n m w) ws
-  down-on m w ws e = rw (eq-eqb (kind t m) 1 e)
+  pub down-on : (m : ℕ) (w : List ℕ) (ws : List (List ℕ)) → kind t m ≡ groupCode → descended s t n m (w ∷ ws) ≡ descended s t n (member s t n m w) ws
+  down-on m w ws e = rw (eq-eqb (kind t m) groupCode e)
 
   -- ---- one name more of a path, whose names so far end at `at`
 
@@ -152,10 +154,10 @@ module _ (s : List ℕ) (t : List ℤ) (n : ℕ) where
     later-is : later s at to ≡ slice (at + 1) e s ∷ later s e to
     later-is = rw (lt-ltb at to more) (names-cut s (at + 1) to (omega arith) inside)
 
-    pub later-stop : (kind t m ≡ 1 → ⊥) → descended s t n m (later s at to) ≡ 0
+    pub later-stop : (kind t m ≡ groupCode → ⊥) → descended s t n m (later s at to) ≡ 0
     later-stop f = rw later-is (down-stop m (slice (at + 1) e s) (later s e to) f)
 
-    pub later-on : kind t m ≡ 1 → descended s t n (member s t n m (slice (at + 1) e s)) (later s e to) ≡ descended s t n m (later s at to)
+    pub later-on : kind t m ≡ groupCode → descended s t n (member s t n m (slice (at + 1) e s)) (later s e to) ≡ descended s t n m (later s at to)
     later-on k = rw later-is (sym (down-on m (slice (at + 1) e s) (later s e to) k))
 
   pub later-end : (m at to : ℕ) → to ≤ at → descended s t n m (later s at to) ≡ m
@@ -197,17 +199,16 @@ module _ (s : List ℕ) (t : List ℤ) (n : ℕ) where
   duplicate-other l e = rw e
 
 -- row 15
-module _ (t : List ℤ) (x k found : ℕ) (p : k ≡ kind t x) (q : found ≡ kind t (target t x)) where
-  pub read-wrong : k ≡ 6 → (found ≡ 2 → ⊥) → 15 ≡ wrongTarget t x
-  read-wrong e f = rw (← p, ← q, e, ne-eqb found 2 f)
+module _ (t : List ℤ) (x k found wants : ℕ) (p : k ≡ kind t x) (q : found ≡ kind t (target t x)) (r : wants ≡ wantedBy k) where
+  pub target-wrong : kinds.hasPath k ≡ true → (found ≡ wants → ⊥) → 15 ≡ wrongTarget t x
+  target-wrong h f = rw (← p, ← q, ← r, h, ne-eqb found wants f)
 
-  pub call-wrong : k ≡ 7 → (found ≡ 3 → ⊥) → 15 ≡ wrongTarget t x
-  call-wrong e f = rw (← p, ← q, e, ne-eqb found 3 f)
-
-  pub target-right : (k ≡ 6 → found ≡ 2) → (k ≡ 7 → found ≡ 3) → 0 ≡ wrongTarget t x
-  target-right f g = rw (← p, ← q) (go (eqb k 6) (eqb k 7) refl refl)
+  pub target-right : found ≡ wants → 0 ≡ wrongTarget t x
+  target-right e = rw (← p, ← q, ← r, eq-eqb found wants e) (go (kinds.hasPath k))
     where
-      go : (u v : Bool) → eqb k 6 ≡ u → eqb k 7 ≡ v → _≡_ {A = ℕ} 0 (cond ((u || v) && not (eqb found (cond u 2 3))) 15 0)
-      go true v a c = rw (eq-eqb found 2 (f (eqb-true k 6 a)))
-      go false true a c = rw (eq-eqb found 3 (g (eqb-true k 7 c)))
-      go false false a c = refl
+      go : (b : Bool) → _≡_ {A = ℕ} 0 (cond (b && false) 15 0)
+      go true = refl
+      go false = refl
+
+pub target-none : (t : List ℤ) (x : ℕ) → hasPath t x ≡ false → 0 ≡ wrongTarget t x
+target-none t x h = rw h

@@ -8,8 +8,8 @@ ghost use lib.Dec.{eqb};
 ghost use lib.IntN.{pos};
 ghost use lib.ListN.{length, getD, set, drop};
 ghost use lib.Seq.{slice};
-ghost use Rattle.cells.specs.Table.{owner, target, withColumn};
-ghost use Rattle.order.specs.Order.{isDefinition, hasPath};
+ghost use Rattle.cells.specs.Table.{owner, target, withColumn, isDefinition, hasPath};
+ghost use Rattle.order.specs.Order.{};
 ghost use Rattle.refusals.specs.Refusal.{firstBad};
 ghost use Rattle.text.specs.Pieces.{cut};
 ghost use Rattle.text.specs.Scans.{runEnd};
@@ -95,15 +95,11 @@ fn has_name(text: &[u8], table: &[i64], m: usize, from: usize, to: usize) -> boo
     )
 }
 
-// Whether the line is a G, V or F.
+// Whether the line is a definition.
 fn is_definition(table: &[i64], label: usize) -> bool
     ensures { λ r. ⌜ r ≡ isDefinition (now (table .entry)) label ⌝ }
 {
-    let kind = cells::cell_at(table, label, cells::KIND);
-    if kind == 0 {
-        return false;
-    }
-    kind <= cells::FUNCTION
+    kinds::is_definition(cells::cell_at(table, label, cells::KIND))
 }
 
 // ---- buckets
@@ -337,7 +333,7 @@ fn descend(
     let mut m = head;
     let mut at = name_stop(text, from, to);
     while at < to {
-        if cells::cell_at(table, m, cells::KIND) != cells::GROUP {
+        if cells::cell_at(table, m, cells::KIND) != kinds::GROUP {
             return 0;
         }
         let start = at + 1;
@@ -352,11 +348,7 @@ fn descend(
 fn has_path(table: &[i64], label: usize) -> bool
     ensures { λ r. ⌜ r ≡ hasPath (now (table .entry)) label ⌝ }
 {
-    let kind = cells::cell_at(table, label, cells::KIND);
-    if kind == cells::READ {
-        return true;
-    }
-    kind == cells::CALL
+    kinds::has_path(cells::cell_at(table, label, cells::KIND))
 }
 
 // Where the head of a line's path is settled; 0 where it is settled nowhere, and of a line that has no path.
@@ -426,23 +418,12 @@ fn target_at(
 fn wrong_target_at(table: &[i64], label: usize) -> u64
     ensures { λ r. ⌜ r ≡ wrongTarget (now (table .entry)) label ⌝ }
 {
-    let kind = cells::cell_at(table, label, cells::KIND);
-    let found = cells::cell_at(
-        table,
-        cells::cell_at(table, label, cells::TARGET),
-        cells::KIND,
-    );
-    if kind == cells::READ {
-        if found == cells::VALUE {
-            return 0;
+    let code = cells::cell_at(table, label, cells::KIND);
+    if kinds::has_path(code) {
+        let target = cells::cell_at(table, label, cells::TARGET);
+        if cells::cell_at(table, target, cells::KIND) != kinds::wanted_by(code) {
+            return refusals::TARGET;
         }
-        return refusals::TARGET;
-    }
-    if kind == cells::CALL {
-        if found == cells::FUNCTION {
-            return 0;
-        }
-        return refusals::TARGET;
     }
     0
 }

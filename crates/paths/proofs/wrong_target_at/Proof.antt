@@ -1,19 +1,17 @@
-use mathlib.Core.Path.{_≡_, _∙_, ap}
-use Rattle.cells.specs.Table.{kind, target}
-use Rattle.paths.proofs.Resolving.{read-wrong, call-wrong, target-right}
-use native.Mathlib.Omega.{arith}
+-- A line with a path, and what its target must be.
+use mathlib.Core.Path.{_∙_, sym, ap}
+use Rattle.kinds.specs.Kinds.{hasPath, wantedBy}
+use Rattle.cells.specs.Table.{kind}
+use Rattle.paths.proofs.Resolving.{target-wrong, target-right, target-none}
 use borrow.Author.Needs.{needs}
 use Rattle.paths.proofs.wrong_target_at.Statement.{statement}
 use Rattle.paths.proofs.wrong_target_at.Tie as tie
 
--- what is found is the target's kind
-found : (c : tie.After-cell-at3) → let a = c .before .before .before .args in let t = a .table .now in c .cell-at3 .result ≡ kind t (target t (a .label))
-found c =
-    let a = c .before .before .before .args in
-    c .cell-at3 .ensures ∙ ap (kind (a .table .now)) (c .before .cell-at2 .ensures)
-
 cell-at-requires : tie.Need-cell-at-requires
 cell-at-requires c κs = search needs
+
+has-path-requires : tie.Need-has-path-requires
+has-path-requires c κs = search needs
 
 cell-at-requires-2 : tie.Need-cell-at-requires-2
 cell-at-requires-2 c κs = search needs
@@ -21,50 +19,36 @@ cell-at-requires-2 c κs = search needs
 cell-at-requires-3 : tie.Need-cell-at-requires-3
 cell-at-requires-3 c κs = search needs
 
+wanted-by-requires : tie.Need-wanted-by-requires
+wanted-by-requires c κs = search needs
+
 returns : tie.Need-returns
 returns c =
-    let a = c .before .before .before .before .before .args in
-    let k = c .before .before .before .before .cell-at in
-    let f = c .before .before in
-    target-right (a .table .now) (a .label) (k .result) (f .cell-at3 .result) (k .ensures) (found f) (λ _. c .if2 .taken) (λ e. absurd (omega (arith, c .before .if1 .taken)))
+    let s = c .before .before .before .before .before .before .before in
+    let code = c .before .before .before .before .before .before .cell-at in
+    let has = sym (c .before .before .before .before .before .has-path .ensures) ∙ c .before .before .before .before .if1 .taken in
+    target-wrong (s .args .table .now) (s .args .label) (code .result) (c .before .before .cell-at3 .result) (c .before .wanted-by .result) (code .ensures) (c .before .before .cell-at3 .ensures ∙ ap (kind (s .args .table .now)) (c .before .before .before .cell-at2 .ensures)) (c .before .wanted-by .ensures) has (c .if2 .taken)
 
 returns-2 : tie.Need-returns-2
 returns-2 c =
-    let a = c .before .before .before .before .before .args in
-    let k = c .before .before .before .before .cell-at in
-    let f = c .before .before in
-    read-wrong (a .table .now) (a .label) (k .result) (f .cell-at3 .result) (k .ensures) (found f) (c .before .if1 .taken) (c .if2 .left)
+    let s = c .before .before .before .before .before .before .before in
+    let code = c .before .before .before .before .before .before .cell-at in
+    target-right (s .args .table .now) (s .args .label) (code .result) (c .before .before .cell-at3 .result) (c .before .wanted-by .result) (code .ensures) (c .before .before .cell-at3 .ensures ∙ ap (kind (s .args .table .now)) (c .before .before .before .cell-at2 .ensures)) (c .before .wanted-by .ensures) (c .if2 .left)
 
 returns-3 : tie.Need-returns-3
 returns-3 c =
-    let a = c .before .before .before .before .before .before .args in
-    let k = c .before .before .before .before .before .cell-at in
-    let f = c .before .before .before in
-    target-right (a .table .now) (a .label) (k .result) (f .cell-at3 .result) (k .ensures) (found f) (λ e. absurd (c .before .before .if1 .left e)) (λ _. c .if4 .taken)
-
-returns-4 : tie.Need-returns-4
-returns-4 c =
-    let a = c .before .before .before .before .before .before .args in
-    let k = c .before .before .before .before .before .cell-at in
-    let f = c .before .before .before in
-    call-wrong (a .table .now) (a .label) (k .result) (f .cell-at3 .result) (k .ensures) (found f) (c .before .if3 .taken) (c .if4 .left)
-
-returns-5 : tie.Need-returns-5
-returns-5 c =
-    let a = c .before .before .before .before .before .args in
-    let k = c .before .before .before .before .cell-at in
-    let f = c .before .before in
-    target-right (a .table .now) (a .label) (k .result) (f .cell-at3 .result) (k .ensures) (found f) (λ e. absurd (c .before .if1 .left e)) (λ e. absurd (c .if3 .left e))
+    let s = c .before .before .before in
+    target-none (s .args .table .now) (s .args .label) (ap hasPath (sym (c .before .before .cell-at .ensures)) ∙ sym (c .before .has-path .ensures) ∙ c .if1 .left)
 
 pub wrong-target-at-spec : {M : Type 1} → statement M
 wrong-target-at-spec =
     tie.close
     (tie.spec
     cell-at-requires
+    has-path-requires
     cell-at-requires-2
     cell-at-requires-3
+    wanted-by-requires
     returns
     returns-2
-    returns-3
-    returns-4
-    returns-5)
+    returns-3)

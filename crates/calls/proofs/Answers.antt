@@ -8,7 +8,8 @@ use native.Mathlib.Omega.{arith}
 use lib.IntN.{ℤ, pos}
 use lib.ListN.{length, take, drop, length-map, length-drop}
 use lib.Seq.{take-at}
-use Rattle.cells.specs.Cells.{zeros, clearFrom}
+use Rattle.cells.specs.Cells.{zeros}
+use Rattle.cells.specs.Clearing.{clearFrom}
 use Rattle.cells.specs.Accepted.{Accepted}
 use Rattle.cells.proofs.Clearing.{clear-all}
 use Rattle.refusals.specs.Rows.{cycleRow}

@@ -7,7 +7,8 @@ use native.Mathlib.Nat.{not-suc-le-zero, le-of-suc-le-suc, sub-zero}
 use native.Mathlib.Numerals.{add-one}
 use lib.IntN.{ℤ, pos}
 use lib.ListN.{length, set, take}
-use Rattle.cells.specs.Cells.{zeros, clearFrom}
+use Rattle.cells.specs.Cells.{zeros}
+use Rattle.cells.specs.Clearing.{clearFrom}
 
 step : (t : List ℤ) (i : ℕ) → i < length t → clearFrom i t ≡ clearFrom (suc i) (set t i (pos 0))
 step [] i h = absurd (not-suc-le-zero h)

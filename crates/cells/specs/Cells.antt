@@ -1,7 +1,7 @@
 -- The cells of a lent buffer: signed 64-bit numbers, read as integers or, where only those from 0 on count, as natural numbers.
-use Prim.Native.Nat.{ℕ, zero, suc}
+use Prim.Native.Nat.{ℕ}
 use mathlib.Core.Bool.{Bool, true, false}
-use mathlib.Core.List.{List, [], _∷_}
+use mathlib.Core.List.{List}
 use lib.Dec.{eqb}
 use lib.ListN.{getD, replicate}
 use lib.IntN.{ℤ, pos, negsuc, negℤ}
@@ -34,10 +34,3 @@ natAt t i = natOf (intAt t i)
 
 abbrev pub zeros : ℕ → List ℤ
 zeros n = replicate n (pos 0)
-
--- every cell from index i on is 0
-abbrev pub clearFrom : ℕ → List ℤ → List ℤ
-clearFrom zero [] = []
-clearFrom zero (x ∷ t) = pos 0 ∷ clearFrom zero t
-clearFrom (suc i) [] = []
-clearFrom (suc i) (x ∷ t) = x ∷ clearFrom i t

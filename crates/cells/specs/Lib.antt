@@ -1,4 +1,5 @@
 pub mod Cells
+pub mod Clearing
 pub mod Lists
 pub mod Table
 pub mod Accepted

@@ -5,7 +5,8 @@ ghost use mathlib.Core.Path.{_≡_};
 ghost use Prim.Native.Nat.{_+_, _-_, _*_, _^_, _≤_, _<_};
 ghost use lib.ListN.{length, set};
 ghost use lib.IntN.{pos, natAbs};
-ghost use Rattle.cells.specs.Cells.{isNegative, natOf, withSign, intAt, natAt, zeros, clearFrom};
+ghost use Rattle.cells.specs.Cells.{isNegative, natOf, withSign, intAt, natAt, zeros};
+ghost use Rattle.cells.specs.Clearing.{clearFrom};
 ghost use Rattle.cells.specs.Table.{cell};
 
 // ---- names for what cells hold

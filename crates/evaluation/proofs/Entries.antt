@@ -18,7 +18,8 @@ use Rattle.cells.specs.Reaches.{Reaches}
 use Rattle.numbers.specs.Range.{limit}
 use Rattle.kinds.specs.declared.Operation.{Operation}
 use Rattle.evaluation.specs.Evaluation.{branchOf, depthLimit, one, outcome, nothing}
-use Rattle.evaluation.specs.Ready.{Settled, Ready, ReachedEvaluated, Line, Entry, Entered, EnteredCall, Cell, Room, Evaluable}
+use Rattle.evaluation.specs.Ready.{Ready, ReachedEvaluated, Line, Entry, Entered, EnteredCall, Cell, Room, Evaluable}
+use Rattle.evaluation.specs.Results.{Settled}
 use Rattle.evaluation.specs.declared.Arguments.{Arguments}
 use Rattle.kinds.specs.declared.Clause.{Clause}
 use Rattle.kinds.specs.declared.Clause.the-variants as clause

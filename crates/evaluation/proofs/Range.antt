@@ -21,9 +21,9 @@ use Rattle.numbers.specs.declared.Calculated.{Calculated}
 use Rattle.numbers.specs.declared.Calculated.the-variants as calculation
 use Rattle.numbers.proofs.Arithmetic.{calculated-size}
 use Rattle.evaluation.specs.States.{hasNumber, lastState}
-use Rattle.evaluation.specs.Results.{stateAt, numberAt}
+use Rattle.evaluation.specs.Results.{stateAt, numberAt, Settled}
 use Rattle.evaluation.specs.Evaluation.{Way, gives, fails, onNumber, unlessFailed, answerAt, outcomeOf, tieRule, depthLimit, bodyBy, callBy, operationBy, choiceBy, enteredBy, stepBy, within, outcome, nothing, valueOutcome}
-use Rattle.evaluation.specs.Ready.{Settled, Ready, Line}
+use Rattle.evaluation.specs.Ready.{Ready, Line}
 use Rattle.evaluation.specs.declared.Arguments.{Arguments}
 use Rattle.kinds.specs.declared.Clause.{Clause}
 use Rattle.kinds.specs.declared.Clause.the-variants as clause

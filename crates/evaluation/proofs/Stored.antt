@@ -16,9 +16,9 @@ use Rattle.cells.specs.Accepted.{Accepted}
 use Rattle.cells.proofs.Stores.{intAt-zeros, sets-before, sets-past, sets-in}
 use Rattle.numbers.specs.Range.{limit}
 use Rattle.evaluation.specs.States.{hasNumber, lastState}
-use Rattle.evaluation.specs.Results.{stateAt, numberAt, stored, store}
+use Rattle.evaluation.specs.Results.{stateAt, numberAt, stored, store, Settled}
 use Rattle.evaluation.specs.Evaluation.{valueOutcome, valueOf, evaluated}
-use Rattle.evaluation.specs.Ready.{Settled, Ready, Room, Evaluable}
+use Rattle.evaluation.specs.Ready.{Ready, Room, Evaluable}
 use Rattle.evaluation.specs.declared.Outcome.{Outcome}
 use Rattle.evaluation.specs.declared.Value.{Value}
 use Rattle.evaluation.proofs.Range.{Good, value-settled}

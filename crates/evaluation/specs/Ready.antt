@@ -15,15 +15,8 @@ use Rattle.cells.specs.Accepted.{Accepted}
 use Rattle.cells.specs.Reaches.{Reaches}
 use Rattle.numbers.specs.Range.{limit}
 use Rattle.evaluation.specs.declared.Arguments.{Arguments}
-use Rattle.evaluation.specs.States.{hasNumber, lastState}
-use Rattle.evaluation.specs.Results.{stateAt, numberAt}
+use Rattle.evaluation.specs.Results.{stateAt, Settled}
 use Rattle.evaluation.specs.Evaluation.{depthLimit}
-
--- label l's stored state is from `low` on and a state of document 01, and a stored number is in range
-pub record Settled (low : ℕ) (r : List ℤ) (l : ℕ) : Type 0 where
-  pub least : low ≤ stateAt r l
-  pub most : stateAt r l ≤ lastState
-  pub ranged : stateAt r l ≡ hasNumber → natAbs (numberAt r l) ≤ limit
 
 pub record Ready (t r : List ℤ) : Type 0 where
   pub count : ℕ

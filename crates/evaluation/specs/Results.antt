@@ -1,11 +1,14 @@
 -- Results have three cells a label, labels from 1: state, number and steps of label l stand from index 3 * (l - 1) on.
 -- As in a table, all is 0 of label 0 and past the end.
-use Prim.Native.Nat.{ℕ, zero, suc, _+_, _-_, _*_}
+use mathlib.Core.Path.{_≡_}
+use Prim.Native.Nat.{ℕ, zero, suc, _+_, _-_, _*_, _≤_}
 use mathlib.Core.List.{List, [], _∷_}
-use lib.IntN.{ℤ, pos}
+use lib.IntN.{ℤ, pos, natAbs}
 use lib.Seq.{sets}
 use Rattle.cells.specs.Cells.{intAt, natAt}
+use Rattle.numbers.specs.Range.{limit}
 use Rattle.evaluation.specs.declared.Value.{Value}
+use Rattle.evaluation.specs.States.{hasNumber, lastState}
 
 abbrev pub stateAt : List ℤ → ℕ → ℕ
 stateAt r zero = 0
@@ -26,3 +29,9 @@ stored r l = record { number = numberAt r l; state = stateAt r l; steps = stepsA
 -- results with v as those of label l
 abbrev pub store : List ℤ → ℕ → Value → List ℤ
 store r l v = sets r (3 * (l - 1)) (pos (v .state) ∷ v .number ∷ pos (v .steps) ∷ [])
+
+-- label l's stored state is from `low` on and a state of document 01, and a stored number is in range
+pub record Settled (low : ℕ) (r : List ℤ) (l : ℕ) : Type 0 where
+  pub least : low ≤ stateAt r l
+  pub most : stateAt r l ≤ lastState
+  pub ranged : stateAt r l ≡ hasNumber → natAbs (numberAt r l) ≤ limit

@@ -11,10 +11,10 @@ ghost use lib.ListN.{length};
 ghost use lib.IntN.{natAbs};
 ghost use Rattle.cells.specs.Table.{cell, numberOf, target};
 ghost use Rattle.numbers.specs.Range.{limit};
-ghost use Rattle.evaluation.specs.Results.{store};
+ghost use Rattle.evaluation.specs.Results.{store, Settled};
 ghost use Rattle.evaluation.specs.Evaluation.{gives, fails, answerAt, outcomeOf, tieRule, stepLimit, branchOf, callBy, operationBy, choiceBy, outcome, evaluated};
 ghost use Rattle.numbers.specs.Arithmetic.{calculated};
-ghost use Rattle.evaluation.specs.Ready.{Settled, Entry, Entered, EnteredCall, Cell, Room, Evaluable};
+ghost use Rattle.evaluation.specs.Ready.{Entry, Entered, EnteredCall, Cell, Room, Evaluable};
 
 // ---- what evaluation carries
 

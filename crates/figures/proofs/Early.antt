@@ -2,7 +2,7 @@
 use mathlib.Core.Path.{_≡_, refl, sym, ap, _∙_, subst}
 use mathlib.Core.List.{List, [], _∷_, _++_, append-assoc, append-nil}
 use mathlib.Core.Logic.{_⊎_, inl, inr}
-use Prim.Native.Nat.{ℕ, _+_, _*_, _≤_}
+use Prim.Native.Nat.{ℕ, _*_, _≤_}
 use native.Mathlib.Omega.{arith}
 use lib.IntN.{ℤ}
 use lib.ListN.{length}
@@ -18,8 +18,8 @@ use Rattle.order.specs.Evaluating.{down}
 use Rattle.order.proofs.Lists.{count-parts, in-here, in-left, in-right, in-append, in-single}
 use Rattle.order.proofs.Mixed.{listed-once, listed-value, mixed-proper}
 use Rattle.order.proofs.Evaluating.{run-append, run-fits, run-other}
-use Rattle.evaluation.specs.Results.{stored}
-use Rattle.evaluation.specs.Ready.{Settled, Ready, Evaluable}
+use Rattle.evaluation.specs.Results.{stored, Settled}
+use Rattle.evaluation.specs.Ready.{Ready, Evaluable}
 use Rattle.evaluation.specs.declared.Arguments.{Arguments}
 use Rattle.kinds.specs.declared.Clause.{Clause}
 use Rattle.kinds.specs.declared.Clause.the-variants as clause

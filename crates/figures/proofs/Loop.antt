@@ -19,7 +19,8 @@ use Rattle.order.proofs.Lists.{in-here, in-right}
 use Rattle.order.proofs.Mixed.{listed-value}
 use Rattle.order.proofs.Following.{proper-list}
 use Rattle.evaluation.specs.Evaluation.{evaluated}
-use Rattle.evaluation.specs.Ready.{Settled, Ready, ReachedEvaluated, Evaluable}
+use Rattle.evaluation.specs.Ready.{Ready, ReachedEvaluated, Evaluable}
+use Rattle.evaluation.specs.Results.{Settled}
 use Rattle.evaluation.proofs.Stored.{store-length, ready-zeros, ready-stored}
 use Rattle.figures.specs.Figures.{evaluateInto, resultCells}
 use Rattle.figures.specs.Down.{Listed}

@@ -9,7 +9,7 @@ use Rattle.kinds.specs.declared.Operation.{Operation}
 use Rattle.order.specs.Evaluating.{down}
 use Rattle.evaluation.specs.States.{hasNumber}
 use Rattle.evaluation.specs.Evaluation.{branchOf, depthLimit, stepLimit, one, outcome, nothing}
-use Rattle.evaluation.specs.Ready.{Settled}
+use Rattle.evaluation.specs.Results.{Settled}
 use Rattle.evaluation.specs.declared.Arguments.{Arguments}
 use Rattle.kinds.specs.declared.Clause.{Clause}
 use Rattle.kinds.specs.declared.Clause.the-variants as clause

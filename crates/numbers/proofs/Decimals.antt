@@ -13,7 +13,8 @@ use lib.IntN.{ℤ, pos, natAbs}
 use Rattle.cells.specs.Cells.{withSign}
 use Rattle.cells.proofs.Signed.{clash, withSign-size}
 use Rattle.numbers.specs.Range.{limit}
-use Rattle.numbers.specs.Decimal.{isDigit, allDigits, value, noLeadingZero, digitsOf, decimalOf, AtMost, signedOf, numberOf}
+use Rattle.numbers.specs.Decimal.{isDigit, allDigits, value, noLeadingZero, digitsOf, decimalOf, signedOf, numberOf}
+use Rattle.numbers.specs.Bounds.{AtMost}
 use Rattle.numbers.specs.declared.Decimal.{Decimal}
 use Rattle.numbers.specs.declared.Decimal.the-variants as decimal
 use Rattle.numbers.specs.declared.Number.{Number}

@@ -1,5 +1,5 @@
 -- Numbers as a field writes them, in bytes: 45 is `-`, 48 to 57 are the digits.
-use Prim.Native.Nat.{ℕ, _+_, _*_, _-_, _≤_}
+use Prim.Native.Nat.{ℕ, _+_, _*_, _-_}
 use mathlib.Core.Bool.{Bool, true, false, cond, not, _&&_}
 use mathlib.Core.List.{List, [], _∷_}
 use lib.Dec.{leb, eqb}
@@ -35,10 +35,6 @@ digitsOf max v f = cond (allDigits f && leb (value v f) max) (decimal.Is (value 
 -- decimal, no leading zero, at most max
 unfoldable pub decimalOf : ℕ → List ℕ → Decimal
 decimalOf max f = cond (noLeadingZero f) (digitsOf max 0 f) decimal.Not
-
-abbrev pub AtMost : ℕ → Decimal → Type 0
-AtMost max (decimal.Is v) = v ≤ max
-AtMost max decimal.Not = Unit {0}
 
 -- a decimal after its sign; there is no `-0`
 abbrev pub signedOf : Bool → Decimal → Number

@@ -3,4 +3,5 @@ pub mod Rounding
 pub mod Nearest
 pub mod Arithmetic
 pub mod Decimal
+pub mod Bounds
 pub mod Numerals

@@ -8,7 +8,8 @@ ghost use lib.IntN.{natAbs};
 ghost use Rattle.numbers.specs.Range.{limit};
 ghost use Rattle.numbers.specs.Rounding.{roundUp, quotient};
 ghost use Rattle.numbers.specs.Arithmetic.{rangedOf, calculated};
-ghost use Rattle.numbers.specs.Decimal.{AtMost, digitsOf, decimalOf, signedOf, numberOf};
+ghost use Rattle.numbers.specs.Decimal.{digitsOf, decimalOf, signedOf, numberOf};
+ghost use Rattle.numbers.specs.Bounds.{AtMost};
 use kinds::Operation;
 
 // ---- rounding

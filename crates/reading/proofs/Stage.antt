@@ -7,7 +7,8 @@ use lib.IntN.{ℤ}
 use lib.ListN.{length, drop}
 use lib.Seq.{take-at}
 use borrow.Author.Tests.{le-leb, lt-leb}
-use Rattle.cells.specs.Cells.{zeros, clearFrom}
+use Rattle.cells.specs.Cells.{zeros}
+use Rattle.cells.specs.Clearing.{clearFrom}
 use Rattle.cells.proofs.Clearing.{clear-split}
 use Rattle.refusals.specs.Refusal.{replyOf}
 use Rattle.refusals.specs.declared.Verdict.{Verdict}

@@ -3,7 +3,7 @@ use Prim.Native.Nat.{_-_}
 use native.Mathlib.Omega.{arith}
 use lib.ListN.{length, length-set}
 use lib.IntN.{pos}
-use Rattle.cells.specs.Cells.{clearFrom}
+use Rattle.cells.specs.Clearing.{clearFrom}
 use Rattle.cells.proofs.Clearing.{clear-step, clear-done}
 use Rattle.cells.proofs.clear_from.Statement.{statement}
 use Rattle.cells.proofs.clear_from.Tie as tie

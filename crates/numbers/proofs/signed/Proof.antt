@@ -5,7 +5,7 @@ use borrow.Author.Tests.{ne-eqb}
 use borrow.Author.Needs.{sfits-of, needs}
 use mir.Facts.{toZ-ofZ}
 use Rattle.numbers.specs.Range.{limit}
-use Rattle.numbers.specs.Decimal.{AtMost}
+use Rattle.numbers.specs.Bounds.{AtMost}
 use Rattle.numbers.specs.declared.Number.the-variants.{Is}
 use Rattle.numbers.proofs.signed.Statement.{statement}
 use Rattle.numbers.proofs.signed.Tie as tie

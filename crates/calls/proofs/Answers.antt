@@ -25,7 +25,7 @@ use Rattle.planning.specs.declared.Planned.{Planned}
 use Rattle.planning.specs.declared.Planned.the-variants as made
 use Rattle.calls.specs.Plan.{answerBy, listedBy, numberOf, lengthOf}
 use Rattle.calls.specs.Demand.{PlanKept}
-use Rattle.calls.specs.Stages.{keptBy}
+use Rattle.calls.specs.Stages.{keptBy, rowsOf, TablePlans}
 use Rattle.calls.specs.declared.PlanReply.{PlanReply}
 use Rattle.calls.specs.declared.PlanReply.the-variants as reply
 
@@ -150,7 +150,10 @@ module _ (t : List ℤ) (n : ℕ) (ok : Accepted t n) where
       go (whole o) h = order-short t n ok o (h .0)
       go (mixed o) h = order-short t n ok o (h .0)
 
-  -- where planning made x of a plan p and left p′, in a table w
-  pub planned-left : (w p p′ : List ℤ) (r : Planned) → PlanIs (plan t n) p p′ r → (x : Planned) (u q : List ℤ) → r ≡ x → u ≡ tableMade x w → q ≡ cellsMade x p′
-      → (replyMade x ≡ answerBy (cycleBad t n) (plan t n)) × ((u ≡ keptBy (cycleBad t n) w) × (q ≡ listedBy (cycleBad t n) (plan t n) (length p)))
-  planned-left w p p′ r is x u q e f g = rw (f, g, ← e, cycle-of) (made-left w p p′ r (plan t n) is)
+-- where planning made x of a plan p and left p′, in a table w
+pub table-plans : (n : ℕ) (w p p′ : List ℤ) (r : Planned) → Accepted (rowsOf n w) n → PlanIs (plan (rowsOf n w) n) p p′ r
+    → (x : Planned) (u q : List ℤ) → r ≡ x → u ≡ tableMade x w → q ≡ cellsMade x p′ → TablePlans n w (length p) (replyMade x) u q
+table-plans n w p p′ r ok is x u q e f g =
+    let c = cycle-of (rowsOf n w) n ok in
+    let k = made-left w p p′ r (plan (rowsOf n w) n) is in
+    record { reply = rw (← e, c) (k .0); table = rw (f, ← e, c) (k .1 .0); plan = rw (g, ← e, c) (k .1 .1) }

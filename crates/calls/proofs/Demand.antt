@@ -7,6 +7,7 @@ use lib.IntN.{ℤ}
 use lib.ListN.{length, take}
 use native.Mathlib.Omega.{arith}
 use borrow.Author.Tests.{le-leb}
+use Rattle.kinds.specs.Kinds.{valueCode}
 use Rattle.cells.specs.Cells.{zeros}
 use Rattle.cells.specs.Table.{kind}
 use Rattle.cells.specs.Accepted.{Accepted}
@@ -84,7 +85,7 @@ module _ (s : List ℕ) (m p q m′ q′ : ℕ) (e : Reads s) (f : runBuffers s 
         let r = proper-rows t n ok o l in
         rw (reads-planned s (followBuffers s m′ q′) e g, r .0, r .1)
 
-    same : (v : ℕ) → kind t v ≡ 2 → row 3 (followResults s o m′ q′) v ≡ row 3 (runResults s m p q) v
+    same : (v : ℕ) → kind t v ≡ valueCode → row 3 (followResults s o m′ q′) v ≡ row 3 (runResults s m p q) v
     same v k =
         let b = value-label t n ok v k in
         rw (follow-results, run-results)

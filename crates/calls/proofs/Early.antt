@@ -44,7 +44,9 @@ module _ (s : List ℕ) (m : ℕ) where
       let f = ordered-fine (plannedBad s (runBuffers s m p q)) (planOf s) h in
       let r = planned-reads s (runBuffers s m p q) f in
       let ok = read-accepted s (r .0) in
-      evaluated-down (sheetTable s) (labels s) ok (orderOf (planOf s)) (planned-proper (sheetTable s) (labels s) ok (r .2)) q (results-room s q (run-rooms s m p q (r .1) .2)) (resultsBy (plannedBad s (runBuffers s m p q)) s q) (rw f)
+      let proper = planned-proper (sheetTable s) (labels s) ok (r .2) in
+      let room = results-room s q (run-rooms s m p q (r .1) .2) in
+      evaluated-down (sheetTable s) (labels s) ok (orderOf (planOf s)) proper q room (resultsBy (plannedBad s (runBuffers s m p q)) s q) (rw f)
 
   pub follow-never-early : (o : List ℤ) (q k : ℕ) → followReply s o m q ≡ head.Answered k → EvaluatedDown (sheetTable s) (labelsOf o) q (followResults s o m q)
   unfolding followReply followResults followBad
@@ -54,7 +56,8 @@ module _ (s : List ℕ) (m : ℕ) where
       let r = planned-reads s (followBuffers s m q) (g .0) in
       let ok = read-accepted s (r .0) in
       let b = both-fine (tableShort s m) (resultsShort s q) (r .1) in
-      evaluated-down (sheetTable s) (labels s) ok (labelsOf o) (proper-list (sheetTable s) o .0 (order-proper (sheetTable s) (labels s) ok o (g .1))) q (results-room s q (b .1)) (resultsBy (followBad s o m q) s q) (rw f)
+      let proper = proper-list (sheetTable s) o .0 (order-proper (sheetTable s) (labels s) ok o (g .1)) in
+      evaluated-down (sheetTable s) (labels s) ok (labelsOf o) proper q (results-room s q (b .1)) (resultsBy (followBad s o m q) s q) (rw f)
     where
       rows : followBad s o m q ≡ Fine → (plannedBad s (followBuffers s m q) ≡ Fine) × (orderBad (sheetTable s) (labels s) o ≡ Fine)
       rows e = both-fine (plannedBad s (followBuffers s m q)) (orderBad (sheetTable s) (labels s) o) e

@@ -15,9 +15,10 @@ use Rattle.refusals.proofs.OrElse.{both-fine}
 use Rattle.lines.specs.Lines.{labels, headBad}
 use Rattle.lines.proofs.Heads.{headed}
 use Rattle.reading.specs.Read.{tableShort}
+use Rattle.reading.specs.Stages.{Passed}
 use Rattle.reading.proofs.Stage.{answered, refused}
 use Rattle.calls.specs.Buffers.{planShort, resultsShort, planBuffers, runBuffers}
-use Rattle.calls.specs.Stages.{shortBy}
+use Rattle.calls.specs.Stages.{shortBy, headReply}
 
 -- ---- row 4 of one buffer
 
@@ -72,47 +73,43 @@ module _ (v : Verdict) (n : ℕ) (q : Reply) (e : q ≡ replyOf v n) where
 
 -- ---- the buffers in turn, of a text s and replies q and x
 
--- a product with the number of labels is small
-pub few : (s : List ℕ) (q : Reply) → q ≡ replyOf (headBad s) (labels s) → (k : ℕ) → q ≡ reply.Answered k → k ≤ 1024
-few s q e k f = let a = answered (headBad s) (labels s) k (sym e ∙ f) in omega (arith, a .1, headed s (a .0) .high)
-
 module _ (s : List ℕ) (m : ℕ) (q : Reply) (e : q ≡ replyOf (headBad s) (labels s)) where
-  pub table-next : (k : ℕ) (x : Reply) → q ≡ reply.Answered k → x ≡ replyOf (shortBy (8 * k) m 1) k → x ≡ replyOf (orElse (headBad s) (tableShort s m)) (labels s)
+  pub table-next : (k : ℕ) (x : Reply) → q ≡ reply.Answered k → x ≡ replyOf (shortBy (8 * k) m 1) k → x ≡ headReply s (tableShort s m)
   unfolding tableShort
   table-next = next (headBad s) (labels s) q e (λ k. shortBy (8 * k) m 1)
 
-  pub table-stop : (r p : ℕ) → q ≡ reply.Refused r p → reply.Refused r p ≡ replyOf (orElse (headBad s) (tableShort s m)) (labels s)
+  pub table-stop : (r p : ℕ) → q ≡ reply.Refused r p → reply.Refused r p ≡ headReply s (tableShort s m)
   table-stop = stop (headBad s) (labels s) q e (tableShort s m)
 
 -- rows 1 to 3, and the buffers so far b
-module _ (s : List ℕ) (b : Verdict) (q : Reply) (e : q ≡ replyOf (orElse (headBad s) b) (labels s)) where
-  pub plan-next : (p k : ℕ) (x : Reply) → q ≡ reply.Answered k → x ≡ replyOf (shortBy k p 2) k → x ≡ replyOf (orElse (headBad s) (orElse b (planShort s p))) (labels s)
+module _ (s : List ℕ) (b : Verdict) (q : Reply) (e : q ≡ headReply s b) where
+  pub plan-next : (p k : ℕ) (x : Reply) → q ≡ reply.Answered k → x ≡ replyOf (shortBy k p 2) k → x ≡ headReply s (orElse b (planShort s p))
   unfolding planShort
   plan-next p k x f g =
       rw (← or-all) (next (orElse (headBad s) b) (labels s) q e (λ k. shortBy k p 2) k x f g)
 
-  pub results-next : (r k : ℕ) (x : Reply) → q ≡ reply.Answered k → x ≡ replyOf (shortBy (3 * k) r 3) k → x ≡ replyOf (orElse (headBad s) (orElse b (resultsShort s r))) (labels s)
+  pub results-next : (r k : ℕ) (x : Reply) → q ≡ reply.Answered k → x ≡ replyOf (shortBy (3 * k) r 3) k → x ≡ headReply s (orElse b (resultsShort s r))
   unfolding resultsShort
   results-next r k x f g =
       rw (← or-all) (next (orElse (headBad s) b) (labels s) q e (λ k. shortBy (3 * k) r 3) k x f g)
 
-  pub buffer-stop : (w : Verdict) (r p : ℕ) → q ≡ reply.Refused r p → reply.Refused r p ≡ replyOf (orElse (headBad s) (orElse b w)) (labels s)
+  pub buffer-stop : (w : Verdict) (r p : ℕ) → q ≡ reply.Refused r p → reply.Refused r p ≡ headReply s (orElse b w)
   buffer-stop w r p f = rw (← or-all) (stop (orElse (headBad s) b) (labels s) q e w r p f)
 
   -- they found nothing, and answered the number of labels
-  pub opened : (k : ℕ) → q ≡ reply.Answered k → (headBad s ≡ Fine) × (b ≡ Fine) × (k ≡ labels s) × (k ≤ 1024)
+  pub opened : (k : ℕ) → q ≡ reply.Answered k → Passed s k × (b ≡ Fine)
   opened k f =
       let a = answered (orElse (headBad s) b) (labels s) k (sym e ∙ f) in
       let h = both-fine (headBad s) b (a .0) in
-      (h .0, h .1, a .1, omega (arith, a .1, headed s (h .0) .high))
+      (record { head = h .0; count = a .1; few = omega (arith, a .1, headed s (h .0) .high) }, h .1)
 
   pub shut : (r p : ℕ) → q ≡ reply.Refused r p → orElse (headBad s) b ≡ Refused r p
   shut r p f = refused (orElse (headBad s) b) (labels s) r p (sym e ∙ f)
 
 -- Run's three buffers
-module _ (s : List ℕ) (m p : ℕ) (q : Reply) (e : q ≡ replyOf (orElse (headBad s) (planBuffers s m p)) (labels s)) where
-  pub run-next : (r k : ℕ) (x : Reply) → q ≡ reply.Answered k → x ≡ replyOf (shortBy (3 * k) r 3) k → x ≡ replyOf (orElse (headBad s) (runBuffers s m p r)) (labels s)
+module _ (s : List ℕ) (m p : ℕ) (q : Reply) (e : q ≡ headReply s (planBuffers s m p)) where
+  pub run-next : (r k : ℕ) (x : Reply) → q ≡ reply.Answered k → x ≡ replyOf (shortBy (3 * k) r 3) k → x ≡ headReply s (runBuffers s m p r)
   run-next r k x f g = rw (← or-all (tableShort s m) (planShort s p) (resultsShort s r)) (results-next s (planBuffers s m p) q e r k x f g)
 
-  pub run-stop : (r i l : ℕ) → q ≡ reply.Refused i l → reply.Refused i l ≡ replyOf (orElse (headBad s) (runBuffers s m p r)) (labels s)
+  pub run-stop : (r i l : ℕ) → q ≡ reply.Refused i l → reply.Refused i l ≡ headReply s (runBuffers s m p r)
   run-stop r i l f = rw (← or-all (tableShort s m) (planShort s p) (resultsShort s r)) (buffer-stop s (planBuffers s m p) q e (resultsShort s r) i l f)

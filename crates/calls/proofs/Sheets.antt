@@ -3,7 +3,7 @@ use mathlib.Core.Path.{_≡_, refl, sym, ap, _∙_}
 use mathlib.Core.List.{List}
 use Prim.Native.Nat.{ℕ, _-_, _*_}
 use lib.IntN.{ℤ}
-use lib.ListN.{length, take}
+use lib.ListN.{length}
 use lib.Seq.{take-at}
 use Rattle.cells.specs.Cells.{zeros}
 use Rattle.cells.specs.Accepted.{Accepted}
@@ -12,13 +12,13 @@ use Rattle.refusals.specs.declared.Verdict.{Verdict}
 use Rattle.refusals.specs.declared.Verdict.the-variants.{Fine, Refused}
 use Rattle.refusals.proofs.OrElse.{both-fine}
 use Rattle.lines.specs.Lines.{labels, headBad}
-use Rattle.order.specs.Order.{plan}
 use Rattle.order.specs.Rows.{cycleBad}
 use Rattle.reading.specs.Read.{sheetBad, sheetTable, Reads, tableOf}
+use Rattle.reading.specs.Stages.{Passed, SheetReads}
 use Rattle.reading.proofs.Accepted.{reads, read-accepted, read-length}
 use Rattle.calls.specs.Plan.{openBad, plannedBad, planOf, answerBy, listedBy}
 use Rattle.calls.specs.Demand.{PlanKept}
-use Rattle.calls.specs.Stages.{sheetPlanned, keptBy}
+use Rattle.calls.specs.Stages.{sheetPlanned, keptBy, rowsOf, PlanBy, TablePlans, SheetPlans}
 use Rattle.calls.specs.declared.PlanReply.{PlanReply}
 use Rattle.calls.specs.declared.PlanReply.the-variants as reply
 use Rattle.calls.proofs.Answers.{plan-kept}
@@ -35,40 +35,39 @@ table-left Fine s m t e l = e
 table-left (Refused r p) s m t e l = ap zeros l
 
 -- the rows of n labels in a table t that holds those of a sheet that reads
-pub rows-taken : (s : List ℕ) (m n : ℕ) (t : List ℤ) → Reads s → n ≡ labels s → t ≡ tableOf Fine s m → take (8 * n) t ≡ sheetTable s
+pub rows-taken : (s : List ℕ) (m n : ℕ) (t : List ℤ) → Reads s → n ≡ labels s → t ≡ tableOf Fine s m → rowsOf n t ≡ sheetTable s
 rows-taken s m n t e is f = rw (is, f) (take-at (sheetTable s) (zeros (m - 8 * labels s)) (8 * labels s) (read-length s e))
 
-module _ (s : List ℕ) (m : ℕ) where
-  -- ---- rows 5 to 16
+-- ---- rows 5 to 16
 
-  -- reply, table and plan where they find v
-  abbrev pub Stands : Verdict → ℕ → PlanReply → List ℤ → List ℤ → Type 0
-  Stands v p r t q = (r ≡ answerBy v (planOf s)) × ((t ≡ tableOf v s m) × (q ≡ listedBy v (planOf s) p))
+pub refused-plans : (v : Verdict) (s : List ℕ) (m p r l : ℕ) (t q : List ℤ) → v ≡ Refused r l → t ≡ zeros m → q ≡ zeros p → PlanBy v s m p (reply.Refused r l) t q
+refused-plans v s m p r l t q e f g = record { reply = rw e; table = rw e f; plan = rw e g }
 
-  pub refused-stands : (v : Verdict) (p r l : ℕ) (t q : List ℤ) → v ≡ Refused r l → t ≡ zeros m → q ≡ zeros p → Stands v p (reply.Refused r l) t q
-  refused-stands v p r l t q e f g = rw e (refl, (f, g))
+-- rows 5 to 15 found v and left t
+module _ (s : List ℕ) (m n : ℕ) (h : Passed s n) (v : Verdict) (t : List ℤ) (b : SheetReads s m v t) where
+  sheet-reads : v ≡ Fine → Reads s
+  sheet-reads f = reads s (h .head) (sym (b .found) ∙ f)
 
-  -- rows 5 to 15 found v and left t
-  module _ (h : headBad s ≡ Fine) (n : ℕ) (is : n ≡ labels s) (v : Verdict) (t : List ℤ) (found : v ≡ sheetBad s) (left : v ≡ Fine → t ≡ tableOf Fine s m) where
-    sheet-reads : v ≡ Fine → Reads s
-    sheet-reads f = reads s h (sym found ∙ f)
+  pub sheet-rows : v ≡ Fine → rowsOf n t ≡ sheetTable s
+  sheet-rows f = rows-taken s m n t (sheet-reads f) (h .count) (b .left f)
 
-    pub sheet-rows : v ≡ Fine → take (8 * n) t ≡ sheetTable s
-    sheet-rows f = rows-taken s m n t (sheet-reads f) is (left f)
+  pub sheet-ready : v ≡ Fine → Accepted (rowsOf n t) n
+  sheet-ready f = rw (sheet-rows f, h .count) (read-accepted s (sheet-reads f))
 
-    pub sheet-ready : v ≡ Fine → Accepted (take (8 * n) t) n
-    sheet-ready f = rw (sheet-rows f, is) (read-accepted s (sheet-reads f))
+  pub sheet-plans : (p : ℕ) (r : PlanReply) (u q : List ℤ) → v ≡ Fine → length t ≡ m → TablePlans n t p r u q → SheetPlans s m p r u q
+  unfolding sheetPlanned planOf
+  sheet-plans p r u q f l k =
+      let e = sym (b .found) ∙ f in
+      let left = table-left (cycleBad (rowsOf n t) n) s m t (b .left f) l in
+      record {
+        reply = rw (e, ← sheet-rows f, ← h .count) (k .reply);
+        table = rw (e, ← sheet-rows f, ← h .count) (k .table ∙ left);
+        plan = rw (e, ← sheet-rows f, ← h .count) (k .plan);
+      }
 
-    pub sheet-stands : (p : ℕ) (r : PlanReply) (u q : List ℤ) → v ≡ Fine → length t ≡ m
-        → r ≡ answerBy (cycleBad (take (8 * n) t) n) (plan (take (8 * n) t) n) → u ≡ keptBy (cycleBad (take (8 * n) t) n) t
-        → q ≡ listedBy (cycleBad (take (8 * n) t) n) (plan (take (8 * n) t) n) p → Stands (sheetPlanned s) p r u q
-    unfolding sheetPlanned planOf
-    sheet-stands p r u q f l a b c =
-        rw (sym found ∙ f, ← sheet-rows f, ← is) (a, (b ∙ table-left (cycleBad (take (8 * n) t) n) s m t (left f) l, c))
-
-    pub sheet-refused : (r l : ℕ) → v ≡ Refused r l → sheetPlanned s ≡ Refused r l
-    unfolding sheetPlanned
-    sheet-refused r l f = rw (sym found ∙ f)
+  pub sheet-refused : (r l : ℕ) → v ≡ Refused r l → sheetPlanned s ≡ Refused r l
+  unfolding sheetPlanned
+  sheet-refused r l f = rw (sym (b .found) ∙ f)
 
 -- ---- rows 1 to 16, where row 4 finds b
 
@@ -111,16 +110,10 @@ module _ (s : List ℕ) (b : Verdict) where
     unfolding planOf
     kept p = rw reads-planned (plan-kept (sheetTable s) (labels s) (read-accepted s e) p)
 
-  -- reply, table and plan of all rows, and demand 3's promise of them
-  abbrev pub Left : ℕ → ℕ → PlanReply → List ℤ → List ℤ → Type 0
-  Left m p r t q =
-      (r ≡ answerBy (plannedBad s b) (planOf s))
-      × ((t ≡ tableOf (plannedBad s b) s m)
-      × ((q ≡ listedBy (plannedBad s b) (planOf s) p)
-      × (Reads s → b ≡ Fine → PlanKept (sheetTable s) r q)))
-
-  pub left-by : (m : ℕ) (v : Verdict) (p : ℕ) (r : PlanReply) (t q : List ℤ) → plannedBad s b ≡ v → Stands s m v p r t q → Left m p r t q
-  left-by m v p r t q e (a, (x, c)) =
-      let f : r ≡ answerBy (plannedBad s b) (planOf s) = rw e a in
-      let g : q ≡ listedBy (plannedBad s b) (planOf s) p = rw e c in
-      (f, (rw e x, (g, λ o h. rw (f, g) (kept o h p))))
+  -- demand 3's promise, where all rows find v
+  pub promise : (m p : ℕ) (v : Verdict) (r : PlanReply) (t q : List ℤ) → plannedBad s b ≡ v → PlanBy v s m p r t q
+      → Reads s → b ≡ Fine → PlanKept (sheetTable s) r q
+  promise m p v r t q e k o h =
+      let f : r ≡ answerBy (plannedBad s b) (planOf s) = rw e (k .reply) in
+      let g : q ≡ listedBy (plannedBad s b) (planOf s) p = rw e (k .plan) in
+      rw (f, g) (kept o h p)

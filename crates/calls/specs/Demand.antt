@@ -6,6 +6,7 @@ use mathlib.Core.List.{List}
 use Prim.Native.Nat.{ℕ}
 use lib.IntN.{ℤ}
 use lib.ListN.{length, take}
+use Rattle.kinds.specs.Kinds.{valueCode}
 use Rattle.cells.specs.Cells.{zeros}
 use Rattle.cells.specs.Table.{kind}
 use Rattle.refusals.specs.Refusal as refusal
@@ -40,7 +41,7 @@ pub record Demand3 (s : List ℕ) (m p q m′ q′ : ℕ) : Type 0 where
   -- "Whatever list Follow is handed, it accepts exactly when that list is a proper order of the sheet"
   pub accepts : (o : List ℤ) → (refusal.numberOf (followReply s o m′ q′) ≡ 0) ↔ ProperList (sheetTable s) o
   -- "Whichever proper order that is, Follow gives every value the same state, number and step count as Run does": its three cells
-  pub same : (o : List ℤ) → ProperList (sheetTable s) o → (v : ℕ) → kind (sheetTable s) v ≡ 2 → row 3 (followResults s o m′ q′) v ≡ row 3 (runResults s m p q) v
+  pub same : (o : List ℤ) → ProperList (sheetTable s) o → (v : ℕ) → kind (sheetTable s) v ≡ valueCode → row 3 (followResults s o m′ q′) v ≡ row 3 (runResults s m p q) v
   -- "and they are those of document 01's Working out": they satisfy its rules, and no others do
   pub evaluated : (o : List ℤ) → ProperList (sheetTable s) o → Evaluated (sheetTable s) (followResults s o m′ q′)
   pub only : (o : List ℤ) → ProperList (sheetTable s) o → (r : List ℤ) → length r ≡ q′ → Evaluated (sheetTable s) r → r ≡ followResults s o m′ q′

@@ -1,23 +1,16 @@
 // Plan, Run and Follow: document 01's rows of refusals in their order, and what each call writes. A refused call leaves nothing but zeros.
 
 ghost use mathlib.Core.Path.{_≡_};
-ghost use mathlib.Core.Logic.{_↔_};
 ghost use Prim.Native.Nat.{_*_, _≤_};
-ghost use lib.ListN.{length, take};
+ghost use lib.ListN.{length};
 ghost use Rattle.cells.specs.Cells.{zeros};
 ghost use Rattle.cells.specs.Accepted.{Accepted};
-ghost use Rattle.refusals.specs.Refusal.{orElse, replyOf, numberOf};
-ghost use Rattle.lines.specs.Lines.{labels, headBad};
-ghost use Rattle.order.specs.Order as Order;
-ghost use Rattle.order.specs.Following.{ProperList};
-ghost use Rattle.order.specs.Rows.{cycleBad};
-ghost use Rattle.reading.specs.Read.{tableShort, sheetTable, Reads, tableOf};
+ghost use Rattle.refusals.specs.Refusal.{replyOf};
+ghost use Rattle.reading.specs.Read.{tableShort};
+ghost use Rattle.reading.specs.Stages.{Passed};
 ghost use Rattle.calls.specs.Buffers.{planBuffers, runBuffers, followBuffers};
-ghost use Rattle.calls.specs.Plan.{planOf, answerBy, listedBy, planReply, planTable, planCells};
-ghost use Rattle.calls.specs.Run.{resultsBy, runReply, runTable, runPlan, runResults};
-ghost use Rattle.calls.specs.Follow.{followReply, followTable, followResults};
-ghost use Rattle.calls.specs.Stages.{shortBy, sheetPlanned, sheetFollowed, keptBy};
-ghost use Rattle.calls.specs.Demand.{PlanKept};
+ghost use Rattle.calls.specs.Leaves.{PlanLeaves, RunLeaves, FollowLeaves};
+ghost use Rattle.calls.specs.Stages.{shortBy, headReply, rowsOf, TablePlans, SheetPlans, SheetRuns, RowsFollow, SheetFollows};
 use planning::Planned;
 use refusals::Reply;
 use refusals::Verdict;
@@ -43,7 +36,7 @@ fn with_room(n: u64, cells: usize, least: usize, place: u64) -> Reply
 
 // Rows 1 to 4 of a call that is lent a table of so many cells.
 fn head_table(text: &[u8], table: usize) -> Reply
-    ensures { λ r. ⌜ r ≡ replyOf (orElse (headBad (now (text .entry))) (tableShort (now (text .entry)) table)) (labels (now (text .entry))) ⌝ }
+    ensures { λ r. ⌜ r ≡ headReply (now (text .entry)) (tableShort (now (text .entry)) table) ⌝ }
 {
     match lines::check_head(text) {
         Reply::Answered(n) => with_room(n, table, 8 * n as usize, 1),
@@ -53,7 +46,7 @@ fn head_table(text: &[u8], table: usize) -> Reply
 
 // Rows 1 to 4 of Plan: a table and a plan.
 fn head_plan(text: &[u8], table: usize, plan: usize) -> Reply
-    ensures { λ r. ⌜ r ≡ replyOf (orElse (headBad (now (text .entry))) (planBuffers (now (text .entry)) table plan)) (labels (now (text .entry))) ⌝ }
+    ensures { λ r. ⌜ r ≡ headReply (now (text .entry)) (planBuffers (now (text .entry)) table plan) ⌝ }
 {
     match head_table(text, table) {
         Reply::Answered(n) => with_room(n, plan, n as usize, 2),
@@ -63,7 +56,7 @@ fn head_plan(text: &[u8], table: usize, plan: usize) -> Reply
 
 // Rows 1 to 4 of Run: a table, a plan and results.
 fn head_run(text: &[u8], table: usize, plan: usize, results: usize) -> Reply
-    ensures { λ r. ⌜ r ≡ replyOf (orElse (headBad (now (text .entry))) (runBuffers (now (text .entry)) table plan results)) (labels (now (text .entry))) ⌝ }
+    ensures { λ r. ⌜ r ≡ headReply (now (text .entry)) (runBuffers (now (text .entry)) table plan results) ⌝ }
 {
     match head_plan(text, table, plan) {
         Reply::Answered(n) => with_room(n, results, 3 * n as usize, 3),
@@ -73,7 +66,7 @@ fn head_run(text: &[u8], table: usize, plan: usize, results: usize) -> Reply
 
 // Rows 1 to 4 of Follow: a table and results, and no plan.
 fn head_follow(text: &[u8], table: usize, results: usize) -> Reply
-    ensures { λ r. ⌜ r ≡ replyOf (orElse (headBad (now (text .entry))) (followBuffers (now (text .entry)) table results)) (labels (now (text .entry))) ⌝ }
+    ensures { λ r. ⌜ r ≡ headReply (now (text .entry)) (followBuffers (now (text .entry)) table results) ⌝ }
 {
     match head_table(text, table) {
         Reply::Answered(n) => with_room(n, results, 3 * n as usize, 3),
@@ -97,10 +90,8 @@ fn clear_both(first: &mut [i64], second: &mut [i64])
 // Row 16, and the plan of a table whose rows of n labels are accepted. Planning leaves the cells behind the order as they were, so they
 // are cleared here.
 fn plan_table(n: usize, table: &mut [i64], plan: &mut [i64]) -> PlanReply
-    requires { ⌜ Accepted (take (8 * n) (now table)) n × (8 * n ≤ length (now table)) × (n ≤ length (now plan)) ⌝ }
-    ensures { λ r. ⌜ r ≡ answerBy (cycleBad (take (8 * n) (now (table .entry))) n) (Order.plan (take (8 * n) (now (table .entry))) n) ⌝ }
-    ensures { λ _. ⌜ now (table .exit) ≡ keptBy (cycleBad (take (8 * n) (now (table .entry))) n) (now (table .entry)) ⌝ }
-    ensures { λ _. ⌜ now (plan .exit) ≡ listedBy (cycleBad (take (8 * n) (now (table .entry))) n) (Order.plan (take (8 * n) (now (table .entry))) n) (length (now (plan .entry))) ⌝ }
+    requires { ⌜ Accepted (rowsOf n (now table)) n × (8 * n ≤ length (now table)) × (n ≤ length (now plan)) ⌝ }
+    ensures { λ r. ⌜ TablePlans n (now (table .entry)) (length (now (plan .entry))) r (now (table .exit)) (now (plan .exit)) ⌝ }
 {
     match planning::plan_of(&table[..8 * n], n, plan) {
         Planned::Whole(whole) => {
@@ -120,10 +111,8 @@ fn plan_table(n: usize, table: &mut [i64], plan: &mut [i64]) -> PlanReply
 
 // Rows 5 to 16 of a text that rows 1 to 4 let pass, with its table and plan: Run plans by it too.
 fn plan_sheet(text: &[u8], n: usize, table: &mut [i64], plan: &mut [i64]) -> PlanReply
-    requires { ⌜ (headBad (now text) ≡ Verdict.Fine) × (n ≡ labels (now text)) × (8 * n ≤ length (now table)) × (n ≤ length (now plan)) ⌝ }
-    ensures { λ r. ⌜ r ≡ answerBy (sheetPlanned (now (text .entry))) (planOf (now (text .entry))) ⌝ }
-    ensures { λ _. ⌜ now (table .exit) ≡ tableOf (sheetPlanned (now (text .entry))) (now (text .entry)) (length (now (table .entry))) ⌝ }
-    ensures { λ _. ⌜ now (plan .exit) ≡ listedBy (sheetPlanned (now (text .entry))) (planOf (now (text .entry))) (length (now (plan .entry))) ⌝ }
+    requires { ⌜ Passed (now text) n × (8 * n ≤ length (now table)) × (n ≤ length (now plan)) ⌝ }
+    ensures { λ r. ⌜ SheetPlans (now (text .entry)) (length (now (table .entry))) (length (now (plan .entry))) r (now (table .exit)) (now (plan .exit)) ⌝ }
 {
     match reading::read_sheet(text, n, table) {
         Verdict::Fine => plan_table(n, table, plan),
@@ -137,10 +126,7 @@ fn plan_sheet(text: &[u8], n: usize, table: &mut [i64], plan: &mut [i64]) -> Pla
 // Plan: writes the sheet's table and its plan, and answers the plan's length and whether it is whole or mixed; or gives the first
 // refusal that applies.
 pub fn plan(text: &[u8], table: &mut [i64], plan: &mut [i64]) -> PlanReply
-    ensures { λ r. ⌜ r ≡ planReply (now (text .entry)) (length (now (table .entry))) (length (now (plan .entry))) ⌝ }
-    ensures { λ _. ⌜ now (table .exit) ≡ planTable (now (text .entry)) (length (now (table .entry))) (length (now (plan .entry))) ⌝ }
-    ensures { λ _. ⌜ now (plan .exit) ≡ planCells (now (text .entry)) (length (now (table .entry))) (length (now (plan .entry))) ⌝ }
-    ensures { λ r. ⌜ (Reads (now (text .entry)) → planBuffers (now (text .entry)) (length (now (table .entry))) (length (now (plan .entry))) ≡ Verdict.Fine → PlanKept (sheetTable (now (text .entry))) r (now (plan .exit))) ⌝ }
+    ensures { λ r. ⌜ PlanLeaves (now (text .entry)) (length (now (table .entry))) (length (now (plan .entry))) r (now (table .exit)) (now (plan .exit)) ⌝ }
 {
     match head_plan(text, table.len(), plan.len()) {
         Reply::Answered(n) => plan_sheet(text, n as usize, table, plan),
@@ -161,11 +147,8 @@ fn run_sheet(
     plan: &mut [i64],
     results: &mut [i64],
 ) -> PlanReply
-    requires { ⌜ (headBad (now text) ≡ Verdict.Fine) × (n ≡ labels (now text)) × (8 * n ≤ length (now table)) × (n ≤ length (now plan)) × (3 * n ≤ length (now results)) ⌝ }
-    ensures { λ r. ⌜ r ≡ answerBy (sheetPlanned (now (text .entry))) (planOf (now (text .entry))) ⌝ }
-    ensures { λ _. ⌜ now (table .exit) ≡ tableOf (sheetPlanned (now (text .entry))) (now (text .entry)) (length (now (table .entry))) ⌝ }
-    ensures { λ _. ⌜ now (plan .exit) ≡ listedBy (sheetPlanned (now (text .entry))) (planOf (now (text .entry))) (length (now (plan .entry))) ⌝ }
-    ensures { λ _. ⌜ now (results .exit) ≡ resultsBy (sheetPlanned (now (text .entry))) (now (text .entry)) (length (now (results .entry))) ⌝ }
+    requires { ⌜ Passed (now text) n × (8 * n ≤ length (now table)) × (n ≤ length (now plan)) × (3 * n ≤ length (now results)) ⌝ }
+    ensures { λ r. ⌜ SheetRuns (now (text .entry)) (length (now (table .entry))) (length (now (plan .entry))) (length (now (results .entry))) r (now (table .exit)) (now (plan .exit)) (now (results .exit)) ⌝ }
 {
     match plan_sheet(text, n, table, plan) {
         PlanReply::Whole(count) => {
@@ -185,11 +168,7 @@ fn run_sheet(
 
 // Run: works down the plan as well, and writes each value's state, number and steps. It answers as Plan does.
 pub fn run(text: &[u8], table: &mut [i64], plan: &mut [i64], results: &mut [i64]) -> PlanReply
-    ensures { λ r. ⌜ r ≡ runReply (now (text .entry)) (length (now (table .entry))) (length (now (plan .entry))) (length (now (results .entry))) ⌝ }
-    ensures { λ _. ⌜ now (table .exit) ≡ runTable (now (text .entry)) (length (now (table .entry))) (length (now (plan .entry))) (length (now (results .entry))) ⌝ }
-    ensures { λ _. ⌜ now (plan .exit) ≡ runPlan (now (text .entry)) (length (now (table .entry))) (length (now (plan .entry))) (length (now (results .entry))) ⌝ }
-    ensures { λ _. ⌜ now (results .exit) ≡ runResults (now (text .entry)) (length (now (table .entry))) (length (now (plan .entry))) (length (now (results .entry))) ⌝ }
-    ensures { λ r. ⌜ (Reads (now (text .entry)) → runBuffers (now (text .entry)) (length (now (table .entry))) (length (now (plan .entry))) (length (now (results .entry))) ≡ Verdict.Fine → PlanKept (sheetTable (now (text .entry))) r (now (plan .exit))) ⌝ }
+    ensures { λ r. ⌜ RunLeaves (now (text .entry)) (length (now (table .entry))) (length (now (plan .entry))) (length (now (results .entry))) r (now (table .exit)) (now (plan .exit)) (now (results .exit)) ⌝ }
 {
     match head_run(text, table.len(), plan.len(), results.len()) {
         Reply::Answered(n) => run_sheet(text, n as usize, table, plan, results),
@@ -205,9 +184,8 @@ pub fn run(text: &[u8], table: &mut [i64], plan: &mut [i64], results: &mut [i64]
 
 // Rows 5 to 18 of a text that rows 1 to 4 let pass, and its table. Where they refuse, the table is for the caller to clear.
 fn follow_rows(text: &[u8], n: usize, order: &[i64], table: &mut [i64]) -> Verdict
-    requires { ⌜ (headBad (now text) ≡ Verdict.Fine) × (n ≡ labels (now text)) × (8 * n ≤ length (now table)) ⌝ }
-    ensures { λ r. ⌜ r ≡ sheetFollowed (now (text .entry)) (now (order .entry)) ⌝ }
-    ensures { λ r. ⌜ (r ≡ Verdict.Fine → now (table .exit) ≡ tableOf Verdict.Fine (now (text .entry)) (length (now (table .entry)))) ⌝ }
+    requires { ⌜ Passed (now text) n × (8 * n ≤ length (now table)) ⌝ }
+    ensures { λ r. ⌜ RowsFollow (now (text .entry)) (now (order .entry)) (length (now (table .entry))) r (now (table .exit)) ⌝ }
 {
     match reading::read_sheet(text, n, table) {
         Verdict::Fine => following::check_order(&table[..8 * n], n, order),
@@ -223,10 +201,8 @@ fn follow_sheet(
     table: &mut [i64],
     results: &mut [i64],
 ) -> Reply
-    requires { ⌜ (headBad (now text) ≡ Verdict.Fine) × (n ≡ labels (now text)) × (8 * n ≤ length (now table)) × (3 * n ≤ length (now results)) ⌝ }
-    ensures { λ r. ⌜ r ≡ replyOf (sheetFollowed (now (text .entry)) (now (order .entry))) (length (now (order .entry))) ⌝ }
-    ensures { λ _. ⌜ now (table .exit) ≡ tableOf (sheetFollowed (now (text .entry)) (now (order .entry))) (now (text .entry)) (length (now (table .entry))) ⌝ }
-    ensures { λ _. ⌜ now (results .exit) ≡ resultsBy (sheetFollowed (now (text .entry)) (now (order .entry))) (now (text .entry)) (length (now (results .entry))) ⌝ }
+    requires { ⌜ Passed (now text) n × (8 * n ≤ length (now table)) × (3 * n ≤ length (now results)) ⌝ }
+    ensures { λ r. ⌜ SheetFollows (now (text .entry)) (now (order .entry)) (length (now (table .entry))) (length (now (results .entry))) r (now (table .exit)) (now (results .exit)) ⌝ }
 {
     match follow_rows(text, n, order, table) {
         Verdict::Fine => {
@@ -242,10 +218,7 @@ fn follow_sheet(
 
 // Follow: works down an order list that it is lent, if that is a proper order of the sheet, and answers its length.
 pub fn follow(text: &[u8], order: &[i64], table: &mut [i64], results: &mut [i64]) -> Reply
-    ensures { λ r. ⌜ r ≡ followReply (now (text .entry)) (now (order .entry)) (length (now (table .entry))) (length (now (results .entry))) ⌝ }
-    ensures { λ _. ⌜ now (table .exit) ≡ followTable (now (text .entry)) (now (order .entry)) (length (now (table .entry))) (length (now (results .entry))) ⌝ }
-    ensures { λ _. ⌜ now (results .exit) ≡ followResults (now (text .entry)) (now (order .entry)) (length (now (table .entry))) (length (now (results .entry))) ⌝ }
-    ensures { λ r. ⌜ (Reads (now (text .entry)) → followBuffers (now (text .entry)) (length (now (table .entry))) (length (now (results .entry))) ≡ Verdict.Fine → (numberOf r ≡ 0) ↔ ProperList (sheetTable (now (text .entry))) (now (order .entry))) ⌝ }
+    ensures { λ r. ⌜ FollowLeaves (now (text .entry)) (now (order .entry)) (length (now (table .entry))) (length (now (results .entry))) r (now (table .exit)) (now (results .exit)) ⌝ }
 {
     match head_follow(text, table.len(), results.len()) {
         Reply::Answered(n) => follow_sheet(text, n as usize, order, table, results),

@@ -12,11 +12,8 @@ use lib.Signed.{ltZ, nonNeg, mag}
 use mir.Syntax.{w64}
 use mir.Val.{toZ, ofZ, SFits, Fits}
 use mir.Facts.{toZ-ofZ, fits-natAbs}
+pub use Rattle.kinds.proofs.Tests.{clash}
 use Rattle.cells.specs.Cells.{isNegative, equals, natOf, withSign}
-
--- a test's two answers at once
-pub clash : {X : Type 0} → _≡_ {A = Bool} true false → X
-clash e = let z : _≡_ {A = ℕ} 0 1 = cc in absurd (omega arith)
 
 -- ---- signs
 

@@ -1,9 +1,11 @@
 -- A table has eight cells a label, labels from 1: label l's row starts at index 8 * (l - 1).
 -- Structure is read in ℕ: a cell is 0 of label 0, past the end, and where it is negative.
+use mathlib.Core.Bool.{Bool}
 use Prim.Native.Nat.{ℕ, zero, suc, _+_, _*_}
 use mathlib.Core.List.{List}
 use lib.IntN.{ℤ, pos}
 use lib.ListN.{set}
+use Rattle.kinds.specs.Kinds as kinds
 use Rattle.cells.specs.Cells.{intAt, natAt}
 
 -- cell j (0 to 7) of label l
@@ -19,6 +21,19 @@ entry t (suc k) j = intAt t (8 * k + j)
 -- the kind code
 abbrev pub kind : List ℤ → ℕ → ℕ
 kind t l = cell t l 0
+
+-- what line l is, by its kind; what is no label is nothing of it
+abbrev pub isDefinition : List ℤ → ℕ → Bool
+isDefinition t l = kinds.isDefinition (kind t l)
+
+abbrev pub isExpression : List ℤ → ℕ → Bool
+isExpression t l = kinds.isExpression (kind t l)
+
+abbrev pub hasBody : List ℤ → ℕ → Bool
+hasBody t l = kinds.hasBody (kind t l)
+
+abbrev pub hasPath : List ℤ → ℕ → Bool
+hasPath t l = kinds.hasPath (kind t l)
 
 -- the byte start (from 0) and the length of the name field; 0 and 0 for `-`
 abbrev pub nameStart : List ℤ → ℕ → ℕ

@@ -6,13 +6,14 @@ use native.Mathlib.Omega.{arith}
 use borrow.Author.Tests.{eq-eqb, ne-eqb}
 use lib.Dec.{eqb}
 use lib.IntN.{ℤ}
+use Rattle.kinds.specs.Kinds.{clauseOf}
 use Rattle.cells.specs.Table.{kind, fieldA, fieldB, target}
 use Rattle.numbers.specs.Arithmetic.{calculated}
-use Rattle.numbers.specs.declared.Operation.{Operation}
+use Rattle.kinds.specs.declared.Operation.{Operation}
 use Rattle.evaluation.specs.States.{hasNumber, outOfSteps, tooDeep}
-use Rattle.evaluation.specs.Evaluation.{fails, onNumber, unlessFailed, outcomeOf, tieRule, kindOf, depthLimit, one, bodyBy, callBy, operationBy, branchOf, choiceBy, enteredBy, stepBy, outcome, nothing, stepLimit, valueOutcome, valueOf, evaluated}
+use Rattle.evaluation.specs.Evaluation.{fails, onNumber, unlessFailed, outcomeOf, tieRule, depthLimit, one, bodyBy, callBy, operationBy, branchOf, choiceBy, enteredBy, stepBy, outcome, nothing, stepLimit, valueOutcome, valueOf, evaluated}
 use Rattle.evaluation.specs.declared.Arguments.{Arguments}
-use Rattle.evaluation.specs.declared.Kind.{Kind}
+use Rattle.kinds.specs.declared.Clause.{Clause}
 use Rattle.evaluation.specs.declared.Outcome.{Outcome}
 use Rattle.evaluation.proofs.Steps.{unrolled}
 
@@ -72,7 +73,7 @@ pub no-step : (t r : List ℤ) (l : ℕ) (g : Arguments) (s d : ℕ) {u : Outcom
 unfolding stepBy
 no-step t r l g s d e q = rw e (q ∙ unrolled t r l g 0 d)
 
-pub entered : (t r : List ℤ) (l : ℕ) (g : Arguments) (s d : ℕ) {s′ d′ : ℕ} {k : Kind} {u : Outcome} → (s ≡ 0 → ⊥) → s′ ≡ s - 1 → d′ ≡ d → k ≡ kindOf (kind t l)
+pub entered : (t r : List ℤ) (l : ℕ) (g : Arguments) (s d : ℕ) {s′ d′ : ℕ} {k : Clause} {u : Outcome} → (s ≡ 0 → ⊥) → s′ ≡ s - 1 → d′ ≡ d → k ≡ clauseOf (kind t l)
     → u ≡ enteredBy (outcome t r) t r k l g s′ d′ → u ≡ outcome t r l g s d
 unfolding stepBy
 entered t r l g zero d ne es ed ek e = absurd (ne refl)

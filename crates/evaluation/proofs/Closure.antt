@@ -1,32 +1,39 @@
 -- Evaluation stays among the expressions of a set D of definitions that has the functions it mentions: operands have their
 -- expression's owner, and a call goes on in its target.
-use mathlib.Core.Path.{_≡_, refl, sym, subst}
+use mathlib.Core.Path.{_≡_, refl, sym, ap, subst, _∙_}
 use mathlib.Core.Bool.{Bool, true, false, cond}
 use mathlib.Core.List.{List}
 use mathlib.Core.Logic.{_⊎_, inl, inr}
 use Prim.Native.Nat.{ℕ, zero, suc, _≤_, _<_}
 use native.Mathlib.Omega.{arith}
 use lib.IntN.{ℤ, natAbs}
+use Rattle.kinds.specs.Kinds.{valueCode, numberCode, hasPath, hasBody, operandA, operandB, operandC, wantedBy, takes, clauseOf}
+use Rattle.kinds.proofs.Tests.{clash}
+use Rattle.kinds.proofs.Laws.{kind-low, definition-kind, body-definition, path-body}
+use Rattle.kinds.proofs.Clauses.{usesOf, expression-uses, path-uses, a-uses, b-uses, c-uses, number-code, read-value, call-takes, call-some}
 use Rattle.cells.specs.Cells.{equals}
 use Rattle.cells.specs.Table.{kind, fieldA, fieldB, fieldC, owner, target, numberOf}
 use Rattle.cells.specs.Accepted.{Accepted, Part, HasBody}
 use Rattle.cells.specs.Reaches.{HasPath, Mentions, Reaches, once, then}
 use Rattle.numbers.specs.Range.{limit}
-use Rattle.evaluation.specs.Evaluation.{kindOf, branchOf}
+use Rattle.evaluation.specs.Evaluation.{branchOf}
 use Rattle.evaluation.specs.Ready.{Line, Cell}
-use Rattle.evaluation.specs.declared.Kind.{Kind}
-use Rattle.evaluation.specs.declared.Kind.the-variants as kinds
-use Rattle.evaluation.proofs.Codes.{by-code}
+use Rattle.kinds.specs.declared.Clause.{Clause}
+use Rattle.kinds.specs.declared.Clause.the-variants as clause
 
 -- expression x of a table of n labels is owned by a definition of D
 pub record Within (t : List ℤ) (n : ℕ) (D : ℕ → Type 0) (x : ℕ) : Type 0 where
   pub line : Line t n x
   pub owned : D (owner t x)
 
+-- definition d has a body that takes arguments
+abbrev pub IsFunction : List ℤ → ℕ → Type 0
+IsFunction t d = 1 ≤ takes (kind t d)
+
 -- what D mentions is of E, and the functions of E are of D
 pub record Closed (t : List ℤ) (D E : ℕ → Type 0) : Type 0 where
   pub on : (d e : ℕ) → D d → Mentions t d e → E e
-  pub back : (e : ℕ) → kind t e ≡ 3 → E e → D e
+  pub back : (e : ℕ) → IsFunction t e → E e → D e
 
 -- ---- sets of definitions
 
@@ -39,7 +46,7 @@ all-closed t = record { on = λ d e h m. tt; back = λ e k h. tt }
 
 -- v and the functions that v reaches
 abbrev pub From : List ℤ → ℕ → ℕ → Type 0
-From t v d = (d ≡ v) ⊎ ((kind t d ≡ 3) × Reaches t v d)
+From t v d = (d ≡ v) ⊎ (IsFunction t d × Reaches t v d)
 
 pub from-closed : (t : List ℤ) (v : ℕ) → Closed t (From t v) (Reaches t v)
 from-closed t v = record { on = go; back = λ e k r. inr (k, r) }
@@ -69,30 +76,27 @@ positive t (suc x) h = omega arith
 module _ (t : List ℤ) (n : ℕ) (w : Accepted t n) where
   -- a definition with a body has its label in the table
   pub body-label : (x : ℕ) → HasBody t x → (1 ≤ x) × (x ≤ n)
-  body-label x h = (low h, omega (arith, w .body x h .above, w .body x h .label))
-    where
-      low : HasBody t x → 1 ≤ x
-      low (inl e) = positive t x (omega arith)
-      low (inr e) = positive t x (omega arith)
+  body-label x h =
+      (positive t x (kind-low (kind t x) (definition-kind (kind t x) (body-definition (kind t x) h))), omega (arith, w .body x h .above, w .body x h .label))
 
   -- a cell other than the number of an N line
-  pub cell-ok : (l j : ℕ) → 1 ≤ l → l ≤ n → j < 8 → (kind t l ≡ 4 → j ≡ 3 → ⊥) → Cell t l j
+  pub cell-ok : (l j : ℕ) → 1 ≤ l → l ≤ n → j < 8 → (kind t l ≡ numberCode → j ≡ 3 → ⊥) → Cell t l j
   cell-ok l j h k c f = record { low = h; room = omega (arith, w .room); column = c; natural = w .natural l j h k c f }
 
   module _ (D E : ℕ → Type 0) (c : Closed t D E) where
-    -- what a line of a kind leads to
-    unfoldable pub Leads : Kind → ℕ → Type 0
-    Leads kinds.Number l = natAbs (numberOf t l) ≤ limit
-    Leads kinds.Argument l = Unit {0}
-    Leads kinds.Read l = (kind t (target t l) ≡ 2) × E (target t l)
-    Leads kinds.Call l = Within t n D (fieldA t l) × Within t n D (fieldB t (target t l)) × (kind t (target t l) ≡ 3) × D (target t l)
-    Leads (kinds.Operation op) l = Within t n D (fieldA t l) × Within t n D (fieldB t l)
-    Leads kinds.Choice l = Within t n D (fieldA t l) × ((y : ℤ) → Within t n D (branchOf t l y))
-    Leads kinds.Other l = ⊥
+    -- what a line leads to by its clause
+    unfoldable pub Leads : Clause → ℕ → Type 0
+    Leads clause.Number l = natAbs (numberOf t l) ≤ limit
+    Leads (clause.Argument i) l = Unit {0}
+    Leads clause.Read l = (kind t (target t l) ≡ valueCode) × E (target t l)
+    Leads (clause.Call k) l = Within t n D (fieldA t l) × Within t n D (fieldB t (target t l)) × HasBody t (target t l) × D (target t l)
+    Leads (clause.Operation op) l = Within t n D (fieldA t l) × Within t n D (fieldB t l)
+    Leads clause.Choice l = Within t n D (fieldA t l) × ((y : ℤ) → Within t n D (branchOf t l y))
+    Leads clause.None l = ⊥
 
     part : (l d x : ℕ) → Part t n l d x → D d → Within t n D x
     part l d x p h = record {
-      line = record { low = omega (arith, p .above); high = p .label; least = p .low; most = p .high };
+      line = record { low = omega (arith, p .above); high = p .label; expression = p .expression };
       owned = subst D (sym (p .owned)) h;
     }
 
@@ -100,30 +104,42 @@ module _ (t : List ℤ) (n : ℕ) (w : Accepted t n) where
     body-within x h d = part x x (fieldB t x) (w .body x h) d
 
     module _ (l : ℕ) (h : Within t n D l) where
-      most : kind t l ≤ 12
-      most = h .line .most
+      pub first : operandA (kind t l) ≡ true → Within t n D (fieldA t l)
+      first e = part l (owner t l) (fieldA t l) (w .first l e) (h .owned)
 
-      pub first : 7 ≤ kind t l → Within t n D (fieldA t l)
-      first k = part l (owner t l) (fieldA t l) (w .first l k most) (h .owned)
+      second : operandB (kind t l) ≡ true → Within t n D (fieldB t l)
+      second e = part l (owner t l) (fieldB t l) (w .second l e) (h .owned)
 
-      second : 8 ≤ kind t l → Within t n D (fieldB t l)
-      second k = part l (owner t l) (fieldB t l) (w .second l k most) (h .owned)
-
-      branch : kind t l ≡ 12 → (b : Bool) → Within t n D (cond b (fieldC t l) (fieldB t l))
-      branch k true = part l (owner t l) (fieldC t l) (w .third l k) (h .owned)
-      branch k false = second (omega arith)
+      branch : operandB (kind t l) ≡ true → operandC (kind t l) ≡ true → (b : Bool) → Within t n D (cond b (fieldC t l) (fieldB t l))
+      branch e f true = part l (owner t l) (fieldC t l) (w .third l f) (h .owned)
+      branch e f false = second e
 
       aim : HasPath t l → E (target t l)
       aim p = c .on (owner t l) (target t l) (h .owned) (mentions t l p)
 
-      called : kind t l ≡ 7 → D (target t l)
-      called e = c .back (target t l) (w .calls l e) (aim (inr e))
+      -- where a path leads has a body
+      target-body : HasPath t l → HasBody t (target t l)
+      target-body p = rw (w .leads l p) (path-body (kind t l) p)
 
-      pub leads : Leads (kindOf (kind t l)) l
+      called : (k : ℕ) → clauseOf (kind t l) ≡ clause.Call k → HasPath t l → D (target t l)
+      called k e p =
+          let some = call-some (kind t l) k e in
+          c .back (target t l) (omega (arith, ap takes (w .leads l p), call-takes (kind t l) k e)) (aim p)
+
+      pub leads : Leads (clauseOf (kind t l)) l
       unfolding Leads
-      leads =
-          by-code (λ k. Leads k l) (kind t l) (λ e. w .number l e) (λ e. tt) (λ e. (w .reads l e, aim (inl e)))
-          (λ e. (first (omega arith), body-within (target t l) (inr (w .calls l e)) (called e), w .calls l e, called e))
-          (λ op a b. (first (omega arith), second a))
-          (λ e. (first (omega arith), λ y. branch e (equals 0 y)))
-          (λ f. f (h .line .least) most)
+      leads = go (clauseOf (kind t l)) refl
+        where
+          go : (k : Clause) → clauseOf (kind t l) ≡ k → Leads k l
+          go clause.None e = clash (sym (h .line .expression) ∙ expression-uses (kind t l) ∙ ap (λ k. usesOf k .some) e)
+          go clause.Number e = w .number l (number-code (kind t l) e)
+          go (clause.Argument i) e = tt
+          go clause.Read e = let p = path-uses (kind t l) ∙ ap (λ k. usesOf k .target) e in (w .leads l p ∙ read-value (kind t l) e, aim p)
+          go (clause.Call k) e =
+              let p = path-uses (kind t l) ∙ ap (λ k. usesOf k .target) e in
+              let a = a-uses (kind t l) ∙ ap (λ k. usesOf k .a) e in
+              (first a, body-within (target t l) (target-body p) (called k e p), target-body p, called k e p)
+          go (clause.Operation op) e = (first (a-uses (kind t l) ∙ ap (λ k. usesOf k .a) e), second (b-uses (kind t l) ∙ ap (λ k. usesOf k .b) e))
+          go clause.Choice e =
+              let b = b-uses (kind t l) ∙ ap (λ k. usesOf k .b) e in
+              (first (a-uses (kind t l) ∙ ap (λ k. usesOf k .a) e), λ y. branch b (c-uses (kind t l) ∙ ap (λ k. usesOf k .c) e) (equals 0 y))

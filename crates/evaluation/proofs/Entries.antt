@@ -1,61 +1,58 @@
 -- What the calls of the cycle ask: an entry leads to the entries of its operands, the cells that it reads are there, and a value that it
 -- reads has been evaluated.
 use mathlib.Core.Path.{_≡_, refl, sym, ap, _∙_, subst}
+use mathlib.Core.Bool.{true}
 use mathlib.Core.List.{List}
-use mathlib.Core.Logic.{inl, inr}
+use mathlib.Core.Logic.{inl}
 use Prim.Native.Nat.{ℕ, _+_, _*_, _≤_, _<_}
 use native.Mathlib.Omega.{arith}
 use lib.IntN.{ℤ, natAbs}
 use lib.ListN.{length}
+use Rattle.kinds.specs.Kinds.{valueCode, numberCode, operandA, clauseOf}
+use Rattle.kinds.proofs.Tests.{clash}
+use Rattle.kinds.proofs.Codes.{value-body}
+use Rattle.kinds.proofs.Clauses.{usesOf, a-uses}
+use Rattle.kinds.proofs.Plans.{number-plain}
 use Rattle.cells.specs.Table.{kind, fieldA, fieldB, owner, target}
 use Rattle.cells.specs.Reaches.{Reaches}
 use Rattle.numbers.specs.Range.{limit}
-use Rattle.numbers.specs.declared.Operation.{Operation}
-use Rattle.evaluation.specs.Evaluation.{kindOf, branchOf, depthLimit, one, outcome, nothing}
-use Rattle.evaluation.specs.Ready.{Ready, ReachedEvaluated, Line, Entry, Entered, Cell, Room, Evaluable}
+use Rattle.kinds.specs.declared.Operation.{Operation}
+use Rattle.evaluation.specs.Evaluation.{branchOf, depthLimit, one, outcome, nothing}
+use Rattle.evaluation.specs.Ready.{Ready, ReachedEvaluated, Line, Entry, Entered, EnteredCall, Cell, Room, Evaluable}
 use Rattle.evaluation.specs.Results.{Settled}
 use Rattle.evaluation.specs.declared.Arguments.{Arguments}
-use Rattle.evaluation.specs.declared.Kind.{Kind}
-use Rattle.evaluation.specs.declared.Kind.the-variants as kinds
+use Rattle.kinds.specs.declared.Clause.{Clause}
+use Rattle.kinds.specs.declared.Clause.the-variants as clause
 use Rattle.evaluation.specs.declared.Outcome.{Outcome}
-use Rattle.evaluation.proofs.Codes.{by-code}
 use Rattle.evaluation.proofs.Closure.{Within, From, from-closed, from-reaches, Leads, leads, first, body-within, body-label, cell-ok}
 use Rattle.evaluation.proofs.Range.{in-range}
 use Rattle.evaluation.proofs.Steps.{left-less}
 
--- the kinds that evaluate operands
-abbrev pub Composite : Kind → Type 0
-Composite kinds.Number = ⊥
-Composite kinds.Argument = ⊥
-Composite kinds.Read = ⊥
-Composite kinds.Call = Unit {0}
-Composite (kinds.Operation op) = Unit {0}
-Composite kinds.Choice = Unit {0}
-Composite kinds.Other = ⊥
+-- the clauses that evaluate operands, their field a first
+abbrev pub Composite : Clause → Type 0
+Composite k = usesOf k .a ≡ true
 
-composite : (c : ℕ) → Composite (kindOf c) → 7 ≤ c
-composite c =
-    by-code (λ k. Composite k → 7 ≤ c) c (λ e h. absurd h) (λ e h. absurd h) (λ e h. absurd h) (λ e h. omega arith)
-    (λ op a b h. omega arith) (λ e h. omega arith) (λ f h. absurd h)
-
--- the kind that the code found
-pub is-kind : {c n : ℕ} {k k′ : Kind} → c ≡ n → k ≡ kindOf c → k ≡ k′ → k′ ≡ kindOf n
-is-kind p q e = sym e ∙ q ∙ ap kindOf p
+-- the clause that the code found
+pub is-kind : {c n : ℕ} {k k′ : Clause} → c ≡ n → k ≡ clauseOf c → k ≡ k′ → k′ ≡ clauseOf n
+is-kind p q e = sym e ∙ q ∙ ap clauseOf p
 
 -- where what v reaches has been evaluated, so has what a function that v reaches does
 handed-on : (t r : List ℤ) (v d : ℕ) → From t v d → ReachedEvaluated t r v → ReachedEvaluated t r d
 handed-on t r v d f h w k p = h w k (from-reaches t v d w f p)
 
 -- and it has a state from 1 to 5
-pub reached-settled : {t r : List ℤ} {d : ℕ} → Ready t r → ReachedEvaluated t r d → (w : ℕ) → kind t w ≡ 2 → Reaches t d w → Settled 1 r w
+pub reached-settled : {t r : List ℤ} {d : ℕ} → Ready t r → ReachedEvaluated t r d → (w : ℕ) → kind t w ≡ valueCode → Reaches t d w → Settled 1 r w
 reached-settled q h w k p = let s = q .settled w in record { least = h w k p; most = s .most; ranged = s .ranged }
 
 module _ {t r : List ℤ} {l : ℕ} {g : Arguments} {d : ℕ} where
-  pub as-kind : Entry t r l g d → {d′ c : ℕ} {k k′ : Kind} → d′ ≡ d → c ≡ kind t l → k ≡ kindOf c → k ≡ k′ → Entered k′ t r l g d′
+  pub as-kind : Entry t r l g d → {d′ c : ℕ} {k k′ : Clause} → d′ ≡ d → c ≡ kind t l → k ≡ clauseOf c → k ≡ k′ → Entered k′ t r l g d′
   as-kind e h p q x = record {
     entry = record { ready = e .ready; line = e .line; given = e .given; shallow = rw h (e .shallow); reached = e .reached };
     of = sym (is-kind p q x);
   }
+
+  pub as-call : Entry t r l g d → {d′ c n : ℕ} {k : Clause} → d′ ≡ d → c ≡ kind t l → k ≡ clauseOf c → k ≡ clause.Call n → EnteredCall t r l g d′
+  as-call e {n = n} h p q x = record { count = n; entered = as-kind e h p q x }
 
   -- a cell other than field a, of any line
   pub line-cell : Entry t r l g d → (j : ℕ) → j < 8 → (j ≡ 3 → ⊥) → Cell t l j
@@ -74,7 +71,7 @@ module _ {t r : List ℤ} {l : ℕ} {g : Arguments} {d : ℕ} where
     reached = subst (λ (n : ℕ). ReachedEvaluated t r (owner t n)) (sym p) (handed-on t r (owner t l) (owner t x) (h .owned) (e .reached));
   }
 
-  module _ {k : Kind} (e : Entered k t r l g d) where
+  module _ {k : Clause} (e : Entered k t r l g d) where
     abbrev Own : ℕ → Type 0
     Own x = From t (owner t l) x
 
@@ -86,49 +83,49 @@ module _ {t r : List ℤ} {l : ℕ} {g : Arguments} {d : ℕ} where
 
     has : Leads t (e .entry .ready .count) (e .entry .ready .accepted) Own Reached (from-closed t (owner t l)) k l
     has =
-        subst (λ (k : Kind). Leads t (e .entry .ready .count) (e .entry .ready .accepted) Own Reached (from-closed t (owner t l)) k l) (e .of)
+        subst (λ (k : Clause). Leads t (e .entry .ready .count) (e .entry .ready .accepted) Own Reached (from-closed t (owner t l)) k l) (e .of)
         (leads t (e .entry .ready .count) (e .entry .ready .accepted) Own Reached (from-closed t (owner t l)) l here)
 
-    from-seven : Composite k → 7 ≤ kind t l
-    from-seven c = composite (kind t l) (subst Composite (sym (e .of)) c)
+    operand : Composite k → operandA (kind t l) ≡ true
+    operand c = a-uses (kind t l) ∙ ap (λ k. usesOf k .a) (e .of) ∙ c
 
     pub operand-cell : Composite k → (j : ℕ) → j < 8 → Cell t l j
     operand-cell c j i =
-        let h = from-seven c in
-        cell-ok t (e .entry .ready .count) (e .entry .ready .accepted) l j (e .entry .line .low) (e .entry .line .high) i (λ x _. omega arith)
+        cell-ok t (e .entry .ready .count) (e .entry .ready .accepted) l j (e .entry .line .low) (e .entry .line .high) i
+        (λ x _. clash (sym (operand c) ∙ ap operandA x ∙ number-plain))
 
     pub first-entry : Composite k → {x : ℕ} → x ≡ fieldA t l → Entry t r x g d
     first-entry c p =
-        enter (e .entry) p (first t (e .entry .ready .count) (e .entry .ready .accepted) Own Reached (from-closed t (owner t l)) l here (from-seven c))
+        enter (e .entry) p (first t (e .entry .ready .count) (e .entry .ready .accepted) Own Reached (from-closed t (owner t l)) l here (operand c))
 
-  pub second-entry : {op : Operation} → Entered (kinds.Operation op) t r l g d → {x : ℕ} → x ≡ fieldB t l → Entry t r x g d
+  pub second-entry : {op : Operation} → Entered (clause.Operation op) t r l g d → {x : ℕ} → x ≡ fieldB t l → Entry t r x g d
   unfolding Leads
   second-entry e p = enter (e .entry) p (has e .1)
 
-  pub branch-entry : Entered kinds.Choice t r l g d → (y : ℤ) {x : ℕ} → x ≡ branchOf t l y → Entry t r x g d
+  pub branch-entry : Entered clause.Choice t r l g d → (y : ℤ) {x : ℕ} → x ≡ branchOf t l y → Entry t r x g d
   unfolding Leads
   branch-entry e y p = enter (e .entry) p (has e .1 y)
 
-  pub body-entry : Entered kinds.Call t r l g d → {x z : ℕ} {y : ℤ} → z ≡ target t l → x ≡ fieldB t z → natAbs y ≤ limit → d + 1 ≤ depthLimit → Entry t r x (one y) (d + 1)
+  pub body-entry : {k : ℕ} → Entered (clause.Call k) t r l g d → {x z : ℕ} {y : ℤ} → z ≡ target t l → x ≡ fieldB t z → natAbs y ≤ limit → d + 1 ≤ depthLimit → Entry t r x (one y) (d + 1)
   unfolding Leads
-  body-entry e {x} {z} p q h k =
+  body-entry e {x} {z} p q h s =
       let b = enter (e .entry) (q ∙ ap (fieldB t) p) (has e .1) in
-      record { ready = b .ready; line = b .line; given = h; shallow = k; reached = b .reached }
+      record { ready = b .ready; line = b .line; given = h; shallow = s; reached = b .reached }
 
-  pub body-cell : Entered kinds.Call t r l g d → {z : ℕ} → z ≡ target t l → Cell t z 4
+  pub body-cell : {k : ℕ} → Entered (clause.Call k) t r l g d → {z : ℕ} → z ≡ target t l → Cell t z 4
   unfolding Leads
   body-cell e {z} p =
       let q = e .entry .ready in
-      let b = body-label t (q .count) (q .accepted) (target t l) (inr (has e .2)) in
+      let b = body-label t (q .count) (q .accepted) (target t l) (has e .2) in
       subst (λ (x : ℕ). Cell t x 4) (sym p) (cell-ok t (q .count) (q .accepted) (target t l) 4 (b .0) (b .1) (omega arith) (λ _ x. omega arith))
 
   -- the target is a value that the definition reaches
-  pub read-asks : Entered kinds.Read t r l g d → Cell t l 7 × Room r (target t l) × Settled 1 r (target t l)
+  pub read-asks : Entered clause.Read t r l g d → Cell t l 7 × Room r (target t l) × Settled 1 r (target t l)
   unfolding Leads
   read-asks e =
       let q = e .entry .ready in
       let h = has e in
-      let b = body-label t (q .count) (q .accepted) (target t l) (inl (h .0)) in (
+      let b = body-label t (q .count) (q .accepted) (target t l) (rw (h .0) value-body) in (
         line-cell (e .entry) 7 (omega arith) (λ x. omega arith),
         record { low = b .0; room = omega (arith, b .1, q .room) },
         reached-settled q (e .entry .reached) (target t l) (h .0) (h .1),
@@ -148,7 +145,7 @@ module _ (t r : List ℤ) (x : ℕ) (g : Arguments) (s d : ℕ) {o : Outcome} (p
 
 module _ {t r : List ℤ} {v : ℕ} (e : Evaluable t r v) where
   label : (1 ≤ v) × (v ≤ e .ready .count)
-  label = body-label t (e .ready .count) (e .ready .accepted) v (inl (e .value))
+  label = body-label t (e .ready .count) (e .ready .accepted) v (rw (e .value) value-body)
 
   pub value-cell : Cell t v 4
   value-cell = cell-ok t (e .ready .count) (e .ready .accepted) v 4 (label .0) (label .1) (omega arith) (λ _ x. omega arith)
@@ -158,7 +155,7 @@ module _ {t r : List ℤ} {v : ℕ} (e : Evaluable t r v) where
 
   pub value-entry : {x : ℕ} → x ≡ fieldB t v → Entry t r x nothing 0
   value-entry p =
-      let b = body-within t (e .ready .count) (e .ready .accepted) (From t v) (Reaches t v) (from-closed t v) v (inl (e .value)) (inl refl) in
+      let b = body-within t (e .ready .count) (e .ready .accepted) (From t v) (Reaches t v) (from-closed t v) v (rw (e .value) value-body) (inl refl) in
       record {
         ready = e .ready;
         line = subst (λ (n : ℕ). Line t (e .ready .count) n) (sym p) (b .line);

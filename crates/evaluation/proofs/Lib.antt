@@ -1,4 +1,3 @@
-pub mod Codes
 pub mod Steps
 pub mod Closure
 pub mod Range

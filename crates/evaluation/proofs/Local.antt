@@ -8,15 +8,17 @@ use Prim.Native.Nat.{ℕ, zero, suc, _≤_}
 use native.Mathlib.Omega.{arith}
 use native.Mathlib.Nat.{le-refl}
 use lib.IntN.{ℤ}
+use Rattle.kinds.specs.Kinds.{valueCode, clauseOf}
+use Rattle.kinds.proofs.Codes.{value-body}
 use Rattle.cells.specs.Cells.{equals}
 use Rattle.cells.specs.Table.{kind, fieldA, fieldB, fieldC, owner, target, numberOf}
 use Rattle.cells.specs.Accepted.{Accepted}
 use Rattle.cells.specs.Reaches.{Reaches}
 use Rattle.evaluation.specs.Results.{stateAt, numberAt}
-use Rattle.evaluation.specs.Evaluation.{answerAt, kindOf, enteredBy, stepBy, outcome, nothing, stepLimit, valueOutcome}
+use Rattle.evaluation.specs.Evaluation.{answerAt, enteredBy, stepBy, outcome, nothing, stepLimit, valueOutcome}
 use Rattle.evaluation.specs.declared.Arguments.{Arguments}
-use Rattle.evaluation.specs.declared.Kind.{Kind}
-use Rattle.evaluation.specs.declared.Kind.the-variants as kinds
+use Rattle.kinds.specs.declared.Clause.{Clause}
+use Rattle.kinds.specs.declared.Clause.the-variants as clause
 use Rattle.evaluation.proofs.Steps.{Agreed, Asks, entered-agreed, unrolled, left-less}
 use Rattle.evaluation.proofs.Closure.{Within, From, from-closed, Leads, leads, body-within}
 
@@ -39,7 +41,7 @@ abbrev pub Concerns : List ℤ → ℕ → ℕ → Type 0
 Concerns t v x = From t v x ⊎ From t v (owner t x)
 
 module _ (t t′ r r′ : List ℤ) (n : ℕ) (w : Accepted t n) (v : ℕ) (lines : (x : ℕ) → Concerns t v x → SameLine t t′ x)
-    (answers : (x : ℕ) → kind t x ≡ 2 → Reaches t v x → SameAnswer r r′ x) where
+    (answers : (x : ℕ) → kind t x ≡ valueCode → Reaches t v x → SameAnswer r r′ x) where
   abbrev Own : ℕ → Type 0
   Own x = Within t n (From t v) x
 
@@ -50,17 +52,17 @@ module _ (t t′ r r′ : List ℤ) (n : ℕ) (w : Accepted t n) (v : ℕ) (line
   unfolding answerAt
   same-answer x x′ s e a = rw (← e, a .state, a .number)
 
-  asks : (k : Kind) (l : ℕ) → Own l → Leads t n w (From t v) (Reaches t v) (from-closed t v) k l → Asks t t′ r r′ Own k l
+  asks : (k : Clause) (l : ℕ) → Own l → Leads t n w (From t v) (Reaches t v) (from-closed t v) k l → Asks t t′ r r′ Own k l
   unfolding Asks Leads
-  asks kinds.Number l o q = same l o .number
-  asks kinds.Argument l o q = tt
-  asks kinds.Read l o q = λ s. same-answer (target t l) (target t′ l) s (same l o .aim) (answers (target t l) (q .0) (q .1))
-  asks kinds.Call l o q =
+  asks clause.Number l o q = same l o .number
+  asks (clause.Argument i) l o q = tt
+  asks clause.Read l o q = λ s. same-answer (target t l) (target t′ l) s (same l o .aim) (answers (target t l) (q .0) (q .1))
+  asks (clause.Call n) l o q =
       ((q .0, same l o .first), (q .1, lines (target t l) (inl (q .3)) .second ∙ ap (fieldB t′) (same l o .aim)))
-  asks (kinds.Operation op) l o q = ((q .0, same l o .first), (q .1, same l o .second))
-  asks kinds.Choice l o q =
+  asks (clause.Operation op) l o q = ((q .0, same l o .first), (q .1, same l o .second))
+  asks clause.Choice l o q =
       ((q .0, same l o .first), λ y. (q .1 y, λ i. cond (equals 0 y) (same l o .third i) (same l o .second i)))
-  asks kinds.Other l o q = absurd q
+  asks clause.None l o q = absurd q
 
   none : (l : ℕ) (g : Arguments) (d : ℕ) → Agreed 0 (outcome t r l g 0 d) (outcome t′ r′ l g 0 d)
   unfolding stepBy
@@ -74,23 +76,23 @@ module _ (t t′ r r′ : List ℤ) (n : ℕ) (w : Accepted t n) (v : ℕ) (line
   up-to (suc f) l g zero d o h = none l g d
   up-to zero l g (suc s) d o h = absurd (omega arith)
   up-to (suc f) l g (suc s) d o h =
-      let k : Kind = kindOf (kind t l) in
+      let k : Clause = clauseOf (kind t l) in
       let e = entered-agreed t t′ r r′ Own (outcome t r) (outcome t′ r′) s (λ l g n d o i. up-to f l g n d o (omega arith)) k l g d
       (asks k l o (leads t n w (From t v) (Reaches t v) (from-closed t v) l o)) in
       record {
-        same = sym (unrolled t r l g (suc s) d) ∙ e .same ∙ ap (λ k. enteredBy (outcome t′ r′) t′ r′ (kindOf k) l g s d) (same l o .kinds) ∙ unrolled t′ r′ l g (suc s) d;
+        same = sym (unrolled t r l g (suc s) d) ∙ e .same ∙ ap (λ k. enteredBy (outcome t′ r′) t′ r′ (clauseOf k) l g s d) (same l o .kinds) ∙ unrolled t′ r′ l g (suc s) d;
         less = left-less t r l g (suc s) d;
       }
 
-  pub value-local : kind t v ≡ 2 → valueOutcome t r v ≡ valueOutcome t′ r′ v
+  pub value-local : kind t v ≡ valueCode → valueOutcome t r v ≡ valueOutcome t′ r′ v
   unfolding valueOutcome
   value-local k =
       up-to stepLimit (fieldB t v) nothing stepLimit 0
-      (body-within t n w (From t v) (Reaches t v) (from-closed t v) v (inl k) (inl refl)) (le-refl stepLimit) .same
+      (body-within t n w (From t v) (Reaches t v) (from-closed t v) v (rw k value-body) (inl refl)) (le-refl stepLimit) .same
       ∙ ap (λ x. outcome t′ r′ x nothing stepLimit 0) (lines v (inl (inl refl)) .second)
 
 -- one table: the results count through the stored answers of the values that v reaches
-pub results-local : (t r r′ : List ℤ) (n : ℕ) → Accepted t n → (v : ℕ) → kind t v ≡ 2
-    → ((x : ℕ) → kind t x ≡ 2 → Reaches t v x → SameAnswer r r′ x) → valueOutcome t r v ≡ valueOutcome t r′ v
+pub results-local : (t r r′ : List ℤ) (n : ℕ) → Accepted t n → (v : ℕ) → kind t v ≡ valueCode
+    → ((x : ℕ) → kind t x ≡ valueCode → Reaches t v x → SameAnswer r r′ x) → valueOutcome t r v ≡ valueOutcome t r′ v
 results-local t r r′ n w v k h =
     value-local t t r r′ n w v (λ x _. record { kinds = refl; first = refl; second = refl; third = refl; aim = refl; number = refl }) h k

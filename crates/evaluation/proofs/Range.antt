@@ -9,22 +9,24 @@ use native.Mathlib.Omega.{arith}
 use borrow.Author.Tests.{eqb-true}
 use lib.Dec.{eqb}
 use lib.IntN.{ℤ, pos, natAbs}
+use Rattle.kinds.specs.Kinds.{valueCode, clauseOf}
+use Rattle.kinds.proofs.Codes.{value-body}
 use Rattle.cells.specs.Table.{kind, fieldB, target}
 use Rattle.cells.specs.Accepted.{Accepted}
 use Rattle.cells.specs.Reaches.{Reaches}
 use Rattle.numbers.specs.Range.{limit}
 use Rattle.numbers.specs.Arithmetic.{calculated}
-use Rattle.numbers.specs.declared.Operation.{Operation}
+use Rattle.kinds.specs.declared.Operation.{Operation}
 use Rattle.numbers.specs.declared.Calculated.{Calculated}
 use Rattle.numbers.specs.declared.Calculated.the-variants as calculation
 use Rattle.numbers.proofs.Arithmetic.{calculated-size}
 use Rattle.evaluation.specs.States.{hasNumber, lastState}
 use Rattle.evaluation.specs.Results.{stateAt, numberAt, Settled}
-use Rattle.evaluation.specs.Evaluation.{Way, gives, fails, onNumber, unlessFailed, answerAt, outcomeOf, tieRule, kindOf, depthLimit, bodyBy, callBy, operationBy, choiceBy, enteredBy, stepBy, within, outcome, nothing, valueOutcome}
+use Rattle.evaluation.specs.Evaluation.{Way, gives, fails, onNumber, unlessFailed, answerAt, outcomeOf, tieRule, depthLimit, bodyBy, callBy, operationBy, choiceBy, enteredBy, stepBy, within, outcome, nothing, valueOutcome}
 use Rattle.evaluation.specs.Ready.{Ready, Line}
 use Rattle.evaluation.specs.declared.Arguments.{Arguments}
-use Rattle.evaluation.specs.declared.Kind.{Kind}
-use Rattle.evaluation.specs.declared.Kind.the-variants as kinds
+use Rattle.kinds.specs.declared.Clause.{Clause}
+use Rattle.kinds.specs.declared.Clause.the-variants as clause
 use Rattle.evaluation.specs.declared.Outcome.{Outcome}
 use Rattle.evaluation.proofs.Closure.{Within, Closed, All, all-closed, From, from-closed, Leads, leads, body-within}
 
@@ -66,29 +68,29 @@ module _ (low : ℕ) (small : low ≤ hasNumber) where
       by calculation.OutOfRange e = fails-good 2 s (omega arith) (omega arith)
       by calculation.ZeroDivisor e = fails-good 3 s (omega arith) (omega arith)
 
-  module _ (t r : List ℤ) (n : ℕ) (w : Accepted t n) (D E : ℕ → Type 0) (c : Closed t D E) (settled : (x : ℕ) → kind t x ≡ 2 → E x → Settled low r x) where
+  module _ (t r : List ℤ) (n : ℕ) (w : Accepted t n) (D E : ℕ → Type 0) (c : Closed t D E) (settled : (x : ℕ) → kind t x ≡ valueCode → E x → Settled low r x) where
     entered-good : (rec : Way) → ((l : ℕ) (g : Arguments) (s d : ℕ) → Within t n D l → natAbs (g .first) ≤ limit → Good low (rec l g s d))
-        → (k : Kind) (l : ℕ) (g : Arguments) (s d : ℕ) → natAbs (g .first) ≤ limit → Leads t n w D E c k l → Good low (enteredBy rec t r k l g s d)
+        → (k : Clause) (l : ℕ) (g : Arguments) (s d : ℕ) → natAbs (g .first) ≤ limit → Leads t n w D E c k l → Good low (enteredBy rec t r k l g s d)
     unfolding Leads enteredBy callBy bodyBy operationBy choiceBy
-    entered-good rec a kinds.Number l g s d h q = gives-good _ s q
-    entered-good rec a kinds.Argument l g s d h q = gives-good _ s h
-    entered-good rec a kinds.Read l g s d h q = answer-good r (target t l) s (settled (target t l) (q .0) (q .1))
-    entered-good rec a kinds.Call l g s d h q = unless-good _ _ (a _ g s d (q .0) h) (λ y m i. by y m i (eqb d depthLimit))
+    entered-good rec a clause.Number l g s d h q = gives-good _ s q
+    entered-good rec a (clause.Argument i) l g s d h q = gives-good _ s h
+    entered-good rec a clause.Read l g s d h q = answer-good r (target t l) s (settled (target t l) (q .0) (q .1))
+    entered-good rec a (clause.Call n) l g s d h q = unless-good _ _ (a _ g s d (q .0) h) (λ y m i. by y m i (eqb d depthLimit))
       where
         by : (y : ℤ) (m : ℕ) → natAbs y ≤ limit → (b : Bool) → Good low (bodyBy b rec t l y m d)
         by y m i true = fails-good 5 m (omega arith) (omega arith)
         by y m i false = a _ _ m (d + 1) (q .1) i
-    entered-good rec a (kinds.Operation op) l g s d h q =
+    entered-good rec a (clause.Operation op) l g s d h q =
         unless-good _ _ (a _ g s d (q .0) h) (λ y m i. unless-good _ _ (a _ g m d (q .1) h) (λ z k j. calculated-good op y z k))
-    entered-good rec a kinds.Choice l g s d h q = unless-good _ _ (a _ g s d (q .0) h) (λ y m i. a _ g m d (q .1 y) h)
-    entered-good rec a kinds.Other l g s d h q = absurd q
+    entered-good rec a clause.Choice l g s d h q = unless-good _ _ (a _ g s d (q .0) h) (λ y m i. a _ g m d (q .1 y) h)
+    entered-good rec a clause.None l g s d h q = absurd q
 
     within-good : (f : ℕ) (l : ℕ) (g : Arguments) (s d : ℕ) → Within t n D l → natAbs (g .first) ≤ limit → Good low (within f t r l g s d)
     unfolding within stepBy
     within-good zero l g s d p h = fails-good 4 0 (omega arith) (omega arith)
     within-good (suc f) l g zero d p h = fails-good 4 0 (omega arith) (omega arith)
     within-good (suc f) l g (suc s) d p h =
-        entered-good (within f t r) (within-good f) (kindOf (kind t l)) l g s d h (leads t n w D E c l p)
+        entered-good (within f t r) (within-good f) (clauseOf (kind t l)) l g s d h (leads t n w D E c l p)
 
     pub good : (l : ℕ) (g : Arguments) (s d : ℕ) → Within t n D l → natAbs (g .first) ≤ limit → Good low (outcome t r l g s d)
     unfolding outcome
@@ -103,9 +105,9 @@ in-range t r q l g s d h k =
 -- ---- a value
 
 -- where every value that v reaches has been evaluated, v has a state from 1 to 5 and a number in range
-pub value-settled : (t r : List ℤ) (n : ℕ) → Accepted t n → (v : ℕ) → kind t v ≡ 2
-    → ((x : ℕ) → kind t x ≡ 2 → Reaches t v x → Settled 1 r x) → Good 1 (valueOutcome t r v)
+pub value-settled : (t r : List ℤ) (n : ℕ) → Accepted t n → (v : ℕ) → kind t v ≡ valueCode
+    → ((x : ℕ) → kind t x ≡ valueCode → Reaches t v x → Settled 1 r x) → Good 1 (valueOutcome t r v)
 unfolding valueOutcome
 value-settled t r n w v k h =
     good 1 (omega arith) t r n w (From t v) (Reaches t v) (from-closed t v) h (fieldB t v) nothing 20000 0
-    (body-within t n w (From t v) (Reaches t v) (from-closed t v) v (inl k) (inl refl)) (omega arith)
+    (body-within t n w (From t v) (Reaches t v) (from-closed t v) v (rw k value-body) (inl refl)) (omega arith)

@@ -8,16 +8,17 @@ use native.Mathlib.Omega.{arith}
 use native.Mathlib.Nat.{le-refl}
 use lib.Dec.{eqb}
 use lib.IntN.{ℤ}
+use Rattle.kinds.specs.Kinds.{clauseOf}
 use Rattle.cells.specs.Table.{kind, fieldA, fieldB, target, numberOf}
 use Rattle.numbers.specs.Arithmetic.{calculated}
 use Rattle.numbers.specs.declared.Calculated.{Calculated}
 use Rattle.numbers.specs.declared.Calculated.the-variants as calculation
 use Rattle.evaluation.specs.States.{hasNumber}
 use Rattle.evaluation.specs.Results.{stateAt, numberAt}
-use Rattle.evaluation.specs.Evaluation.{Way, gives, fails, onNumber, unlessFailed, answerAt, outcomeOf, tieRule, kindOf, stepLimit, depthLimit, bodyBy, callBy, operationBy, branchOf, choiceBy, enteredBy, stepBy, within, outcome, valueOutcome, evaluated}
+use Rattle.evaluation.specs.Evaluation.{Way, gives, fails, onNumber, unlessFailed, answerAt, outcomeOf, tieRule, stepLimit, depthLimit, bodyBy, callBy, operationBy, branchOf, choiceBy, enteredBy, stepBy, within, outcome, valueOutcome, evaluated}
 use Rattle.evaluation.specs.declared.Arguments.{Arguments}
-use Rattle.evaluation.specs.declared.Kind.{Kind}
-use Rattle.evaluation.specs.declared.Kind.the-variants as kinds
+use Rattle.kinds.specs.declared.Clause.{Clause}
+use Rattle.kinds.specs.declared.Clause.the-variants as clause
 use Rattle.evaluation.specs.declared.Outcome.{Outcome}
 
 -- ---- two outcomes that are one, with at most s steps left
@@ -62,14 +63,14 @@ Same P x x′ = P x × (x ≡ x′)
 
 module _ (t t′ r r′ : List ℤ) (P : ℕ → Type 0) where
   -- what a line of a kind asks of two sheets and a set of labels
-  unfoldable pub Asks : Kind → ℕ → Type 0
-  Asks kinds.Number l = numberOf t l ≡ numberOf t′ l
-  Asks kinds.Argument l = Unit {0}
-  Asks kinds.Read l = (s : ℕ) → answerAt r (target t l) s ≡ answerAt r′ (target t′ l) s
-  Asks kinds.Call l = Same P (fieldA t l) (fieldA t′ l) × Same P (fieldB t (target t l)) (fieldB t′ (target t′ l))
-  Asks (kinds.Operation op) l = Same P (fieldA t l) (fieldA t′ l) × Same P (fieldB t l) (fieldB t′ l)
-  Asks kinds.Choice l = Same P (fieldA t l) (fieldA t′ l) × ((y : ℤ) → Same P (branchOf t l y) (branchOf t′ l y))
-  Asks kinds.Other l = Unit {0}
+  unfoldable pub Asks : Clause → ℕ → Type 0
+  Asks clause.Number l = numberOf t l ≡ numberOf t′ l
+  Asks (clause.Argument i) l = Unit {0}
+  Asks clause.Read l = (s : ℕ) → answerAt r (target t l) s ≡ answerAt r′ (target t′ l) s
+  Asks (clause.Call n) l = Same P (fieldA t l) (fieldA t′ l) × Same P (fieldB t (target t l)) (fieldB t′ (target t′ l))
+  Asks (clause.Operation op) l = Same P (fieldA t l) (fieldA t′ l) × Same P (fieldB t l) (fieldB t′ l)
+  Asks clause.Choice l = Same P (fieldA t l) (fieldA t′ l) × ((y : ℤ) → Same P (branchOf t l y) (branchOf t′ l y))
+  Asks clause.None l = Unit {0}
 
   module _ (rec rec′ : Way) (s : ℕ) (a : (l : ℕ) (g : Arguments) (n d : ℕ) → P l → n ≤ s → Agreed n (rec l g n d) (rec′ l g n d)) where
     at : (l l′ : ℕ) (g : Arguments) (n d : ℕ) → Same P l l′ → n ≤ s → Agreed n (rec l g n d) (rec′ l′ g n d)
@@ -77,24 +78,24 @@ module _ (t t′ r r′ : List ℤ) (P : ℕ → Type 0) where
         let b = a l g n d (p .0) h in
         record { same = b .same ∙ ap (λ x. rec′ x g n d) (p .1); less = b .less }
 
-    pub entered-agreed : (k : Kind) (l : ℕ) (g : Arguments) (d : ℕ) → Asks k l → Agreed s (enteredBy rec t r k l g s d) (enteredBy rec′ t′ r′ k l g s d)
+    pub entered-agreed : (k : Clause) (l : ℕ) (g : Arguments) (d : ℕ) → Asks k l → Agreed s (enteredBy rec t r k l g s d) (enteredBy rec′ t′ r′ k l g s d)
     unfolding Asks enteredBy callBy bodyBy operationBy choiceBy
-    entered-agreed kinds.Number l g d q = record { same = ap (λ y. gives y s) q; less = le-refl s }
-    entered-agreed kinds.Argument l g d q = record { same = refl; less = le-refl s }
-    entered-agreed kinds.Read l g d q = record { same = q s; less = omega (arith, answer-left r (target t l) s) }
-    entered-agreed kinds.Call l g d q =
+    entered-agreed clause.Number l g d q = record { same = ap (λ y. gives y s) q; less = le-refl s }
+    entered-agreed (clause.Argument i) l g d q = record { same = refl; less = le-refl s }
+    entered-agreed clause.Read l g d q = record { same = q s; less = omega (arith, answer-left r (target t l) s) }
+    entered-agreed (clause.Call n) l g d q =
         unless-agreed (at _ _ g s d (q .0) (le-refl s)) (λ y m h. by y m h (eqb d depthLimit))
       where
         by : (y : ℤ) (m : ℕ) → m ≤ s → (b : Bool) → Agreed m (bodyBy b rec t l y m d) (bodyBy b rec′ t′ l y m d)
         by y m h true = record { same = refl; less = le-refl m }
         by y m h false = at _ _ _ m (d + 1) (q .1) h
-    entered-agreed (kinds.Operation op) l g d q =
+    entered-agreed (clause.Operation op) l g d q =
         unless-agreed (at _ _ g s d (q .0) (le-refl s))
         (λ y m h. unless-agreed (at _ _ g m d (q .1) h)
         (λ z n i. record { same = refl; less = omega (arith, calculated-left (calculated tieRule op y z) n) }))
-    entered-agreed kinds.Choice l g d q =
+    entered-agreed clause.Choice l g d q =
         unless-agreed (at _ _ g s d (q .0) (le-refl s)) (λ y m h. at _ _ g m d (q .1 y) h)
-    entered-agreed kinds.Other l g d q = record { same = refl; less = le-refl s }
+    entered-agreed clause.None l g d q = record { same = refl; less = le-refl s }
 
 -- ---- fuel
 
@@ -102,15 +103,15 @@ module _ (t r : List ℤ) where
   abbrev all : ℕ → Type 0
   all l = Unit {0}
 
-  asks : (k : Kind) (l : ℕ) → Asks t t r r all k l
+  asks : (k : Clause) (l : ℕ) → Asks t t r r all k l
   unfolding Asks
-  asks kinds.Number l = refl
-  asks kinds.Argument l = tt
-  asks kinds.Read l = λ s. refl
-  asks kinds.Call l = ((tt, refl), (tt, refl))
-  asks (kinds.Operation op) l = ((tt, refl), (tt, refl))
-  asks kinds.Choice l = ((tt, refl), λ y. (tt, refl))
-  asks kinds.Other l = tt
+  asks clause.Number l = refl
+  asks (clause.Argument i) l = tt
+  asks clause.Read l = λ s. refl
+  asks (clause.Call n) l = ((tt, refl), (tt, refl))
+  asks (clause.Operation op) l = ((tt, refl), (tt, refl))
+  asks clause.Choice l = ((tt, refl), λ y. (tt, refl))
+  asks clause.None l = tt
 
   none : {s : ℕ} → Agreed s (fails 4 0) (fails 4 0)
   none = record { same = refl; less = omega arith }
@@ -126,7 +127,7 @@ module _ (t r : List ℤ) where
   within-agreed (suc f) (suc f′) l g zero d h h′ = none
   within-agreed (suc f) (suc f′) l g (suc s) d h h′ =
       let a = entered-agreed t t r r all (within f t r) (within f′ t r) s
-      (λ l g n d p i. within-agreed f f′ l g n d (omega arith) (omega arith)) (kindOf (kind t l)) l g d (asks (kindOf (kind t l)) l) in
+      (λ l g n d p i. within-agreed f f′ l g n d (omega arith) (omega arith)) (clauseOf (kind t l)) l g d (asks (clauseOf (kind t l)) l) in
       record { same = a .same; less = omega (arith, a .less) }
 
   pub left-less : (l : ℕ) (g : Arguments) (s d : ℕ) → outcome t r l g s d .left ≤ s
@@ -139,7 +140,7 @@ module _ (t r : List ℤ) where
   unrolled l g zero d = refl
   unrolled l g (suc s) d =
       entered-agreed t t r r all (outcome t r) (within s t r) s
-      (λ l g n d p i. within-agreed n s l g n d (le-refl n) i) (kindOf (kind t l)) l g d (asks (kindOf (kind t l)) l) .same
+      (λ l g n d p i. within-agreed n s l g n d (le-refl n) i) (clauseOf (kind t l)) l g d (asks (clauseOf (kind t l)) l) .same
 
 -- ---- the steps that a value takes
 

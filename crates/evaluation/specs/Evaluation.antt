@@ -1,23 +1,22 @@
 -- Document 01, "Working out", by open recursion: each rule is told how the expressions inside are evaluated, and `within` alone
 -- counts entries, so that the recursion ends.
 use mathlib.Core.Bool.{Bool, true, false, cond}
-use mathlib.Core.List.{List, [], _∷_}
+use mathlib.Core.List.{List}
 use Prim.Native.Nat.{ℕ, zero, suc, _+_, _-_}
 use lib.Dec.{eqb}
-use lib.ListN.{getD}
 use lib.IntN.{ℤ, pos}
+use Rattle.kinds.specs.Kinds.{clauseOf}
+use Rattle.kinds.specs.declared.Operation.{Operation}
+use Rattle.kinds.specs.declared.Clause.{Clause}
+use Rattle.kinds.specs.declared.Clause.the-variants as clause
 use Rattle.cells.specs.Cells.{equals}
 use Rattle.cells.specs.Table.{kind, fieldA, fieldB, fieldC, target, numberOf}
 use Rattle.numbers.specs.Arithmetic.{calculated}
 use Rattle.numbers.specs.declared.Tie.{Tie}
 use Rattle.numbers.specs.declared.Tie.the-variants.{Away}
-use Rattle.numbers.specs.declared.Operation.{Operation}
-use Rattle.numbers.specs.declared.Operation.the-variants.{Sum, Difference, Product, Quotient}
 use Rattle.numbers.specs.declared.Calculated.{Calculated}
 use Rattle.numbers.specs.declared.Calculated.the-variants as calculation
 use Rattle.evaluation.specs.declared.Arguments.{Arguments}
-use Rattle.evaluation.specs.declared.Kind.{Kind}
-use Rattle.evaluation.specs.declared.Kind.the-variants as kinds
 use Rattle.evaluation.specs.declared.Outcome.{Outcome}
 use Rattle.evaluation.specs.declared.Value.{Value}
 use Rattle.evaluation.specs.States.{hasNumber, outOfRange, zeroDivisor, outOfSteps, tooDeep}
@@ -56,14 +55,6 @@ tieRule = Away
 
 -- ---- the rules
 
--- the kind of an expression by its code, 0 to 12. `Other` is no expression; in a sheet that reads none is ever entered.
-unfoldable pub kindOf : ℕ → Kind
-kindOf code =
-    getD
-    (kinds.Other ∷ kinds.Other ∷ kinds.Other ∷ kinds.Other ∷ kinds.Number ∷ kinds.Argument ∷ kinds.Read ∷ kinds.Call ∷ kinds.Operation Sum ∷ kinds.Operation Difference ∷ kinds.Operation Product ∷ kinds.Operation Quotient ∷ kinds.Choice ∷ [])
-    code
-    kinds.Other
-
 abbrev pub stepLimit : ℕ
 stepLimit = 20000
 
@@ -101,20 +92,20 @@ branchOf t l y = cond (equals 0 y) (fieldC t l) (fieldB t l)
 unfoldable pub choiceBy : Way → List ℤ → Way
 choiceBy rec t l g s d = unlessFailed (rec (fieldA t l) g s d) (λ y s′. rec (branchOf t l y) g s′ d)
 
--- an expression that has been entered, by its kind
-unfoldable pub enteredBy : Way → List ℤ → List ℤ → Kind → Way
-enteredBy rec t r kinds.Number l g s d = gives (numberOf t l) s
-enteredBy rec t r kinds.Argument l g s d = gives (g .first) s
-enteredBy rec t r kinds.Read l g s d = answerAt r (target t l) s
-enteredBy rec t r kinds.Call l g s d = callBy rec t l g s d
-enteredBy rec t r (kinds.Operation op) l g s d = operationBy rec t op l g s d
-enteredBy rec t r kinds.Choice l g s d = choiceBy rec t l g s d
-enteredBy rec t r kinds.Other l g s d = fails 0 s
+-- an expression that has been entered, by the clause of its kind; a definition has none, and in a sheet that reads none is ever entered
+unfoldable pub enteredBy : Way → List ℤ → List ℤ → Clause → Way
+enteredBy rec t r clause.Number l g s d = gives (numberOf t l) s
+enteredBy rec t r (clause.Argument i) l g s d = gives (g .first) s
+enteredBy rec t r clause.Read l g s d = answerAt r (target t l) s
+enteredBy rec t r (clause.Call n) l g s d = callBy rec t l g s d
+enteredBy rec t r (clause.Operation op) l g s d = operationBy rec t op l g s d
+enteredBy rec t r clause.Choice l g s d = choiceBy rec t l g s d
+enteredBy rec t r clause.None l g s d = fails 0 s
 
 -- "Entering an expression takes one step; with none left the state is 4."
 unfoldable pub stepBy : Way → List ℤ → List ℤ → Way
 stepBy rec t r l g zero d = fails outOfSteps 0
-stepBy rec t r l g (suc s) d = enteredBy rec t r (kindOf (kind t l)) l g s d
+stepBy rec t r l g (suc s) d = enteredBy rec t r (clauseOf (kind t l)) l g s d
 
 -- ---- the recursion closed
 

@@ -1,8 +1,9 @@
 // Evaluation of a sheet's values, document 01's "Working out". Cells are read where they stand, by labels that `Entry`
 // knows to be the table's, so that no read needs a test.
 use cells::nat_of;
+use kinds::Clause;
+use kinds::Operation;
 use numbers::Calculated;
-use numbers::Operation;
 use numbers::Tie;
 ghost use mathlib.Core.Path.{_≡_};
 ghost use Prim.Native.Nat.{_-_, _*_, _≤_, _<_};
@@ -11,9 +12,9 @@ ghost use lib.IntN.{natAbs};
 ghost use Rattle.cells.specs.Table.{cell, numberOf, target};
 ghost use Rattle.numbers.specs.Range.{limit};
 ghost use Rattle.evaluation.specs.Results.{store, Settled};
-ghost use Rattle.evaluation.specs.Evaluation.{gives, fails, answerAt, outcomeOf, tieRule, kindOf, stepLimit, branchOf, callBy, operationBy, choiceBy, outcome, evaluated};
+ghost use Rattle.evaluation.specs.Evaluation.{gives, fails, answerAt, outcomeOf, tieRule, stepLimit, branchOf, callBy, operationBy, choiceBy, outcome, evaluated};
 ghost use Rattle.numbers.specs.Arithmetic.{calculated};
-ghost use Rattle.evaluation.specs.Ready.{Entry, Entered, Cell, Room, Evaluable};
+ghost use Rattle.evaluation.specs.Ready.{Entry, Entered, EnteredCall, Cell, Room, Evaluable};
 
 // ---- what evaluation carries
 
@@ -46,17 +47,6 @@ pub struct Value {
 // What a call hands to the body of its target.
 pub struct Arguments {
     pub first: i64,
-}
-
-// How an expression is evaluated, by its kind. `Other` is what is no expression, and is never met in a table that Read accepts.
-pub enum Kind {
-    Number,
-    Argument,
-    Read,
-    Call,
-    Operation(Operation),
-    Choice,
-    Other,
 }
 
 // What a value may still use: steps left, and how deep its calls have gone.
@@ -117,24 +107,6 @@ fn failure(state: u32, left: u32) -> Outcome
 }
 
 // ---- cells
-
-// The kind of a line's code.
-fn kind_of(code: usize) -> Kind
-    ensures { λ r. ⌜ r ≡ kindOf code ⌝ }
-{
-    match code {
-        4 => Kind::Number,
-        5 => Kind::Argument,
-        6 => Kind::Read,
-        7 => Kind::Call,
-        8 => Kind::Operation(Operation::Sum),
-        9 => Kind::Operation(Operation::Difference),
-        10 => Kind::Operation(Operation::Product),
-        11 => Kind::Operation(Operation::Quotient),
-        12 => Kind::Choice,
-        _ => Kind::Other,
-    }
-}
 
 // Cell j of the label's row.
 fn field(table: &[i64], label: usize, j: usize) -> usize
@@ -207,7 +179,7 @@ fn combine(op: Operation, a: i64, b: i64, left: u32) -> Outcome
 
 // ---- the cycle
 
-// An expression: takes a step and goes by its kind.
+// An expression: takes a step and goes by the clause of its kind.
 fn expression(
     table: &[i64],
     results: &[i64],
@@ -224,21 +196,21 @@ fn expression(
     }
     let rest = allowance.step();
     let code = field(table, label, cells::KIND);
-    let kind = kind_of(code);
-    match kind {
-        Kind::Number => success(number_of(table, label), rest.left),
-        Kind::Argument => success(given.first, rest.left),
-        Kind::Read => read(table, results, label, rest.left),
-        Kind::Call => call(table, results, label, given, rest),
-        Kind::Operation(op) => operation(table, results, op, label, given, rest),
-        Kind::Choice => choice(table, results, label, given, rest),
-        Kind::Other => failure(0, rest.left),
+    let clause = kinds::clause_of(code);
+    match clause {
+        Clause::Number => success(number_of(table, label), rest.left),
+        Clause::Argument(_) => success(given.first, rest.left),
+        Clause::Read => read(table, results, label, rest.left),
+        Clause::Call(_) => call(table, results, label, given, rest),
+        Clause::Operation(op) => operation(table, results, op, label, given, rest),
+        Clause::Choice => choice(table, results, label, given, rest),
+        Clause::None => failure(0, rest.left),
     }
 }
 
 // A call: its argument, then the body of its target one deeper.
 fn call(table: &[i64], results: &[i64], label: usize, given: Arguments, rest: Allowance) -> Outcome
-    requires { ⌜ Entered Kind.Call (now table) (now results) label given (rest .depth) ⌝ }
+    requires { ⌜ EnteredCall (now table) (now results) label given (rest .depth) ⌝ }
     ensures { λ r. ⌜ r ≡ callBy (outcome (now (table .entry)) (now (results .entry))) (now (table .entry)) label given (rest .left) (rest .depth) ⌝ }
 {
     let argument = field(table, label, cells::A);
@@ -271,7 +243,7 @@ fn operation(
     given: Arguments,
     rest: Allowance,
 ) -> Outcome
-    requires { ⌜ Entered (Kind.Operation op) (now table) (now results) label given (rest .depth) ⌝ }
+    requires { ⌜ Entered (Clause.Operation op) (now table) (now results) label given (rest .depth) ⌝ }
     ensures { λ r. ⌜ r ≡ operationBy (outcome (now (table .entry)) (now (results .entry))) (now (table .entry)) op label given (rest .left) (rest .depth) ⌝ }
 {
     let a = field(table, label, cells::A);
@@ -299,7 +271,7 @@ fn choice(
     given: Arguments,
     rest: Allowance,
 ) -> Outcome
-    requires { ⌜ Entered Kind.Choice (now table) (now results) label given (rest .depth) ⌝ }
+    requires { ⌜ Entered Clause.Choice (now table) (now results) label given (rest .depth) ⌝ }
     ensures { λ r. ⌜ r ≡ choiceBy (outcome (now (table .entry)) (now (results .entry))) (now (table .entry)) label given (rest .left) (rest .depth) ⌝ }
 {
     let tested = field(table, label, cells::A);

@@ -6,6 +6,8 @@ use Prim.Native.Nat.{ℕ, _*_, _≤_}
 use native.Mathlib.Omega.{arith}
 use lib.IntN.{ℤ}
 use lib.ListN.{length}
+use Rattle.kinds.proofs.Codes.{value-body}
+use Rattle.kinds.specs.Kinds.{valueCode}
 use Rattle.cells.specs.Cells.{zeros}
 use Rattle.cells.specs.Table.{kind, target}
 use Rattle.cells.specs.Accepted.{Accepted}
@@ -19,12 +21,12 @@ use Rattle.order.proofs.Evaluating.{run-append, run-fits, run-other}
 use Rattle.evaluation.specs.Results.{stored, Settled}
 use Rattle.evaluation.specs.Ready.{Ready, Evaluable}
 use Rattle.evaluation.specs.declared.Arguments.{Arguments}
-use Rattle.evaluation.specs.declared.Kind.{Kind}
-use Rattle.evaluation.specs.declared.Kind.the-variants as kinds
+use Rattle.kinds.specs.declared.Clause.{Clause}
+use Rattle.kinds.specs.declared.Clause.the-variants as clause
 use Rattle.evaluation.proofs.Closure.{Within, From, from-closed, Leads, leads, body-within}
 use Rattle.evaluation.proofs.Stored.{ready-zeros, evaluated-own, settled-still, ready-stored}
 use Rattle.figures.specs.Figures.{figures, resultCells, evaluateInto}
-use Rattle.figures.specs.Entered.{IsKind, firstOutcome, Enters, itself, argument, body, first, second, test, branch, EntersRead, NeverEarly}
+use Rattle.figures.specs.Entered.{GoesBy, firstOutcome, Enters, itself, argument, body, first, second, test, branch, EntersRead, NeverEarly}
 use Rattle.figures.proofs.Rows.{same-stored, length-zeros}
 use Rattle.figures.proofs.Working.{working, down-figures, figures-stored}
 
@@ -34,28 +36,28 @@ module _ (t : List ℤ) (n : ℕ) (ok : Accepted t n) (v : ℕ) where
   abbrev Own : ℕ → Type 0
   Own x = Within t n (From t v) x
 
-  abbrev Leads-to : Kind → ℕ → Type 0
+  abbrev Leads-to : Clause → ℕ → Type 0
   Leads-to k l = Leads t n ok (From t v) (Reaches t v) (from-closed t v) k l
 
   -- what a line of v leads to, by its kind
-  leading : (k : Kind) (l : ℕ) → IsKind t k l → Own l → Leads-to k l
-  leading k l e o = subst (λ (k : Kind). Leads-to k l) e (leads t n ok (From t v) (Reaches t v) (from-closed t v) l o)
+  leading : (k : Clause) (l : ℕ) → GoesBy t k l → Own l → Leads-to k l
+  leading k l e o = subst (λ (k : Clause). Leads-to k l) e (leads t n ok (From t v) (Reaches t v) (from-closed t v) l o)
 
   entered-own : (r : List ℤ) (x : ℕ) {l : ℕ} {g : Arguments} {s d : ℕ} → Enters t r x l g s d → Own l → Own x
   unfolding Leads
   entered-own r x itself o = o
-  entered-own r x (argument l e i) o = entered-own r x i (leading kinds.Call l e o .0)
-  entered-own r x (body l e f d i) o = entered-own r x i (leading kinds.Call l e o .1)
-  entered-own r x (first l op e i) o = entered-own r x i (leading (kinds.Operation op) l e o .0)
-  entered-own r x (second l op e f i) o = entered-own r x i (leading (kinds.Operation op) l e o .1)
-  entered-own r x (test l e i) o = entered-own r x i (leading kinds.Choice l e o .0)
-  entered-own r x (branch l e f i) o = entered-own r x i (leading kinds.Choice l e o .1 (firstOutcome t r l _ _ _ .number))
+  entered-own r x (argument l k e i) o = entered-own r x i (leading (clause.Call k) l e o .0)
+  entered-own r x (body l k e f d i) o = entered-own r x i (leading (clause.Call k) l e o .1)
+  entered-own r x (first l op e i) o = entered-own r x i (leading (clause.Operation op) l e o .0)
+  entered-own r x (second l op e f i) o = entered-own r x i (leading (clause.Operation op) l e o .1)
+  entered-own r x (test l e i) o = entered-own r x i (leading clause.Choice l e o .0)
+  entered-own r x (branch l e f i) o = entered-own r x i (leading clause.Choice l e o .1 (firstOutcome t r l _ _ _ .number))
 
   -- so an R that is entered reads a value that v reaches
-  entered-read : (r : List ℤ) (x : ℕ) → kind t v ≡ 2 → EntersRead t r v x → (kind t (target t x) ≡ 2) × Reaches t v (target t x)
+  entered-read : (r : List ℤ) (x : ℕ) → kind t v ≡ valueCode → EntersRead t r v x → (kind t (target t x) ≡ valueCode) × Reaches t v (target t x)
   unfolding Leads
   entered-read r x k e =
-      leading kinds.Read x (e .read) (entered-own r x (e .entered) (body-within t n ok (From t v) (Reaches t v) (from-closed t v) v (inl k) (inl refl)))
+      leading clause.Read x (e .read) (entered-own r x (e .entered) (body-within t n ok (From t v) (Reaches t v) (from-closed t v) v (rw k value-body) (inl refl)))
 
 -- ---- down a proper order
 
@@ -93,7 +95,7 @@ module _ (t : List ℤ) (n : ℕ) (ok : Accepted t n) (o : List ℕ) (p : Proper
       abbrev now : List ℤ
       now = down (evaluateInto t) a (zeros m)
 
-      value : kind t v ≡ 2
+      value : kind t v ≡ valueCode
       value = listed-value p v (rw e (in-right v a (v ∷ b) (in-here v b)))
 
       -- and an R that is entered reads one of them
@@ -110,10 +112,10 @@ module _ (t : List ℤ) (n : ℕ) (ok : Accepted t n) (o : List ℕ) (p : Proper
           ∙ ap (λ (r : List ℤ). stored r (target t x)) (sym (ap (λ (l : List ℕ). down (evaluateInto t) l (zeros m)) e ∙ run-append t (working t n ok) a (v ∷ b) (zeros m)) ∙ down-figures t n ok m fit o p)
           ∙ figures-stored t n ok m fit (target t x)
         where
-          front : (y : ℕ) → y ∈ a → kind t y ≡ 2
+          front : (y : ℕ) → y ∈ a → kind t y ≡ valueCode
           front y j = listed-value p y (rw e (in-left y a (v ∷ b) j))
 
-          back : (y : ℕ) → y ∈ v ∷ b → kind t y ≡ 2
+          back : (y : ℕ) → y ∈ v ∷ b → kind t y ≡ valueCode
           back y j = listed-value p y (rw e (in-right y a (v ∷ b) j))
 
           here : 3 * n ≤ length now
@@ -126,10 +128,10 @@ module _ (t : List ℤ) (n : ℕ) (ok : Accepted t n) (o : List ℕ) (p : Proper
     never-early = finds-answer
 
     -- once all have been evaluated, every value has a state from 1 to 5
-    end-settled : (v : ℕ) → kind t v ≡ 2 → Settled 1 (resultCells t n m) v
+    end-settled : (v : ℕ) → kind t v ≡ valueCode → Settled 1 (resultCells t n m) v
     end-settled v k =
         subst (λ (r : List ℤ). Settled 1 r v) (down-figures t n ok m fit o p)
         (settled-down o [] [] (sym (append-nil o)) (zeros m) (ready-zeros t n m ok fit) (λ y j. absurd (omega arith)) v (omega (arith, listed-once p v k)))
 
-pub figures-settled : (t : List ℤ) (n : ℕ) → Accepted t n → NoCycle t → (m : ℕ) → 3 * n ≤ m → (v : ℕ) → kind t v ≡ 2 → Settled 1 (resultCells t n m) v
+pub figures-settled : (t : List ℤ) (n : ℕ) → Accepted t n → NoCycle t → (m : ℕ) → 3 * n ≤ m → (v : ℕ) → kind t v ≡ valueCode → Settled 1 (resultCells t n m) v
 figures-settled t n ok nc m fit v k = end-settled t n ok (mixedPlan t n) (mixed-proper t n ok nc) m fit v k

@@ -8,15 +8,16 @@ use native.Mathlib.Nat.{le-refl}
 use borrow.Author.Tests.{eqb-true, eqb-false}
 use lib.Dec.{eqb}
 use lib.IntN.{ℤ}
+use Rattle.kinds.specs.Kinds.{clauseOf}
 use Rattle.cells.specs.Table.{kind, fieldA, fieldB, target}
 use Rattle.evaluation.specs.States.{hasNumber}
-use Rattle.evaluation.specs.Evaluation.{answerAt, onNumber, unlessFailed, kindOf, depthLimit, stepLimit, bodyBy, callBy, operationBy, choiceBy, enteredBy, stepBy, outcome, nothing, valueOutcome}
+use Rattle.evaluation.specs.Evaluation.{answerAt, onNumber, unlessFailed, depthLimit, stepLimit, bodyBy, callBy, operationBy, choiceBy, enteredBy, stepBy, outcome, nothing, valueOutcome}
 use Rattle.evaluation.specs.declared.Arguments.{Arguments}
-use Rattle.evaluation.specs.declared.Kind.{Kind}
-use Rattle.evaluation.specs.declared.Kind.the-variants as kinds
+use Rattle.kinds.specs.declared.Clause.{Clause}
+use Rattle.kinds.specs.declared.Clause.the-variants as clause
 use Rattle.evaluation.specs.declared.Outcome.{Outcome}
 use Rattle.evaluation.proofs.Steps.{unrolled, left-less}
-use Rattle.figures.specs.Entered.{IsKind, firstOutcome, FirstNumber, Enters, itself, argument, body, first, second, test, branch, EntersRead}
+use Rattle.figures.specs.Entered.{GoesBy, firstOutcome, FirstNumber, Enters, itself, argument, body, first, second, test, branch, EntersRead}
 
 unless-same : (o o′ : Outcome) (k k′ : ℤ → ℕ → Outcome) → o ≡ o′ → (o .state ≡ hasNumber → k (o .number) (o .left) ≡ k′ (o .number) (o .left)) → unlessFailed o k ≡ unlessFailed o′ k′
 unfolding onNumber
@@ -29,31 +30,31 @@ unless-same o o′ k k′ e f = go (eqb (o .state) hasNumber) refl ∙ ap (λ (u
 module _ (t r r′ : List ℤ) where
   -- every R entered finds the same answer in both results
   abbrev SameFound : ℕ → Arguments → ℕ → ℕ → Type 0
-  SameFound l g s d = (x : ℕ) → IsKind t kinds.Read x → Enters t r x l g s d → (q : ℕ) → answerAt r (target t x) q ≡ answerAt r′ (target t x) q
+  SameFound l g s d = (x : ℕ) → GoesBy t clause.Read x → Enters t r x l g s d → (q : ℕ) → answerAt r (target t x) q ≡ answerAt r′ (target t x) q
 
   module _ (s : ℕ) (rec : (l : ℕ) (g : Arguments) (n d : ℕ) → n ≤ s → SameFound l g n d → outcome t r l g n d ≡ outcome t r′ l g n d) (l : ℕ) (g : Arguments) (d : ℕ) (f : SameFound l g (suc s) d) where
     less : firstOutcome t r l g s d .left ≤ s
     less = left-less t r (fieldA t l) g s d
 
-    entered-same : (k : Kind) → IsKind t k l → enteredBy (outcome t r) t r k l g s d ≡ enteredBy (outcome t r′) t r′ k l g s d
+    entered-same : (k : Clause) → GoesBy t k l → enteredBy (outcome t r) t r k l g s d ≡ enteredBy (outcome t r′) t r′ k l g s d
     unfolding enteredBy callBy bodyBy operationBy choiceBy
-    entered-same kinds.Number e = refl
-    entered-same kinds.Argument e = refl
-    entered-same kinds.Read e = f l e itself s
-    entered-same kinds.Call e =
-        unless-same _ _ _ _ (rec (fieldA t l) g s d (le-refl s) (λ x h i. f x h (argument l e i))) (λ c. deeper c (eqb d depthLimit) refl)
+    entered-same clause.Number e = refl
+    entered-same (clause.Argument i) e = refl
+    entered-same clause.Read e = f l e itself s
+    entered-same (clause.Call n) e =
+        unless-same _ _ _ _ (rec (fieldA t l) g s d (le-refl s) (λ x h i. f x h (argument l n e i))) (λ c. deeper c (eqb d depthLimit) refl)
       where
         deeper : FirstNumber t r l g s d → (b : Bool) → eqb d depthLimit ≡ b
             → bodyBy b (outcome t r) t l (firstOutcome t r l g s d .number) (firstOutcome t r l g s d .left) d ≡ bodyBy b (outcome t r′) t l (firstOutcome t r l g s d .number) (firstOutcome t r l g s d .left) d
         deeper c true q = refl
-        deeper c false q = rec (fieldB t (target t l)) _ _ (d + 1) less (λ x h i. f x h (body l e c (eqb-false d depthLimit q) i))
-    entered-same (kinds.Operation op) e =
+        deeper c false q = rec (fieldB t (target t l)) _ _ (d + 1) less (λ x h i. f x h (body l n e c (eqb-false d depthLimit q) i))
+    entered-same (clause.Operation op) e =
         unless-same _ _ _ _ (rec (fieldA t l) g s d (le-refl s) (λ x h i. f x h (first l op e i)))
         (λ c. unless-same _ _ _ _ (rec (fieldB t l) g _ d less (λ x h i. f x h (second l op e c i))) (λ _. refl))
-    entered-same kinds.Choice e =
+    entered-same clause.Choice e =
         unless-same _ _ _ _ (rec (fieldA t l) g s d (le-refl s) (λ x h i. f x h (test l e i)))
         (λ c. rec _ g _ d less (λ x h i. f x h (branch l e c i)))
-    entered-same kinds.Other e = refl
+    entered-same clause.None e = refl
 
   none : (l : ℕ) (g : Arguments) (d : ℕ) → outcome t r l g 0 d ≡ outcome t r′ l g 0 d
   unfolding stepBy
@@ -67,7 +68,7 @@ module _ (t r r′ : List ℤ) where
   up-to zero l g (suc s) d h f = absurd (omega arith)
   up-to (suc b) l g (suc s) d h f =
       sym (unrolled t r l g (suc s) d)
-      ∙ entered-same s (λ l g n d i q. up-to b l g n d (omega arith) q) l g d f (kindOf (kind t l)) refl
+      ∙ entered-same s (λ l g n d i q. up-to b l g n d (omega arith) q) l g d f (clauseOf (kind t l)) refl
       ∙ unrolled t r′ l g (suc s) d
 
   pub entered-only : (v : ℕ) → ((x : ℕ) → EntersRead t r v x → (q : ℕ) → answerAt r (target t x) q ≡ answerAt r′ (target t x) q) → valueOutcome t r v ≡ valueOutcome t r′ v

@@ -7,6 +7,7 @@ use native.Mathlib.Numerals.{add-one}
 use lib.IntN.{ℤ, pos}
 use lib.ListN.{length, take, drop, take-append-drop, drop-of-length-le}
 use lib.Seq.{take-suc, take-take, drop-cons, getD-take, length-take-le}
+use Rattle.kinds.specs.Kinds.{valueCode}
 use Rattle.cells.specs.Cells.{natOf, natAt, zeros}
 use Rattle.cells.specs.Table.{kind}
 use Rattle.cells.specs.Accepted.{Accepted}
@@ -68,7 +69,7 @@ module _ (t order : List ℤ) (k : ℕ) (r₀ : List ℤ) where
 
   module _ {r : List ℤ} {i : ℕ} (g : Going t order k r₀ r i) where
     -- every cell names a value,
-    pub names-value : {v j : ℕ} → v ≡ natAt order j → j < k → kind t v ≡ 2
+    pub names-value : {v j : ℕ} → v ≡ natAt order j → j < k → kind t v ≡ valueCode
     names-value {v} {j} e h = rw e (g .asked .values j h)
 
     -- and what the one at index i reaches has been evaluated

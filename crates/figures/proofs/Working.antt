@@ -8,6 +8,7 @@ use native.Mathlib.Decide.{ℕ-discrete}
 use borrow.Author.Tests.{ne-eqb}
 use lib.IntN.{ℤ}
 use lib.ListN.{length, length-append}
+use Rattle.kinds.specs.Kinds.{valueCode}
 use Rattle.cells.specs.Cells.{zeros}
 use Rattle.cells.specs.Table.{kind}
 use Rattle.cells.specs.Accepted.{Accepted}
@@ -43,11 +44,11 @@ store-other r (suc l) v m h d =
     rw e (row-other 3 l m r (cellsOf v) refl d)
 
 module _ (t : List ℤ) (n : ℕ) (ok : Accepted t n) where
-  pub value-label : (v : ℕ) → kind t v ≡ 2 → (1 ≤ v) × (v ≤ n)
+  pub value-label : (v : ℕ) → kind t v ≡ valueCode → (1 ≤ v) × (v ≤ n)
   value-label v k = kind-label t n ok v (omega arith)
 
   -- a value's results depend on the rows of the values that it reaches
-  pub value-rows : (r r′ : List ℤ) (v : ℕ) → kind t v ≡ 2 → ((w : ℕ) → kind t w ≡ 2 → Reaches t v w → row 3 r w ≡ row 3 r′ w) → evaluated t r v ≡ evaluated t r′ v
+  pub value-rows : (r r′ : List ℤ) (v : ℕ) → kind t v ≡ valueCode → ((w : ℕ) → kind t w ≡ valueCode → Reaches t v w → row 3 r w ≡ row 3 r′ w) → evaluated t r v ≡ evaluated t r′ v
   value-rows r r′ v k h =
       ap valueOf (results-local t r r′ n ok v k (λ w i j. let e = same-stored r r′ w (h w i j) in record { state = ap (λ (x : Value). x .state) e; number = ap (λ (x : Value). x .number) e }))
 
@@ -66,14 +67,14 @@ module _ (t : List ℤ) (n : ℕ) (ok : Accepted t n) where
 
   -- ---- a round
 
-  round-value : (k v : ℕ) → kind t v ≡ 2 → afterRounds t n (suc k) v ≡ evaluated t (rowsOf (afterRounds t n k) n) v
+  round-value : (k v : ℕ) → kind t v ≡ valueCode → afterRounds t n (suc k) v ≡ evaluated t (rowsOf (afterRounds t n k) n) v
   unfolding afterRounds
   round-value k v e = rw (kind-v t v e)
 
-  round-blank : (k l : ℕ) → (kind t l ≡ 2 → ⊥) → afterRounds t n k l ≡ blank
+  round-blank : (k l : ℕ) → (kind t l ≡ valueCode → ⊥) → afterRounds t n k l ≡ blank
   unfolding afterRounds
   round-blank zero l d = refl
-  round-blank (suc k) l d = rw (ne-eqb (kind t l) 2 d)
+  round-blank (suc k) l d = rw (ne-eqb (kind t l) valueCode d)
 
   module _ (m : ℕ) (fit : 3 * n ≤ m) where
     fits-zeros : 3 * n ≤ length (zeros m)
@@ -82,10 +83,10 @@ module _ (t : List ℤ) (n : ℕ) (ok : Accepted t n) where
     abbrev cells : List ℤ
     cells = resultCells t n m
 
-    figure-row : (v : ℕ) → kind t v ≡ 2 → row 3 cells v ≡ cellsOf (figures t n v)
+    figure-row : (v : ℕ) → kind t v ≡ valueCode → row 3 cells v ≡ cellsOf (figures t n v)
     figure-row v k = let b = value-label v k in row-of (figures t n) n (zeros (m - 3 * n)) v (b .0) (b .1)
 
-    other-row : (l : ℕ) → (kind t l ≡ 2 → ⊥) → row 3 cells l ≡ row 3 (zeros m) l
+    other-row : (l : ℕ) → (kind t l ≡ valueCode → ⊥) → row 3 cells l ≡ row 3 (zeros m) l
     other-row l d =
         rows-same (figures t n) (λ _. blank) n (zeros (m - 3 * n)) l (λ _ _. round-blank _ l d)
         ∙ ap (λ (r : List ℤ). row 3 r l) (sym (zeros-buffer n m fit))
@@ -102,10 +103,10 @@ module _ (t : List ℤ) (n : ℕ) (ok : Accepted t n) where
           ∙ ap cellsOf (value-rows end (rowsOf (afterRounds t n k) n ++ []) v value (λ w i r. earlier w i (split w a (p .after a v b e w i r)) (rounds-settle k))
           ∙ ap (λ (r : List ℤ). evaluated t r v) (append-nil (rowsOf (afterRounds t n k) n)) ∙ sym (round-value k v value))
         where
-          value : kind t v ≡ 2
+          value : kind t v ≡ valueCode
           value = listed-value p v (rw e (in-right v a (v ∷ b) (in-here v b)))
 
-          earlier : (w : ℕ) → kind t w ≡ 2 → (a₁ : List ℕ) × (a₂ : List ℕ) × (a ≡ a₁ ++ w ∷ a₂)
+          earlier : (w : ℕ) → kind t w ≡ valueCode → (a₁ : List ℕ) × (a₂ : List ℕ) × (a ≡ a₁ ++ w ∷ a₂)
               → ((a : List ℕ) (v : ℕ) (b : List ℕ) → o ≡ a ++ v ∷ b → length a < k → row 3 end v ≡ cellsOf (afterRounds t n k v))
               → row 3 end w ≡ row 3 (rowsOf (afterRounds t n k) n ++ []) w
           earlier w i (a₁, a₂, q) older =
@@ -115,7 +116,7 @@ module _ (t : List ℤ) (n : ℕ) (ok : Accepted t n) where
               ∙ sym (row-of (afterRounds t n k) n [] w (b₂ .0) (b₂ .1))
 
       -- and there are at most n
-      end-figures : (v : ℕ) → kind t v ≡ 2 → row 3 end v ≡ row 3 cells v
+      end-figures : (v : ℕ) → kind t v ≡ valueCode → row 3 end v ≡ row 3 cells v
       end-figures v k = at (split v o (omega (arith, listed-once p v k))) ∙ sym (figure-row v k)
         where
           at : (a : List ℕ) × (b : List ℕ) × (o ≡ a ++ v ∷ b) → row 3 end v ≡ cellsOf (figures t n v)
@@ -144,14 +145,14 @@ module _ (t : List ℤ) (n : ℕ) (ok : Accepted t n) where
     figures-solve nc = proper-solve (mixedPlan t n) (mixed-proper t n ok nc)
 
     -- and label by label they are: of a value, what it comes to from the figures; of any other line, three zeros
-    pub figures-value : NoCycle t → (v : ℕ) → kind t v ≡ 2 → figures t n v ≡ evaluated t (resultCells t n m) v
+    pub figures-value : NoCycle t → (v : ℕ) → kind t v ≡ valueCode → figures t n v ≡ evaluated t (resultCells t n m) v
     figures-value nc v k = sym (stored-row cells v (figures t n v) (figure-row v k)) ∙ stored-row cells v (evaluated t cells v) (figures-solve nc .values v k)
 
     -- the buffer holds them
     pub figures-stored : (l : ℕ) → stored (resultCells t n m) l ≡ figures t n l
     figures-stored l = go (ℕ-discrete (kind t l) 2)
       where
-        go : Dec (kind t l ≡ 2) → stored cells l ≡ figures t n l
+        go : Dec (kind t l ≡ valueCode) → stored cells l ≡ figures t n l
         go (yes k) = stored-row cells l (figures t n l) (figure-row l k)
         go (no d) = same-stored cells (zeros m) l (other-row l d) ∙ stored-zeros m l ∙ sym (round-blank _ l d)
 

@@ -3,20 +3,22 @@ use mathlib.Core.Path.{_≡_}
 use mathlib.Core.List.{List, _∷_, _++_}
 use Prim.Native.Nat.{ℕ, suc, _+_}
 use lib.IntN.{ℤ}
+use Rattle.kinds.specs.Kinds.{clauseOf}
 use Rattle.cells.specs.Table.{kind, fieldA, fieldB, target}
-use Rattle.numbers.specs.declared.Operation.{Operation}
+use Rattle.kinds.specs.declared.Operation.{Operation}
 use Rattle.order.specs.Evaluating.{down}
 use Rattle.evaluation.specs.States.{hasNumber}
-use Rattle.evaluation.specs.Evaluation.{kindOf, branchOf, depthLimit, stepLimit, one, outcome, nothing}
+use Rattle.evaluation.specs.Evaluation.{branchOf, depthLimit, stepLimit, one, outcome, nothing}
 use Rattle.evaluation.specs.Results.{Settled}
 use Rattle.evaluation.specs.declared.Arguments.{Arguments}
-use Rattle.evaluation.specs.declared.Kind.{Kind}
-use Rattle.evaluation.specs.declared.Kind.the-variants as kinds
+use Rattle.kinds.specs.declared.Clause.{Clause}
+use Rattle.kinds.specs.declared.Clause.the-variants as clause
 use Rattle.evaluation.specs.declared.Outcome.{Outcome}
 use Rattle.figures.specs.Figures.{evaluateInto}
 
-abbrev pub IsKind : List ℤ → Kind → ℕ → Type 0
-IsKind t k l = kindOf (kind t l) ≡ k
+-- line l is evaluated by clause k
+abbrev pub GoesBy : List ℤ → Clause → ℕ → Type 0
+GoesBy t k l = clauseOf (kind t l) ≡ k
 
 -- what field a of line l comes to, the argument, first operand or test; and that it is a number
 abbrev pub firstOutcome : List ℤ → List ℤ → ℕ → Arguments → ℕ → ℕ → Outcome
@@ -30,21 +32,21 @@ FirstNumber t r l g s d = firstOutcome t r l g s d .state ≡ hasNumber
 pub data Enters (t r : List ℤ) (x : ℕ) : ℕ → Arguments → ℕ → ℕ → Type 0 where
   itself : {g : Arguments} {s d : ℕ} → Enters t r x x g (suc s) d
   -- "C works out its argument; at depth 64 the state is then 5, else the target's body is worked out one deeper"
-  argument : (l : ℕ) {g : Arguments} {s d : ℕ} → IsKind t kinds.Call l → Enters t r x (fieldA t l) g s d → Enters t r x l g (suc s) d
-  body : (l : ℕ) {g : Arguments} {s d : ℕ} → IsKind t kinds.Call l → FirstNumber t r l g s d → (d ≡ depthLimit → ⊥)
+  argument : (l k : ℕ) {g : Arguments} {s d : ℕ} → GoesBy t (clause.Call k) l → Enters t r x (fieldA t l) g s d → Enters t r x l g (suc s) d
+  body : (l k : ℕ) {g : Arguments} {s d : ℕ} → GoesBy t (clause.Call k) l → FirstNumber t r l g s d → (d ≡ depthLimit → ⊥)
       → Enters t r x (fieldB t (target t l)) (one (firstOutcome t r l g s d .number)) (firstOutcome t r l g s d .left) (d + 1) → Enters t r x l g (suc s) d
   -- "A, S, M, D work out a, then b"
-  first : (l : ℕ) (op : Operation) {g : Arguments} {s d : ℕ} → IsKind t (kinds.Operation op) l → Enters t r x (fieldA t l) g s d → Enters t r x l g (suc s) d
-  second : (l : ℕ) (op : Operation) {g : Arguments} {s d : ℕ} → IsKind t (kinds.Operation op) l → FirstNumber t r l g s d
+  first : (l : ℕ) (op : Operation) {g : Arguments} {s d : ℕ} → GoesBy t (clause.Operation op) l → Enters t r x (fieldA t l) g s d → Enters t r x l g (suc s) d
+  second : (l : ℕ) (op : Operation) {g : Arguments} {s d : ℕ} → GoesBy t (clause.Operation op) l → FirstNumber t r l g s d
       → Enters t r x (fieldB t l) g (firstOutcome t r l g s d .left) d → Enters t r x l g (suc s) d
   -- "I works out a, then one branch only"
-  test : (l : ℕ) {g : Arguments} {s d : ℕ} → IsKind t kinds.Choice l → Enters t r x (fieldA t l) g s d → Enters t r x l g (suc s) d
-  branch : (l : ℕ) {g : Arguments} {s d : ℕ} → IsKind t kinds.Choice l → FirstNumber t r l g s d
+  test : (l : ℕ) {g : Arguments} {s d : ℕ} → GoesBy t clause.Choice l → Enters t r x (fieldA t l) g s d → Enters t r x l g (suc s) d
+  branch : (l : ℕ) {g : Arguments} {s d : ℕ} → GoesBy t clause.Choice l → FirstNumber t r l g s d
       → Enters t r x (branchOf t l (firstOutcome t r l g s d .number)) g (firstOutcome t r l g s d .left) d → Enters t r x l g (suc s) d
 
 -- evaluating value v from results r enters R line x
 pub record EntersRead (t r : List ℤ) (v x : ℕ) : Type 0 where
-  pub read : IsKind t kinds.Read x
+  pub read : GoesBy t clause.Read x
   pub entered : Enters t r x (fieldB t v) nothing stepLimit 0
 
 -- Evaluating the values of an order in turn, from results r: at each value's turn, every R entered finds a stored answer of its target

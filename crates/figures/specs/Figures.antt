@@ -5,6 +5,7 @@ use mathlib.Core.List.{List, [], _∷_, _++_}
 use Prim.Native.Nat.{ℕ, zero, suc, _-_, _*_}
 use lib.IntN.{ℤ, pos}
 use lib.ListN.{length}
+use Rattle.kinds.specs.Kinds.{valueCode}
 use Rattle.cells.specs.Cells.{zeros}
 use Rattle.cells.specs.Table.{kind}
 use Rattle.order.specs.Order.{isV}
@@ -51,8 +52,8 @@ resultCells t n m = bufferOf (figures t n) n m
 
 -- Results satisfy "Working out": each V has what it comes to from these very results, and all other cells are 0.
 pub record Evaluated (t r : List ℤ) : Type 0 where
-  pub values : (v : ℕ) → kind t v ≡ 2 → row 3 r v ≡ cellsOf (evaluated t r v)
-  pub others : (l : ℕ) → (kind t l ≡ 2 → ⊥) → row 3 r l ≡ row 3 (zeros (length r)) l
+  pub values : (v : ℕ) → kind t v ≡ valueCode → row 3 r v ≡ cellsOf (evaluated t r v)
+  pub others : (l : ℕ) → (kind t l ≡ valueCode → ⊥) → row 3 r l ≡ row 3 (zeros (length r)) l
 
 -- ---- down an order
 

@@ -9,6 +9,8 @@ use native.Mathlib.Decide.{ℕ-discrete}
 use native.Mathlib.Numerals.{add-one}
 use lib.IntN.{ℤ}
 use lib.ListN.{length}
+use Rattle.kinds.proofs.Codes.{value-body}
+use Rattle.kinds.specs.Kinds.{valueCode}
 use Rattle.cells.specs.Table.{kind}
 use Rattle.cells.specs.Accepted.{Accepted}
 use Rattle.refusals.specs.declared.Verdict.{Verdict}
@@ -84,15 +86,15 @@ module _ (t : List ℤ) (n : ℕ) (ok : Accepted t n) (row : List ℕ) (is : Val
     pub none-wrong : firstPosition (lacks row (width n)) [] 1 (labelsOf cells) ≡ 0
     none-wrong = wrong-is ∙ place-none (firstPosition (notNew t) [] 1 (labelsOf cells)) _ z
 
-    listed-kind : (v : ℕ) → v ∈ labelsOf cells → kind t v ≡ 2
+    listed-kind : (v : ℕ) → v ∈ labelsOf cells → kind t v ≡ valueCode
     listed-kind v m = go (ℕ-discrete (kind t v) 2)
       where
-        go : Dec (kind t v ≡ 2) → kind t v ≡ 2
+        go : Dec (kind t v ≡ valueCode) → kind t v ≡ valueCode
         go (yes k) = k
         go (no k) = let s = split v (labelsOf cells) m in absurd (place17-exactly t n ok cells 0 .0 z .0 (s .0) v (s .1) (s .2) (inl k))
 
     module _ (square : List ℕ) (rows : AllRows t n 7 square) where
-      awaits-early : (a : List ℕ) (v : ℕ) → kind t v ≡ 2 → awaits square row (width n) a v ≡ early t n a v
+      awaits-early : (a : List ℕ) (v : ℕ) → kind t v ≡ valueCode → awaits square row (width n) a v ≡ early t n a v
       unfolding awaits
       awaits-early a v k = same-test (any marked (upFrom 0 (64 * width n))) (any reached (values t n)) there back
         where
@@ -111,7 +113,7 @@ module _ (t : List ℤ) (n : ℕ) (ok : Accepted t n) (row : List ℕ) (is : Val
               let i : isV t q ≡ true = sym (is q) ∙ and-left (mark row (width n) 0 q) (not (mem q a)) b in
               any-intro reached (values t n) q (in-values t n ok q i)
               (and-intro (reaches t n v q) (not (mem q a))
-              (reaches-exact t n ok v q .1 (forth-exact v q .0 (touch-body t n ok 7 (inr refl) (rows .values v k q .0 m) (inl (v-kind t q i)))))
+              (reaches-exact t n ok v q .1 (forth-exact v q .0 (touch-body t n ok 7 (inr refl) (rows .values v k q .0 m) (rw (v-kind t q i) value-body))))
               (and-right (mark row (width n) 0 q) (not (mem q a)) b))
 
           back : any reached (values t n) ≡ true → any marked (upFrom 0 (64 * width n)) ≡ true

@@ -12,6 +12,7 @@ use lib.Dec.{ltb}
 use lib.IntN.{ℤ}
 use lib.ListN.{getD}
 use borrow.Author.Tests.{lt-ltb, le-ltb, ne-eqb}
+use Rattle.kinds.specs.Kinds.{valueCode}
 use Rattle.cells.specs.Table.{kind}
 use Rattle.cells.specs.Accepted.{Accepted}
 use Rattle.order.specs.Order.{isV}
@@ -86,14 +87,14 @@ module _ (t : List ℤ) (row : List ℕ) (w v : ℕ) (old : (q : ℕ) → mark r
   own : (q : ℕ) → q ≡ v → isV t v ≡ (ltb q (v + 1) && isV t q)
   own q z = rw (z, lt-ltb v (v + 1) (omega arith))
 
-  pub values-skip : (kind t v ≡ 2 → ⊥) → (q : ℕ) → mark row w 0 q ≡ (ltb q (v + 1) && isV t q)
+  pub values-skip : (kind t v ≡ valueCode → ⊥) → (q : ℕ) → mark row w 0 q ≡ (ltb q (v + 1) && isV t q)
   values-skip d q = go (ℕ-discrete q v)
     where
       go : Dec (q ≡ v) → mark row w 0 q ≡ (ltb q (v + 1) && isV t q)
-      go (yes z) = old q ∙ rw (le-ltb q v (omega arith)) (sym (ne-eqb (kind t v) 2 d)) ∙ own q z
+      go (yes z) = old q ∙ rw (le-ltb q v (omega arith)) (sym (ne-eqb (kind t v) valueCode d)) ∙ own q z
       go (no z) = old q ∙ rw (below-same q v z)
 
-  pub values-put : (row′ : List ℕ) → v < 64 * w → kind t v ≡ 2 → Added (λ (b : ℕ). b ≡ v) row row′ w 0 → (q : ℕ) → mark row′ w 0 q ≡ (ltb q (v + 1) && isV t q)
+  pub values-put : (row′ : List ℕ) → v < 64 * w → kind t v ≡ valueCode → Added (λ (b : ℕ). b ≡ v) row row′ w 0 → (q : ℕ) → mark row′ w 0 q ≡ (ltb q (v + 1) && isV t q)
   values-put row′ h k add q = go (ℕ-discrete q v)
     where
       same : (q ≡ v → ⊥) → (mark row w 0 q ≡ true) ⊎ (mark row w 0 q ≡ false) → mark row′ w 0 q ≡ mark row w 0 q

@@ -55,7 +55,7 @@ fn mark_values(table: &[i64], n: usize, left: &mut [u64])
     marks::clear_marks(left, w);
     let mut v = 1;
     while v <= n {
-        if reach::kind_of(table, n, v) == cells::VALUE {
+        if reach::kind_of(table, n, v) == kinds::VALUE {
             marks::put_mark(left, w, 0, v);
         }
         v += 1;

@@ -12,10 +12,11 @@ use lib.IntN.{ℤ}
 use lib.ListN.{length, getD, set, take, drop, length-set, length-append, drop-of-length-le, take-append-drop}
 use lib.Seq.{getD-set-same, getD-set-other, take-suc-set, length-take-le, drop-cons, getD-take}
 use borrow.Author.Tests.{eq-eqb, ne-eqb}
-use Rattle.cells.specs.Table.{kind, owner}
+use Rattle.kinds.specs.Kinds.{groupCode, valueCode, functionCode}
+use Rattle.cells.specs.Table.{kind, owner, isDefinition}
 use Rattle.cells.specs.Accepted.{Accepted}
 use Rattle.order.specs.Lists.{count, _∈_, upFrom, filter}
-use Rattle.order.specs.Order.{isG, isV, isF, isDefinition, labels, isMember, members}
+use Rattle.order.specs.Order.{isG, isV, labels, isMember, members}
 use Rattle.order.proofs.Tests.{so-or-not, and-right}
 use Rattle.order.proofs.Lists.{in-here, in-there, in-right, in-filter, count-below, count-here, count-append, count-filter-le, upFrom-once, filter-le, length-upFrom}
 use Rattle.placing.specs.Placing.{Rising}
@@ -147,21 +148,6 @@ module _ (t : List ℤ) (n : ℕ) where
       let b : n - 0 ≡ n = omega arith in
       subst (λ (j : ℕ). Chain n next (getD next g 0) (filter (isMember t g) (upFrom 1 j))) b
       (subst (λ (j : ℕ). Chain n next (getD next g 0) (filter (isMember t g) (upFrom (suc j) (n - j)))) a (k g m))
-
--- ---- kinds of definitions
-
-pub def-of : (t : List ℤ) (l : ℕ) → 1 ≤ kind t l → kind t l ≤ 3 → isDefinition t l ≡ true
-def-of t l a b = go (ℕ-discrete (kind t l) 1) (ℕ-discrete (kind t l) 2)
-  where
-    go : Dec (kind t l ≡ 1) → Dec (kind t l ≡ 2) → isDefinition t l ≡ true
-    go (yes e) _ = rw (eq-eqb (kind t l) 1 e)
-    go (no e) (yes f) = rw (ne-eqb (kind t l) 1 e, eq-eqb (kind t l) 2 f)
-    go (no e) (no f) =
-        let g : kind t l ≡ 3 = omega arith in
-        rw (ne-eqb (kind t l) 1 e, ne-eqb (kind t l) 2 f, eq-eqb (kind t l) 3 g)
-
-pub not-def : (t : List ℤ) (l : ℕ) → 3 < kind t l → isDefinition t l ≡ false
-not-def t l h = rw (ne-eqb (kind t l) 1 (λ e. omega arith), ne-eqb (kind t l) 2 (λ e. omega arith), ne-eqb (kind t l) 3 (λ e. omega arith))
 
 -- ---- walking a chain
 

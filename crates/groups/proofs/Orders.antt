@@ -12,12 +12,14 @@ use lib.IntN.{ℤ}
 use lib.ListN.{length, getD, take}
 use lib.Seq.{length-take-le}
 use borrow.Author.Tests.{eq-eqb, ne-eqb, eqb-true}
-use Rattle.cells.specs.Table.{kind, owner}
+use Rattle.kinds.specs.Kinds.{groupCode, valueCode, givesValues}
+use Rattle.kinds.proofs.Plans.{group-gives, value-gives, gives-cases}
+use Rattle.cells.specs.Table.{kind, owner, isDefinition}
 use Rattle.cells.specs.Accepted.{Accepted}
 use Rattle.order.specs.Lists.{one, count, _∈_, mem, any, first, filter}
 use Rattle.order.specs.Placing.{waits, next, place, rounds, placed, stuck}
-use Rattle.order.specs.Order.{isG, isV, isF, isDefinition, labels, isMember, members, values, reaches, needs, ordered, groupStuck, mixedPlan, place16, NoCycle}
-use Rattle.order.proofs.Tests.{clash, so-or-not, not-so, or-cases}
+use Rattle.order.specs.Order.{isG, isV, labels, isMember, members, values, reaches, needs, ordered, groupStuck, mixedPlan, place16, NoCycle}
+use Rattle.order.proofs.Tests.{clash, so-or-not, not-so}
 use Rattle.order.proofs.Lists.{in-here, in-there, zero-or-in, length-mono, length-upFrom}
 use Rattle.order.proofs.Placing.{placed-sub, placed-all}
 use Rattle.order.proofs.Tables.{v-kind, kind-v, kind-g, g-kind, v-not-g, v-def, def-label, member-of, members-once, value-of, in-labels, reaches-exact}
@@ -74,39 +76,36 @@ items-of l items m h =
 pub items-many : (l items : List ℕ) (m : ℕ) → Gathered l items m → m ≡ length l
 items-many l items m h = sym (length-take-le m items (h .within)) ∙ ap length (h .cells)
 
+-- what gives no values is neither a Group nor a value
+pub no-holder : (t : List ℤ) (p : ℕ) → givesValues (kind t p) ≡ false → Holder t p → ⊥
+no-holder t p h (inl e) = clash (givesValues (kind t p)) (rw e group-gives) h
+no-holder t p h (inr e) = clash (givesValues (kind t p)) (rw e value-gives) h
+
 module _ (t : List ℤ) (n : ℕ) (ok : Accepted t n) where
   -- ---- kinds
 
-  pub holder-or : (p : ℕ) → isDefinition t p ≡ true → Holder t p ⊎ (isF t p ≡ true)
-  holder-or p d = go (or-cases (isG t p || isV t p) (isF t p) d)
-    where
-      two : (isG t p ≡ true) ⊎ (isV t p ≡ true) → Holder t p ⊎ (isF t p ≡ true)
-      two (inl e) = inl (inl (g-kind t p e))
-      two (inr e) = inl (inr (v-kind t p e))
+  -- a definition that has no values in a plan
+  abbrev Empty : ℕ → Type 0
+  Empty p = givesValues (kind t p) ≡ false
 
-      go : ((isG t p || isV t p) ≡ true) ⊎ (isF t p ≡ true) → Holder t p ⊎ (isF t p ≡ true)
-      go (inl e) = two (or-cases (isG t p) (isV t p) e)
+  pub holder-or : (p : ℕ) → Holder t p ⊎ Empty p
+  holder-or p = go (so-or-not (givesValues (kind t p)))
+    where
+      go : (givesValues (kind t p) ≡ true) ⊎ Empty p → Holder t p ⊎ Empty p
+      go (inl e) = inl (gives-cases (kind t p) e)
       go (inr e) = inr e
 
-  f-kind : (p : ℕ) → isF t p ≡ true → kind t p ≡ 3
-  f-kind p e = eqb-true (kind t p) 3 e
-
-  f-empty : (p x : ℕ) → isDefinition t p ≡ true → isF t p ≡ true → holds t p x ≡ true → ⊥
-  f-empty p x d e h =
-      let k = f-kind p e in
-      let g : isG t p ≡ false = ne-eqb (kind t p) 1 (λ z. omega arith) in
+  holds-none : (p x : ℕ) → isDefinition t p ≡ true → Empty p → holds t p x ≡ true → ⊥
+  holds-none p x d e h =
+      let g : isG t p ≡ false = ne-eqb (kind t p) groupCode (λ z. no-holder t p e (inl z)) in
       let z : x ≡ p = only-itself t n ok p x d g h in
-      omega (arith, v-kind t p (subst (λ (y : ℕ). isV t y ≡ true) z (holds-v t n ok p x h)))
+      no-holder t p e (inr (v-kind t p (subst (λ (y : ℕ). isV t y ≡ true) z (holds-v t n ok p x h))))
 
-  f-needs : (p q : ℕ) → isDefinition t p ≡ true → isF t p ≡ true → needs t n p q ≡ false
-  f-needs p q d e = not-so (needs t n p q) (λ h. let w = needs-elim t n ok p q h in f-empty p (w .1 .0) d e (w .1 .2))
+  needs-none : (p q : ℕ) → isDefinition t p ≡ true → Empty p → needs t n p q ≡ false
+  needs-none p q d e = not-so (needs t n p q) (λ h. let w = needs-elim t n ok p q h in holds-none p (w .1 .0) d e (w .1 .2))
 
-  f-needed : (p q : ℕ) → isDefinition t q ≡ true → isF t q ≡ true → needs t n p q ≡ false
-  f-needed p q d e = not-so (needs t n p q) (λ h. let w = needs-elim t n ok p q h in f-empty q (w .1 .1) d e (w .1 .3))
-
-  not-holder : (p : ℕ) → isF t p ≡ true → Holder t p → ⊥
-  not-holder p e (inl k) = omega (arith, f-kind p e)
-  not-holder p e (inr k) = omega (arith, f-kind p e)
+  needed-none : (p q : ℕ) → isDefinition t q ≡ true → Empty q → needs t n p q ≡ false
+  needed-none p q d e = not-so (needs t n p q) (λ h. let w = needs-elim t n ok p q h in holds-none q (w .1 .1) d e (w .1 .3))
 
   -- ---- what `place` asks, and what it gives
 
@@ -139,17 +138,17 @@ module _ (t : List ℤ) (n : ℕ) (ok : Accepted t n) where
       in-mask : (p : ℕ) → p ∈ items → Holder t p → mark mask (width n) 0 p ≡ true
       in-mask p i d = masked p .1 (i, d)
 
-      out-mask : (p : ℕ) → isF t p ≡ true → mark mask (width n) 0 p ≡ false
-      out-mask p e = not-so (mark mask (width n) 0 p) (λ m. not-holder p e (masked p .0 m .1))
+      out-mask : (p : ℕ) → Empty p → mark mask (width n) 0 p ≡ false
+      out-mask p e = not-so (mark mask (width n) 0 p) (λ m. no-holder t p e (masked p .0 m .1))
 
       needed-is : NeedRows t n square → (p q : ℕ) → p ∈ items → q ∈ items → needed square mask (width n) p q ≡ needs t n p q
-      needed-is rows p q mp mq = go (holder-or p (h .defs p mp)) (holder-or q (h .defs q mq))
+      needed-is rows p q mp mq = go (holder-or p) (holder-or q)
         where
-          go : Holder t p ⊎ (isF t p ≡ true) → Holder t q ⊎ (isF t q ≡ true) → needed square mask (width n) p q ≡ needs t n p q
+          go : Holder t p ⊎ Empty p → Holder t q ⊎ Empty q → needed square mask (width n) p q ≡ needs t n p q
           go (inl hp) (inl hq) = rw (in-mask q mq hq, in-mask p mp hp) (and-on (mark square (width n) q p) ∙ rows p q hp hq)
-          go (inl hp) (inr fq) = rw (out-mask q fq) (sym (f-needed p q (h .defs q mq) fq))
-          go (inr fp) (inl hq) = rw (in-mask q mq hq, out-mask p fp) (and-off (mark square (width n) q p) ∙ sym (f-needs p q (h .defs p mp) fp))
-          go (inr fp) (inr fq) = rw (out-mask q fq) (sym (f-needed p q (h .defs q mq) fq))
+          go (inl hp) (inr fq) = rw (out-mask q fq) (sym (needed-none p q (h .defs q mq) fq))
+          go (inr fp) (inl hq) = rw (in-mask q mq hq, out-mask p fp) (and-off (mark square (width n) q p) ∙ sym (needs-none p q (h .defs p mp) fp))
+          go (inr fp) (inr fq) = rw (out-mask q fq) (sym (needed-none p q (h .defs q mq) fq))
 
       pub placed-needs : NeedRows t n square → (order : List ℕ) (r : ℕ) → Placed (needed square mask (width n)) items order r → Placed (needs t n) items order r
       placed-needs rows order r pl = record { cells = pl .cells ∙ placed-ext (needed square mask (width n)) (needs t n) items (needed-is rows); within = pl .within }
@@ -237,18 +236,6 @@ scratch-as n a b c d e a′ b′ c′ d′ e′ p q r s u h = record {
 }
 
 -- ---- the mask, item by item
-
--- a definition's kind of at most 2, and a greater one
-pub holder-of : (t : List ℤ) (p : ℕ) → 1 ≤ kind t p → kind t p ≤ 2 → Holder t p
-holder-of t p a b = go (ℕ-discrete (kind t p) 1)
-  where
-    go : Dec (kind t p ≡ 1) → Holder t p
-    go (yes e) = inl e
-    go (no e) = inr (omega arith)
-
-pub no-holder : (t : List ℤ) (p : ℕ) → 2 < kind t p → Holder t p → ⊥
-no-holder t p h (inl e) = omega arith
-no-holder t p h (inr e) = omega arith
 
 module _ (t : List ℤ) (n : ℕ) (items mask : List ℕ) (i p : ℕ) (is : p ≡ getD items i 0) (hi : i < length items)
     (old : (x : ℕ) → (mark mask (width n) 0 x ≡ true) ↔ ((x ∈ take i items) × Holder t x)) where

@@ -22,7 +22,7 @@ pub fn link_members(table: &[i64], n: usize, next: &mut [u16])
 {
     let mut l = n;
     while 0 < l {
-        if reach::kind_of(table, n, l) <= cells::FUNCTION {
+        if reach::is_definition(table, n, l) {
             let o = reach::cell_of(table, n, l, cells::OWNER);
             next[n + l] = next[o];
             next[o] = l as u16;
@@ -57,7 +57,7 @@ pub fn gather_values(table: &[i64], n: usize, items: &mut [u16]) -> usize
     let mut m = 0;
     let mut l = 1;
     while l <= n {
-        if reach::kind_of(table, n, l) == cells::VALUE {
+        if reach::kind_of(table, n, l) == kinds::VALUE {
             items[m] = l as u16;
             m += 1;
         }
@@ -79,7 +79,7 @@ fn mask_items(table: &[i64], n: usize, items: &[u16], mask: &mut [u64])
     let mut i = 0;
     while i < items.len() {
         let p = marks::widen(items[i]);
-        if reach::kind_of(table, n, p) <= cells::VALUE {
+        if reach::gives_values(table, n, p) {
             marks::put_mark(mask, w, 0, p);
         }
         i += 1;

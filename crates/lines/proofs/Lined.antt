@@ -10,6 +10,11 @@ use lib.Dec.{eqb, leb, ltb}
 use lib.IntN.{ℤ, pos, natAbs}
 use lib.ListN.{length, getD, length-append, length-replicate, List·getD-append}
 use lib.Seq.{getD-append-add}
+use Rattle.kinds.specs.declared.Fields.{Fields}
+use Rattle.kinds.specs.declared.Form.{Form}
+use Rattle.kinds.specs.declared.Form.the-variants as form
+use Rattle.kinds.specs.Kinds.{kinds, kindAt, fieldsAt, codeOf, isKind, groupCode, valueCode, numberCode}
+use Rattle.kinds.proofs.Codes.{isNumber, number-a, number-b, number-c, number-form}
 use Rattle.cells.specs.Cells.{natOf, intAt, zeros}
 use Rattle.cells.specs.Table.{cell, kind, nameStart, nameLength, fieldA}
 use Rattle.cells.specs.Table as table
@@ -29,15 +34,10 @@ use Rattle.text.specs.Forms.{isName, isPath, labelOf}
 use Rattle.text.proofs.Bytes.{true-false, and-left, and-right, same-eq}
 use Rattle.text.proofs.Cuts.{pieces, piece-inside, fields-count}
 use Rattle.text.proofs.Labels.{label-least}
-use Rattle.lines.specs.Kinds.{kinds, kindAt, codeOf}
 use Rattle.lines.specs.Fields.{dash, blankIf, fromLabel, fromNumber, fieldOf, isRight, held, kindCode}
-use Rattle.lines.specs.Lines.{line, labels, rootLine, field, formsRight, lineBad, lineCheck, linesBad, rowOf, rows}
+use Rattle.lines.specs.Lines.{line, labels, rootLine, field, formsRight, lineBad, lineCheck, linesBad, rootRow, lineRow, rowOf, rows}
 use Rattle.lines.specs.Lined.{linedTable, Lined}
-use Rattle.lines.specs.declared.Kind.{Kind}
-use Rattle.lines.specs.declared.Form.{Form}
-use Rattle.lines.specs.declared.Form.the-variants as form
-use Rattle.lines.proofs.Codes.{kind-bound, isNumber, number-a, number-b, number-c, number-form}
-use Rattle.lines.proofs.Rows.{zero-label}
+use Rattle.lines.proofs.Fields.{kind-known}
 use Rattle.lines.proofs.Pass.{rows-length}
 
 -- ---- what a field holds, by its form
@@ -96,7 +96,7 @@ held-label n w r = go (labelOf n w) refl r
 abbrev Right : Form → ℕ → List ℕ → Type 0
 Right f n w = f ≡ form.Operand → isRight (fieldOf f n w) ≡ true
 
-record Formed (n : ℕ) (k : Kind) (fs : List (List ℕ)) : Type 0 where
+record Formed (n : ℕ) (k : Fields) (fs : List (List ℕ)) : Type 0 where
   first : Right (k .a) n (field fs 2)
   second : Right (k .b) n (field fs 3)
   third : Right (k .c) n (field fs 4)
@@ -115,7 +115,7 @@ zero-else : (b : Bool) (x r : ℕ) → (r ≡ 0 → ⊥) → cond b r x ≡ 0 �
 zero-else true x r d e = absurd (d e)
 zero-else false x r d e = (refl, e)
 
-root-code : kindCode (field (cut 32 rootLine) 0) ≡ 1
+root-code : kindCode (field (cut 32 rootLine) 0) ≡ groupCode
 unfolding rootLine codeOf kinds
 root-code = refl
 
@@ -127,7 +127,7 @@ module _ (n k : ℕ) (l : List ℕ) (e : lineBad n k l ≡ 0) where
   code = kindCode (field fs 0)
 
   abbrev formed : Bool
-  formed = cond (eqb k 1) (same l rootLine) (formsRight n (kindAt code) fs)
+  formed = cond (eqb k 1) (same l rootLine) (formsRight n (fieldsAt code) fs)
 
   -- what row 7 finds, and rows 6 and 7
   abbrev formBad : ℕ
@@ -155,23 +155,23 @@ module _ (n k : ℕ) (l : List ℕ) (e : lineBad n k l ≡ 0) where
   pub root-is : k ≡ 1 → l ≡ rootLine
   root-is q = let r : formed ≡ true = fine-forms in same-eq l rootLine (rw (eq-eqb k 1 q) at r)
 
-  -- label 1 is of the kind of code 1, which has no operands
-  root-formed : k ≡ 1 → Formed n (kindAt code) fs
+  -- label 1 is a Group, which has no operands
+  root-formed : k ≡ 1 → Formed n (fieldsAt code) fs
   unfolding kindAt kinds
   root-formed q =
-      let c : code ≡ 1 = ap (λ (x : List ℕ). kindCode (field (cut 32 x) 0)) (root-is q) ∙ root-code in
+      let c : code ≡ groupCode = ap (λ (x : List ℕ). kindCode (field (cut 32 x) 0)) (root-is q) ∙ root-code in
       record {
-        first = λ f. absurd (group-differs (sym (ap (λ (x : ℕ). kindAt x .a) c) ∙ f));
-        second = λ f. absurd (missing-differs (sym (ap (λ (x : ℕ). kindAt x .b) c) ∙ f));
-        third = λ f. absurd (missing-differs (sym (ap (λ (x : ℕ). kindAt x .c) c) ∙ f));
+        first = λ f. absurd (group-differs (sym (ap (λ (x : ℕ). fieldsAt x .a) c) ∙ f));
+        second = λ f. absurd (missing-differs (sym (ap (λ (x : ℕ). fieldsAt x .b) c) ∙ f));
+        third = λ f. absurd (missing-differs (sym (ap (λ (x : ℕ). fieldsAt x .c) c) ∙ f));
       }
 
-  row-formed : formsRight n (kindAt code) fs ≡ true → Formed n (kindAt code) fs
+  row-formed : formsRight n (fieldsAt code) fs ≡ true → Formed n (fieldsAt code) fs
   row-formed r =
-      let name = isRight (fieldOf (kindAt code .name) n (field fs 1)) in
-      let a = isRight (fieldOf (kindAt code .a) n (field fs 2)) in
-      let b = isRight (fieldOf (kindAt code .b) n (field fs 3)) in
-      let c = isRight (fieldOf (kindAt code .c) n (field fs 4)) in
+      let name = isRight (fieldOf (fieldsAt code .name) n (field fs 1)) in
+      let a = isRight (fieldOf (fieldsAt code .a) n (field fs 2)) in
+      let b = isRight (fieldOf (fieldsAt code .b) n (field fs 3)) in
+      let c = isRight (fieldOf (fieldsAt code .c) n (field fs 4)) in
       let ab : (name && a && b) ≡ true = and-left (name && a && b) c r in
       record {
         first = λ f. and-right name a (and-left (name && a) b ab);
@@ -179,38 +179,60 @@ module _ (n k : ℕ) (l : List ℕ) (e : lineBad n k l ≡ 0) where
         third = λ f. and-right (name && a && b) c r;
       }
 
-  all-formed : Formed n (kindAt code) fs
+  all-formed : Formed n (fieldsAt code) fs
   all-formed = go (eqb k 1) refl fine-forms
     where
-      go : (b : Bool) → eqb k 1 ≡ b → cond b (same l rootLine) (formsRight n (kindAt code) fs) ≡ true → Formed n (kindAt code) fs
+      go : (b : Bool) → eqb k 1 ≡ b → cond b (same l rootLine) (formsRight n (fieldsAt code) fs) ≡ true → Formed n (fieldsAt code) fs
       go true q r = root-formed (eqb-true k 1 q)
       go false q r = row-formed r
 
 -- ---- the eight cells of a line
 
-module _ (n p : ℕ) (fs : List (List ℕ)) where
-  blank-row : (j : ℕ) → 6 ≤ j → intAt (rowOf n p fs) j ≡ pos 0
-  unfolding rowOf
-  blank-row j h = let q : j ≡ suc (suc (suc (suc (suc (suc (j - 6)))))) = omega arith in rw q (intAt-zeros 2 (j - 6))
+-- the cells of label k: those of label 1, and those of the others
+by-label : (n k p : ℕ) (fs : List (List ℕ)) (P : List ℤ → Type 0) → (k ≡ 1 → P rootRow) → ((k ≡ 1 → ⊥) → P (lineRow n p fs)) → P (rowOf n k p fs)
+by-label n k p fs P root other = go (eqb k 1) refl
+  where
+    go : (b : Bool) → eqb k 1 ≡ b → P (cond b rootRow (lineRow n p fs))
+    go true q = root (eqb-true k 1 q)
+    go false q = other (eqb-false k 1 q)
 
-  natural-row : (j : ℕ) → (kindCode (field fs 0) ≡ 4 → j ≡ 3 → ⊥) → Natural (intAt (rowOf n p fs) j)
-  unfolding rowOf
-  natural-row zero d = refl
-  natural-row (suc zero) d = refl
-  natural-row (suc (suc zero)) d = refl
-  natural-row (suc (suc (suc zero))) d = held-natural (kindAt (kindCode (field fs 0)) .a) n (field fs 2) (number-a (kindCode (field fs 0)) (λ q. d q refl))
-  natural-row (suc (suc (suc (suc zero)))) d = held-natural (kindAt (kindCode (field fs 0)) .b) n (field fs 3) (number-b (kindCode (field fs 0)))
-  natural-row (suc (suc (suc (suc (suc zero))))) d = held-natural (kindAt (kindCode (field fs 0)) .c) n (field fs 4) (number-c (kindCode (field fs 0)))
-  natural-row (suc (suc (suc (suc (suc (suc j)))))) d = rw (intAt-zeros 2 j)
+blank-root : (j : ℕ) → 1 ≤ j → intAt rootRow j ≡ pos 0
+blank-root zero h = absurd (omega arith)
+blank-root (suc j) h = intAt-zeros 7 j
+
+natural-root : (j : ℕ) → Natural (intAt rootRow j)
+natural-root zero = refl
+natural-root (suc j) = rw (intAt-zeros 7 j)
+
+module _ (n p : ℕ) (fs : List (List ℕ)) where
+  blank-line : (j : ℕ) → 6 ≤ j → intAt (lineRow n p fs) j ≡ pos 0
+  unfolding lineRow
+  blank-line j h = let q : j ≡ suc (suc (suc (suc (suc (suc (j - 6)))))) = omega arith in rw q (intAt-zeros 2 (j - 6))
+
+  natural-line : (j : ℕ) → (kindCode (field fs 0) ≡ numberCode → j ≡ 3 → ⊥) → Natural (intAt (lineRow n p fs) j)
+  unfolding lineRow
+  natural-line zero d = refl
+  natural-line (suc zero) d = refl
+  natural-line (suc (suc zero)) d = refl
+  natural-line (suc (suc (suc zero))) d = held-natural (fieldsAt (kindCode (field fs 0)) .a) n (field fs 2) (number-a (kindCode (field fs 0)) (λ q. d q refl))
+  natural-line (suc (suc (suc (suc zero)))) d = held-natural (fieldsAt (kindCode (field fs 0)) .b) n (field fs 3) (number-b (kindCode (field fs 0)))
+  natural-line (suc (suc (suc (suc (suc zero))))) d = held-natural (fieldsAt (kindCode (field fs 0)) .c) n (field fs 4) (number-c (kindCode (field fs 0)))
+  natural-line (suc (suc (suc (suc (suc (suc j)))))) d = rw (intAt-zeros 2 j)
+
+  pub blank-row : (k j : ℕ) → 6 ≤ j → intAt (rowOf n k p fs) j ≡ pos 0
+  blank-row k j h = by-label n k p fs (λ (r : List ℤ). intAt r j ≡ pos 0) (λ q. blank-root j (omega arith)) (λ q. blank-line j h)
+
+  natural-row : (k j : ℕ) → (kindCode (field fs 0) ≡ numberCode → j ≡ 3 → ⊥) → Natural (intAt (rowOf n k p fs) j)
+  natural-row k j d = by-label n k p fs (λ (r : List ℤ). Natural (intAt r j)) (λ q. natural-root j) (λ q. natural-line j d)
 
 -- ---- the cells of all lines
 
-pub row-at : (s : List ℕ) (n i k j : ℕ) → k < i → j < 8 → intAt (rows s n i) (8 * k + j) ≡ intAt (rowOf n (place (cut 10 s) (suc k)) (cut 32 (line s (suc k)))) j
+pub row-at : (s : List ℕ) (n i k j : ℕ) → k < i → j < 8 → intAt (rows s n i) (8 * k + j) ≡ intAt (rowOf n (suc k) (place (cut 10 s) (suc k)) (cut 32 (line s (suc k)))) j
 row-at s n zero k j h g = absurd (not-suc-le-zero h)
 row-at s n (suc i) k j h g = go (ltb k i) refl (λ m. row-at s n i k j m g)
   where
     own : ℕ → List ℤ
-    own x = rowOf n (place (cut 10 s) (suc x)) (cut 32 (line s (suc x)))
+    own x = rowOf n (suc x) (place (cut 10 s) (suc x)) (cut 32 (line s (suc x)))
 
     go : (b : Bool) → ltb k i ≡ b → (k < i → intAt (rows s n i) (8 * k + j) ≡ intAt (own k) j) → intAt (rows s n i ++ own i) (8 * k + j) ≡ intAt (own k) j
     go true q older =
@@ -241,10 +263,10 @@ module _ (s : List ℕ) (m : ℕ) (low : 1 ≤ labels s) (high : labels s ≤ 10
   abbrev fields : ℕ → List (List ℕ)
   fields k = cut 32 (line s (suc k))
 
-  abbrev kindOf : ℕ → Kind
-  kindOf k = kindAt (kindCode (field (fields k) 0))
+  abbrev kindOf : ℕ → Fields
+  kindOf k = fieldsAt (kindCode (field (fields k) 0))
 
-  cells-at : (k j : ℕ) → k < n → j < 8 → intAt t (8 * k + j) ≡ intAt (rowOf n (start k) (fields k)) j
+  cells-at : (k j : ℕ) → k < n → j < 8 → intAt t (8 * k + j) ≡ intAt (rowOf n (suc k) (start k) (fields k)) j
   unfolding linedTable
   cells-at k j h g =
       List·getD-append (rows s n n) (zeros (m - 8 * n)) (pos 0) (8 * k + j) (omega (arith, rows-length s n n)) ∙ row-at s n n k j h g
@@ -266,29 +288,31 @@ module _ (s : List ℕ) (m : ℕ) (low : 1 ≤ labels s) (high : labels s ≤ 10
   line-formed k h = all-formed n (suc k) (line s (suc k)) (line-fine k h)
 
   kind-at : (k : ℕ) → k < n → kind t (suc k) ≡ kindCode (field (fields k) 0)
-  unfolding rowOf
-  kind-at k h = ap natOf (cells-at k 0 h (omega arith))
+  unfolding lineRow
+  kind-at k h =
+      ap natOf (cells-at k 0 h (omega arith))
+      ∙ by-label n (suc k) (start k) (fields k) (λ (r : List ℤ). natOf (intAt r 0) ≡ kindCode (field (fields k) 0))
+      (λ q. sym (ap (λ (x : List ℕ). kindCode (field (cut 32 x) 0)) (root-is n (suc k) (line s (suc k)) (line-fine k h) q) ∙ root-code)) (λ q. refl)
 
   -- label 1
   root-line : line s 1 ≡ rootLine
   root-line = root-is n 1 (line s 1) (line-fine 0 low) refl
 
-  root-kind : kind t 1 ≡ 1
+  root-kind : kind t 1 ≡ groupCode
   root-kind = kind-at 0 low ∙ ap (λ (x : List ℕ). kindCode (field (cut 32 x) 0)) root-line ∙ root-code
 
   root-top : fieldA t 1 ≡ 0
-  unfolding rowOf rootLine codeOf kinds kindAt fieldOf
-  root-top = ap natOf (cells-at 0 3 low (omega arith)) ∙ rw (root-line, zero-label n)
+  root-top = ap natOf (cells-at 0 3 low (omega arith))
 
-  naturals : (l j : ℕ) → 1 ≤ l → l ≤ n → j < 8 → (kind t l ≡ 4 → j ≡ 3 → ⊥) → intAt t (8 * (l - 1) + j) ≡ pos (cell t l j)
+  naturals : (l j : ℕ) → 1 ≤ l → l ≤ n → j < 8 → (kind t l ≡ numberCode → j ≡ 3 → ⊥) → intAt t (8 * (l - 1) + j) ≡ pos (cell t l j)
   naturals zero j h g a d = absurd (not-suc-le-zero h)
   naturals (suc k) j h g a d =
       let q : 8 * (suc k - 1) + j ≡ 8 * k + j = omega arith in
-      rw (q, cells-at k j (omega arith) a) (natural-row n (start k) (fields k) j (λ c. d (kind-at k (omega arith) ∙ c)))
+      rw (q, cells-at k j (omega arith) a) (natural-row n (start k) (fields k) (suc k) j (λ c. d (kind-at k (omega arith) ∙ c)))
 
-  codes : (l : ℕ) → 1 ≤ l → l ≤ n → (1 ≤ kind t l) × (kind t l ≤ 12)
+  codes : (l : ℕ) → 1 ≤ l → l ≤ n → isKind (kind t l) ≡ true
   codes zero h g = absurd (not-suc-le-zero h)
-  codes (suc k) h g = rw (kind-at k (omega arith)) (known n (suc k) (line s (suc k)) (line-fine k (omega arith)), kind-bound (field (fields k) 0))
+  codes (suc k) h g = rw (kind-at k (omega arith)) (kind-known (field (fields k) 0) (known n (suc k) (line s (suc k)) (line-fine k (omega arith))))
 
   -- a line lies in the text, and a name field in its line
   line-inside : (k : ℕ) → k < n → start k + length (line s (suc k)) ≤ length s
@@ -296,8 +320,11 @@ module _ (s : List ℕ) (m : ℕ) (low : 1 ≤ labels s) (high : labels s ≤ 10
   line-inside k h = piece-inside 10 s (suc k) (omega (arith, pieces s))
 
   name-inside : (k : ℕ) → k < n → nameStart t (suc k) + nameLength t (suc k) ≤ length s
-  unfolding rowOf
-  name-inside k h = rw (cells-at k 1 h (omega arith), cells-at k 2 h (omega arith)) (go (same (field (fields k) 1) dash))
+  unfolding lineRow
+  name-inside k h =
+      rw (cells-at k 1 h (omega arith), cells-at k 2 h (omega arith))
+      (by-label n (suc k) (start k) (fields k) (λ (r : List ℤ). natOf (intAt r 1) + natOf (intAt r 2) ≤ length s)
+      (λ q. omega arith) (λ q. go (same (field (fields k) 1) dash)))
     where
       in-line : place (fields k) 1 + length (field (fields k) 1) ≤ length (line s (suc k))
       in-line = piece-inside 32 (line s (suc k)) 1 (omega (arith, five n (suc k) (line s (suc k)) (line-fine k h)))
@@ -315,26 +342,28 @@ module _ (s : List ℕ) (m : ℕ) (low : 1 ≤ labels s) (high : labels s ≤ 10
       go false e = let h = ltb-false k n e in omega (arith, past k 1 h, past k 2 h)
 
   -- a value's name has at most 16 bytes
-  value-forms : (k : ℕ) → k < n → kind t (suc k) ≡ 2 → formsRight n (kindOf k) (fields k) ≡ true
+  value-forms : (k : ℕ) → k < n → kind t (suc k) ≡ valueCode → formsRight n (kindOf k) (fields k) ≡ true
   value-forms k h e =
       let d : suc k ≡ 1 → ⊥ = λ q. omega (arith, ap (kind t) q, root-kind) in
       rw (ne-eqb (suc k) 1 d) at (fine-forms n (suc k) (line s (suc k)) (line-fine k h))
 
-  value-name : (k : ℕ) → k < n → kind t (suc k) ≡ 2 → isName (field (fields k) 1) ≡ true
+  value-name : (k : ℕ) → k < n → kind t (suc k) ≡ valueCode → isName (field (fields k) 1) ≡ true
   unfolding kindAt kinds fieldOf
   value-name k h e =
-      let c : kindCode (field (fields k) 0) ≡ 2 = sym (kind-at k h) ∙ e in
+      let c : kindCode (field (fields k) 0) ≡ valueCode = sym (kind-at k h) ∙ e in
       is-blank (isName (field (fields k) 1)) (and-left _ _ (and-left _ _ (and-left _ _ (rw c at (value-forms k h e)))))
 
-  name-short : (k : ℕ) → k < n → kind t (suc k) ≡ 2 → nameLength t (suc k) ≤ 16
-  unfolding rowOf
-  name-short k h e = rw (cells-at k 2 h (omega arith)) (go (same (field (fields k) 1) dash))
+  name-short : (k : ℕ) → k < n → kind t (suc k) ≡ valueCode → nameLength t (suc k) ≤ 16
+  unfolding lineRow
+  name-short k h e =
+      rw (cells-at k 2 h (omega arith))
+      (by-label n (suc k) (start k) (fields k) (λ (r : List ℤ). natOf (intAt r 2) ≤ 16) (λ q. omega arith) (λ q. go (same (field (fields k) 1) dash)))
     where
       go : (b : Bool) → cond b 0 (length (field (fields k) 1)) ≤ 16
       go true = omega arith
       go false = name-size (field (fields k) 1) (value-name k h e)
 
-  pub names-short : (l : ℕ) → kind t l ≡ 2 → nameLength t l ≤ 16
+  pub names-short : (l : ℕ) → kind t l ≡ valueCode → nameLength t l ≤ 16
   names-short zero e = omega arith
   names-short (suc k) e = go (ltb k n) refl
     where
@@ -342,25 +371,29 @@ module _ (s : List ℕ) (m : ℕ) (low : 1 ≤ labels s) (high : labels s ≤ 10
       go true q = name-short k (ltb-true k n q) e
       go false q = omega (arith, past k 2 (ltb-false k n q))
 
-  -- cell j of a line holds its field i, of the form that `wanted` says of its kind
-  operand-at : (wanted : Kind → Form) (i j : ℕ) → j < 8
-      → ((k : ℕ) → intAt (rowOf n (start k) (fields k)) j ≡ held (fieldOf (wanted (kindOf k)) n (field (fields k) i)))
+  -- cell j of a line but label 1's holds its field i, of the form that `wanted` says of its kind; a Group has no operand
+  operand-at : (wanted : Fields → Form) (i j : ℕ) → j < 8 → (wanted (fieldsAt groupCode) ≡ form.Operand → ⊥)
+      → ((k : ℕ) → intAt (lineRow n (start k) (fields k)) j ≡ held (fieldOf (wanted (kindOf k)) n (field (fields k) i)))
       → ((k : ℕ) → k < n → Right (wanted (kindOf k)) n (field (fields k) i))
-      → (l : ℕ) → 1 ≤ l → l ≤ n → wanted (kindAt (kind t l)) ≡ form.Operand → 1 ≤ cell t l j
-  operand-at wanted i j small holds right zero h g e = absurd (not-suc-le-zero h)
-  operand-at wanted i j small holds right (suc k) h g e =
+      → (l : ℕ) → 1 ≤ l → l ≤ n → wanted (fieldsAt (kind t l)) ≡ form.Operand → 1 ≤ cell t l j
+  operand-at wanted i j small none holds right zero h g e = absurd (not-suc-le-zero h)
+  operand-at wanted i j small none holds right (suc k) h g e =
       let b : k < n = omega arith in
-      let f : wanted (kindOf k) ≡ form.Operand = sym (ap (λ (c : ℕ). wanted (kindAt c)) (kind-at k b)) ∙ e in
+      let f : wanted (kindOf k) ≡ form.Operand = sym (ap (λ (c : ℕ). wanted (fieldsAt c)) (kind-at k b)) ∙ e in
       let r : isRight (fieldOf form.Operand n (field (fields k) i)) ≡ true = sym (ap (λ (x : Form). isRight (fieldOf x n (field (fields k) i))) f) ∙ right k b f in
-      rw (cells-at k j b small, holds k, f) (held-label n (field (fields k) i) r)
+      rw (cells-at k j b small)
+      (by-label n (suc k) (start k) (fields k) (λ (x : List ℤ). 1 ≤ natOf (intAt x j))
+      (λ q. absurd (none (sym (ap (λ (x : ℕ). wanted (fieldsAt (kind t x))) q ∙ ap (λ (c : ℕ). wanted (fieldsAt c)) root-kind) ∙ e)))
+      (λ q. rw (holds k, f) (held-label n (field (fields k) i) r)))
 
-  number-at : (k : ℕ) → k < n → kind t (suc k) ≡ 4 → natAbs (table.numberOf t (suc k)) ≤ 1000000000
-  unfolding rowOf
+  number-at : (k : ℕ) → k < n → kind t (suc k) ≡ numberCode → natAbs (table.numberOf t (suc k)) ≤ 1000000000
+  unfolding lineRow
   number-at k h e =
-      let f : kindOf k .a ≡ form.Number = ap (λ (c : ℕ). kindAt c .a) (sym (kind-at k h) ∙ e) ∙ number-form in
-      rw (cells-at k 3 h (omega arith), f) (held-number n (field (fields k) 2))
+      let f : kindOf k .a ≡ form.Number = ap (λ (c : ℕ). fieldsAt c .a) (sym (kind-at k h) ∙ e) ∙ number-form in
+      rw (cells-at k 3 h (omega arith))
+      (by-label n (suc k) (start k) (fields k) (λ (r : List ℤ). natAbs (intAt r 3) ≤ 1000000000) (λ q. omega arith) (λ q. rw f (held-number n (field (fields k) 2))))
 
-  number-in-range : (l : ℕ) → kind t l ≡ 4 → natAbs (table.numberOf t l) ≤ 1000000000
+  number-in-range : (l : ℕ) → kind t l ≡ numberCode → natAbs (table.numberOf t l) ≤ 1000000000
   number-in-range zero e = absurd (omega arith)
   number-in-range (suc k) e = go (ltb k n) refl
     where
@@ -369,7 +402,7 @@ module _ (s : List ℕ) (m : ℕ) (low : 1 ≤ labels s) (high : labels s ≤ 10
       go false q = absurd (omega (arith, past k 0 (ltb-false k n q)))
 
   pub lined : 8 * labels s ≤ m → Lined s (linedTable s m) (labels s)
-  unfolding rowOf
+  unfolding lineRow kindAt kinds
   lined room = record {
     some = low;
     few = high;
@@ -380,9 +413,9 @@ module _ (s : List ℕ) (m : ℕ) (low : 1 ≤ labels s) (high : labels s ≤ 10
     root = root-kind;
     top = root-top;
     names = names-inside;
-    a = operand-at (λ (k : Kind). k .a) 2 3 (omega arith) (λ k. refl) (λ k h. line-formed k h .first);
-    b = operand-at (λ (k : Kind). k .b) 3 4 (omega arith) (λ k. refl) (λ k h. line-formed k h .second);
-    c = operand-at (λ (k : Kind). k .c) 4 5 (omega arith) (λ k. refl) (λ k h. line-formed k h .third);
-    blank = λ k j h low high. cells-at k j h high ∙ blank-row n (start k) (fields k) j low;
+    a = operand-at (λ (k : Fields). k .a) 2 3 (omega arith) group-differs (λ k. refl) (λ k h. line-formed k h .first);
+    b = operand-at (λ (k : Fields). k .b) 3 4 (omega arith) missing-differs (λ k. refl) (λ k h. line-formed k h .second);
+    c = operand-at (λ (k : Fields). k .c) 4 5 (omega arith) missing-differs (λ k. refl) (λ k h. line-formed k h .third);
+    blank = λ k j h low high. cells-at k j h high ∙ blank-row n (start k) (fields k) (suc k) j low;
     number = number-in-range;
   }

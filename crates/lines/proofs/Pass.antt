@@ -1,11 +1,11 @@
 -- The pass down the lines: what one step says of its line, and what the loop keeps.
 use mathlib.Core.Path.{_≡_, refl, ap, sym, _∙_}
 use mathlib.Core.List.{List, [], _∷_, _++_}
-use mathlib.Core.Bool.{Bool, true, false}
+use mathlib.Core.Bool.{Bool, true, false, cond}
 use Prim.Native.Nat.{ℕ, zero, suc, _+_, _-_, _*_, _≤_, _<_}
 use native.Mathlib.Numerals.{add-one}
 use native.Mathlib.Omega.{arith}
-use lib.Dec.{ltb}
+use lib.Dec.{eqb, ltb}
 use lib.IntN.{ℤ}
 use lib.ListN.{length, getD, drop, take, length-append, length-drop, drop-of-length-le}
 use lib.Seq.{slice, sets, sets-eq, take-at, drop-at, drop-append-add, drop-drop}
@@ -19,8 +19,8 @@ use Rattle.text.specs.Scans.{rest, fieldsFrom}
 use Rattle.text.proofs.Slices.{whole}
 use Rattle.text.proofs.Cuts.{pieces, place-zero, piece-is, pieces-next, place-next}
 use Rattle.text.proofs.Fields.{line-inside, line-next}
-use Rattle.lines.specs.Lines.{line, firstLine, labels, headBad, lineBad, lineCheck, linesBad, rowOf, rows}
-use Rattle.lines.specs.Steps.{lineFrom, rowAt, cellsOf, decide, lineRead, stepOf, written, linesWritten}
+use Rattle.lines.specs.Lines.{line, firstLine, labels, headBad, lineBad, lineCheck, linesBad, rootRow, lineRow, rowOf, rows}
+use Rattle.lines.specs.Steps.{lineFrom, rowAt, rootAt, rowFor, cellsOf, decide, lineRead, stepOf, written, linesWritten}
 use Rattle.lines.specs.declared.Row.{Row}
 use Rattle.lines.specs.declared.Line.{Line}
 use Rattle.lines.specs.declared.Line.the-variants.{Passes, Fails}
@@ -32,7 +32,7 @@ use Rattle.lines.proofs.Heads.{Headed}
 pub record Went (n k : ℕ) (s : List ℕ) (at next : ℕ) : Type 0 where
   pub fine : lineBad n k (lineFrom s at) ≡ 0
   pub is : next ≡ at + length (lineFrom s at) + 1
-  pub cells : (base : ℕ) (t : List ℤ) → written (lineRead n k s at) base t ≡ sets t base (rowOf n at (fieldsFrom s at))
+  pub cells : (base : ℕ) (t : List ℤ) → written (lineRead n k s at) base t ≡ sets t base (rowOf n k at (fieldsFrom s at))
 
 pub record Stopped (n k : ℕ) (s : List ℕ) (at b : ℕ) : Type 0 where
   pub bad : lineBad n k (lineFrom s at) ≡ b
@@ -41,19 +41,34 @@ pub record Stopped (n k : ℕ) (s : List ℕ) (at b : ℕ) : Type 0 where
 
 module _ (n k : ℕ) (s : List ℕ) (at : ℕ) where
   abbrev row : Row
-  row = rowAt n s at (fieldsFrom s at)
+  row = rowFor n k s at
 
   -- the cells that the code carries are those of the definition
-  row-cells : cellsOf row ≡ rowOf n at (fieldsFrom s at)
-  unfolding rowOf
-  row-cells = refl
+  row-cells : cellsOf row ≡ rowOf n k at (fieldsFrom s at)
+  unfolding lineRow
+  row-cells = go (eqb k 1)
+    where
+      go : (b : Bool) → cellsOf (cond b (rootAt s at) (rowAt n s at (fieldsFrom s at))) ≡ cond b rootRow (lineRow n at (fieldsFrom s at))
+      go true = refl
+      go false = refl
+
+  -- and they end where the line does
+  row-end : row .end ≡ at + length (lineFrom s at)
+  row-end = go (eqb k 1)
+    where
+      go : (b : Bool) → cond b (rootAt s at) (rowAt n s at (fieldsFrom s at)) .end ≡ at + length (lineFrom s at)
+      go true = refl
+      go false = refl
+
+  at-next : (r : Row) (next : ℕ) → At (r .end + 1) ≡ At next → next ≡ r .end + 1
+  at-next r next f = cc
 
   pub went : (next : ℕ) → stepOf (lineRead n k s at) ≡ At next → Went n k s at next
   unfolding lineRead
   went next e = go (lineBad n k (lineFrom s at)) refl e
     where
       go : (b : ℕ) → lineBad n k (lineFrom s at) ≡ b → stepOf (decide b row) ≡ At next → Went n k s at next
-      go zero q f = record { fine = q; is = cc; cells = λ base t. rw q (ap (sets t base) row-cells) }
+      go zero q f = record { fine = q; is = at-next row next f ∙ ap (λ (x : ℕ). x + 1) row-end; cells = λ base t. rw q (ap (sets t base) row-cells) }
       go (suc b) q f = let z : _≡_ {A = ℕ} 0 1 = cc in absurd (omega arith)
 
   pub stopped : (b : ℕ) → stepOf (lineRead n k s at) ≡ Stop b → Stopped n k s at b
@@ -65,36 +80,43 @@ module _ (n k : ℕ) (s : List ℕ) (at : ℕ) where
       go (suc x) q f = let y : suc x ≡ b = cc in record { bad = q ∙ y; some = λ z. omega arith; cells = λ base t. rw q }
 
   -- a line that passes ends inside the text
+  same-end : (x : Row) {r : Row} → Passes x ≡ Passes r → x .end ≡ r .end
+  same-end x {r} f = let q : x ≡ r = cc in ap (λ (y : Row). y .end) q
+
   pub passes-inside : at < length s → endsLines s → (r : Row) → lineRead n k s at ≡ Passes r → r .end < length s
   unfolding lineRead
   passes-inside h ends r e = go (lineBad n k (lineFrom s at)) e
     where
       go : (b : ℕ) → decide b row ≡ Passes r → r .end < length s
-      go zero f = let q : row ≡ r = cc in omega (arith, line-inside s at h ends, ap (λ (x : Row). x .end) q)
+      go zero f = omega (arith, line-inside s at h ends, row-end, same-end row f)
       go (suc b) f = let z : _≡_ {A = ℕ} 0 1 = cc in absurd (omega arith)
 
 -- ---- the rows written so far
 
-row-length : (n p : ℕ) (fs : List (List ℕ)) → length (rowOf n p fs) ≡ 8
-unfolding rowOf
-row-length n p fs = refl
+row-length : (n k p : ℕ) (fs : List (List ℕ)) → length (rowOf n k p fs) ≡ 8
+unfolding lineRow
+row-length n k p fs = go (eqb k 1)
+  where
+    go : (b : Bool) → length (cond b rootRow (lineRow n p fs)) ≡ 8
+    go true = refl
+    go false = refl
 
 pub rows-length : (s : List ℕ) (n k : ℕ) → length (rows s n k) ≡ 8 * k
 rows-length s n zero = refl
 rows-length s n (suc k) =
-    omega (arith, length-append (rows s n k) (rowOf n (place (cut 10 s) (suc k)) (cut 32 (line s (suc k)))), rows-length s n k, row-length n (place (cut 10 s) (suc k)) (cut 32 (line s (suc k))))
+    omega (arith, length-append (rows s n k) (rowOf n (suc k) (place (cut 10 s) (suc k)) (cut 32 (line s (suc k)))), rows-length s n k, row-length n (suc k) (place (cut 10 s) (suc k)) (cut 32 (line s (suc k))))
 
 pub written-length : (s : List ℕ) (n k : ℕ) (t : List ℤ) → 8 * k ≤ length t → length (linesWritten s n k t) ≡ length t
 written-length s n k t h = omega (arith, length-append (rows s n k) (drop (8 * k) t), length-drop (8 * k) t, rows-length s n k)
 
 -- eight cells more
 pub row-written : (s : List ℕ) (n k : ℕ) (t : List ℤ) → 8 * k + 8 ≤ length t
-    → sets (linesWritten s n k t) (8 * k) (rowOf n (place (cut 10 s) (k + 1)) (cut 32 (line s (k + 1)))) ≡ linesWritten s n (k + 1) t
+    → sets (linesWritten s n k t) (8 * k) (rowOf n (k + 1) (place (cut 10 s) (k + 1)) (cut 32 (line s (k + 1)))) ≡ linesWritten s n (k + 1) t
 row-written s n k t h =
-    let v = rowOf n (place (cut 10 s) (k + 1)) (cut 32 (line s (k + 1))) in
+    let v = rowOf n (k + 1) (place (cut 10 s) (k + 1)) (cut 32 (line s (k + 1))) in
     let w = linesWritten s n k t in
     let r = rows-length s n k in
-    let e = row-length n (place (cut 10 s) (k + 1)) (cut 32 (line s (k + 1))) in
+    let e = row-length n (k + 1) (place (cut 10 s) (k + 1)) (cut 32 (line s (k + 1))) in
     let l : length w ≡ length t = written-length s n k t (omega arith) in
     let front : take (8 * k) w ≡ rows s n k = take-at (rows s n k) (drop (8 * k) t) (8 * k) r in
     let m : 8 * k + length v ≡ length (rows s n k) + 8 = omega arith in
@@ -171,11 +193,11 @@ module _ (s : List ℕ) (n : ℕ) (h : Headed s) (e : n ≡ labels s) where
           let j : k - 1 + 1 ≡ k = omega (arith, g .low) in
           let i : k + 1 - 1 ≡ k = omega arith in
           let base : ℕ = 8 * (k - 1) in
-          let own : rowOf n at (fieldsFrom s at) ≡ rowOf n (place (cut 10 s) (k - 1 + 1)) (cut 32 (line s (k - 1 + 1))) =
-          rw (j, line-is) (ap (λ (p : ℕ). rowOf n p (fieldsFrom s at)) (g .here)) in
+          let own : rowOf n k at (fieldsFrom s at) ≡ rowOf n (k - 1 + 1) (place (cut 10 s) (k - 1 + 1)) (cut 32 (line s (k - 1 + 1))) =
+          rw (j, line-is) (ap (λ (p : ℕ). rowOf n k p (fieldsFrom s at)) (g .here)) in
           let z : t′ ≡ linesWritten s n k t₀ =
           q ∙ w .cells base t
-          ∙ ap (λ (x : List ℤ). sets x base (rowOf n at (fieldsFrom s at))) (g .table)
+          ∙ ap (λ (x : List ℤ). sets x base (rowOf n k at (fieldsFrom s at))) (g .table)
           ∙ ap (λ (v : List ℤ). sets (linesWritten s n (k - 1) t₀) base v) own
           ∙ row-written s n (k - 1) t₀ (omega (arith, g .low))
           ∙ ap (λ (x : ℕ). linesWritten s n x t₀) j in

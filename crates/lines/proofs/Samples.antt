@@ -9,7 +9,7 @@ use Rattle.refusals.specs.declared.Verdict.the-variants.{Fine, Refused}
 use Rattle.text.specs.Bytes.{isAllowed, isLetter, isAlphanumeric}
 use Rattle.text.specs.Forms.{isName, isPath, labelOf}
 use Rattle.text.specs.Quoted.{bytesOf, textOf}
-use Rattle.lines.specs.Kinds.{kinds, kindAt, codeOf}
+use Rattle.kinds.specs.Kinds.{kinds, kindAt, codeOf}
 use Rattle.lines.specs.Fields.{fieldOf}
 use Rattle.lines.specs.Lines.{isText, line, labels, firstLine, headBad, rootLine, lineBad, linesBad}
 

@@ -10,9 +10,9 @@ use Rattle.numbers.specs.declared.Number.{Number}
 use Rattle.numbers.specs.declared.Number.the-variants as number
 use Rattle.text.specs.Bytes.{same}
 use Rattle.text.specs.Forms.{isName, isPath, labelOf}
-use Rattle.lines.specs.Kinds.{codeOf}
-use Rattle.lines.specs.declared.Form.{Form}
-use Rattle.lines.specs.declared.Form.the-variants as form
+use Rattle.kinds.specs.Kinds.{codeOf}
+use Rattle.kinds.specs.declared.Form.{Form}
+use Rattle.kinds.specs.declared.Form.the-variants as form
 use Rattle.lines.specs.declared.Field.{Field}
 use Rattle.lines.specs.declared.Field.the-variants.{Holds, Wrong}
 
@@ -46,7 +46,7 @@ abbrev pub isRight : Field → Bool
 isRight (Holds x) = true
 isRight Wrong = false
 
--- what its cell holds. Of a sheet that reads, one field alone is wrong by its form: label 1's a, `0`, whose cell is 0.
+-- what its cell holds; of a line that passes row 7 no field is wrong
 abbrev pub held : Field → ℤ
 held (Holds x) = x
 held Wrong = pos 0

@@ -1,4 +1,3 @@
-pub mod Kinds
 pub mod Fields
 pub mod Lines
 pub mod Steps

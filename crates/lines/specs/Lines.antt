@@ -5,6 +5,9 @@ use Prim.Native.Nat.{ℕ, zero, suc, _+_, _-_}
 use lib.Dec.{leb, eqb}
 use lib.IntN.{ℤ, pos}
 use lib.ListN.{length, getD}
+use Rattle.kinds.specs.declared.Fields.{Fields}
+use Rattle.kinds.specs.Kinds.{groupCode, fieldsAt}
+use Rattle.cells.specs.Cells.{zeros}
 use Rattle.text.specs.Bytes.{all, countBy, isAllowed, isNewline, same}
 use Rattle.text.specs.Pieces.{cut, place, fieldsAre}
 use Rattle.text.specs.Quoted.{bytesOf}
@@ -12,8 +15,6 @@ use Rattle.refusals.specs.Rows.{textRow, firstLineRow, labelsRow, fieldsRow, ki
 use Rattle.refusals.specs.Refusal.{firstBad}
 use Rattle.refusals.specs.declared.Verdict.{Verdict}
 use Rattle.refusals.specs.declared.Verdict.the-variants.{Fine, Refused}
-use Rattle.lines.specs.declared.Kind.{Kind}
-use Rattle.lines.specs.Kinds.{kindAt}
 use Rattle.lines.specs.Fields.{dash, fieldOf, isRight, held, kindCode}
 
 -- ---- rows 1 to 3, at place 0
@@ -55,7 +56,7 @@ abbrev pub field : List (List ℕ) → ℕ → List ℕ
 field fs j = getD fs j []
 
 -- the fields name, a, b and c have the forms that the kind wants
-abbrev pub formsRight : ℕ → Kind → List (List ℕ) → Bool
+abbrev pub formsRight : ℕ → Fields → List (List ℕ) → Bool
 formsRight n k fs =
     isRight (fieldOf (k .name) n (field fs 1))
     && isRight (fieldOf (k .a) n (field fs 2))
@@ -67,7 +68,7 @@ abbrev pub fieldsBad : ℕ → ℕ → List ℕ → List (List ℕ) → ℕ
 fieldsBad n k l fs =
     cond (fieldsAre 5 fs)
     (cond (eqb (kindCode (field fs 0)) 0) kindRow
-    (cond (cond (eqb k 1) (same l rootLine) (formsRight n (kindAt (kindCode (field fs 0))) fs)) 0 formRow))
+    (cond (cond (eqb k 1) (same l rootLine) (formsRight n (fieldsAt (kindCode (field fs 0))) fs)) 0 formRow))
     fieldsRow
 
 unfoldable pub lineBad : ℕ → ℕ → List ℕ → ℕ
@@ -79,15 +80,20 @@ lineCheck s n k = lineBad n k (line s k)
 unfoldable pub linesBad : List ℕ → ℕ → Verdict
 linesBad s n = firstBad (lineCheck s n) 1 n
 
--- ---- the eight cells of a line that begins at place p of the text and has the fields fs: kind code, start and length of the name
--- field (0, 0 for `-`), a, b, c (0 for `-`), owner and target, which later passes write
+-- ---- the eight cells of a line: kind code, start and length of the name field (0, 0 for `-`), a, b, c (0 for `-`), owner and target,
+-- which later passes write
 
+-- those of label 1, which is always `G - 0 - -`: a Group, with no name and in no Group
+abbrev pub rootRow : List ℤ
+rootRow = pos groupCode ∷ zeros 7
+
+-- those of any other line, which begins at place p of the text and has the fields fs
 abbrev pub nameCell : List (List ℕ) → ℕ → ℤ
 nameCell fs x = pos (cond (same (field fs 1) dash) 0 x)
 
-unfoldable pub rowOf : ℕ → ℕ → List (List ℕ) → List ℤ
-rowOf n p fs =
-    let k = kindAt (kindCode (field fs 0)) in
+unfoldable pub lineRow : ℕ → ℕ → List (List ℕ) → List ℤ
+lineRow n p fs =
+    let k = fieldsAt (kindCode (field fs 0)) in
     pos (kindCode (field fs 0))
     ∷ nameCell fs (p + place fs 1)
     ∷ nameCell fs (length (field fs 1))
@@ -98,7 +104,10 @@ rowOf n p fs =
     ∷ pos 0
     ∷ []
 
+abbrev pub rowOf : ℕ → ℕ → ℕ → List (List ℕ) → List ℤ
+rowOf n k p fs = cond (eqb k 1) rootRow (lineRow n p fs)
+
 -- the cells of labels 1 to k
 abbrev pub rows : List ℕ → ℕ → ℕ → List ℤ
 rows s n zero = []
-rows s n (suc k) = rows s n k ++ rowOf n (place (cut 10 s) (suc k)) (cut 32 (line s (suc k)))
+rows s n (suc k) = rows s n k ++ rowOf n (suc k) (place (cut 10 s) (suc k)) (cut 32 (line s (suc k)))

@@ -1,21 +1,22 @@
 -- What the code finds at one line of the text s, by positions.
 use mathlib.Core.Path.{_≡_}
-use mathlib.Core.Bool.{false, cond}
+use mathlib.Core.Bool.{Bool, false, cond}
 use mathlib.Core.List.{List, [], _∷_, _++_}
 use Prim.Native.Nat.{ℕ, zero, suc, _+_, _-_, _*_, _<_}
+use lib.Dec.{eqb}
 use lib.IntN.{ℤ, pos}
 use lib.ListN.{length, drop}
 use lib.Seq.{slice, sets}
+use Rattle.kinds.specs.declared.Fields.{Fields}
+use Rattle.kinds.specs.Kinds.{groupCode, fieldsAt}
 use Rattle.text.specs.Bytes.{same}
 use Rattle.text.specs.Pieces.{cut, place, firstOf, fieldsAre}
 use Rattle.text.specs.Scans.{rest, fieldsFrom}
 use Rattle.refusals.specs.Rows.{formRow}
 use Rattle.refusals.specs.declared.Verdict.{Verdict}
 use Rattle.refusals.specs.declared.Verdict.the-variants.{Fine, Refused}
-use Rattle.lines.specs.Kinds.{kindAt}
 use Rattle.lines.specs.Fields.{dash, fieldOf, held, kindCode}
 use Rattle.lines.specs.Lines.{field, formsRight, nameCell, rootLine, lineBad, rows}
-use Rattle.lines.specs.declared.Kind.{Kind}
 use Rattle.lines.specs.declared.Ends.{Ends}
 use Rattle.lines.specs.declared.Split.{Split}
 use Rattle.lines.specs.declared.Split.the-variants.{Five, Other}
@@ -59,7 +60,7 @@ operandsOf (aField.Holds a) (aField.Holds b) aField.Wrong = operands.Wrong
 operandsOf (aField.Holds a) aField.Wrong z = operands.Wrong
 operandsOf aField.Wrong y z = operands.Wrong
 
-abbrev pub operandsAt : List ℕ → Ends → Kind → ℕ → Operands
+abbrev pub operandsAt : List ℕ → Ends → Fields → ℕ → Operands
 operandsAt s e k n = operandsOf (fieldOf (k .a) n (slice (e .name + 1) (e .a) s)) (fieldOf (k .b) n (slice (e .a + 1) (e .b) s)) (fieldOf (k .c) n (slice (e .b + 1) (e .c) s))
 
 -- the cells that the code carries, as the list that it writes
@@ -83,29 +84,44 @@ rowAt n s from fs = record {
   code = pos (kindCode (field fs 0));
   start = nameCell fs (from + place fs 1);
   length = nameCell fs (length (field fs 1));
-  a = held (fieldOf (kindAt (kindCode (field fs 0)) .a) n (field fs 2));
-  b = held (fieldOf (kindAt (kindCode (field fs 0)) .b) n (field fs 3));
-  c = held (fieldOf (kindAt (kindCode (field fs 0)) .c) n (field fs 4));
+  a = held (fieldOf (fieldsAt (kindCode (field fs 0)) .a) n (field fs 2));
+  b = held (fieldOf (fieldsAt (kindCode (field fs 0)) .b) n (field fs 3));
+  c = held (fieldOf (fieldsAt (kindCode (field fs 0)) .c) n (field fs 4));
+  end = from + length (lineFrom s from);
+}
+
+-- those of label 1
+abbrev pub rootAt : List ℕ → ℕ → Row
+rootAt s from = record {
+  code = pos groupCode;
+  start = pos 0;
+  length = pos 0;
+  a = pos 0;
+  b = pos 0;
+  c = pos 0;
   end = from + length (lineFrom s from);
 }
 
 -- a line with five fields of a known kind: row 7, for label 1 and for the others
-abbrev pub rootRead : ℕ → List ℕ → ℕ → Line
-rootRead n s from = cond (same (lineFrom s from) rootLine) (Passes (rowAt n s from (fieldsFrom s from))) (Fails formRow)
+abbrev pub rootRead : List ℕ → ℕ → Line
+rootRead s from = cond (same (lineFrom s from) rootLine) (Passes (rootAt s from)) (Fails formRow)
 
 abbrev pub rowRead : ℕ → List ℕ → ℕ → Line
 rowRead n s from =
-    cond (formsRight n (kindAt (kindCode (field (fieldsFrom s from) 0))) (fieldsFrom s from))
+    cond (formsRight n (fieldsAt (kindCode (field (fieldsFrom s from) 0))) (fieldsFrom s from))
     (Passes (rowAt n s from (fieldsFrom s from)))
     (Fails formRow)
 
 -- the line that begins at `from`, with label k in a sheet of n labels: its cells, or the row that refuses it
+abbrev pub rowFor : ℕ → ℕ → List ℕ → ℕ → Row
+rowFor n k s from = cond (eqb k 1) (rootAt s from) (rowAt n s from (fieldsFrom s from))
+
 abbrev pub decide : ℕ → Row → Line
 decide zero r = Passes r
 decide (suc b) r = Fails (suc b)
 
 unfoldable pub lineRead : ℕ → ℕ → List ℕ → ℕ → Line
-lineRead n k s from = decide (lineBad n k (lineFrom s from)) (rowAt n s from (fieldsFrom s from))
+lineRead n k s from = decide (lineBad n k (lineFrom s from)) (rowFor n k s from)
 
 abbrev pub stepOf : Line → Next
 stepOf (Passes r) = At (r .end + 1)

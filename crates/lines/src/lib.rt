@@ -6,150 +6,20 @@ ghost use Prim.Native.Nat.{_+_, _-_, _*_, _≤_, _<_};
 ghost use lib.IntN.{pos};
 ghost use lib.ListN.{length};
 ghost use lib.Seq.{slice, sets};
+ghost use Rattle.kinds.specs.Kinds.{isKind};
 ghost use Rattle.text.specs.Bytes.{all, countBy, isAllowed, isNewline, endsLines, same};
 ghost use Rattle.text.specs.Forms.{labelOf};
 ghost use Rattle.numbers.specs.Decimal.{numberOf};
 ghost use Rattle.refusals.specs.Refusal.{replyOf};
-ghost use Rattle.lines.specs.Kinds.{kindAt, codeOf};
 ghost use Rattle.lines.specs.Fields.{dash, blankIf, fromLabel, fromNumber, fieldOf, kindCode};
 ghost use Rattle.lines.specs.Lines.{isText, line, firstLine, labels, headBad, linesBad};
 ghost use Rattle.lines.specs.Steps.{FiveAt, SplitOf, operandsAt, cellsOf, rowBy, rowRead, rootRead, lineRead, stepOf, written, passed, linesWritten};
+use kinds::Fields;
+use kinds::Form;
 use numbers::Decimal;
 use numbers::Number;
 use refusals::Reply;
 use refusals::Verdict;
-
-// ---- the table of kinds
-
-// What a field of a line holds. `Missing` is `-` alone; `Group` and `Operand` are label fields, of a Group and of an expression.
-pub enum Form {
-    Missing,
-    Name,
-    Path,
-    Group,
-    Operand,
-    Number,
-}
-
-// A row of the table: the letter of a kind, and what its fields hold.
-pub struct Kind {
-    pub letter: u8,
-    pub name: Form,
-    pub a: Form,
-    pub b: Form,
-    pub c: Form,
-}
-
-// Document 01's one fixed table of twelve rows. A kind's code is the place of its row, from 1.
-const KINDS: [Kind; 12] = [
-    Kind {
-        letter: b'G',
-        name: Form::Name,
-        a: Form::Group,
-        b: Form::Missing,
-        c: Form::Missing,
-    },
-    Kind {
-        letter: b'V',
-        name: Form::Name,
-        a: Form::Group,
-        b: Form::Operand,
-        c: Form::Missing,
-    },
-    Kind {
-        letter: b'F',
-        name: Form::Name,
-        a: Form::Group,
-        b: Form::Operand,
-        c: Form::Missing,
-    },
-    Kind {
-        letter: b'N',
-        name: Form::Missing,
-        a: Form::Number,
-        b: Form::Missing,
-        c: Form::Missing,
-    },
-    Kind {
-        letter: b'P',
-        name: Form::Missing,
-        a: Form::Missing,
-        b: Form::Missing,
-        c: Form::Missing,
-    },
-    Kind {
-        letter: b'R',
-        name: Form::Path,
-        a: Form::Missing,
-        b: Form::Missing,
-        c: Form::Missing,
-    },
-    Kind {
-        letter: b'C',
-        name: Form::Path,
-        a: Form::Operand,
-        b: Form::Missing,
-        c: Form::Missing,
-    },
-    Kind {
-        letter: b'A',
-        name: Form::Missing,
-        a: Form::Operand,
-        b: Form::Operand,
-        c: Form::Missing,
-    },
-    Kind {
-        letter: b'S',
-        name: Form::Missing,
-        a: Form::Operand,
-        b: Form::Operand,
-        c: Form::Missing,
-    },
-    Kind {
-        letter: b'M',
-        name: Form::Missing,
-        a: Form::Operand,
-        b: Form::Operand,
-        c: Form::Missing,
-    },
-    Kind {
-        letter: b'D',
-        name: Form::Missing,
-        a: Form::Operand,
-        b: Form::Operand,
-        c: Form::Missing,
-    },
-    Kind {
-        letter: b'I',
-        name: Form::Missing,
-        a: Form::Operand,
-        b: Form::Operand,
-        c: Form::Operand,
-    },
-];
-
-// The row of the kind with this code.
-pub fn kind_row(code: usize) -> Kind
-    requires { ⌜ (1 ≤ code) × (code ≤ 12) ⌝ }
-    ensures { λ r. ⌜ r ≡ kindAt code ⌝ }
-{
-    KINDS[code - 1]
-}
-
-// The code of the kind with this letter, or 0.
-fn code_of(letter: u8) -> usize
-    ensures { λ r. ⌜ r ≡ codeOf letter ⌝ }
-{
-    let mut code: usize = 1;
-    while code <= 12 {
-        let kind = kind_row(code);
-        if kind.letter == letter {
-            return code;
-        }
-        code += 1;
-    }
-    0
-}
 
 // ---- one field
 
@@ -222,7 +92,7 @@ fn kind_code(text: &[u8], from: usize, to: usize) -> usize
     if to - from != 1 {
         return 0;
     }
-    code_of(text[from])
+    kinds::code_of(text[from])
 }
 
 // ---- one line
@@ -308,7 +178,7 @@ pub enum Operands {
 }
 
 // The fields a, b and c, each in the form that the kind wants.
-fn read_operands(text: &[u8], e: Ends, kind: Kind, n: usize) -> Operands
+fn read_operands(text: &[u8], e: Ends, kind: Fields, n: usize) -> Operands
     requires { ⌜ (e .name + 1 < e .a) × (e .a + 1 < e .b) × (e .b + 1 < e .c) × (e .c ≤ length (now text)) × (n ≤ 1024) ⌝ }
     ensures { λ r. ⌜ r ≡ operandsAt (now (text .entry)) e kind n ⌝ }
 {
@@ -329,7 +199,7 @@ fn read_operands(text: &[u8], e: Ends, kind: Kind, n: usize) -> Operands
 
 // The cells of a line whose fields end at these places, with what a, b and c hold.
 fn row_of(text: &[u8], e: Ends, code: usize, a: i64, b: i64, c: i64) -> Row
-    requires { ⌜ (e .kind + 1 < e .name) × (e .name ≤ length (now text)) × (e .name ≤ 65536) × (code ≤ 12) ⌝ }
+    requires { ⌜ (e .kind + 1 < e .name) × (e .name ≤ length (now text)) × (e .name ≤ 65536) × (isKind code ≡ true) ⌝ }
     ensures { λ r. ⌜ r ≡ rowBy (now (text .entry)) e code a b c ⌝ }
 {
     let from = e.kind + 1;
@@ -365,7 +235,7 @@ fn read_row(text: &[u8], from: usize, e: Ends, code: usize, n: usize) -> Line
     requires { ⌜ FiveAt (now text) from e × (code ≡ kindCode (slice from (e .kind) (now text))) × (1 ≤ code) × (n ≤ 1024) × (length (now text) ≤ 65536) ⌝ }
     ensures { λ r. ⌜ r ≡ rowRead n (now (text .entry)) from ⌝ }
 {
-    let kind = kind_row(code);
+    let kind = kinds::fields_of(code);
     let form = kind.name;
     let Field::Holds(_) = read_field(text, e.kind + 1, e.name, form, n) else {
         return Line::Fails(refusals::FORM);
@@ -377,14 +247,14 @@ fn read_row(text: &[u8], from: usize, e: Ends, code: usize, n: usize) -> Line
 }
 
 // The line of label 1, which is always `G - 0 - -`.
-fn read_root(text: &[u8], from: usize, e: Ends, n: usize) -> Line
+fn read_root(text: &[u8], from: usize, e: Ends) -> Line
     requires { ⌜ FiveAt (now text) from e ⌝ }
-    ensures { λ r. ⌜ r ≡ rootRead n (now (text .entry)) from ⌝ }
+    ensures { λ r. ⌜ r ≡ rootRead (now (text .entry)) from ⌝ }
 {
     let end = e.c;
     if text::same_bytes(text, from, end, b"G - 0 - -") {
         return Line::Passes(Row {
-            code: 1,
+            code: kinds::GROUP as i64,
             start: 0,
             length: 0,
             a: 0,
@@ -407,7 +277,7 @@ fn read_five(text: &[u8], from: usize, e: Ends, n: usize, label: usize) -> Line
         return Line::Fails(refusals::KIND);
     }
     if label == 1 {
-        return read_root(text, from, e, n);
+        return read_root(text, from, e);
     }
     read_row(text, from, e, code, n)
 }

@@ -7,7 +7,9 @@ use Prim.Native.Nat.{ℕ, zero, suc, _+_, _-_, _*_, _≤_, _<_}
 use native.Mathlib.Omega.{arith}
 use native.Mathlib.Decide.{ℕ-discrete}
 use lib.IntN.{ℤ}
-use Rattle.cells.specs.Table.{kind, owner}
+use Rattle.kinds.specs.Kinds.{groupCode, valueCode}
+use Rattle.kinds.proofs.Codes.{group-definition, value-definition}
+use Rattle.cells.specs.Table.{kind, isDefinition, owner}
 use Rattle.cells.specs.Accepted.{Accepted, HasBody}
 use Rattle.order.specs.Order.{isV, up, Within, needs, reaches}
 use Rattle.order.proofs.Tests.{clash, so-or-not, not-so}
@@ -18,7 +20,7 @@ use Rattle.marks.specs.Marks.{mark, Added, Dropped}
 use Rattle.marks.proofs.Squares.{mark-in}
 use Rattle.reach.specs.Links.{Links, Around, Touches}
 use Rattle.reach.specs.Rows.{width, AllRows}
-use Rattle.reach.proofs.Links.{links-body, around-label, back-exact}
+use Rattle.reach.proofs.Links.{body-group, links-body, around-label, back-exact}
 use Rattle.needs.specs.Needs.{Holder, Wanted, Lifting, Cut, NeedRows}
 
 module _ (t : List ℤ) (n : ℕ) (ok : Accepted t n) where
@@ -26,12 +28,12 @@ module _ (t : List ℤ) (n : ℕ) (ok : Accepted t n) where
   holder-label q (inl e) = kind-label t n ok q (omega arith)
   holder-label q (inr e) = kind-label t n ok q (omega arith)
 
-  holder-def : (q : ℕ) → Holder t q → kind t q ≤ 3
-  holder-def q (inl e) = omega arith
-  holder-def q (inr e) = omega arith
+  holder-def : (q : ℕ) → Holder t q → isDefinition t q ≡ true
+  holder-def q (inl e) = rw e group-definition
+  holder-def q (inr e) = rw e value-definition
 
   -- the Group of a label other than 1
-  pub group-holder : (m : ℕ) → 2 ≤ m → m ≤ n → Holder t m → kind t (owner t m) ≡ 1
+  pub group-holder : (m : ℕ) → 2 ≤ m → m ≤ n → Holder t m → kind t (owner t m) ≡ groupCode
   group-holder m a b h = ok .group m a b (holder-def m h)
 
   wanted-up : (m p : ℕ) → Wanted t m p → Wanted t (owner t m) p
@@ -71,7 +73,7 @@ module _ (t : List ℤ) (n : ℕ) (ok : Accepted t n) where
             pick (inl y) = h .sound q p d (subst (λ (x : ℕ). mark s (width n) x p ≡ true) (sym z) y)
             pick (inr y) = subst (λ (x : ℕ). Wanted t x p) (sym z) (wanted-up k p (h .sound k p hk y))
 
-        own : (v p : ℕ) → kind t v ≡ 2 → Touches t 6 v p → mark s′ (width n) v p ≡ true
+        own : (v p : ℕ) → kind t v ≡ valueCode → Touches t 6 v p → mark s′ (width n) v p ≡ true
         own v p e x = kept v p (h .own v p e x) (ℕ-discrete v (owner t k))
 
         -- a label from k on is not k's Group, so its row is as it was
@@ -127,13 +129,12 @@ module _ (t : List ℤ) (n : ℕ) (ok : Accepted t n) where
         to : holds t q (x .value) ≡ true
         to = holds-intro t n ok q (x .value) (holder-label q hq .0) (kind-v t (x .value) (x .is)) (x .within)
 
-        with : kind t (x .touches .end) ≡ 2 → Within t p (x .touches .end) → needs t n p q ≡ true
+        with : kind t (x .touches .end) ≡ valueCode → Within t p (x .touches .end) → needs t n p q ≡ true
         with k u = needs-intro t n ok p q (x .touches .end) (x .value) z (holds-intro t n ok p (x .touches .end) (holder-label p hp .0) (kind-v t (x .touches .end) k) u) to from
 
-        own : Holder t p → p ≡ x .touches .end → HasBody t (x .touches .end) → kind t (x .touches .end) ≡ 2
-        own (inr k) e b = subst (λ (v : ℕ). kind t v ≡ 2) e k
-        own (inl k) e (inl b) = b
-        own (inl k) e (inr b) = absurd (omega (arith, subst (λ (v : ℕ). kind t v ≡ 1) e k))
+        own : Holder t p → p ≡ x .touches .end → HasBody t (x .touches .end) → kind t (x .touches .end) ≡ valueCode
+        own (inr k) e b = subst (λ (v : ℕ). kind t v ≡ valueCode) e k
+        own (inl k) e b = absurd (body-group t n ok (x .touches .end) b (subst (λ (v : ℕ). kind t v ≡ groupCode) e k))
 
         at : Around t (x .touches .end) p → needs t n p q ≡ true
         at (inl e) = with (own hp e (links-body t n ok 6 (inl refl) (x .touches .links))) (0, sym e)

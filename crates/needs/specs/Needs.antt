@@ -5,6 +5,7 @@ use mathlib.Core.List.{List}
 use mathlib.Core.Bool.{true, false}
 use Prim.Native.Nat.{ℕ, _≤_, _<_}
 use lib.IntN.{ℤ}
+use Rattle.kinds.specs.Kinds.{groupCode, valueCode}
 use Rattle.cells.specs.Table.{kind, owner}
 use Rattle.order.specs.Order.{Within, needs}
 use Rattle.marks.specs.Marks.{mark}
@@ -13,19 +14,19 @@ use Rattle.reach.specs.Rows.{width}
 
 -- a Group or a value: what may have values in it
 abbrev pub Holder : List ℤ → ℕ → Type 0
-Holder t q = (kind t q ≡ 1) ⊎ (kind t q ≡ 2)
+Holder t q = (kind t q ≡ groupCode) ⊎ (kind t q ≡ valueCode)
 
 -- a V that is q or under q is reached from p, or from a V in the Group p
 pub record Wanted (t : List ℤ) (q p : ℕ) : Type 0 where
   pub value : ℕ
-  pub is : kind t value ≡ 2
+  pub is : kind t value ≡ valueCode
   pub within : Within t q value
   pub touches : Touches t 6 value p
 
 -- the rows of the labels above k have been added to those of their Groups
 pub record Lifting (t : List ℤ) (n k : ℕ) (s : List ℕ) : Type 0 where
   pub sound : (q p : ℕ) → Holder t q → mark s (width n) q p ≡ true → Wanted t q p
-  pub own : (v p : ℕ) → kind t v ≡ 2 → Touches t 6 v p → mark s (width n) v p ≡ true
+  pub own : (v p : ℕ) → kind t v ≡ valueCode → Touches t 6 v p → mark s (width n) v p ≡ true
   pub up : (m p : ℕ) → k < m → 2 ≤ m → m ≤ n → Holder t m → mark s (width n) m p ≡ true → mark s (width n) (owner t m) p ≡ true
 
 -- nothing needs itself

@@ -17,7 +17,7 @@ fn lift(table: &[i64], n: usize, square: &mut [u64])
 {
     let mut k = n;
     while 1 < k {
-        if reach::kind_of(table, n, k) <= cells::VALUE {
+        if reach::gives_values(table, n, k) {
             let o = reach::cell_of(table, n, k, cells::OWNER);
             marks::merge_row(square, n / 64 + 1, k, o);
         }

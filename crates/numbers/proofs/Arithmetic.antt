@@ -14,8 +14,8 @@ use Rattle.cells.proofs.Signed.{clash, natAbs-neg, fits-by}
 use Rattle.numbers.specs.Range.{limit, inRange}
 use Rattle.numbers.specs.Arithmetic.{rangedOf, dividesByZero, result, calculated}
 use Rattle.numbers.specs.declared.Tie.{Tie}
-use Rattle.numbers.specs.declared.Operation.{Operation}
-use Rattle.numbers.specs.declared.Operation.the-variants.{Sum, Difference, Product, Quotient}
+use Rattle.kinds.specs.declared.Operation.{Operation}
+use Rattle.kinds.specs.declared.Operation.the-variants.{Sum, Difference, Product, Quotient}
 use Rattle.numbers.specs.declared.Calculated.{Calculated}
 use Rattle.numbers.specs.declared.Calculated.the-variants.{Number, OutOfRange, ZeroDivisor}
 use Rattle.numbers.proofs.Sizes.{add-size, mul-size}

@@ -7,7 +7,7 @@ use Rattle.numbers.specs.Rounding.{rounded, quotient}
 use Rattle.numbers.specs.Arithmetic.{rangedOf, result, calculated}
 use Rattle.numbers.specs.Decimal.{allDigits, value, digitsOf, decimalOf, numberOf}
 use Rattle.numbers.specs.declared.Tie.the-variants.{Away, Even}
-use Rattle.numbers.specs.declared.Operation.the-variants.{Sum, Difference, Product, Quotient}
+use Rattle.kinds.specs.declared.Operation.the-variants.{Sum, Difference, Product, Quotient}
 use Rattle.numbers.specs.declared.Calculated.the-variants.{Number, OutOfRange, ZeroDivisor}
 use Rattle.numbers.specs.declared.Number.the-variants.{Is, Not}
 

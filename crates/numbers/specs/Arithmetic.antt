@@ -5,8 +5,8 @@ use Rattle.cells.specs.Cells.{equals}
 use Rattle.numbers.specs.Range.{inRange}
 use Rattle.numbers.specs.Rounding.{quotient}
 use Rattle.numbers.specs.declared.Tie.{Tie}
-use Rattle.numbers.specs.declared.Operation.{Operation}
-use Rattle.numbers.specs.declared.Operation.the-variants.{Sum, Difference, Product, Quotient}
+use Rattle.kinds.specs.declared.Operation.{Operation}
+use Rattle.kinds.specs.declared.Operation.the-variants.{Sum, Difference, Product, Quotient}
 use Rattle.numbers.specs.declared.Calculated.{Calculated}
 use Rattle.numbers.specs.declared.Calculated.the-variants.{Number, OutOfRange, ZeroDivisor}
 

@@ -10,6 +10,7 @@ ghost use Rattle.numbers.specs.Rounding.{roundUp, quotient};
 ghost use Rattle.numbers.specs.Arithmetic.{rangedOf, calculated};
 ghost use Rattle.numbers.specs.Decimal.{digitsOf, decimalOf, signedOf, numberOf};
 ghost use Rattle.numbers.specs.Bounds.{AtMost};
+use kinds::Operation;
 
 // ---- rounding
 
@@ -50,14 +51,6 @@ pub fn nearest(tie: Tie, a: i64, b: i64) -> i64
 }
 
 // ---- the four operations
-
-// A, S, M and D of document 01; the difference is a - b.
-pub enum Operation {
-    Sum,
-    Difference,
-    Product,
-    Quotient,
-}
 
 // What an operation gives: a number of a sheet, or why there is none.
 pub enum Calculated {

@@ -8,6 +8,7 @@ use native.Mathlib.Nat.{mul-suc, mul-le-mul-left}
 use lib.IntN.{ℤ, pos}
 use lib.ListN.{length, take, drop, getD, length-take, length-drop, take-append-drop}
 use lib.Seq.{sets, sets-eq, length-sets, take-at, drop-at, drop-drop, ext-getD, getD-take, getD-drop, length-take-le}
+use Rattle.kinds.specs.Kinds.{valueCode}
 use Rattle.cells.specs.Table.{kind}
 use Rattle.cells.proofs.Stores.{sets-before, sets-past}
 use Rattle.order.specs.Order.{Proper}
@@ -89,9 +90,9 @@ module _ (t : List ℤ) (w : ℕ) (some : 0 < w) (E : Evaluation t (List ℤ) (L
 
   -- and they are those of the one buffer that satisfies the evaluation at every value and is as it was at the other labels
   pub only-cells : (o : List ℕ) → Proper t o → (r s : List ℤ) → E .Fits r → E .Fits s → length s ≡ length r → Solves t E s
-      → ((l : ℕ) → (kind t l ≡ 2 → ⊥) → row w s l ≡ row w r l) → down (E .evaluate) o r ≡ s
+      → ((l : ℕ) → (kind t l ≡ valueCode → ⊥) → row w s l ≡ row w r l) → down (E .evaluate) o r ≡ s
   only-cells o p r s f g e h rest = buffers-same w some (down (E .evaluate) o r) s (run-length o r ∙ sym e) (λ l. go l (ℕ-discrete (kind t l) 2))
     where
-      go : (l : ℕ) → Dec (kind t l ≡ 2) → row w (down (E .evaluate) o r) l ≡ row w s l
+      go : (l : ℕ) → Dec (kind t l ≡ valueCode) → row w (down (E .evaluate) o r) l ≡ row w s l
       go l (yes k) = sym (rows (down (E .evaluate) o r) l) ∙ run-solution t E o p r s f g h l k ∙ rows s l
       go l (no k) = sym (rows (down (E .evaluate) o r) l) ∙ run-rest t E o p r f l k ∙ rows r l ∙ sym (rest l k)

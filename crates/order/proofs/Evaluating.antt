@@ -6,6 +6,7 @@ use Prim.Native.Nat.{ℕ}
 use native.Mathlib.Omega.{arith}
 use native.Mathlib.Decide.{ℕ-discrete}
 use lib.IntN.{ℤ}
+use Rattle.kinds.specs.Kinds.{valueCode}
 use Rattle.cells.specs.Table.{kind}
 use Rattle.order.specs.Lists.{_∈_}
 use Rattle.order.specs.Order.{Proper}
@@ -19,7 +20,7 @@ module _ {S R : Type 0} (t : List ℤ) (E : Evaluation t S R) where
 
   -- all of a are values
   abbrev pub Values : List ℕ → Type 0
-  Values a = (x : ℕ) → x ∈ a → kind t x ≡ 2
+  Values a = (x : ℕ) → x ∈ a → kind t x ≡ valueCode
 
   values-tail : (x : ℕ) (a : List ℕ) → Values (x ∷ a) → Values a
   values-tail x a h y m = h y (in-there y x a m)
@@ -61,7 +62,7 @@ module _ {S R : Type 0} (t : List ℤ) (E : Evaluation t S R) where
           late : v ∈ b → ⊥
           late m = omega (arith, listed-once p v k, count-parts v a (v ∷ b) e, count-here v b)
 
-          behind : (w : ℕ) → kind t w ≡ 2 → w ∈ a → w ∈ v ∷ b → ⊥
+          behind : (w : ℕ) → kind t w ≡ valueCode → w ∈ a → w ∈ v ∷ b → ⊥
           behind w i m₁ m₂ = omega (arith, listed-once p w i, count-parts w a (v ∷ b) e)
 
           got : E .stored (run (v ∷ b) (run a s)) v ≡ E .result (run a s) v
@@ -73,7 +74,7 @@ module _ {S R : Type 0} (t : List ℤ) (E : Evaluation t S R) where
 
   -- where some order is proper, stores that satisfy it hold the same results
   pub solved-once : (o : List ℕ) → Proper t o → (s₁ s₂ : S) → E .Fits s₁ → E .Fits s₂ → Solves t E s₁ → Solves t E s₂
-      → (v : ℕ) → kind t v ≡ 2 → E .stored s₁ v ≡ E .stored s₂ v
+      → (v : ℕ) → kind t v ≡ valueCode → E .stored s₁ v ≡ E .stored s₂ v
   solved-once o p s₁ s₂ f₁ f₂ h₁ h₂ v k = along [] o refl (λ w m. absurd (omega arith)) v (omega (arith, listed-once p v k))
     where
       -- those of a agree, and so do those of b
@@ -81,7 +82,7 @@ module _ {S R : Type 0} (t : List ℤ) (E : Evaluation t S R) where
       along a [] e agree v m = absurd (omega arith)
       along a (x ∷ b) e agree v m = pick (in-cons v x b m) (along (a ++ x ∷ []) b (e ∙ sym (append-assoc a (x ∷ []) b)))
         where
-          value : kind t x ≡ 2
+          value : kind t x ≡ valueCode
           value = listed-value p x (omega (arith, count-parts x a (x ∷ b) e, count-here x b))
 
           next : E .stored s₁ x ≡ E .stored s₂ x
@@ -97,17 +98,17 @@ module _ {S R : Type 0} (t : List ℤ) (E : Evaluation t S R) where
           pick (inr i) r = r (λ w j. agree-next w (in-append w a (x ∷ []) j)) v i
 
   -- so the results of a proper order are those of any store that satisfies the evaluation,
-  pub run-solution : (o : List ℕ) → Proper t o → (s r : S) → E .Fits s → E .Fits r → Solves t E r → (v : ℕ) → kind t v ≡ 2 → E .stored (run o s) v ≡ E .stored r v
+  pub run-solution : (o : List ℕ) → Proper t o → (s r : S) → E .Fits s → E .Fits r → Solves t E r → (v : ℕ) → kind t v ≡ valueCode → E .stored (run o s) v ≡ E .stored r v
   run-solution o p s r f g h v k = solved-once o p (run o s) r (run-fits o (listed-value p) s f) g (run-solves o p s f) h v k
 
   -- what is no value keeps what was stored,
-  pub run-rest : (o : List ℕ) → Proper t o → (s : S) → E .Fits s → (l : ℕ) → (kind t l ≡ 2 → ⊥) → E .stored (run o s) l ≡ E .stored s l
+  pub run-rest : (o : List ℕ) → Proper t o → (s : S) → E .Fits s → (l : ℕ) → (kind t l ≡ valueCode → ⊥) → E .stored (run o s) l ≡ E .stored s l
   run-rest o p s fit l k = run-other o (listed-value p) l (λ m. k (listed-value p l m)) s fit
 
   -- and two proper orders, worked down from one store, leave the same result at every label
   pub order-free : (o₁ o₂ : List ℕ) → Proper t o₁ → Proper t o₂ → (s : S) → E .Fits s → (l : ℕ) → E .stored (run o₁ s) l ≡ E .stored (run o₂ s) l
   order-free o₁ o₂ p₁ p₂ s fit l = go (ℕ-discrete (kind t l) 2)
     where
-      go : Dec (kind t l ≡ 2) → E .stored (run o₁ s) l ≡ E .stored (run o₂ s) l
+      go : Dec (kind t l ≡ valueCode) → E .stored (run o₁ s) l ≡ E .stored (run o₂ s) l
       go (yes k) = run-solution o₁ p₁ s (run o₂ s) fit (run-fits o₂ (listed-value p₂) s fit) (run-solves o₂ p₂ s fit) l k
       go (no k) = run-rest o₁ p₁ s fit l k ∙ sym (run-rest o₂ p₂ s fit l k)

@@ -8,6 +8,7 @@ use native.Mathlib.Omega.{arith}
 use lib.IntN.{ℤ, pos, negsuc}
 use lib.ListN.{length-map}
 use borrow.Author.Tests.{not-true}
+use Rattle.kinds.specs.Kinds.{valueCode}
 use Rattle.cells.specs.Cells.{natOf}
 use Rattle.cells.specs.Table.{kind}
 use Rattle.cells.specs.Accepted.{Accepted}
@@ -77,7 +78,7 @@ none-proper t l new all late = record { once = λ v. once v (so-or-not (isV t v)
         none (inl z) = z
         none (inr z) = absurd (m z)
 
-    after : (a : List ℕ) (v : ℕ) (b : List ℕ) → l ≡ a ++ v ∷ b → (w : ℕ) → kind t w ≡ 2 → Reaches t v w → w ∈ a
+    after : (a : List ℕ) (v : ℕ) (b : List ℕ) → l ≡ a ++ v ∷ b → (w : ℕ) → kind t w ≡ valueCode → Reaches t v w → w ∈ a
     after a v b e w k r = go (in-or-not w a)
       where
         go : (w ∈ a) ⊎ (w ∈ a → ⊥) → w ∈ a
@@ -90,7 +91,7 @@ proper-new t l p a v b e = go
     c : count v l ≡ count v a + (1 + count v b)
     c = omega (arith, count-parts v a (v ∷ b) e, count-here v b)
 
-    k : kind t v ≡ 2
+    k : kind t v ≡ valueCode
     k = listed-value p v (omega (arith, c))
 
     go : NotNew t a v → ⊥

@@ -7,10 +7,10 @@ use Prim.Native.Nat.{ℕ, _+_, _<_}
 use native.Mathlib.Omega.{arith}
 use native.Mathlib.Decide.{ℕ-discrete}
 use lib.IntN.{ℤ}
-use Rattle.cells.specs.Table.{owner}
+use Rattle.cells.specs.Table.{owner, isDefinition}
 use Rattle.cells.specs.Accepted.{Accepted}
 use Rattle.order.specs.Lists.{count, _∈_}
-use Rattle.order.specs.Order.{isG, isV, isDefinition, labels, members, Within, within, reaches, Proper, Consecutive, Whole, needs, groupStuck, someStuck}
+use Rattle.order.specs.Order.{isG, isV, labels, members, Within, within, reaches, Proper, Consecutive, Whole, needs, groupStuck, someStuck}
 use Rattle.order.proofs.Tests.{clash, not-so, and-right}
 use Rattle.order.proofs.Lists.{any-true, count-parts, count-here, split, in-there, in-left, in-right, in-append, in-single}
 use Rattle.order.proofs.Placing.{not-stuck}

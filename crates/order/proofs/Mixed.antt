@@ -7,6 +7,7 @@ use Prim.Native.Nat.{ℕ, _<_}
 use native.Mathlib.Omega.{arith}
 use lib.IntN.{ℤ}
 use lib.ListN.{length}
+use Rattle.kinds.specs.Kinds.{valueCode}
 use Rattle.cells.specs.Table.{kind}
 use Rattle.cells.specs.Accepted.{Accepted}
 use Rattle.cells.specs.Reaches.{Reaches}
@@ -20,14 +21,14 @@ use Rattle.order.proofs.Tables.{v-kind, kind-v, count-values, value-of,
 
 -- ---- what a proper order lists
 
-pub listed-once : {t : List ℤ} {o : List ℕ} → Proper t o → (v : ℕ) → kind t v ≡ 2 → count v o ≡ 1
+pub listed-once : {t : List ℤ} {o : List ℕ} → Proper t o → (v : ℕ) → kind t v ≡ valueCode → count v o ≡ 1
 listed-once {t} p v e = p .once v ∙ one-true (isV t v) (kind-v t v e)
 
-pub listed-value : {t : List ℤ} {o : List ℕ} → Proper t o → (v : ℕ) → v ∈ o → kind t v ≡ 2
+pub listed-value : {t : List ℤ} {o : List ℕ} → Proper t o → (v : ℕ) → v ∈ o → kind t v ≡ valueCode
 listed-value {t} p v m = v-kind t v (one-in (isV t v) (omega (arith, p .once v)))
 
 -- (b) where a value reaches itself no order is proper
-pub cycle-improper : (t : List ℤ) (v : ℕ) → kind t v ≡ 2 → Reaches t v v → (o : List ℕ) → Proper t o → ⊥
+pub cycle-improper : (t : List ℤ) (v : ℕ) → kind t v ≡ valueCode → Reaches t v v → (o : List ℕ) → Proper t o → ⊥
 cycle-improper t v k r o p =
     let c = listed-once p v k in
     let w = split v o (omega arith) in
@@ -42,7 +43,7 @@ module _ (t : List ℤ) (n : ℕ) (ok : Accepted t n) where
   pub late-proper : (o : List ℕ) → ((v : ℕ) → count v o ≡ one (isV t v)) → Late (reaches t n) o → Proper t o
   late-proper o all late = record { once = all; after = after }
     where
-      after : (a : List ℕ) (v : ℕ) (b : List ℕ) → o ≡ a ++ v ∷ b → (w : ℕ) → kind t w ≡ 2 → Reaches t v w → w ∈ a
+      after : (a : List ℕ) (v : ℕ) (b : List ℕ) → o ≡ a ++ v ∷ b → (w : ℕ) → kind t w ≡ valueCode → Reaches t v w → w ∈ a
       after a v b e w k r = go (in-append w a (v ∷ b) there)
         where
           there : w ∈ a ++ v ∷ b

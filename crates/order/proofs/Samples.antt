@@ -3,6 +3,7 @@ use mathlib.Core.Path.{_≡_, refl}
 use mathlib.Core.List.{List, [], _∷_}
 use Prim.Native.Nat.{ℕ}
 use lib.IntN.{ℤ, pos, negℤ}
+use Rattle.kinds.specs.Kinds.{groupCode, valueCode, functionCode, numberCode, kinds, kindAt, isDefinition, hasPath}
 use Rattle.order.specs.Order.{plan, whole, place16}
 use Rattle.order.specs.Following.{place17, place18}
 
@@ -13,17 +14,17 @@ row k a b o t rest = pos k ∷ pos 0 ∷ pos 0 ∷ a ∷ pos b ∷ pos 0 ∷ pos
 
 -- a Group in Group g; a value and a function in Group g with body b
 abbrev group : ℕ → List ℤ → List ℤ
-group g = row 1 (pos g) 0 g 0
+group g = row groupCode (pos g) 0 g 0
 
 abbrev value : ℕ → ℕ → List ℤ → List ℤ
-value g b = row 2 (pos g) b g 0
+value g b = row valueCode (pos g) b g 0
 
 abbrev function : ℕ → ℕ → List ℤ → List ℤ
-function g b = row 3 (pos g) b g 0
+function g b = row functionCode (pos g) b g 0
 
 -- of definition d: a number; the argument; a read of e; a call of e on a; an operation on a and b
 abbrev number : ℕ → ℤ → List ℤ → List ℤ
-number d z = row 4 z 0 d 0
+number d z = row numberCode z 0 d 0
 
 abbrev argument : ℕ → List ℤ → List ℤ
 argument d = row 5 (pos 0) 0 d 0
@@ -51,32 +52,39 @@ example =
 -- two functions that call each other are no cycle
 each-other : plan (group 0 (function 1 5 (function 1 7 (value 1 9 (call 2 3 6 (argument 2 (call 3 2 8 (argument 3 (call 4 2 10 (number 4 (pos 1) [])))))))))) 10
     ≡ whole (4 ∷ [])
+unfolding isDefinition hasPath kindAt kinds
 each-other = refl
 
 -- value 4 is read inside function 3, which value 2 calls: it comes first
 inside : plan (group 0 (value 1 5 (function 1 7 (value 1 8 (call 2 3 6 (number 2 (pos 1) (read 3 4 (number 4 (pos 1) [])))))))) 8 ≡ whole (4 ∷ 2 ∷ [])
+unfolding isDefinition hasPath kindAt kinds
 inside = refl
 
 -- Group 3 comes before Group 2, which needs it
 needed-first : plan (group 0 (group 1 (group 1 (value 2 6 (value 3 7 (read 4 5 (number 5 (pos 1) []))))))) 7 ≡ whole (5 ∷ 4 ∷ [])
+unfolding isDefinition hasPath kindAt kinds
 needed-first = refl
 
 -- ---- the smallest label: value 3 is free, and so comes before 4, though 2 needs 4 alone
 
 smallest : plan (group 0 (value 1 5 (value 1 6 (value 1 7 (read 2 4 (number 3 (pos 1) (number 4 (pos 1) []))))))) 7 ≡ whole (3 ∷ 4 ∷ 2 ∷ [])
+unfolding isDefinition hasPath kindAt kinds
 smallest = refl
 
 -- ---- row 16's place: the smallest V that reaches itself, not one that only reaches a cycle
 
 reaching : place16 (group 0 (value 1 5 (value 1 6 (value 1 7 (read 2 3 (read 3 4 (read 4 3 []))))))) 7 ≡ 3
+unfolding isDefinition hasPath kindAt kinds
 reaching = refl
 
 free : place16 example 14 ≡ 0
+unfolding isDefinition hasPath kindAt kinds
 free = refl
 
 -- ---- rows 17 and 18 for sample 1: proper; a Group, a repetition, a negative number, no label; too short; too early
 
 proper : (place17 example 14 (pos 5 ∷ pos 4 ∷ pos 2 ∷ []) ≡ 0) × (place18 example 14 (pos 5 ∷ pos 4 ∷ pos 2 ∷ []) ≡ 0)
+unfolding isDefinition hasPath kindAt kinds
 proper = (refl, refl)
 
 no-value :
@@ -91,4 +99,5 @@ too-short : (place17 example 14 [] ≡ 1) × (place17 example 14 (pos 5 ∷ pos 
 too-short = (refl, refl, refl)
 
 too-early : (place18 example 14 (pos 4 ∷ pos 5 ∷ pos 2 ∷ []) ≡ 1) × (place18 example 14 (pos 5 ∷ pos 2 ∷ pos 4 ∷ []) ≡ 2)
+unfolding isDefinition hasPath kindAt kinds
 too-early = (refl, refl)

@@ -2,7 +2,7 @@
 use mathlib.Core.Path.{_≡_, refl, ap, _∙_}
 use mathlib.Core.Logic.{_⊎_, inl, inr, _↔_}
 use mathlib.Core.List.{List}
-use mathlib.Core.Bool.{true, false, _&&_, _||_}
+use mathlib.Core.Bool.{true, false, _&&_}
 use Prim.Native.Nat.{ℕ, zero, suc, _+_, _*_, _≤_, _<_}
 use native.Mathlib.Omega.{arith}
 use native.Mathlib.Decide.{decLe}
@@ -10,60 +10,40 @@ use lib.Dec.{eqb}
 use lib.IntN.{ℤ}
 use borrow.Author.Tests.{eqb-true, eq-eqb, ne-eqb}
 use Rattle.cells.specs.Cells.{natOf}
-use Rattle.cells.specs.Table.{cell, kind, owner, target}
+use Rattle.kinds.specs.Kinds.{groupCode, valueCode, wantedBy}
+use Rattle.kinds.proofs.Laws.{kind-low, definition-kind, expression-kind, path-expression, path-body, body-definition}
+use Rattle.kinds.proofs.Codes.{group-definition, value-definition}
+use Rattle.cells.specs.Table.{cell, kind, isDefinition, hasPath, owner, target}
 use Rattle.cells.specs.Accepted.{Accepted}
 use Rattle.cells.specs.Reaches.{HasPath, Mentions, Reaches, once, then}
 use Rattle.order.specs.Lists.{one, count, _∈_}
-use Rattle.order.specs.Order.{isG, isV, isF, isDefinition, labels, values, isMember, members, hasPath, isMention, mentions, reached, reaches}
-use Rattle.order.proofs.Tests.{so-or-not, and-left, and-right, and-intro, or-cases, or-left, or-right}
+use Rattle.order.specs.Order.{isG, isV, labels, values, isMember, members, isMention, mentions, reached, reaches}
+use Rattle.order.proofs.Tests.{so-or-not, and-left, and-right, and-intro}
 use Rattle.order.proofs.Lists.{mem-of, of-mem, any-true, any-intro, in-filter, count-filter-pass, count-filter-fail, count-filter-le, count-upFrom, upFrom-once}
 use Rattle.order.proofs.Closure.{Chain, step, then as on, closure-exact}
 
 -- ---- kinds
 
-pub v-kind : (t : List ℤ) (v : ℕ) → isV t v ≡ true → kind t v ≡ 2
-v-kind t v e = eqb-true (kind t v) 2 e
+pub v-kind : (t : List ℤ) (v : ℕ) → isV t v ≡ true → kind t v ≡ valueCode
+v-kind t v e = eqb-true (kind t v) valueCode e
 
-pub kind-v : (t : List ℤ) (v : ℕ) → kind t v ≡ 2 → isV t v ≡ true
-kind-v t v e = eq-eqb (kind t v) 2 e
+pub kind-v : (t : List ℤ) (v : ℕ) → kind t v ≡ valueCode → isV t v ≡ true
+kind-v t v e = eq-eqb (kind t v) valueCode e
 
-pub g-kind : (t : List ℤ) (g : ℕ) → isG t g ≡ true → kind t g ≡ 1
-g-kind t g e = eqb-true (kind t g) 1 e
+pub g-kind : (t : List ℤ) (g : ℕ) → isG t g ≡ true → kind t g ≡ groupCode
+g-kind t g e = eqb-true (kind t g) groupCode e
 
-pub kind-g : (t : List ℤ) (g : ℕ) → kind t g ≡ 1 → isG t g ≡ true
-kind-g t g e = eq-eqb (kind t g) 1 e
+pub kind-g : (t : List ℤ) (g : ℕ) → kind t g ≡ groupCode → isG t g ≡ true
+kind-g t g e = eq-eqb (kind t g) groupCode e
 
 pub v-not-g : (t : List ℤ) (l : ℕ) → isV t l ≡ true → isG t l ≡ false
-v-not-g t l e = ne-eqb (kind t l) 1 (λ (z : kind t l ≡ 1). omega (arith, v-kind t l e))
+v-not-g t l e = ne-eqb (kind t l) groupCode (λ (z : kind t l ≡ groupCode). omega (arith, v-kind t l e))
 
 pub g-def : (t : List ℤ) (l : ℕ) → isG t l ≡ true → isDefinition t l ≡ true
-g-def t l e = or-left (isG t l || isV t l) (isF t l) (or-left (isG t l) (isV t l) e)
+g-def t l e = rw (g-kind t l e) group-definition
 
 pub v-def : (t : List ℤ) (l : ℕ) → isV t l ≡ true → isDefinition t l ≡ true
-v-def t l e = or-left (isG t l || isV t l) (isF t l) (or-right (isG t l) (isV t l) e)
-
--- a definition's kind is 1 to 3
-def-kind : (t : List ℤ) (l : ℕ) → isDefinition t l ≡ true → (1 ≤ kind t l) × (kind t l ≤ 3)
-def-kind t l h = go (or-cases (isG t l || isV t l) (isF t l) h)
-  where
-    two : (isG t l ≡ true) ⊎ (isV t l ≡ true) → (1 ≤ kind t l) × (kind t l ≤ 3)
-    two (inl e) = let k = g-kind t l e in (omega arith, omega arith)
-    two (inr e) = let k = v-kind t l e in (omega arith, omega arith)
-
-    go : ((isG t l || isV t l) ≡ true) ⊎ (isF t l ≡ true) → (1 ≤ kind t l) × (kind t l ≤ 3)
-    go (inl e) = two (or-cases (isG t l) (isV t l) e)
-    go (inr e) = let k = eqb-true (kind t l) 3 e in (omega arith, omega arith)
-
-path-kind : (t : List ℤ) (x : ℕ) → hasPath t x ≡ true → HasPath t x
-path-kind t x h = go (or-cases (eqb (kind t x) 6) (eqb (kind t x) 7) h)
-  where
-    go : (eqb (kind t x) 6 ≡ true) ⊎ (eqb (kind t x) 7 ≡ true) → HasPath t x
-    go (inl q) = inl (eqb-true (kind t x) 6 q)
-    go (inr q) = inr (eqb-true (kind t x) 7 q)
-
-kind-path : (t : List ℤ) (x : ℕ) → HasPath t x → hasPath t x ≡ true
-kind-path t x (inl q) = or-left (eqb (kind t x) 6) (eqb (kind t x) 7) (eq-eqb (kind t x) 6 q)
-kind-path t x (inr q) = or-right (eqb (kind t x) 6) (eqb (kind t x) 7) (eq-eqb (kind t x) 7 q)
+v-def t l e = rw (v-kind t l e) value-definition
 
 -- ---- reaching is transitive
 
@@ -88,7 +68,7 @@ module _ (t : List ℤ) (n : ℕ) (ok : Accepted t n) where
       go (no e) = absurd (omega (arith, cell-out (suc k) 0 (omega arith)))
 
   pub def-label : (l : ℕ) → isDefinition t l ≡ true → (1 ≤ l) × (l ≤ n)
-  def-label l d = kind-label l (def-kind t l d .0)
+  def-label l d = kind-label l (kind-low (kind t l) (definition-kind (kind t l) d))
 
   pub pos-of : (l : ℕ) → isDefinition t l ≡ true → 1 ≤ l
   pos-of l d = def-label l d .0
@@ -109,7 +89,7 @@ module _ (t : List ℤ) (n : ℕ) (ok : Accepted t n) where
   top-group = kind-g t 1 (ok .root)
 
   pub owner-group : (l : ℕ) → isDefinition t l ≡ true → 2 ≤ l → isG t (owner t l) ≡ true
-  owner-group l d h = kind-g t (owner t l) (ok .group l h (def-label l d .1) (def-kind t l d .1))
+  owner-group l d h = kind-g t (owner t l) (ok .group l h (def-label l d .1) d)
 
   -- ---- values and members
 
@@ -148,12 +128,14 @@ module _ (t : List ℤ) (n : ℕ) (ok : Accepted t n) where
   -- ---- the tests of mentioning and reaching are the relations
 
   path-label : (x : ℕ) → HasPath t x → (1 ≤ x) × (x ≤ n)
-  path-label x (inl e) = kind-label x (omega arith)
-  path-label x (inr e) = kind-label x (omega arith)
+  path-label x e = kind-label x (kind-low (kind t x) (expression-kind (kind t x) (path-expression (kind t x) e)))
+
+  -- where a path leads is a definition
+  target-definition : (x : ℕ) → HasPath t x → isDefinition t (target t x) ≡ true
+  target-definition x e = rw (ok .leads x e) (body-definition (wantedBy (kind t x)) (path-body (kind t x) e))
 
   target-label : (x : ℕ) → HasPath t x → (1 ≤ target t x) × (target t x ≤ n)
-  target-label x (inl e) = kind-label (target t x) (omega (arith, ok .reads x e))
-  target-label x (inr e) = kind-label (target t x) (omega (arith, ok .calls x e))
+  target-label x e = def-label (target t x) (target-definition x e)
 
   pub mentions-exact : (d e : ℕ) → (mentions t n d e ≡ true) ↔ Mentions t d e
   mentions-exact d e = (λ h. let w = any-true (isMention t d e) (labels n) h in found (w .0) (w .2), seen)
@@ -163,7 +145,7 @@ module _ (t : List ℤ) (n : ℕ) (ok : Accepted t n) where
           let a = and-left (hasPath t x && eqb (owner t x) d) (eqb (target t x) e) h in
           record {
             line = x;
-            path = path-kind t x (and-left (hasPath t x) (eqb (owner t x) d) a);
+            path = and-left (hasPath t x) (eqb (owner t x) d) a;
             owned = eqb-true (owner t x) d (and-right (hasPath t x) (eqb (owner t x) d) a);
             aimed = eqb-true (target t x) e (and-right (hasPath t x && eqb (owner t x) d) (eqb (target t x) e) h);
           }
@@ -174,7 +156,7 @@ module _ (t : List ℤ) (n : ℕ) (ok : Accepted t n) where
           let b = path-label x (m .path) in
           any-intro (isMention t d e) (labels n) x (in-labels x (b .0) (b .1))
           (and-intro (hasPath t x && eqb (owner t x) d) (eqb (target t x) e)
-          (and-intro (hasPath t x) (eqb (owner t x) d) (kind-path t x (m .path)) (eq-eqb (owner t x) d (m .owned)))
+          (and-intro (hasPath t x) (eqb (owner t x) d) (m .path) (eq-eqb (owner t x) d (m .owned)))
           (eq-eqb (target t x) e (m .aimed)))
 
   mention-label : (d e : ℕ) → mentions t n d e ≡ true → e ∈ labels n

@@ -9,9 +9,9 @@ use native.Mathlib.Decide.{ℕ-discrete}
 use lib.Dec.{eqb}
 use lib.IntN.{ℤ}
 use borrow.Author.Tests.{eqb-true, eq-eqb}
-use Rattle.cells.specs.Table.{owner}
+use Rattle.cells.specs.Table.{owner, isDefinition}
 use Rattle.cells.specs.Accepted.{Accepted}
-use Rattle.order.specs.Order.{isG, isDefinition, up, Within, climbs, within}
+use Rattle.order.specs.Order.{isG, up, Within, climbs, within}
 use Rattle.order.proofs.Tests.{or-cases, or-left, or-right}
 use Rattle.order.proofs.Tables.{g-def, def-label, owner-below, owner-group}
 

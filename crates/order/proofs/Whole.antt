@@ -7,10 +7,10 @@ use Prim.Native.Nat.{ℕ, zero, suc, _+_, _≤_, _<_}
 use native.Mathlib.Omega.{arith}
 use native.Mathlib.Decide.{ℕ-discrete}
 use lib.IntN.{ℤ}
-use Rattle.cells.specs.Table.{owner}
+use Rattle.cells.specs.Table.{owner, isDefinition}
 use Rattle.cells.specs.Accepted.{Accepted}
 use Rattle.order.specs.Lists.{one, count, _∈_}
-use Rattle.order.specs.Order.{isG, isV, isDefinition, labels, members, Within, reaches, NoCycle, Proper, Consecutive, Whole, needs, ordered, listed, groupPlan, wholePlan, groupStuck, someStuck}
+use Rattle.order.specs.Order.{isG, isV, labels, members, Within, reaches, NoCycle, Proper, Consecutive, Whole, needs, ordered, listed, groupPlan, wholePlan, groupStuck, someStuck}
 use Rattle.order.proofs.Tests.{clash, so-or-not, not-so, and-intro, one-true, one-false, one-in}
 use Rattle.order.proofs.Lists.{zero-or-in, any-intro}
 use Rattle.order.proofs.Placing.{Late, placed-late, placed-sub, placed-all}

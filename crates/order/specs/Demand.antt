@@ -3,15 +3,16 @@ use mathlib.Core.Path.{_≡_}
 use mathlib.Core.List.{List}
 use Prim.Native.Nat.{ℕ, zero, suc, _<_}
 use lib.IntN.{ℤ}
+use Rattle.kinds.specs.Kinds.{valueCode}
 use Rattle.cells.specs.Table.{kind}
 use Rattle.cells.specs.Reaches.{Reaches}
 use Rattle.order.specs.Order.{NoCycle, Proper, Whole, Answer, cycle, whole, mixed}
 
 -- v is the smallest V that reaches itself
 pub record SmallestCycle (t : List ℤ) (v : ℕ) : Type 0 where
-  pub value : kind t v ≡ 2
+  pub value : kind t v ≡ valueCode
   pub itself : Reaches t v v
-  pub smallest : (w : ℕ) → w < v → kind t w ≡ 2 → Reaches t w w → ⊥
+  pub smallest : (w : ℕ) → w < v → kind t w ≡ valueCode → Reaches t w w → ⊥
 
 -- what row 16 finds, by its place
 abbrev pub Row16 : List ℤ → ℕ → Type 0

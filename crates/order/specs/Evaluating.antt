@@ -4,6 +4,7 @@ use mathlib.Core.List.{List, [], _∷_}
 use Prim.Native.Nat.{ℕ, zero, suc, _*_}
 use lib.IntN.{ℤ}
 use lib.ListN.{take, drop}
+use Rattle.kinds.specs.Kinds.{valueCode}
 use Rattle.cells.specs.Table.{kind}
 use Rattle.cells.specs.Reaches.{Reaches}
 
@@ -17,12 +18,12 @@ pub record Evaluation (t : List ℤ) (S R : Type 0) : Type 1 where
   pub result : S → ℕ → R
   -- the store once value v is evaluated: its result is stored, and nothing else changes
   pub evaluate : S → ℕ → S
-  pub fits : (s : S) (v : ℕ) → kind t v ≡ 2 → Fits s → Fits (evaluate s v)
-  pub own : (s : S) (v : ℕ) → kind t v ≡ 2 → Fits s → stored (evaluate s v) v ≡ result s v
-  pub other : (s : S) (v w : ℕ) → kind t v ≡ 2 → Fits s → (w ≡ v → ⊥) → stored (evaluate s v) w ≡ stored s w
+  pub fits : (s : S) (v : ℕ) → kind t v ≡ valueCode → Fits s → Fits (evaluate s v)
+  pub own : (s : S) (v : ℕ) → kind t v ≡ valueCode → Fits s → stored (evaluate s v) v ≡ result s v
+  pub other : (s : S) (v w : ℕ) → kind t v ≡ valueCode → Fits s → (w ≡ v → ⊥) → stored (evaluate s v) w ≡ stored s w
   -- a value's result depends on the stored results of the values that it reaches, and on nothing else that is stored
-  pub local : (s₁ s₂ : S) (v : ℕ) → kind t v ≡ 2 → Fits s₁ → Fits s₂
-      → ((w : ℕ) → kind t w ≡ 2 → Reaches t v w → stored s₁ w ≡ stored s₂ w) → result s₁ v ≡ result s₂ v
+  pub local : (s₁ s₂ : S) (v : ℕ) → kind t v ≡ valueCode → Fits s₁ → Fits s₂
+      → ((w : ℕ) → kind t w ≡ valueCode → Reaches t v w → stored s₁ w ≡ stored s₂ w) → result s₁ v ≡ result s₂ v
 
 -- the values of an order, in turn
 abbrev pub down : {S : Type 0} → (S → ℕ → S) → List ℕ → S → S
@@ -31,7 +32,7 @@ down evaluate (v ∷ o) s = down evaluate o (evaluate s v)
 
 -- every value's stored result is what it comes to, from what is stored
 abbrev pub Solves : {S R : Type 0} (t : List ℤ) → Evaluation t S R → S → Type 0
-Solves t E s = (v : ℕ) → kind t v ≡ 2 → E .stored s v ≡ E .result s v
+Solves t E s = (v : ℕ) → kind t v ≡ valueCode → E .stored s v ≡ E .result s v
 
 -- label l's cells in a buffer of w cells a label; none of label 0
 abbrev pub row : ℕ → List ℤ → ℕ → List ℤ

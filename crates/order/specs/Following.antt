@@ -7,6 +7,7 @@ use mathlib.Core.Bool.{Bool, cond, not, _&&_, _||_}
 use Prim.Native.Nat.{ℕ, zero, suc}
 use lib.IntN.{ℤ, pos}
 use lib.ListN.{length}
+use Rattle.kinds.specs.Kinds.{valueCode}
 use Rattle.cells.specs.Cells.{natOf}
 use Rattle.cells.specs.Lists.{orIfZero}
 use Rattle.cells.specs.Table.{kind}
@@ -54,13 +55,13 @@ place18 t n cells = firstPosition (early t n) [] 1 (labelsOf cells)
 -- ---- the places, said without tests
 
 abbrev pub NotNew : List ℤ → List ℕ → ℕ → Type 0
-NotNew t seen v = (kind t v ≡ 2 → ⊥) ⊎ (v ∈ seen)
+NotNew t seen v = (kind t v ≡ valueCode → ⊥) ⊎ (v ∈ seen)
 
 abbrev pub Missing : List ℤ → List ℕ → Type 0
-Missing t l = (v : ℕ) × (kind t v ≡ 2) × (v ∈ l → ⊥)
+Missing t l = (v : ℕ) × (kind t v ≡ valueCode) × (v ∈ l → ⊥)
 
 abbrev pub Early : List ℤ → List ℕ → ℕ → Type 0
-Early t seen v = (w : ℕ) × (kind t w ≡ 2) × Reaches t v w × (w ∈ seen → ⊥)
+Early t seen v = (w : ℕ) × (kind t w ≡ valueCode) × Reaches t v w × (w ∈ seen → ⊥)
 
 -- nothing in l is bad after what stands before it
 abbrev pub NoneBad : (List ℕ → ℕ → Type 0) → List ℕ → Type 0

@@ -8,25 +8,20 @@ use mathlib.Core.Option.{Option, none, some}
 use Prim.Native.Nat.{ℕ, zero, suc}
 use lib.Dec.{eqb}
 use lib.IntN.{ℤ}
-use Rattle.cells.specs.Table.{kind, owner, target}
+use Rattle.kinds.specs.Kinds.{groupCode, valueCode}
+use Rattle.cells.specs.Table.{kind, isDefinition, hasPath, owner, target}
 use Rattle.cells.specs.Reaches.{Reaches}
 use Rattle.order.specs.Lists.{one, count, _∈_, mem, upFrom, filter, any, first, joined}
 use Rattle.order.specs.Closure.{closure}
 use Rattle.order.specs.Placing.{placed, stuck}
 
--- ---- Group, value, function; a definition is one of them
+-- ---- Groups and values
 
 abbrev pub isG : List ℤ → ℕ → Bool
-isG t l = eqb (kind t l) 1
+isG t l = eqb (kind t l) groupCode
 
 abbrev pub isV : List ℤ → ℕ → Bool
-isV t l = eqb (kind t l) 2
-
-abbrev pub isF : List ℤ → ℕ → Bool
-isF t l = eqb (kind t l) 3
-
-abbrev pub isDefinition : List ℤ → ℕ → Bool
-isDefinition t l = isG t l || isV t l || isF t l
+isV t l = eqb (kind t l) valueCode
 
 abbrev pub labels : ℕ → List ℕ
 labels n = upFrom 1 n
@@ -61,9 +56,6 @@ within t p v = climbs t v p v
 
 -- ---- "Definition d mentions e when an R or C owned by d has target e, both branches of I included. d reaches e by one or more mentions"
 
-abbrev pub hasPath : List ℤ → ℕ → Bool
-hasPath t x = eqb (kind t x) 6 || eqb (kind t x) 7
-
 abbrev pub isMention : List ℤ → ℕ → ℕ → ℕ → Bool
 isMention t d e x = hasPath t x && eqb (owner t x) d && eqb (target t x) e
 
@@ -79,7 +71,7 @@ reaches t n d e = mem e (reached t n d)
 
 -- "A value that reaches itself is a circle": there is none
 abbrev pub NoCycle : List ℤ → Type 0
-NoCycle t = (v : ℕ) → kind t v ≡ 2 → Reaches t v v → ⊥
+NoCycle t = (v : ℕ) → kind t v ≡ valueCode → Reaches t v v → ⊥
 
 -- ---- "An order is proper if it lists every V label once, each after every V that it reaches"
 
@@ -87,7 +79,7 @@ pub record Proper (t : List ℤ) (o : List ℕ) : Type 0 where
   -- every V label once, and no other
   pub once : (v : ℕ) → count v o ≡ one (isV t v)
   -- wherever the order is split at a v, the values that v reaches stand before it
-  pub after : (a : List ℕ) (v : ℕ) (b : List ℕ) → o ≡ a ++ v ∷ b → (w : ℕ) → kind t w ≡ 2 → Reaches t v w → w ∈ a
+  pub after : (a : List ℕ) (v : ℕ) (b : List ℕ) → o ≡ a ++ v ∷ b → (w : ℕ) → kind t w ≡ valueCode → Reaches t v w → w ∈ a
 
 -- ---- "whole if for every Group the V labels under it, at any depth, are consecutive"
 
@@ -102,7 +94,7 @@ pub record Consecutive (So : ℕ → Type 0) (o : List ℕ) : Type 0 where
   pub behind : (v : ℕ) → v ∈ back → So v → ⊥
 
 abbrev pub Whole : List ℤ → List ℕ → Type 0
-Whole t o = (g : ℕ) → kind t g ≡ 1 → Consecutive (Within t g) o
+Whole t o = (g : ℕ) → kind t g ≡ groupCode → Consecutive (Within t g) o
 
 -- ---- "Member p needs another member q of its Group if a V that is p or under p reaches one that is q or under q"
 

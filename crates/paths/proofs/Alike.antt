@@ -6,16 +6,18 @@ use Prim.Native.Nat.{ℕ, zero, suc, _+_, _-_, _*_, _≤_}
 use native.Mathlib.Omega.{arith}
 use lib.IntN.{ℤ, pos}
 use lib.ListN.{length, drop}
-use Rattle.cells.specs.Table.{kind, nameStart, nameLength, owner, withColumn}
+use Rattle.cells.specs.Table.{kind, nameStart, nameLength, owner, withColumn, isDefinition, hasPath}
 use Rattle.cells.specs.Cells.{intAt}
 use Rattle.cells.proofs.Columns.{column-keeps, column-other}
-use Rattle.order.specs.Order.{isDefinition, hasPath}
+use Rattle.order.specs.Order.{}
 use Rattle.text.specs.Pieces.{firstOf}
 use Rattle.paths.specs.Names.{nameOf, isNamed, member}
 use Rattle.refusals.proofs.FirstBad.{first-same as same-found}
 use Rattle.paths.specs.Paths.{settled, headFrom, below, descended, namesOf, headOf, targetOf, headCell, targetBy, targetCell, duplicateBad, pathHeadBad, laterBad, targetBad, pathsBad}
-use Rattle.paths.specs.Buckets.{bucketAt, inBucket, Rows, LinkedFrom, Linked}
+use Rattle.paths.specs.Buckets.{Rows, startOf, Allotted, bucketAt, inBucket, lastBelow, LinkedBelow, Linked}
+use Rattle.paths.specs.Leads.{NamesApart}
 use Rattle.paths.proofs.FirstLabel.{first-same}
+use Rattle.paths.proofs.LastBelow.{last-same}
 
 pub record Alike (t u : List ℤ) : Type 0 where
   pub kinds : (l : ℕ) → kind u l ≡ kind t l
@@ -84,7 +86,9 @@ module _ (s : List ℕ) (t : List ℤ) (r : List ℕ) (u : List ℤ) (a : Like s
   duplicate-like : (l : ℕ) → duplicateBad r u l ≡ duplicateBad s t l
   unfolding duplicateBad
   duplicate-like l =
-      rw (definition-like l, a .owners l, a .names l, first-same (isNamed r u (owner t l) (nameOf s t l)) (isNamed s t (owner t l) (nameOf s t l)) (l - 1) 1 (λ x p q. named-like (owner t l) (nameOf s t l) x))
+      let g = owner t l in
+      let w = nameOf s t l in
+      rw (definition-like l, a .owners l, a .names l, first-same (isNamed r u g w) (isNamed s t g w) (l - 1) 1 (λ x p q. named-like g w x))
 
   path-head-like : (n x : ℕ) → pathHeadBad r u n x ≡ pathHeadBad s t n x
   unfolding pathHeadBad
@@ -101,7 +105,11 @@ module _ (s : List ℕ) (t : List ℤ) (r : List ℕ) (u : List ℤ) (a : Like s
   pub paths-like : (n : ℕ) → pathsBad r u n ≡ pathsBad s t n
   unfolding pathsBad
   paths-like n =
-      rw (same-found (duplicateBad r u) (duplicateBad s t) n 1 (λ x h g. duplicate-like x), same-found (pathHeadBad r u n) (pathHeadBad s t n) n 1 (λ x h g. path-head-like n x), same-found (laterBad r u n) (laterBad s t n) n 1 (λ x h g. later-bad-like n x), same-found (targetBad r u n) (targetBad s t n) n 1 (λ x h g. target-bad-like n x))
+      let row12 = same-found (duplicateBad r u) (duplicateBad s t) n 1 (λ x h g. duplicate-like x) in
+      let row13 = same-found (pathHeadBad r u n) (pathHeadBad s t n) n 1 (λ x h g. path-head-like n x) in
+      let row14 = same-found (laterBad r u n) (laterBad s t n) n 1 (λ x h g. later-bad-like n x) in
+      let row15 = same-found (targetBad r u n) (targetBad s t n) n 1 (λ x h g. target-bad-like n x) in
+      rw (row12, row13, row14, row15)
 
 -- ---- two tables over one text
 
@@ -130,12 +138,6 @@ module _ (s : List ℕ) (t u : List ℤ) (a : Alike t u) where
   pub paths-alike : (n : ℕ) → pathsBad s u n ≡ pathsBad s t n
   paths-alike = paths-like s t s u like
 
-  bucket-alike : (l : ℕ) → bucketAt s u l ≡ bucketAt s t l
-  bucket-alike l = rw (like .names l, a .owners l)
-
-  in-bucket-alike : (b l : ℕ) → inBucket s u b l ≡ inBucket s t b l
-  in-bucket-alike b l = rw (definition-alike l, bucket-alike l)
-
   pub rows-alike : (n : ℕ) → length u ≡ length t → Rows s t n → Rows s u n
   rows-alike n e r = record {
     few = r .few;
@@ -147,13 +149,36 @@ module _ (s : List ℕ) (t u : List ℤ) (a : Alike t u) where
     rooted = λ l d o. r .rooted l (sym (definition-alike l) ∙ d) (sym (a .owners l) ∙ o);
   }
 
-  chains-alike : (n k : ℕ) (first next : List ℕ) → LinkedFrom s t n k first next → LinkedFrom s u n k first next
-  chains-alike n k first next h = record {
-    heads = λ b l. h .heads b l ∙ sym (first-same (inBucket s u b) (inBucket s t b) (n + 1 - k) k (λ x p q. in-bucket-alike b x));
-    nexts = λ l p q d.
-        h .nexts l p q (sym (definition-alike l) ∙ d)
-        ∙ rw (bucket-alike l) (sym (first-same (inBucket s u (bucketAt s t l)) (inBucket s t (bucketAt s t l)) (n - l) (l + 1) (λ x v w. in-bucket-alike (bucketAt s t l) x)));
-  }
+  module _ (starts : List ℕ) where
+    allotted-alike : (n : ℕ) → Allotted t n starts → Allotted u n starts
+    allotted-alike n h = record {
+      long = h .long;
+      rising = h .rising;
+      few = h .few;
+      some = λ l p q d. rw (a .owners l) (h .some l p q (sym (definition-alike l) ∙ d));
+    }
 
-  pub linked-alike : (n : ℕ) (first next : List ℕ) → Linked s t n first next → Linked s u n first next
-  linked-alike n first next h = record { buckets = h .buckets; room = h .room; chains = chains-alike n 1 first next (h .chains) }
+    bucket-alike : (l : ℕ) → bucketAt s u starts l ≡ bucketAt s t starts l
+    bucket-alike l = rw (like .names l, a .owners l)
+
+    chain-alike : (b k : ℕ) → lastBelow (inBucket s u starts b) k ≡ lastBelow (inBucket s t starts b) k
+    chain-alike b k = last-same (inBucket s u starts b) (inBucket s t starts b) k (λ l. rw (definition-alike l, bucket-alike l))
+
+  apart-alike : (n : ℕ) → NamesApart s t n → NamesApart s u n
+  apart-alike n h l k low less high d e o q =
+      h l k low less high (sym (definition-alike l) ∙ d) (sym (definition-alike k) ∙ e) (sym (a .owners l) ∙ o ∙ a .owners k)
+      (rw (like .names l, like .names k) at q)
+
+  pub linked-alike : {n : ℕ} {starts first next : List ℕ} → Linked s t n starts first next → Linked s u n starts first next
+  linked-alike {n} {starts} {first} {next} (h) = record { all = below (h .all); apart = apart-alike n (h .apart) }
+    where
+      below : LinkedBelow s t n (n + 1) starts first next → LinkedBelow s u n (n + 1) starts first next
+      below l = record {
+        allotted = allotted-alike starts n (l .allotted);
+        buckets = l .buckets;
+        room = l .room;
+        most = l .most;
+        heads = λ b. l .heads b ∙ sym (chain-alike starts b (n + 1));
+        nexts = λ x p q d. l .nexts x p q (sym (definition-alike x) ∙ d) ∙ rw (bucket-alike starts x) (sym (chain-alike starts (bucketAt s t starts x) x));
+        falls = l .falls;
+      }

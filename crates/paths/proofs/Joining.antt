@@ -2,18 +2,17 @@
 use mathlib.Core.Path.{_≡_, refl, ap, sym, _∙_}
 use mathlib.Core.Bool.{Bool, true, false, cond, not, _&&_}
 use mathlib.Core.List.{List}
-use Prim.Native.Nat.{ℕ, _+_, _-_, _*_, _≤_}
+use Prim.Native.Nat.{ℕ, _*_, _≤_}
 use native.Mathlib.Omega.{arith}
 use lib.Dec.{eqb}
 use lib.IntN.{ℤ}
-use lib.ListN.{length, getD}
-use Rattle.cells.specs.Table.{kind, target, withColumn}
+use lib.ListN.{length}
+use Rattle.cells.specs.Table.{kind, target, withColumn, hasPath}
 use Rattle.cells.proofs.Columns.{column-own, column-same, column-over, column-length}
-use Rattle.order.specs.Order.{hasPath}
+use Rattle.order.specs.Order.{}
 use Rattle.refusals.specs.Refusal.{firstBad}
 use Rattle.refusals.proofs.FirstBad.{first-same}
 use Rattle.paths.specs.Paths.{targetOf, headCell, targetCell, wanted, laterBad, targetBad, wrongTarget, laterRows}
-use Rattle.paths.specs.Buckets.{LinkedFrom}
 use Rattle.paths.proofs.Alike.{Alike, column-alike, path-alike, head-cell-alike, target-alike, target-cell-alike}
 
 -- ---- row 15, once the targets stand in their cells
@@ -66,10 +65,3 @@ module _ (s : List ℕ) (t u : List ℤ) (n : ℕ) (e : u ≡ withColumn 7 (head
       column-same 7 (targetCell s u n) (targetCell s t n) n u (λ l h g. target-cell-alike s t u heads-alike n l)
       ∙ ap (withColumn 7 (targetCell s t n) n) e
       ∙ column-over 7 (headCell s t n) (targetCell s t n) n t (omega arith) room
-
--- ---- chains before any label is linked
-
-pub unlinked : (s : List ℕ) (t : List ℤ) (n : ℕ) (first next : List ℕ) → ((b : ℕ) → getD first b 0 ≡ 0) → LinkedFrom s t n (n + 1) first next
-unlinked s t n first next h =
-    let z : n + 1 - (n + 1) ≡ 0 = omega arith in
-    record { heads = λ b l. h b ∙ rw z; nexts = λ l a m d. absurd (omega arith) }

@@ -8,22 +8,24 @@ use lib.Dec.{eqb, ltb}
 use lib.IntN.{ℤ}
 use lib.ListN.{drop}
 use borrow.Author.Tests.{eq-eqb, ne-eqb, eqb-true, eqb-false, ltb-true, ltb-false, not-false}
-use Rattle.cells.specs.Table.{kind, owner}
-use Rattle.order.specs.Order.{isDefinition, isMember, hasPath}
+use Rattle.kinds.specs.Kinds.{groupCode}
+use Rattle.cells.specs.Table.{kind, owner, isDefinition, hasPath}
+use Rattle.order.specs.Order.{isMember}
 use Rattle.refusals.specs.Rows.{duplicateRow, headRow, laterRow, targetRow}
 use Rattle.refusals.specs.Refusal.{firstBad}
 use Rattle.refusals.specs.declared.Verdict.the-variants.{Fine}
 use Rattle.refusals.proofs.OrElse.{both-fine}
 use Rattle.refusals.proofs.FirstBad.{first-none, none-first}
 use Rattle.text.specs.Pieces.{firstOf}
-use Rattle.text.proofs.Bytes.{true-false, and-left, and-right, same-eq}
+use Rattle.text.proofs.Bytes.{true-false}
 use Rattle.paths.specs.Names.{nameOf, sameName, firstLabel, isNamed, member}
 use Rattle.cells.specs.Lists.{orIfZero}
 use Rattle.paths.specs.Paths.{settled, headFrom, descended, namesOf, headOf, targetOf, wanted, duplicateBad, pathHeadBad, laterBad, targetBad, laterRows, headRows, pathsBad}
 use Rattle.paths.specs.Leads.{IsMember, Heads, here, outward, Descends, ended, inward, HeadSettles, Leads, NamesApart, PathsKept}
 use Rattle.paths.proofs.FirstLabel.{Passing, first-found, none-passes}
-use Rattle.paths.proofs.Members.{same-self}
-use Rattle.paths.proofs.Resolving.{above-zero, owner-small, down-none, down-stop, down-on}
+use Rattle.paths.proofs.SameName.{same-sym, same-trans}
+use Rattle.paths.proofs.Members.{member-named, named-parts}
+use Rattle.paths.proofs.Resolving.{above-zero, owner-small, settled-at, down-none, down-stop, down-on}
 
 -- ---- a row's check of one label
 
@@ -42,33 +44,18 @@ above m h = ne-eqb m 0 (λ z. omega arith)
 module _ (s : List ℕ) (t : List ℤ) (n : ℕ) where
   -- ---- the member that the search finds, and the members
 
-  same-text : (x y : List ℕ) → sameName x y ≡ true → x ≡ y
-  unfolding sameName
-  same-text x y e = same-eq x y e
-
-  same-both : (x y w : List ℕ) → sameName x w ≡ true → sameName y w ≡ true → sameName x y ≡ true
-  same-both x y w e f = rw (same-text x w e, same-text y w f) (same-self w)
-
-  named-of : (g m : ℕ) (w : List ℕ) → isDefinition t m ≡ true → owner t m ≡ g → sameName (nameOf s t m) w ≡ true → isNamed s t g w m ≡ true
-  named-of g m w d o e = rw (d, eq-eqb (owner t m) g o) e
-
-  named-parts : (g m : ℕ) (w : List ℕ) → isNamed s t g w m ≡ true → (isDefinition t m ≡ true) × (owner t m ≡ g) × (sameName (nameOf s t m) w ≡ true)
-  named-parts g m w e =
-      let b : isMember t g m ≡ true = and-left (isMember t g m) (sameName (nameOf s t m) w) e in
-      (and-left (isDefinition t m) (eqb (owner t m) g) b, eqb-true (owner t m) g (and-right (isDefinition t m) (eqb (owner t m) g) b), and-right (isMember t g m) (sameName (nameOf s t m) w) e)
-
   module _ (g : ℕ) (w : List ℕ) where
     member-found : 1 ≤ g → (m : ℕ) → member s t n g w ≡ m → (m ≡ 0 → ⊥) → IsMember s t n g w m
     unfolding member
     member-found h m e z =
         let f : Passing (isNamed s t g w) 1 n m = first-found (isNamed s t g w) n 1 m e z in
-        let p = named-parts g m w (f .passes) in
-        record { group = h; low = f .low; high = omega (arith, f .high); definition = p .0; owned = p .1; named = p .2 }
+        let p = named-parts s t g w m (f .passes) in
+        record { group = h; low = f .low; high = omega (arith, f .high); definition = p .definition; owned = p .owned; named = p .named }
 
     member-none : member s t n g w ≡ 0 → (m : ℕ) → IsMember s t n g w m → ⊥
     unfolding member
     member-none e m p =
-        none-passes (isNamed s t g w) n 1 m (omega arith) e (p .low) (omega (arith, p .high)) (named-of g m w (p .definition) (p .owned) (p .named))
+        none-passes (isNamed s t g w) n 1 m (omega arith) e (p .low) (omega (arith, p .high)) (member-named s t g w m (p .definition) (p .owned) ∙ p .named)
 
     none-member : 1 ≤ g → ((m : ℕ) → IsMember s t n g w m → ⊥) → member s t n g w ≡ 0
     none-member h f = go (member s t n g w) refl
@@ -80,7 +67,7 @@ module _ (s : List ℕ) (t : List ℤ) (n : ℕ) where
     module _ (apart : NamesApart s t n) where
       two-members : {m x : ℕ} → m < x → IsMember s t n g w m → IsMember s t n g w x → ⊥
       two-members {m} {x} h p q =
-          apart m x (p .low) h (q .high) (p .definition) (q .definition) (p .owned ∙ sym (q .owned)) (same-both (nameOf s t m) (nameOf s t x) w (p .named) (q .named))
+          apart m x (p .low) h (q .high) (p .definition) (q .definition) (p .owned ∙ sym (q .owned)) (same-trans (nameOf s t m) w (nameOf s t x) (p .named) (same-sym (nameOf s t x) w (q .named)))
 
       -- two members of a Group with one name are one
       pub member-only : {m x : ℕ} → IsMember s t n g w m → IsMember s t n g w x → m ≡ x
@@ -106,11 +93,11 @@ module _ (s : List ℕ) (t : List ℤ) (n : ℕ) where
       let x = firstLabel (namesake k) 1 (k - 1) in
       let check = first-none (duplicateBad s t) n 1 e k (omega arith) (omega arith) in
       let z : x ≡ 0 = eqb-true x 0 (not-false (eqb x 0) (quiet (isDefinition t k) (not (eqb x 0)) duplicateRow (omega arith) check f)) in
-      none-passes (namesake k) (k - 1) 1 l (omega arith) z low (omega arith) (named-of (owner t k) l (nameOf s t k) d o q)
+      none-passes (namesake k) (k - 1) 1 l (omega arith) z low (omega arith) (member-named s t (owner t k) (nameOf s t k) l d o ∙ q)
 
   pub apart-fine : NamesApart s t n → firstBad (duplicateBad s t) 1 n ≡ Fine
   unfolding duplicateBad
-  apart-fine apart = none-first (duplicateBad s t) n 1 (λ k low high. keeps-quiet (isDefinition t k) (not (eqb (firstLabel (namesake k) 1 (k - 1)) 0)) duplicateRow (λ d. ap not (none k low (omega arith) d)))
+  apart-fine apart = none-first (duplicateBad s t) n 1 (λ k low high. quiet-at k low (omega arith))
     where
       none : (k : ℕ) → 1 ≤ k → k ≤ n → isDefinition t k ≡ true → eqb (firstLabel (namesake k) 1 (k - 1)) 0 ≡ true
       none k low high d = go (firstLabel (namesake k) 1 (k - 1)) refl
@@ -119,15 +106,16 @@ module _ (s : List ℕ) (t : List ℤ) (n : ℕ) where
           go zero e = refl
           go (suc x) e =
               let f : Passing (namesake k) 1 (k - 1) (suc x) = first-found (namesake k) (k - 1) 1 (suc x) e (λ z. omega arith) in
-              let p = named-parts (owner t k) (suc x) (nameOf s t k) (f .passes) in
-              absurd (apart (suc x) k (f .low) (omega (arith, f .high)) high (p .0) d (p .1) (p .2))
+              let p = named-parts s t (owner t k) (nameOf s t k) (suc x) (f .passes) in
+              absurd (apart (suc x) k (f .low) (omega (arith, f .high)) high (p .definition) d (p .owned) (p .named))
+
+      quiet-at : (k : ℕ) → 1 ≤ k → k ≤ n → duplicateBad s t k ≡ 0
+      quiet-at k low high =
+          keeps-quiet (isDefinition t k) (not (eqb (firstLabel (namesake k) 1 (k - 1)) 0)) duplicateRow (λ d. ap not (none k low high d))
 
   -- ---- the head
 
   module _ (w : List ℕ) where
-    settled-at : (k g : ℕ) → 1 ≤ g → settled s t n w (suc k) g ≡ orIfZero (member s t n g w) (settled s t n w k (owner t g))
-    settled-at k g h = rw (ne-eqb g 0 (λ e. omega arith))
-
     head-go : (k g h : ℕ) → 1 ≤ g → (settled s t n w k (owner t g) ≡ h → Heads s t n w (owner t g) h)
         → (x : ℕ) → member s t n g w ≡ x → orIfZero x (settled s t n w k (owner t g)) ≡ h → (h ≡ 0 → ⊥) → Heads s t n w g h
     head-go k g h low rest zero q e f = outward low (member-none g w q) (rest e)
@@ -137,7 +125,7 @@ module _ (s : List ℕ) (t : List ℤ) (n : ℕ) where
     settled-heads zero g h e f = absurd (f (sym e))
     settled-heads (suc k) zero h e f = absurd (f (sym e))
     settled-heads (suc k) (suc g) h e f =
-        head-go k (suc g) h (omega arith) (λ q. settled-heads k (owner t (suc g)) h q f) (member s t n (suc g) w) refl (sym (settled-at k (suc g) (omega arith)) ∙ e) f
+        head-go k (suc g) h (omega arith) (λ q. settled-heads k (owner t (suc g)) h q f) (member s t n (suc g) w) refl (sym (settled-at s t n w k (suc g) (omega arith)) ∙ e) f
 
     heads-low : {g h : ℕ} → Heads s t n w g h → 1 ≤ h
     heads-low (here p) = p .low
@@ -158,26 +146,26 @@ module _ (s : List ℕ) (t : List ℤ) (n : ℕ) where
         heads-settled : {g h : ℕ} → Heads s t n w g h → (k : ℕ) → g ≤ k → g ≤ n → settled s t n w k g ≡ h
         heads-settled {g} (here p) zero e l = absurd (omega (arith, p .group))
         heads-settled {g} {h} (here p) (suc k) e l =
-            settled-at k g (p .group) ∙ rw (member-is g w apart p) (or-own h (settled s t n w k (owner t g)) (p .low))
+            settled-at s t n w k g (p .group) ∙ rw (member-is g w apart p) (or-own h (settled s t n w k (owner t g)) (p .low))
         heads-settled {g} (outward low none r) zero e l = absurd (omega arith)
         heads-settled {g} (outward low none r) (suc k) e l =
-            settled-at k g low ∙ rw (none-member g w low none) (heads-settled r k (omega (arith, falls g low l)) (omega (arith, falls g low l)))
+            settled-at s t n w k g low ∙ rw (none-member g w low none) (heads-settled r k (omega (arith, falls g low l)) (omega (arith, falls g low l)))
 
   -- ---- the later names
 
   down-go : (m e : ℕ) (w : List ℕ) (ws : List (List ℕ)) → descended s t n m (w ∷ ws) ≡ e → (e ≡ 0 → ⊥)
       → (descended s t n (member s t n m w) ws ≡ e → Descends s t n (member s t n m w) ws e)
-      → (b : Bool) → eqb (kind t m) 1 ≡ b → Descends s t n m (w ∷ ws) e
+      → (b : Bool) → eqb (kind t m) groupCode ≡ b → Descends s t n m (w ∷ ws) e
   down-go m e w ws q f rest true k =
-      let g : kind t m ≡ 1 = eqb-true (kind t m) 1 k in
+      let g : kind t m ≡ groupCode = eqb-true (kind t m) groupCode k in
       let r : descended s t n (member s t n m w) ws ≡ e = sym (down-on s t n m w ws g) ∙ q in
       let some : member s t n m w ≡ 0 → ⊥ = λ z. f (sym r ∙ ap (λ (x : ℕ). descended s t n x ws) z ∙ down-none s t n ws) in
       inward g (member-found m w (above-zero t m g) (member s t n m w) refl some) (rest r)
-  down-go m e w ws q f rest false k = absurd (f (sym q ∙ down-stop s t n m w ws (eqb-false (kind t m) 1 k)))
+  down-go m e w ws q f rest false k = absurd (f (sym q ∙ down-stop s t n m w ws (eqb-false (kind t m) groupCode k)))
 
   descended-ends : (ws : List (List ℕ)) (m e : ℕ) → descended s t n m ws ≡ e → (e ≡ 0 → ⊥) → Descends s t n m ws e
   descended-ends [] m e q f = rw (← q) ended
-  descended-ends (w ∷ ws) m e q f = down-go m e w ws q f (λ r. descended-ends ws (member s t n m w) e r f) (eqb (kind t m) 1) refl
+  descended-ends (w ∷ ws) m e q f = down-go m e w ws q f (λ r. descended-ends ws (member s t n m w) e r f) (eqb (kind t m) groupCode) refl
 
   ends-low : {m e : ℕ} {ws : List (List ℕ)} → 1 ≤ m → Descends s t n m ws e → 1 ≤ e
   ends-low h ended = h
@@ -245,7 +233,14 @@ module _ (s : List ℕ) (t : List ℤ) (n : ℕ) where
       let a = both-fine (firstBad (duplicateBad s t) 1 n) (headRows s t n) e in
       let b = both-fine (firstBad (pathHeadBad s t n) 1 n) (laterRows s t n) (a .1) in
       let c = both-fine (firstBad (laterBad s t n) 1 n) (firstBad (targetBad s t n) 1 n) (b .1) in
-      record { apart = fine-apart (a .0); targets = λ x low high p. (targetOf s t n x, ends x p (first-none (laterBad s t n) n 1 (c .0) x low (omega arith)), fits x p (first-none (targetBad s t n) n 1 (c .1) x low (omega arith))) }
+      record {
+        apart = fine-apart (a .0);
+        targets = λ x low high p. (
+          targetOf s t n x,
+          ends x p (first-none (laterBad s t n) n 1 (c .0) x low (omega arith)),
+          fits x p (first-none (targetBad s t n) n 1 (c .1) x low (omega arith)),
+        );
+      }
     where
       ends : (x : ℕ) → hasPath t x ≡ true → laterBad s t n x ≡ 0 → Leads s t n x (targetOf s t n x)
       ends x p q = target-leads x (targetOf s t n x) refl (eqb-false (targetOf s t n x) 0 (quiet (hasPath t x) (eqb (targetOf s t n x) 0) laterRow (omega arith) q p))
@@ -277,5 +272,7 @@ module _ (s : List ℕ) (t : List ℤ) (n : ℕ) where
     pub kept-paths : PathsKept s t n → pathsBad s t n ≡ Fine
     unfolding pathsBad
     kept-paths k =
-        rw (apart-fine (k .apart), none-first (pathHeadBad s t n) n 1 (λ x low high. head-kept k x low (omega arith)), none-first (laterBad s t n) n 1 (λ x low high. later-kept k x low (omega arith)))
+        let row13 = none-first (pathHeadBad s t n) n 1 (λ x low high. head-kept k x low (omega arith)) in
+        let row14 = none-first (laterBad s t n) n 1 (λ x low high. later-kept k x low (omega arith)) in
+        rw (apart-fine (k .apart), row13, row14)
         (none-first (targetBad s t n) n 1 (λ x low high. target-kept k x low (omega arith)))

@@ -1,10 +1,12 @@
-pub mod Scanning
-pub mod Definitions
+pub mod SameName
 pub mod FirstLabel
+pub mod LastBelow
 pub mod Members
+pub mod Allotting
 pub mod Chains
 pub mod Resolving
 pub mod Alike
 pub mod Passes
 pub mod Joining
 pub mod Leads
+pub mod Linking

@@ -9,19 +9,22 @@ use lib.IntN.{ℤ}
 use lib.ListN.{length, getD, drop}
 use lib.Seq.{slice, length-slice}
 use borrow.Author.Tests.{eq-eqb, ne-eqb, eqb-true, ltb-true, ltb-false, lt-ltb, le-ltb, not-false}
-use Rattle.cells.specs.Table.{kind, nameStart, nameLength, owner, target}
-use Rattle.order.specs.Order.{isDefinition, hasPath}
+use Rattle.kinds.specs.Kinds.{wantedBy, groupCode}
+use Rattle.kinds.specs.Kinds as kinds
+use Rattle.cells.specs.Table.{kind, nameStart, nameLength, owner, target, isDefinition, hasPath}
+use Rattle.order.specs.Order.{}
 use Rattle.text.specs.Pieces.{cut}
 use Rattle.text.specs.Scans.{runEnd, run}
 use Rattle.text.proofs.Bytes.{run-le, run-fails}
 use Rattle.text.proofs.Slices.{take-slice, drop-slice}
 use Rattle.text.proofs.Cuts.{cut-more, cut-last}
-use Rattle.paths.specs.Names.{nameOf, sameName, firstLabel, isNamed, member}
+use Rattle.paths.specs.Names.{nameOf, isNamed, member}
 use Rattle.cells.specs.Lists.{orIfZero}
 use Rattle.paths.specs.Paths.{settled, headFrom, descended, namesOf, headOf, headCell, targetBy, duplicateBad, wrongTarget}
-use Rattle.paths.specs.Buckets.{notDot, Rows, outward}
-use Rattle.paths.proofs.Members.{same-self}
-use Rattle.paths.proofs.FirstLabel.{first-hit, first-split, first-high}
+use Rattle.paths.specs.Buckets.{notDot, lastBelow}
+use Rattle.refusals.specs.Rows.{duplicateRow}
+use Rattle.paths.proofs.FirstLabel.{first-high}
+use Rattle.paths.proofs.LastBelow.{last-empty}
 
 -- ---- the names of a path by positions
 
@@ -65,7 +68,7 @@ module _ (s : List ℕ) (from to : ℕ) (h : from ≤ to) (k : to ≤ length s) 
   names-cut = names-go (ltb (from + r) to) refl
 
 -- label 0 has no kind
-pub above-zero : (t : List ℤ) (m : ℕ) → kind t m ≡ 1 → 1 ≤ m
+pub above-zero : (t : List ℤ) (m : ℕ) → kind t m ≡ groupCode → 1 ≤ m
 above-zero t zero e = absurd (omega arith)
 above-zero t (suc m) e = omega arith
 
@@ -74,46 +77,61 @@ pub owner-small : (t : List ℤ) (n : ℕ) → ((l : ℕ) → 1 ≤ l → l ≤ 
 owner-small t n falls zero h = omega arith
 owner-small t n falls (suc l) h = omega (arith, falls (suc l) (omega arith) h)
 
--- ---- lookups
+-- ---- from Group to Group, outward
 
 module _ (s : List ℕ) (t : List ℤ) (n : ℕ) where
   pub member-high : (g : ℕ) (w : List ℕ) → member s t n g w ≤ n
   unfolding member
   member-high g w = omega (arith, first-high (isNamed s t g w) n 1 (omega arith))
 
-  or-high : (a b : ℕ) → a ≤ n → b ≤ n → orIfZero a b ≤ n
-  or-high zero b h g = g
-  or-high (suc a) b h g = h
+  module _ (w : List ℕ) where
+    pub settled-at : (k g : ℕ) → 1 ≤ g → settled s t n w (suc k) g ≡ orIfZero (member s t n g w) (settled s t n w k (owner t g))
+    settled-at k g h = rw (ne-eqb g 0 (λ e. omega arith))
 
-  cond-high : (x : Bool) (a : ℕ) → a ≤ n → cond x a 0 ≤ n
-  cond-high true a h = h
-  cond-high false a h = omega arith
+    or-high : (a b : ℕ) → a ≤ n → b ≤ n → orIfZero a b ≤ n
+    or-high zero b h g = g
+    or-high (suc a) b h g = h
 
-  pub out-high : (w : List ℕ) (stop k g : ℕ) → outward s t n w stop k g ≤ n
-  out-high w stop zero g = omega arith
-  out-high w stop (suc k) g = cond-high (ltb stop g) _ (or-high (member s t n g w) (outward s t n w stop k (owner t g)) (member-high g w) (out-high w stop k (owner t g)))
+    settled-high : (k g : ℕ) → settled s t n w k g ≤ n
+    settled-high zero g = omega arith
+    settled-high (suc k) zero = omega arith
+    settled-high (suc k) (suc g) =
+        rw (settled-at k (suc g) (omega arith))
+        (or-high (member s t n (suc g) w) (settled s t n w k (owner t (suc g))) (member-high (suc g) w) (settled-high k (owner t (suc g))))
 
-  -- above the Group around it, one Group is looked into
-  or-zero : (a : ℕ) → orIfZero a 0 ≡ a
-  or-zero zero = refl
-  or-zero (suc a) = refl
+    pub head-high : (g : ℕ) → headFrom s t n w g ≤ n
+    unfolding headFrom
+    head-high g = settled-high g g
 
-  at-stop : (w : List ℕ) (k g : ℕ) → outward s t n w g k g ≡ 0
-  at-stop w zero g = refl
-  at-stop w (suc k) g = rw (le-ltb g g (omega arith))
+    module _ (falls : (l : ℕ) → 1 ≤ l → l ≤ n → owner t l < l) where
+      -- as many Groups as the label says are enough
+      enough : (k j g : ℕ) → g ≤ k → g ≤ j → g ≤ n → settled s t n w k g ≡ settled s t n w j g
+      enough zero zero g a b h = refl
+      enough zero (suc j) zero a b h = refl
+      enough zero (suc j) (suc g) a b h = absurd (omega arith)
+      enough (suc k) zero zero a b h = refl
+      enough (suc k) zero (suc g) a b h = absurd (omega arith)
+      enough (suc k) (suc j) zero a b h = refl
+      enough (suc k) (suc j) (suc g) a b h =
+          let f = falls (suc g) (omega arith) h in
+          rw (enough k j (owner t (suc g)) (omega arith) (omega arith) (omega arith))
 
-  pub out-one : (w : List ℕ) (g : ℕ) → 1 ≤ g → owner t g < g → outward s t n w (owner t g) g g ≡ member s t n g w
-  out-one w zero h f = absurd (omega arith)
-  out-one w (suc g) h f = rw (lt-ltb (owner t (suc g)) (suc g) f, at-stop w g (owner t (suc g))) (or-zero (member s t n (suc g) w))
+      pub head-end : (g : ℕ) → g ≡ 0 → headFrom s t n w g ≡ 0
+      unfolding headFrom
+      head-end g e = rw e
 
-  settled-out : (w : List ℕ) (k g : ℕ) → outward s t n w 0 k g ≡ settled s t n w k g
-  settled-out w zero g = refl
-  settled-out w (suc k) zero = refl
-  settled-out w (suc k) (suc g) = rw (lt-ltb 0 (suc g) (omega arith), ne-eqb (suc g) 0 (λ e. omega arith), settled-out w k (owner t (suc g)))
+      pub head-found : (g m : ℕ) → 1 ≤ g → member s t n g w ≡ m → (m ≡ 0 → ⊥) → headFrom s t n w g ≡ m
+      unfolding headFrom
+      head-found zero m h e z = absurd (omega arith)
+      head-found (suc g) zero h e z = absurd (z refl)
+      head-found (suc g) (suc m) h e z = settled-at g (suc g) h ∙ rw e
 
-  pub head-out : (w : List ℕ) (g : ℕ) → outward s t n w 0 g g ≡ headFrom s t n w g
-  unfolding headFrom
-  head-out w g = settled-out w g g
+      pub head-next : (g : ℕ) → 1 ≤ g → g ≤ n → member s t n g w ≡ 0 → headFrom s t n w g ≡ headFrom s t n w (owner t g)
+      unfolding headFrom
+      head-next zero h l e = absurd (omega arith)
+      head-next (suc g) h l e =
+          let f = falls (suc g) (omega arith) l in
+          settled-at g (suc g) h ∙ rw e (enough g (owner t (suc g)) (owner t (suc g)) (omega arith) (omega arith) (omega arith))
 
   -- ---- downward
 
@@ -121,11 +139,11 @@ module _ (s : List ℕ) (t : List ℤ) (n : ℕ) where
   down-none [] = refl
   down-none (w ∷ ws) = down-none ws
 
-  pub down-stop : (m : ℕ) (w : List ℕ) (ws : List (List ℕ)) → (kind t m ≡ 1 → ⊥) → descended s t n m (w ∷ ws) ≡ 0
-  down-stop m w ws f = rw (ne-eqb (kind t m) 1 f) (down-none ws)
+  pub down-stop : (m : ℕ) (w : List ℕ) (ws : List (List ℕ)) → (kind t m ≡ groupCode → ⊥) → descended s t n m (w ∷ ws) ≡ 0
+  down-stop m w ws f = rw (ne-eqb (kind t m) groupCode f) (down-none ws)
 
-  pub down-on : (m : ℕ) (w : List ℕ) (ws : List (List ℕ)) → kind t m ≡ 1 → descended s t n m (w ∷ ws) ≡ descended s t n (member s t n m w) ws
-  down-on m w ws e = rw (eq-eqb (kind t m) 1 e)
+  pub down-on : (m : ℕ) (w : List ℕ) (ws : List (List ℕ)) → kind t m ≡ groupCode → descended s t n m (w ∷ ws) ≡ descended s t n (member s t n m w) ws
+  down-on m w ws e = rw (eq-eqb (kind t m) groupCode e)
 
   -- ---- one name more of a path, whose names so far end at `at`
 
@@ -136,10 +154,10 @@ module _ (s : List ℕ) (t : List ℤ) (n : ℕ) where
     later-is : later s at to ≡ slice (at + 1) e s ∷ later s e to
     later-is = rw (lt-ltb at to more) (names-cut s (at + 1) to (omega arith) inside)
 
-    pub later-stop : (kind t m ≡ 1 → ⊥) → descended s t n m (later s at to) ≡ 0
+    pub later-stop : (kind t m ≡ groupCode → ⊥) → descended s t n m (later s at to) ≡ 0
     later-stop f = rw later-is (down-stop m (slice (at + 1) e s) (later s e to) f)
 
-    pub later-on : kind t m ≡ 1 → descended s t n (member s t n m (slice (at + 1) e s)) (later s e to) ≡ descended s t n m (later s at to)
+    pub later-on : kind t m ≡ groupCode → descended s t n (member s t n m (slice (at + 1) e s)) (later s e to) ≡ descended s t n m (later s at to)
     later-on k = rw later-is (sym (down-on m (slice (at + 1) e s) (later s e to) k))
 
   pub later-end : (m at to : ℕ) → to ≤ at → descended s t n m (later s at to) ≡ m
@@ -161,66 +179,36 @@ module _ (s : List ℕ) (t : List ℤ) (n : ℕ) where
     pub target-is : (head : ℕ) → hasPath t label ≡ true → descended s t n head (drop 1 (cut 46 (slice from to s))) ≡ targetBy s t n label head
     target-is head e = rw (e, name-is)
 
-  -- row 12: the member found first is the label itself exactly if no smaller one has the name
-  module _ (l : ℕ) (d : isDefinition t l ≡ true) (low : 1 ≤ l) (high : l ≤ n) where
+  -- row 12, by the last label before it that has the name in its Group
+  module _ (l : ℕ) (d : isDefinition t l ≡ true) where
     abbrev named : ℕ → Bool
     named = isNamed s t (owner t l) (nameOf s t l)
 
-    itself : named l ≡ true
-    itself = rw (d, eq-eqb (owner t l) (owner t l) refl) (same-self (nameOf s t l))
-
-    split : member s t n (owner t l) (nameOf s t l) ≡ orIfZero (firstLabel named 1 (l - 1)) l
-    unfolding member
-    split =
-        let a : n ≡ l - 1 + (n + 1 - l) = omega arith in
-        let c : 1 + (l - 1) ≡ l = omega arith in
-        ap (firstLabel named 1) a ∙ first-split named (l - 1) (n + 1 - l) 1 (omega arith)
-        ∙ ap (λ (x : ℕ). orIfZero (firstLabel named 1 (l - 1)) (firstLabel named x (n + 1 - l))) c
-        ∙ ap (orIfZero (firstLabel named 1 (l - 1))) (first-hit named l (n + 1 - l) (omega arith) itself)
-
-    smaller : firstLabel named 1 (l - 1) < l
-    smaller = omega (arith, first-high named (l - 1) 1 (omega arith))
-
-    pub duplicate-none : member s t n (owner t l) (nameOf s t l) ≡ l → 0 ≡ duplicateBad s t l
+    duplicate-is : duplicateBad s t l ≡ cond (not (eqb (lastBelow named l) 0)) duplicateRow 0
     unfolding duplicateBad
-    duplicate-none e = go (firstLabel named 1 (l - 1)) refl
-      where
-        go : (x : ℕ) → firstLabel named 1 (l - 1) ≡ x → _≡_ {A = ℕ} 0 (cond (isDefinition t l && not (eqb (firstLabel named 1 (l - 1)) 0)) 12 0)
-        go zero q = rw (q, d)
-        go (suc x) q = absurd (omega (arith, smaller, sym e ∙ split ∙ ap (λ (y : ℕ). orIfZero y l) q))
+    duplicate-is = rw (d, last-empty named l)
 
-    pub duplicate-some : (member s t n (owner t l) (nameOf s t l) ≡ l → ⊥) → 12 ≡ duplicateBad s t l
-    unfolding duplicateBad
-    duplicate-some f = go (firstLabel named 1 (l - 1)) refl
-      where
-        go : (x : ℕ) → firstLabel named 1 (l - 1) ≡ x → _≡_ {A = ℕ} 12 (cond (isDefinition t l && not (eqb (firstLabel named 1 (l - 1)) 0)) 12 0)
-        go zero q = absurd (f (split ∙ ap (λ (y : ℕ). orIfZero y l) q))
-        go (suc x) q = rw (q, d, ne-eqb (suc x) 0 (λ z. omega arith))
+    pub duplicate-none : {x : ℕ} → x ≡ lastBelow named l → x ≡ 0 → 0 ≡ duplicateBad s t l
+    duplicate-none {x} e z = sym (duplicate-is ∙ rw (← e, z))
 
-  pub duplicate-root : (l : ℕ) → l ≡ 1 → 0 ≡ duplicateBad s t l
-  unfolding duplicateBad
-  duplicate-root l e = rw e (sym (cond-same (isDefinition t 1)))
-    where
-      cond-same : (x : Bool) → _≡_ {A = ℕ} (cond (x && false) 12 0) 0
-      cond-same true = refl
-      cond-same false = refl
+    pub duplicate-some : {x : ℕ} → x ≡ lastBelow named l → (x ≡ 0 → ⊥) → 12 ≡ duplicateBad s t l
+    duplicate-some {x} e z = sym (duplicate-is ∙ rw (← e, ne-eqb x 0 z))
 
   pub duplicate-other : (l : ℕ) → isDefinition t l ≡ false → 0 ≡ duplicateBad s t l
   unfolding duplicateBad
   duplicate-other l e = rw e
 
 -- row 15
-module _ (t : List ℤ) (x k found : ℕ) (p : k ≡ kind t x) (q : found ≡ kind t (target t x)) where
-  pub read-wrong : k ≡ 6 → (found ≡ 2 → ⊥) → 15 ≡ wrongTarget t x
-  read-wrong e f = rw (← p, ← q, e, ne-eqb found 2 f)
+module _ (t : List ℤ) (x k found wants : ℕ) (p : k ≡ kind t x) (q : found ≡ kind t (target t x)) (r : wants ≡ wantedBy k) where
+  pub target-wrong : kinds.hasPath k ≡ true → (found ≡ wants → ⊥) → 15 ≡ wrongTarget t x
+  target-wrong h f = rw (← p, ← q, ← r, h, ne-eqb found wants f)
 
-  pub call-wrong : k ≡ 7 → (found ≡ 3 → ⊥) → 15 ≡ wrongTarget t x
-  call-wrong e f = rw (← p, ← q, e, ne-eqb found 3 f)
-
-  pub target-right : (k ≡ 6 → found ≡ 2) → (k ≡ 7 → found ≡ 3) → 0 ≡ wrongTarget t x
-  target-right f g = rw (← p, ← q) (go (eqb k 6) (eqb k 7) refl refl)
+  pub target-right : found ≡ wants → 0 ≡ wrongTarget t x
+  target-right e = rw (← p, ← q, ← r, eq-eqb found wants e) (go (kinds.hasPath k))
     where
-      go : (u v : Bool) → eqb k 6 ≡ u → eqb k 7 ≡ v → _≡_ {A = ℕ} 0 (cond ((u || v) && not (eqb found (cond u 2 3))) 15 0)
-      go true v a c = rw (eq-eqb found 2 (f (eqb-true k 6 a)))
-      go false true a c = rw (eq-eqb found 3 (g (eqb-true k 7 c)))
-      go false false a c = refl
+      go : (b : Bool) → _≡_ {A = ℕ} 0 (cond (b && false) 15 0)
+      go true = refl
+      go false = refl
+
+pub target-none : (t : List ℤ) (x : ℕ) → hasPath t x ≡ false → 0 ≡ wrongTarget t x
+target-none t x h = rw h

@@ -1,40 +1,21 @@
--- How the code finds a member fast: definitions chained by a hash of their Group and name. Nothing of this is in a public contract.
+-- How the code finds a member fast: each Group has buckets of its own, and the hash of a member's name says in which of them it stands. A
+-- search of a Group meets members of that Group and no others. Nothing of this is in a public contract.
 use mathlib.Core.Path.{_≡_}
 use mathlib.Core.Bool.{Bool, true, cond, not, _&&_}
 use mathlib.Core.List.{List, [], _∷_}
-use Prim.Native.Nat.{ℕ, zero, suc, _+_, _*_, _%_, _-_, _≤_, _<_}
-use lib.Dec.{eqb, ltb}
+use Prim.Native.Nat.{ℕ, zero, suc, _+_, _*_, _/_, _%_, _-_, _≤_, _<_}
+use lib.Dec.{eqb}
 use lib.IntN.{ℤ, pos}
-use lib.ListN.{length, getD}
+use lib.ListN.{length, getD, set}
 use Rattle.cells.specs.Cells.{intAt}
-use Rattle.cells.specs.Lists.{orIfZero}
-use Rattle.cells.specs.Table.{kind, nameStart, nameLength, owner}
-use Rattle.order.specs.Order.{isDefinition}
-use Rattle.paths.specs.Names.{nameOf, firstLabel, member}
+use Rattle.cells.specs.Table.{kind, nameStart, nameLength, owner, isDefinition}
+use Rattle.order.specs.Order.{}
+use Rattle.paths.specs.Names.{nameOf, sameName}
+use Rattle.paths.specs.Leads.{NamesApart}
 
 -- a byte of a name, in a path: no dot
 abbrev pub notDot : ℕ → Bool
 notDot x = not (eqb x 46)
-
--- the hash of a name's bytes, after bytes of hash h
-abbrev pub hashFrom : ℕ → List ℕ → ℕ
-hashFrom h [] = h
-hashFrom h (x ∷ xs) = hashFrom ((h * 31 + x) % 4294967296) xs
-
-unfoldable pub hashOf : List ℕ → ℕ
-hashOf w = hashFrom 0 w
-
--- of 1,024 buckets
-abbrev pub bucketOf : ℕ → ℕ → ℕ
-bucketOf hash group = (hash + group * 61) % 1024
-
--- the bucket of definition l
-abbrev pub bucketAt : List ℕ → List ℤ → ℕ → ℕ
-bucketAt s t l = bucketOf (hashOf (nameOf s t l)) (owner t l)
-
--- definition l is chained in bucket b
-abbrev pub inBucket : List ℕ → List ℤ → ℕ → ℕ → Bool
-inBucket s t b l = isDefinition t l && eqb (bucketAt s t l) b
 
 -- the name field of label l lies in the text
 abbrev pub Placed : List ℕ → List ℤ → ℕ → Type 0
@@ -50,17 +31,120 @@ pub record Rows (s : List ℕ) (t : List ℤ) (n : ℕ) : Type 0 where
   pub beyond : (l : ℕ) → n < l → kind t l ≡ 0
   pub rooted : (l : ℕ) → isDefinition t l ≡ true → owner t l ≡ 0 → l ≡ 1
 
--- the labels from k on are chained: the first of each bucket, and behind each definition the next of its bucket
-pub record LinkedFrom (s : List ℕ) (t : List ℤ) (n k : ℕ) (first next : List ℕ) : Type 0 where
-  pub heads : (b : ℕ) → b < 1024 → getD first b 0 ≡ firstLabel (inBucket s t b) k (n + 1 - k)
-  pub nexts : (l : ℕ) → k ≤ l → l ≤ n → isDefinition t l ≡ true → getD next l 0 ≡ firstLabel (inBucket s t (bucketAt s t l)) (l + 1) (n - l)
+-- ---- the hash of a name, by what names are compared by
 
-pub record Linked (s : List ℕ) (t : List ℤ) (n : ℕ) (first next : List ℕ) : Type 0 where
-  pub buckets : length first ≡ 1024
+-- a byte of a name as `sameName` compares it
+unfoldable pub comparedByte : ℕ → ℕ
+comparedByte x = x
+
+abbrev pub compared : List ℕ → List ℕ
+compared [] = []
+compared (x ∷ w) = comparedByte x ∷ compared w
+
+-- a hash is below this
+abbrev pub hashes : ℕ
+hashes = 4294967296
+
+-- the hash of bytes, after bytes of hash h
+abbrev pub hashFrom : ℕ → List ℕ → ℕ
+hashFrom h [] = h
+hashFrom h (x ∷ w) = hashFrom ((h + x) * 2654435769 % hashes) w
+
+unfoldable pub hashOf : List ℕ → ℕ
+hashOf w = hashFrom 0 (compared w)
+
+-- ---- the buckets of each Group
+
+-- the first bucket of Group g
+abbrev pub startOf : List ℕ → ℕ → ℕ
+startOf starts g = getD starts g 0
+
+-- Group g has the buckets from its start up to the start of Group g + 1
+pub record Stretch (starts : List ℕ) (g : ℕ) : Type 0 where
+  pub long : g + 1 < length starts
+  pub order : startOf starts g ≤ startOf starts (g + 1)
+  pub few : startOf starts (g + 1) ≤ 2048
+
+-- the Groups 0 to n have buckets of their own, 2 * n in all at most; a Group that has a member has some
+pub record Allotted (t : List ℤ) (n : ℕ) (starts : List ℕ) : Type 0 where
+  pub long : n + 1 < length starts
+  pub rising : (g h : ℕ) → g ≤ h → h ≤ n + 1 → startOf starts g ≤ startOf starts h
+  pub few : startOf starts (n + 1) ≤ 2 * n
+  pub some : (l : ℕ) → 1 ≤ l → l ≤ n → isDefinition t l ≡ true → startOf starts (owner t l) < startOf starts (owner t l + 1)
+
+-- how they are allotted: each definition counts for two, at the place behind that of its Group; then counts are added up
+abbrev pub countedAt : List ℤ → ℕ → List ℕ → List ℕ
+countedAt t l c = cond (isDefinition t l) (set c (owner t l + 1) (getD c (owner t l + 1) 0 + 2)) c
+
+abbrev pub sumTo : List ℕ → ℕ → ℕ
+sumTo c zero = getD c 0 0
+sumTo c (suc g) = sumTo c g + getD c (suc g) 0
+
+-- the definitions below label k are counted
+pub record Counted (t : List ℤ) (n k : ℕ) (c : List ℕ) : Type 0 where
+  pub long : n + 1 < length c
+  pub total : sumTo c (n + 1) + 2 ≤ 2 * k
+  pub some : (l : ℕ) → 1 ≤ l → l < k → isDefinition t l ≡ true → 1 ≤ getD c (owner t l + 1) 0
+
+-- ---- the bucket of a name
+
+abbrev pub bucketOf : List ℕ → ℕ → ℕ → ℕ
+bucketOf starts g hash = startOf starts g + hash * (startOf starts (g + 1) - startOf starts g) / hashes
+
+-- that of definition l
+abbrev pub bucketAt : List ℕ → List ℤ → List ℕ → ℕ → ℕ
+bucketAt s t starts l = bucketOf starts (owner t l) (hashOf (nameOf s t l))
+
+abbrev pub inBucket : List ℕ → List ℤ → List ℕ → ℕ → ℕ → Bool
+inBucket s t starts b l = isDefinition t l && eqb (bucketAt s t starts l) b
+
+-- ---- the chain of a bucket: its definitions, larger labels first
+
+-- the last label below k that passes the test; 0 where none does
+abbrev pub lastBelow : (ℕ → Bool) → ℕ → ℕ
+lastBelow test zero = 0
+lastBelow test (suc k) = cond (test k) k (lastBelow test k)
+
+-- the definitions below label k are linked: `first` has the last of each bucket, `next` behind each definition the last before it
+pub record LinkedBelow (s : List ℕ) (t : List ℤ) (n k : ℕ) (starts first next : List ℕ) : Type 0 where
+  pub allotted : Allotted t n starts
+  pub buckets : 2 * n ≤ length first
   pub room : n < length next
-  pub chains : LinkedFrom s t n 1 first next
+  pub most : k ≤ n + 1
+  pub heads : (b : ℕ) → getD first b 0 ≡ lastBelow (inBucket s t starts b) k
+  pub nexts : (l : ℕ) → 1 ≤ l → l < k → isDefinition t l ≡ true → getD next l 0 ≡ lastBelow (inBucket s t starts (bucketAt s t starts l)) l
+  pub falls : (l : ℕ) → 1 ≤ l → getD next l 0 < l
 
--- the first member named w, from Group g outward, above `stop`, through at most k Groups
-abbrev pub outward : List ℕ → List ℤ → ℕ → List ℕ → ℕ → ℕ → ℕ → ℕ
-outward s t n w stop zero g = 0
-outward s t n w stop (suc k) g = cond (ltb stop g) (orIfZero (member s t n g w) (outward s t n w stop k (owner t g))) 0
+-- all definitions are linked, and row 12 finds nothing
+pub record Linked (s : List ℕ) (t : List ℤ) (n : ℕ) (starts first next : List ℕ) : Type 0 where
+  pub all : LinkedBelow s t n (n + 1) starts first next
+  pub apart : NamesApart s t n
+
+-- scratch before any of it: zeros, long enough for n labels
+pub record Fresh (n : ℕ) (starts first next : List ℕ) : Type 0 where
+  pub long : n + 1 < length starts
+  pub buckets : 2 * n ≤ length first
+  pub room : n < length next
+  pub clear : (i : ℕ) → (getD starts i 0 ≡ 0) × (getD first i 0 ≡ 0) × (getD next i 0 ≡ 0)
+
+-- ---- a lookup in a Group: along the chain of the name's bucket there
+
+-- where the chain begins; 0 where the Group has no bucket
+abbrev pub firstIn : List ℕ → List ℕ → ℕ → ℕ → ℕ
+firstIn starts first g hash = cond (eqb (startOf starts g) (startOf starts (g + 1))) 0 (getD first (bucketOf starts g hash) 0)
+
+-- the chains of Group g lie in the arrays, and fall
+pub record Walkable (starts first next : List ℕ) (g : ℕ) : Type 0 where
+  pub stretch : Stretch starts g
+  pub buckets : startOf starts (g + 1) ≤ length first
+  pub heads : (b : ℕ) → getD first b 0 < length next
+  pub falls : (l : ℕ) → 1 ≤ l → getD next l 0 < l
+
+-- the first of a chain, from x on, with the name w; 0 where none has it. At most f labels are looked at: x are enough, as chains fall
+abbrev pub walkBy : List ℕ → List ℤ → List ℕ → List ℕ → ℕ → ℕ → ℕ
+walkBy s t next w zero x = 0
+walkBy s t next w (suc f) zero = 0
+walkBy s t next w (suc f) (suc x) = cond (sameName (nameOf s t (suc x)) w) (suc x) (walkBy s t next w f (getD next (suc x) 0))
+
+abbrev pub walk : List ℕ → List ℤ → List ℕ → List ℕ → ℕ → ℕ
+walk s t next w x = walkBy s t next w x x

@@ -5,8 +5,9 @@ use mathlib.Core.List.{List, [], _∷_}
 use Prim.Native.Nat.{ℕ, _≤_, _<_}
 use lib.IntN.{ℤ}
 use lib.ListN.{drop}
-use Rattle.cells.specs.Table.{kind, owner}
-use Rattle.order.specs.Order.{isDefinition, hasPath}
+use Rattle.kinds.specs.Kinds.{groupCode}
+use Rattle.cells.specs.Table.{kind, owner, isDefinition, hasPath}
+use Rattle.order.specs.Order.{}
 use Rattle.text.specs.Pieces.{firstOf}
 use Rattle.paths.specs.Names.{nameOf, sameName}
 use Rattle.paths.specs.Paths.{namesOf, wanted}
@@ -30,7 +31,7 @@ pub data Heads (s : List ℕ) (t : List ℤ) (n : ℕ) (w : List ℕ) : ℕ → 
 -- later names end at definition e
 pub data Descends (s : List ℕ) (t : List ℤ) (n : ℕ) : ℕ → List (List ℕ) → ℕ → Type 0 where
   ended : {m : ℕ} → Descends s t n m [] m
-  inward : {m x e : ℕ} {w : List ℕ} {ws : List (List ℕ)} → kind t m ≡ 1 → IsMember s t n m w x → Descends s t n x ws e → Descends s t n m (w ∷ ws) e
+  inward : {m x e : ℕ} {w : List ℕ} {ws : List (List ℕ)} → kind t m ≡ groupCode → IsMember s t n m w x → Descends s t n x ws e → Descends s t n m (w ∷ ws) e
 
 -- "The search starts in the Group whose member is the owner": the head of the path of line x is settled as h
 abbrev pub HeadSettles : List ℕ → List ℤ → ℕ → ℕ → ℕ → Type 0

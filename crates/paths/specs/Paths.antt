@@ -5,9 +5,10 @@ use Prim.Native.Nat.{ℕ, zero, suc, _-_}
 use lib.Dec.{eqb}
 use lib.IntN.{ℤ}
 use lib.ListN.{drop}
+use Rattle.kinds.specs.Kinds.{groupCode, wantedBy}
 use Rattle.cells.specs.Lists.{orIfZero}
-use Rattle.cells.specs.Table.{kind, owner, target}
-use Rattle.order.specs.Order.{isDefinition, hasPath}
+use Rattle.cells.specs.Table.{kind, owner, target, isDefinition, hasPath}
+use Rattle.order.specs.Order.{}
 use Rattle.refusals.specs.Rows.{duplicateRow, headRow, laterRow, targetRow}
 use Rattle.refusals.specs.Refusal.{firstBad, orElse}
 use Rattle.refusals.specs.declared.Verdict.{Verdict}
@@ -31,7 +32,7 @@ headFrom s t n w g = settled s t n w g g
 
 -- "Each later name must be a member of the Group found so far"; 0 where it is not, or the definition found is no Group
 abbrev pub below : List ℕ → List ℤ → ℕ → ℕ → List ℕ → ℕ
-below s t n m w = cond (eqb (kind t m) 1) (member s t n m w) 0
+below s t n m w = cond (eqb (kind t m) groupCode) (member s t n m w) 0
 
 abbrev pub descended : List ℕ → List ℤ → ℕ → ℕ → List (List ℕ) → ℕ
 descended s t n m [] = m
@@ -50,7 +51,7 @@ targetOf s t n x = descended s t n (headOf s t n x) (drop 1 (namesOf s t x))
 
 -- "R needs a V, C needs an F"
 abbrev pub wanted : ℕ → ℕ
-wanted k = cond (eqb k 6) 2 3
+wanted k = wantedBy k
 
 -- rows 13 to 15
 unfoldable pub pathHeadBad : List ℕ → List ℤ → ℕ → ℕ → ℕ

@@ -1,5 +1,5 @@
 // Names and paths: rows 12 to 15 of document 01's table of refusals, and the target of each R and C.
-// A lookup walks the definitions of one bucket, those whose Group and name have one hash, and not the table.
+// Each Group has buckets of its own: a lookup in a Group walks those of its members whose name has the bucket of the name looked for.
 
 ghost use mathlib.Core.Path.{_≡_};
 ghost use mathlib.Core.Bool.{true, cond, _&&_};
@@ -8,15 +8,22 @@ ghost use lib.Dec.{eqb};
 ghost use lib.IntN.{pos};
 ghost use lib.ListN.{length, getD, set, drop};
 ghost use lib.Seq.{slice};
-ghost use Rattle.cells.specs.Table.{owner, target, withColumn};
-ghost use Rattle.order.specs.Order.{isDefinition, hasPath};
+ghost use Rattle.cells.specs.Table.{owner, target, withColumn, isDefinition, hasPath};
+ghost use Rattle.order.specs.Order.{};
 ghost use Rattle.refusals.specs.Refusal.{firstBad};
 ghost use Rattle.text.specs.Pieces.{cut};
 ghost use Rattle.text.specs.Scans.{runEnd};
-ghost use Rattle.paths.specs.Names.{sameName, isNamed};
-ghost use Rattle.paths.specs.Buckets.{notDot, hashOf, bucketOf, bucketAt, Placed, Rows, Linked, LinkedFrom, outward};
-ghost use Rattle.paths.specs.Paths.{descended, headCell, targetBy, targetCell, duplicateBad, pathHeadBad, laterBad, wrongTarget, laterRows, headRows, pathsBad};
+ghost use Rattle.paths.specs.Names.{nameOf, sameName, isNamed};
+ghost use Rattle.paths.specs.Buckets.{notDot, Placed, Rows, comparedByte, hashOf, hashes};
+ghost use Rattle.paths.specs.Buckets.{startOf, Stretch, Allotted, countedAt, sumTo, Counted, bucketOf};
+ghost use Rattle.paths.specs.Buckets.{lastBelow, LinkedBelow, Linked, Fresh, firstIn, Walkable, walk};
+ghost use Rattle.paths.specs.Paths.{headFrom, descended, headCell, targetBy, targetCell, duplicateBad, pathHeadBad, laterBad, wrongTarget, laterRows, headRows, pathsBad};
 use refusals::Verdict;
+
+// A hash is below 2^32. The factor, odd and near 2^32 divided by the golden ratio, spreads names that differ in one byte over its high bits.
+const HASHES: usize = 4294967296;
+
+const FACTOR: usize = 2654435769;
 
 // ---- names
 
@@ -35,7 +42,14 @@ fn name_stop(text: &[u8], from: usize, to: usize) -> usize
     i
 }
 
-// A hash of the bytes of a name.
+// A byte of a name, as names are compared.
+fn compared_byte(byte: u8) -> usize
+    ensures { λ r. ⌜ (r ≡ comparedByte byte) × (r < 256) ⌝ }
+{
+    byte as usize
+}
+
+// A hash of a name, by its bytes as names are compared.
 fn hash_name(text: &[u8], from: usize, to: usize) -> usize
     requires { ⌜ (from ≤ to) × (to ≤ length (now text)) ⌝ }
     ensures { λ r. ⌜ r ≡ hashOf (slice from to (now (text .entry))) ⌝ }
@@ -43,7 +57,7 @@ fn hash_name(text: &[u8], from: usize, to: usize) -> usize
     let mut hash: usize = 0;
     let mut i = from;
     while i < to {
-        hash = (hash * 31 + (text[i] as usize)) % 4294967296;
+        hash = (hash + compared_byte(text[i])) * FACTOR % HASHES;
         i += 1;
     }
     hash
@@ -56,7 +70,7 @@ fn same_name(text: &[u8], a: usize, b: usize, size: usize) -> bool
 {
     let mut i: usize = 0;
     while i < size {
-        if text[a + i] != text[b + i] {
+        if compared_byte(text[a + i]) != compared_byte(text[b + i]) {
             return false;
         }
         i += 1;
@@ -64,113 +78,230 @@ fn same_name(text: &[u8], a: usize, b: usize, size: usize) -> bool
     true
 }
 
-// Whether the line is a G, V or F.
-fn is_definition(table: &[i64], label: usize) -> bool
-    ensures { λ r. ⌜ r ≡ isDefinition (now (table .entry)) label ⌝ }
+// Whether definition m has the name text[from..to].
+fn has_name(text: &[u8], table: &[i64], m: usize, from: usize, to: usize) -> bool
+    requires { ⌜ (from ≤ to) × (to ≤ length (now text)) × Placed (now text) (now table) m ⌝ }
+    ensures { λ r. ⌜ r ≡ sameName (nameOf (now (text .entry)) (now (table .entry)) m) (slice from to (now (text .entry))) ⌝ }
 {
-    let kind = cells::cell_at(table, label, cells::KIND);
-    if kind == 0 {
-        return false;
-    }
-    kind <= cells::FUNCTION
-}
-
-// Whether definition m is a member of the Group with the name text[from..to].
-fn is_named(text: &[u8], table: &[i64], m: usize, group: usize, from: usize, to: usize) -> bool
-    requires { ⌜ (from ≤ to) × (to ≤ length (now text)) × Placed (now text) (now table) m × (isDefinition (now table) m ≡ true) ⌝ }
-    ensures { λ r. ⌜ r ≡ isNamed (now (text .entry)) (now (table .entry)) group (slice from to (now (text .entry))) m ⌝ }
-{
-    if cells::cell_at(table, m, cells::OWNER) != group {
-        return false;
-    }
     let size = cells::cell_at(table, m, cells::NAME_LENGTH);
     if size != to - from {
         return false;
     }
-    let start = cells::cell_at(table, m, cells::NAME_START);
-    // the very same bytes, as in row 12 where no other member is met
-    if start == from {
-        return true;
-    }
-    same_name(text, start, from, size)
+    same_name(
+        text,
+        cells::cell_at(table, m, cells::NAME_START),
+        from,
+        size,
+    )
+}
+
+// Whether the line is a definition.
+fn is_definition(table: &[i64], label: usize) -> bool
+    ensures { λ r. ⌜ r ≡ isDefinition (now (table .entry)) label ⌝ }
+{
+    kinds::is_definition(cells::cell_at(table, label, cells::KIND))
 }
 
 // ---- buckets
 
-// The bucket of a Group and a name's hash.
-fn bucket(hash: usize, group: usize) -> usize
-    requires { ⌜ (hash < 4294967296) × (group ≤ 1024) ⌝ }
-    ensures { λ r. ⌜ r ≡ bucketOf hash group ⌝ }
+// The bucket of a name's hash in a Group: the Group's buckets are those from starts[group] up to starts[group + 1].
+fn bucket(starts: &[u16], group: usize, hash: usize) -> usize
+    requires { ⌜ Stretch (now starts) group × (hash < hashes) ⌝ }
+    ensures { λ r. ⌜ r ≡ bucketOf (now (starts .entry)) group hash ⌝ }
 {
-    (hash + group * 61) % 1024
+    let start = starts[group] as usize;
+    let size = (starts[group + 1] as usize) - start;
+    start + hash * size / HASHES
 }
 
-// The bucket of a definition.
-fn bucket_at(text: &[u8], table: &[i64], label: usize) -> usize
-    requires { ⌜ Placed (now text) (now table) label × (owner (now table) label ≤ 1024) ⌝ }
-    ensures { λ r. ⌜ r ≡ bucketAt (now (text .entry)) (now (table .entry)) label ⌝ }
+// The first member in the bucket of a name's hash in a Group; 0 where there is none.
+fn first_in(starts: &[u16], first: &[u16], group: usize, hash: usize) -> usize
+    requires { ⌜ Stretch (now starts) group × (hash < hashes) × (startOf (now starts) (group + 1) ≤ length (now first)) ⌝ }
+    ensures { λ r. ⌜ r ≡ firstIn (now (starts .entry)) (now (first .entry)) group hash ⌝ }
 {
-    let start = cells::cell_at(table, label, cells::NAME_START);
-    let hash = hash_name(
-        text,
-        start,
-        start + cells::cell_at(table, label, cells::NAME_LENGTH),
-    );
-    bucket(hash, cells::cell_at(table, label, cells::OWNER))
+    if starts[group] == starts[group + 1] {
+        return 0;
+    }
+    first[bucket(starts, group, hash)] as usize
 }
 
-// A label goes to the front of its bucket's chain, if it is a definition.
-fn link_label(text: &[u8], table: &[i64], label: usize, first: &mut [u16], next: &mut [u16])
-    requires { ⌜ Placed (now text) (now table) label × (owner (now table) label ≤ 1024) × (1 ≤ label) × (label ≤ 1024) ⌝ }
-    requires { ⌜ (length (now first) ≡ 1024) × (label < length (now next)) ⌝ }
-    ensures { λ _. ⌜ now (first .exit) ≡ cond (isDefinition (now (table .entry)) label) (set (now (first .entry)) (bucketAt (now (text .entry)) (now (table .entry)) label) label) (now (first .entry)) ⌝ }
-    ensures { λ _. ⌜ now (next .exit) ≡ cond (isDefinition (now (table .entry)) label) (set (now (next .entry)) label (getD (now (first .entry)) (bucketAt (now (text .entry)) (now (table .entry)) label) 0)) (now (next .entry)) ⌝ }
+// A definition counts for two buckets of its Group.
+fn count_label(table: &[i64], label: usize, starts: &mut [u16])
+    requires { ⌜ (owner (now table) label + 1 < length (now starts)) × (getD (now starts) (owner (now table) label + 1) 0 ≤ 2048) ⌝ }
+    ensures { λ _. ⌜ now (starts .exit) ≡ countedAt (now (table .entry)) label (now (starts .entry)) ⌝ }
 {
     if is_definition(table, label) {
-        let b = bucket_at(text, table, label);
-        next[label] = first[b];
-        first[b] = label as u16;
+        let group = cells::cell_at(table, label, cells::OWNER);
+        starts[group + 1] += 2;
     }
 }
 
-// Every definition is chained in its bucket, smaller labels first.
-fn link(text: &[u8], table: &[i64], n: usize, first: &mut [u16], next: &mut [u16])
-    requires { ⌜ Rows (now text) (now table) n × (length (now first) ≡ 1024) × (n < length (now next)) ⌝ }
-    requires { ⌜ LinkedFrom (now text) (now table) n (n + 1) (now first) (now next) ⌝ }
-    ensures { λ _. ⌜ Linked (now (text .entry)) (now (table .entry)) n (now (first .exit)) (now (next .exit)) ⌝ }
+// Each Group's buckets are counted, at the place behind its own.
+fn count_buckets(table: &[i64], n: usize, starts: &mut [u16])
+    requires { ⌜ (n ≤ 1024) × ((l : ℕ) → 1 ≤ l → l ≤ n → owner (now table) l < l) × Counted (now table) n 1 (now starts) ⌝ }
+    ensures { λ _. ⌜ Counted (now (table .entry)) n (n + 1) (now (starts .exit)) ⌝ }
 {
-    let mut label = n;
-    while 0 < label {
-        link_label(text, table, label, first, next);
-        label -= 1;
+    let mut label: usize = 1;
+    while label <= n {
+        count_label(table, label, starts);
+        label += 1;
     }
+}
+
+// Counts become starts: each is the sum of those up to it.
+fn add_up(n: usize, starts: &mut [u16])
+    requires { ⌜ (n + 1 < length (now starts)) × (sumTo (now starts) (n + 1) ≤ 2048) ⌝ }
+    ensures { λ _. ⌜ ((g : ℕ) → g ≤ n + 1 → getD (now (starts .exit)) g 0 ≡ sumTo (now (starts .entry)) g) ⌝ }
+{
+    let mut group: usize = 0;
+    while group <= n {
+        starts[group + 1] += starts[group];
+        group += 1;
+    }
+}
+
+// Each Group gets two buckets for each of its members.
+fn allot(table: &[i64], n: usize, starts: &mut [u16])
+    requires { ⌜ (n ≤ 1024) × ((l : ℕ) → 1 ≤ l → l ≤ n → owner (now table) l < l) × Counted (now table) n 1 (now starts) ⌝ }
+    ensures { λ _. ⌜ Allotted (now (table .entry)) n (now (starts .exit)) ⌝ }
+{
+    count_buckets(table, n, starts);
+    add_up(n, starts);
 }
 
 // ---- lookups
 
-// The member with the name text[from..to] of the first Group that has one, from `group` outward, above `stop`; 0 where none has.
+// The member of a Group with the name text[from..to], whose hash is handed in; 0 where none is linked.
+fn member_in(
+    text: &[u8],
+    table: &[i64],
+    starts: &[u16],
+    first: &[u16],
+    next: &[u16],
+    group: usize,
+    hash: usize,
+    from: usize,
+    to: usize,
+) -> usize
+    requires { ⌜ Walkable (now starts) (now first) (now next) group × (hash < hashes) ⌝ }
+    requires { ⌜ (from ≤ to) × (to ≤ length (now text)) × ((l : ℕ) → Placed (now text) (now table) l) ⌝ }
+    ensures { λ r. ⌜ r ≡ walk (now (text .entry)) (now (table .entry)) (now (next .entry)) (slice from to (now (text .entry))) (firstIn (now (starts .entry)) (now (first .entry)) group hash) ⌝ }
+{
+    let mut m = first_in(starts, first, group, hash);
+    while m != 0 {
+        if has_name(text, table, m, from, to) {
+            return m;
+        }
+        m = next[m] as usize;
+    }
+    0
+}
+
+// A label goes to the front of the bucket's chain.
+fn push(first: &mut [u16], next: &mut [u16], b: usize, label: usize)
+    requires { ⌜ (b < length (now first)) × (label < length (now next)) × (label ≤ 1024) ⌝ }
+    ensures { λ _. ⌜ now (first .exit) ≡ set (now (first .entry)) b label ⌝ }
+    ensures { λ _. ⌜ now (next .exit) ≡ set (now (next .entry)) label (getD (now (first .entry)) b 0) ⌝ }
+{
+    next[label] = first[b];
+    first[b] = label as u16;
+}
+
+// Links a definition. Answers the last one before it with its name in its Group; 0 where there is none.
+fn link_definition(
+    text: &[u8],
+    table: &[i64],
+    n: usize,
+    starts: &[u16],
+    first: &mut [u16],
+    next: &mut [u16],
+    label: usize,
+) -> usize
+    requires { ⌜ Rows (now text) (now table) n × LinkedBelow (now text) (now table) n label (now starts) (now first) (now next) ⌝ }
+    requires { ⌜ (1 ≤ label) × (label ≤ n) × (isDefinition (now table) label ≡ true) ⌝ }
+    ensures { λ r. ⌜ r ≡ lastBelow (isNamed (now (text .entry)) (now (table .entry)) (owner (now (table .entry)) label) (nameOf (now (text .entry)) (now (table .entry)) label)) label ⌝ }
+    ensures { λ _. ⌜ LinkedBelow (now (text .entry)) (now (table .entry)) n (label + 1) (now (starts .entry)) (now (first .exit)) (now (next .exit)) ⌝ }
+{
+    let from = cells::cell_at(table, label, cells::NAME_START);
+    let to = from + cells::cell_at(table, label, cells::NAME_LENGTH);
+    let hash = hash_name(text, from, to);
+    let group = cells::cell_at(table, label, cells::OWNER);
+    let found = member_in(text, table, starts, first, next, group, hash, from, to);
+    push(first, next, bucket(starts, group, hash), label);
+    found
+}
+
+// Row 12 at one label. A definition is linked.
+fn link_label(
+    text: &[u8],
+    table: &[i64],
+    n: usize,
+    starts: &[u16],
+    first: &mut [u16],
+    next: &mut [u16],
+    label: usize,
+) -> u64
+    requires { ⌜ Rows (now text) (now table) n × LinkedBelow (now text) (now table) n label (now starts) (now first) (now next) ⌝ }
+    requires { ⌜ (1 ≤ label) × (label ≤ n) ⌝ }
+    ensures { λ r. ⌜ r ≡ duplicateBad (now (text .entry)) (now (table .entry)) label ⌝ }
+    ensures { λ _. ⌜ LinkedBelow (now (text .entry)) (now (table .entry)) n (label + 1) (now (starts .entry)) (now (first .exit)) (now (next .exit)) ⌝ }
+{
+    if is_definition(table, label) {
+        let found = link_definition(text, table, n, starts, first, next, label);
+        if found != 0 {
+            return refusals::DUPLICATE;
+        }
+    }
+    0
+}
+
+// Row 12. Every definition is linked where it finds nothing.
+fn link(
+    text: &[u8],
+    table: &[i64],
+    n: usize,
+    starts: &[u16],
+    first: &mut [u16],
+    next: &mut [u16],
+) -> Verdict
+    requires { ⌜ Rows (now text) (now table) n × LinkedBelow (now text) (now table) n 1 (now starts) (now first) (now next) ⌝ }
+    ensures { λ r. ⌜ r ≡ firstBad (duplicateBad (now (text .entry)) (now (table .entry))) 1 n ⌝ }
+    ensures { λ r. ⌜ (r ≡ Verdict.Fine → Linked (now (text .entry)) (now (table .entry)) n (now (starts .entry)) (now (first .exit)) (now (next .exit))) ⌝ }
+{
+    let mut label: usize = 1;
+    while label <= n {
+        let row = link_label(text, table, n, starts, first, next, label);
+        if row != 0 {
+            return Verdict::Refused(row, label as u64);
+        }
+        label += 1;
+    }
+    Verdict::Fine
+}
+
+// Where the head text[from..to] is settled: the member with that name of the first Group that has one, from `group` outward; 0 where none has.
 fn search(
     text: &[u8],
     table: &[i64],
     n: usize,
+    starts: &[u16],
     first: &[u16],
     next: &[u16],
     group: usize,
-    stop: usize,
     from: usize,
     to: usize,
 ) -> usize
-    requires { ⌜ Rows (now text) (now table) n × Linked (now text) (now table) n (now first) (now next) ⌝ }
+    requires { ⌜ Rows (now text) (now table) n × Linked (now text) (now table) n (now starts) (now first) (now next) ⌝ }
     requires { ⌜ (group ≤ n) × (from ≤ to) × (to ≤ length (now text)) ⌝ }
-    ensures { λ r. ⌜ r ≡ outward (now (text .entry)) (now (table .entry)) n (slice from to (now (text .entry))) stop group group ⌝ }
+    ensures { λ r. ⌜ r ≡ headFrom (now (text .entry)) (now (table .entry)) n (slice from to (now (text .entry))) group ⌝ }
 {
     let hash = hash_name(text, from, to);
     let mut g = group;
     let mut found: usize = 0;
-    'groups: while stop < g {
-        let mut m = first[bucket(hash, g)] as usize;
+    'groups: while 0 < g {
+        let mut m = first_in(starts, first, g, hash);
         while m != 0 {
-            if is_named(text, table, m, g, from, to) {
+            if has_name(text, table, m, from, to) {
                 found = m;
                 break 'groups;
             }
@@ -188,35 +319,27 @@ fn descend(
     text: &[u8],
     table: &[i64],
     n: usize,
+    starts: &[u16],
     first: &[u16],
     next: &[u16],
     head: usize,
     from: usize,
     to: usize,
 ) -> usize
-    requires { ⌜ Rows (now text) (now table) n × Linked (now text) (now table) n (now first) (now next) ⌝ }
+    requires { ⌜ Rows (now text) (now table) n × Linked (now text) (now table) n (now starts) (now first) (now next) ⌝ }
     requires { ⌜ (head ≤ n) × (from ≤ to) × (to ≤ length (now text)) ⌝ }
     ensures { λ r. ⌜ (r ≡ descended (now (text .entry)) (now (table .entry)) n head (drop 1 (cut 46 (slice from to (now (text .entry)))))) × (r ≤ n) ⌝ }
 {
     let mut m = head;
     let mut at = name_stop(text, from, to);
     while at < to {
-        if cells::cell_at(table, m, cells::KIND) != cells::GROUP {
+        if cells::cell_at(table, m, cells::KIND) != kinds::GROUP {
             return 0;
         }
         let start = at + 1;
         at = name_stop(text, start, to);
-        m = search(
-            text,
-            table,
-            n,
-            first,
-            next,
-            m,
-            cells::cell_at(table, m, cells::OWNER),
-            start,
-            at,
-        );
+        let hash = hash_name(text, start, at);
+        m = member_in(text, table, starts, first, next, m, hash, start, at);
     }
     m
 }
@@ -225,16 +348,20 @@ fn descend(
 fn has_path(table: &[i64], label: usize) -> bool
     ensures { λ r. ⌜ r ≡ hasPath (now (table .entry)) label ⌝ }
 {
-    let kind = cells::cell_at(table, label, cells::KIND);
-    if kind == cells::READ {
-        return true;
-    }
-    kind == cells::CALL
+    kinds::has_path(cells::cell_at(table, label, cells::KIND))
 }
 
 // Where the head of a line's path is settled; 0 where it is settled nowhere, and of a line that has no path.
-fn head_at(text: &[u8], table: &[i64], n: usize, first: &[u16], next: &[u16], label: usize) -> usize
-    requires { ⌜ Rows (now text) (now table) n × Linked (now text) (now table) n (now first) (now next) ⌝ }
+fn head_at(
+    text: &[u8],
+    table: &[i64],
+    n: usize,
+    starts: &[u16],
+    first: &[u16],
+    next: &[u16],
+    label: usize,
+) -> usize
+    requires { ⌜ Rows (now text) (now table) n × Linked (now text) (now table) n (now starts) (now first) (now next) ⌝ }
     requires { ⌜ (1 ≤ label) × (label ≤ n) ⌝ }
     ensures { λ r. ⌜ (r ≡ headCell (now (text .entry)) (now (table .entry)) n label) × (r ≤ n) ⌝ }
 {
@@ -250,7 +377,7 @@ fn head_at(text: &[u8], table: &[i64], n: usize, first: &[u16], next: &[u16], la
             cells::cell_at(table, label, cells::OWNER),
             cells::OWNER,
         );
-        return search(text, table, n, first, next, group, 0, from, to);
+        return search(text, table, n, starts, first, next, group, from, to);
     }
     0
 }
@@ -260,12 +387,13 @@ fn target_at(
     text: &[u8],
     table: &[i64],
     n: usize,
+    starts: &[u16],
     first: &[u16],
     next: &[u16],
     label: usize,
     head: usize,
 ) -> usize
-    requires { ⌜ Rows (now text) (now table) n × Linked (now text) (now table) n (now first) (now next) ⌝ }
+    requires { ⌜ Rows (now text) (now table) n × Linked (now text) (now table) n (now starts) (now first) (now next) ⌝ }
     requires { ⌜ (head ≤ n) ⌝ }
     ensures { λ r. ⌜ (r ≡ targetBy (now (text .entry)) (now (table .entry)) n label head) × (r ≤ n) ⌝ }
 {
@@ -275,6 +403,7 @@ fn target_at(
             text,
             table,
             n,
+            starts,
             first,
             next,
             head,
@@ -285,102 +414,38 @@ fn target_at(
     0
 }
 
-// Row 12 at one label.
-fn duplicate_at(
-    text: &[u8],
-    table: &[i64],
-    n: usize,
-    first: &[u16],
-    next: &[u16],
-    label: usize,
-) -> u64
-    requires { ⌜ Rows (now text) (now table) n × Linked (now text) (now table) n (now first) (now next) ⌝ }
-    requires { ⌜ (1 ≤ label) × (label ≤ n) ⌝ }
-    ensures { λ r. ⌜ r ≡ duplicateBad (now (text .entry)) (now (table .entry)) label ⌝ }
-{
-    if is_definition(table, label) {
-        let from = cells::cell_at(table, label, cells::NAME_START);
-        let group = cells::cell_at(table, label, cells::OWNER);
-        if group == 0 {
-            return 0;
-        }
-        let around = cells::cell_at(table, group, cells::OWNER);
-        let m = search(
-            text,
-            table,
-            n,
-            first,
-            next,
-            group,
-            around,
-            from,
-            from + cells::cell_at(table, label, cells::NAME_LENGTH),
-        );
-        if m != label {
-            return refusals::DUPLICATE;
-        }
-    }
-    0
-}
-
 // Row 15 at one label, whose target is in its cell.
 fn wrong_target_at(table: &[i64], label: usize) -> u64
     ensures { λ r. ⌜ r ≡ wrongTarget (now (table .entry)) label ⌝ }
 {
-    let kind = cells::cell_at(table, label, cells::KIND);
-    let found = cells::cell_at(
-        table,
-        cells::cell_at(table, label, cells::TARGET),
-        cells::KIND,
-    );
-    if kind == cells::READ {
-        if found == cells::VALUE {
-            return 0;
+    let code = cells::cell_at(table, label, cells::KIND);
+    if kinds::has_path(code) {
+        let target = cells::cell_at(table, label, cells::TARGET);
+        if cells::cell_at(table, target, cells::KIND) != kinds::wanted_by(code) {
+            return refusals::TARGET;
         }
-        return refusals::TARGET;
-    }
-    if kind == cells::CALL {
-        if found == cells::FUNCTION {
-            return 0;
-        }
-        return refusals::TARGET;
     }
     0
 }
 
 // ---- the passes
 
-// Row 12.
-fn check_duplicates(text: &[u8], table: &[i64], n: usize, first: &[u16], next: &[u16]) -> Verdict
-    requires { ⌜ Rows (now text) (now table) n × Linked (now text) (now table) n (now first) (now next) ⌝ }
-    ensures { λ r. ⌜ r ≡ firstBad (duplicateBad (now (text .entry)) (now (table .entry))) 1 n ⌝ }
-{
-    let mut label: usize = 1;
-    while label <= n {
-        let row = duplicate_at(text, table, n, first, next, label);
-        if row != 0 {
-            return Verdict::Refused(row, label as u64);
-        }
-        label += 1;
-    }
-    Verdict::Fine
-}
-
 // The head of a line's path is settled, and stands in its target cell.
 fn settle_head(
     text: &[u8],
     table: &mut [i64],
     n: usize,
+    starts: &[u16],
     first: &[u16],
     next: &[u16],
     label: usize,
 ) -> usize
-    requires { ⌜ Rows (now text) (now table) n × Linked (now text) (now table) n (now first) (now next) ⌝ }
+    requires { ⌜ Rows (now text) (now table) n × Linked (now text) (now table) n (now starts) (now first) (now next) ⌝ }
     requires { ⌜ (1 ≤ label) × (label ≤ n) ⌝ }
     ensures { λ r. ⌜ r ≡ headCell (now (text .entry)) (now (table .entry)) n label ⌝ }
     ensures { λ _. ⌜ now (table .exit) ≡ set (now (table .entry)) (8 * (label - 1) + 7) (pos (headCell (now (text .entry)) (now (table .entry)) n label)) ⌝ }
 {
-    let head = head_at(text, table, n, first, next, label);
+    let head = head_at(text, table, n, starts, first, next, label);
     cells::put_cell(table, label, cells::TARGET, head);
     head
 }
@@ -390,17 +455,18 @@ fn settle_target(
     text: &[u8],
     table: &mut [i64],
     n: usize,
+    starts: &[u16],
     first: &[u16],
     next: &[u16],
     label: usize,
 ) -> usize
-    requires { ⌜ Rows (now text) (now table) n × Linked (now text) (now table) n (now first) (now next) ⌝ }
+    requires { ⌜ Rows (now text) (now table) n × Linked (now text) (now table) n (now starts) (now first) (now next) ⌝ }
     requires { ⌜ (1 ≤ label) × (label ≤ n) × (target (now table) label ≤ n) ⌝ }
     ensures { λ r. ⌜ r ≡ targetBy (now (text .entry)) (now (table .entry)) n label (target (now (table .entry)) label) ⌝ }
     ensures { λ _. ⌜ now (table .exit) ≡ set (now (table .entry)) (8 * (label - 1) + 7) (pos (targetBy (now (text .entry)) (now (table .entry)) n label (target (now (table .entry)) label))) ⌝ }
 {
     let head = cells::cell_at(table, label, cells::TARGET);
-    let end = target_at(text, table, n, first, next, label, head);
+    let end = target_at(text, table, n, starts, first, next, label, head);
     cells::put_cell(table, label, cells::TARGET, end);
     end
 }
@@ -416,14 +482,21 @@ fn is_unresolved(table: &[i64], label: usize, found: usize) -> bool
 }
 
 // Row 13. The heads stand in the target cells.
-fn settle_heads(text: &[u8], table: &mut [i64], n: usize, first: &[u16], next: &[u16]) -> Verdict
-    requires { ⌜ Rows (now text) (now table) n × Linked (now text) (now table) n (now first) (now next) ⌝ }
+fn settle_heads(
+    text: &[u8],
+    table: &mut [i64],
+    n: usize,
+    starts: &[u16],
+    first: &[u16],
+    next: &[u16],
+) -> Verdict
+    requires { ⌜ Rows (now text) (now table) n × Linked (now text) (now table) n (now starts) (now first) (now next) ⌝ }
     ensures { λ r. ⌜ r ≡ firstBad (pathHeadBad (now (text .entry)) (now (table .entry)) n) 1 n ⌝ }
     ensures { λ r. ⌜ (r ≡ Verdict.Fine → now (table .exit) ≡ withColumn 7 (headCell (now (text .entry)) (now (table .entry)) n) n (now (table .entry))) ⌝ }
 {
     let mut label: usize = 1;
     while label <= n {
-        let head = settle_head(text, table, n, first, next, label);
+        let head = settle_head(text, table, n, starts, first, next, label);
         if is_unresolved(table, label, head) {
             return Verdict::Refused(refusals::HEAD, label as u64);
         }
@@ -433,15 +506,22 @@ fn settle_heads(text: &[u8], table: &mut [i64], n: usize, first: &[u16], next: &
 }
 
 // Row 14. The targets stand in their cells.
-fn settle_targets(text: &[u8], table: &mut [i64], n: usize, first: &[u16], next: &[u16]) -> Verdict
-    requires { ⌜ Rows (now text) (now table) n × Linked (now text) (now table) n (now first) (now next) ⌝ }
+fn settle_targets(
+    text: &[u8],
+    table: &mut [i64],
+    n: usize,
+    starts: &[u16],
+    first: &[u16],
+    next: &[u16],
+) -> Verdict
+    requires { ⌜ Rows (now text) (now table) n × Linked (now text) (now table) n (now starts) (now first) (now next) ⌝ }
     requires { ⌜ ((l : ℕ) → 1 ≤ l → l ≤ n → target (now table) l ≡ headCell (now text) (now table) n l) ⌝ }
     ensures { λ r. ⌜ r ≡ firstBad (laterBad (now (text .entry)) (now (table .entry)) n) 1 n ⌝ }
     ensures { λ r. ⌜ (r ≡ Verdict.Fine → now (table .exit) ≡ withColumn 7 (targetCell (now (text .entry)) (now (table .entry)) n) n (now (table .entry))) ⌝ }
 {
     let mut label: usize = 1;
     while label <= n {
-        let end = settle_target(text, table, n, first, next, label);
+        let end = settle_target(text, table, n, starts, first, next, label);
         if is_unresolved(table, label, end) {
             return Verdict::Refused(refusals::LATER, label as u64);
         }
@@ -467,40 +547,102 @@ fn check_targets(table: &[i64], n: usize) -> Verdict
 }
 
 // Rows 14 and 15, with the heads in the target cells.
-fn resolve_later(text: &[u8], table: &mut [i64], n: usize, first: &[u16], next: &[u16]) -> Verdict
-    requires { ⌜ Rows (now text) (now table) n × Linked (now text) (now table) n (now first) (now next) ⌝ }
+fn resolve_later(
+    text: &[u8],
+    table: &mut [i64],
+    n: usize,
+    starts: &[u16],
+    first: &[u16],
+    next: &[u16],
+) -> Verdict
+    requires { ⌜ Rows (now text) (now table) n × Linked (now text) (now table) n (now starts) (now first) (now next) ⌝ }
     requires { ⌜ ((l : ℕ) → 1 ≤ l → l ≤ n → target (now table) l ≡ headCell (now text) (now table) n l) ⌝ }
     ensures { λ r. ⌜ r ≡ laterRows (now (text .entry)) (now (table .entry)) n ⌝ }
     ensures { λ r. ⌜ (r ≡ Verdict.Fine → now (table .exit) ≡ withColumn 7 (targetCell (now (text .entry)) (now (table .entry)) n) n (now (table .entry))) ⌝ }
 {
-    match settle_targets(text, table, n, first, next) {
+    match settle_targets(text, table, n, starts, first, next) {
         Verdict::Fine => check_targets(table, n),
         Verdict::Refused(row, label) => Verdict::Refused(row, label),
     }
 }
 
 // Rows 13 to 15.
-fn resolve_heads(text: &[u8], table: &mut [i64], n: usize, first: &[u16], next: &[u16]) -> Verdict
-    requires { ⌜ Rows (now text) (now table) n × Linked (now text) (now table) n (now first) (now next) ⌝ }
+fn resolve_heads(
+    text: &[u8],
+    table: &mut [i64],
+    n: usize,
+    starts: &[u16],
+    first: &[u16],
+    next: &[u16],
+) -> Verdict
+    requires { ⌜ Rows (now text) (now table) n × Linked (now text) (now table) n (now starts) (now first) (now next) ⌝ }
     ensures { λ r. ⌜ r ≡ headRows (now (text .entry)) (now (table .entry)) n ⌝ }
     ensures { λ r. ⌜ (r ≡ Verdict.Fine → now (table .exit) ≡ withColumn 7 (targetCell (now (text .entry)) (now (table .entry)) n) n (now (table .entry))) ⌝ }
 {
-    match settle_heads(text, table, n, first, next) {
-        Verdict::Fine => resolve_later(text, table, n, first, next),
+    match settle_heads(text, table, n, starts, first, next) {
+        Verdict::Fine => resolve_later(text, table, n, starts, first, next),
         Verdict::Refused(row, label) => Verdict::Refused(row, label),
     }
 }
 
-// Rows 12 to 15.
-fn resolve(text: &[u8], table: &mut [i64], n: usize, first: &[u16], next: &[u16]) -> Verdict
-    requires { ⌜ Rows (now text) (now table) n × Linked (now text) (now table) n (now first) (now next) ⌝ }
+// Rows 12 to 15, once each Group has its buckets.
+fn resolve(
+    text: &[u8],
+    table: &mut [i64],
+    n: usize,
+    starts: &[u16],
+    first: &mut [u16],
+    next: &mut [u16],
+) -> Verdict
+    requires { ⌜ Rows (now text) (now table) n × LinkedBelow (now text) (now table) n 1 (now starts) (now first) (now next) ⌝ }
     ensures { λ r. ⌜ r ≡ pathsBad (now (text .entry)) (now (table .entry)) n ⌝ }
     ensures { λ r. ⌜ (r ≡ Verdict.Fine → now (table .exit) ≡ withColumn 7 (targetCell (now (text .entry)) (now (table .entry)) n) n (now (table .entry))) ⌝ }
 {
-    match check_duplicates(text, table, n, first, next) {
-        Verdict::Fine => resolve_heads(text, table, n, first, next),
+    match link(text, table, n, starts, first, next) {
+        Verdict::Fine => resolve_heads(text, table, n, starts, first, next),
         Verdict::Refused(row, label) => Verdict::Refused(row, label),
     }
+}
+
+// Rows 12 to 15, with scratch that is all zeros.
+fn read_with(
+    text: &[u8],
+    table: &mut [i64],
+    n: usize,
+    starts: &mut [u16],
+    first: &mut [u16],
+    next: &mut [u16],
+) -> Verdict
+    requires { ⌜ Rows (now text) (now table) n × Fresh n (now starts) (now first) (now next) ⌝ }
+    ensures { λ r. ⌜ r ≡ pathsBad (now (text .entry)) (now (table .entry)) n ⌝ }
+    ensures { λ r. ⌜ (r ≡ Verdict.Fine → now (table .exit) ≡ withColumn 7 (targetCell (now (text .entry)) (now (table .entry)) n) n (now (table .entry))) ⌝ }
+{
+    allot(table, n, starts);
+    resolve(text, table, n, starts, first, next)
+}
+
+// The same with scratch for up to 127 labels: most sheets are small, and scratch is zeroed at each call.
+fn read_small(text: &[u8], table: &mut [i64], n: usize) -> Verdict
+    requires { ⌜ Rows (now text) (now table) n × (n < 128) ⌝ }
+    ensures { λ r. ⌜ r ≡ pathsBad (now (text .entry)) (now (table .entry)) n ⌝ }
+    ensures { λ r. ⌜ (r ≡ Verdict.Fine → now (table .exit) ≡ withColumn 7 (targetCell (now (text .entry)) (now (table .entry)) n) n (now (table .entry))) ⌝ }
+{
+    let mut starts = [0u16; 129];
+    let mut first = [0u16; 256];
+    let mut next = [0u16; 128];
+    read_with(text, table, n, &mut starts, &mut first, &mut next)
+}
+
+// The same with scratch for up to 1,024 labels.
+fn read_large(text: &[u8], table: &mut [i64], n: usize) -> Verdict
+    requires { ⌜ Rows (now text) (now table) n ⌝ }
+    ensures { λ r. ⌜ r ≡ pathsBad (now (text .entry)) (now (table .entry)) n ⌝ }
+    ensures { λ r. ⌜ (r ≡ Verdict.Fine → now (table .exit) ≡ withColumn 7 (targetCell (now (text .entry)) (now (table .entry)) n) n (now (table .entry))) ⌝ }
+{
+    let mut starts = [0u16; 1026];
+    let mut first = [0u16; 2050];
+    let mut next = [0u16; 1025];
+    read_with(text, table, n, &mut starts, &mut first, &mut next)
 }
 
 // Rows 12 to 15. Where they find nothing, the target of each R and C stands in its cell; where they refuse, the table is for the
@@ -510,8 +652,8 @@ pub fn read_paths(text: &[u8], table: &mut [i64], n: usize) -> Verdict
     ensures { λ r. ⌜ r ≡ pathsBad (now (text .entry)) (now (table .entry)) n ⌝ }
     ensures { λ r. ⌜ (r ≡ Verdict.Fine → now (table .exit) ≡ withColumn 7 (targetCell (now (text .entry)) (now (table .entry)) n) n (now (table .entry))) ⌝ }
 {
-    let mut first = [0u16; 1024];
-    let mut next = [0u16; 1025];
-    link(text, table, n, &mut first, &mut next);
-    resolve(text, table, n, &first, &next)
+    if n < 128 {
+        return read_small(text, table, n);
+    }
+    read_large(text, table, n)
 }

@@ -14,6 +14,7 @@ use lib.Seq.{take-suc, take-suc-set, drop-set-lt, drop-drop, length-take-le, tak
 use mir.Syntax.{w64}
 use mir.Val.{toZ}
 use borrow.Author.Tests.{eq-eqb, ne-eqb}
+use Rattle.kinds.specs.Kinds.{groupCode, valueCode}
 use Rattle.cells.specs.Table.{kind, owner}
 use Rattle.cells.specs.Accepted.{Accepted}
 use Rattle.order.specs.Lists.{_∈_, joined}
@@ -201,7 +202,7 @@ module _ (t : List ℤ) (n : ℕ) (ok : Accepted t n) (g : ℕ) (links : List �
 
       -- ---- a value
 
-      module _ (k : kind t x ≡ 2) where
+      module _ (k : kind t x ≡ valueCode) where
         value-list : listed t (listOf t n) x ≡ x ∷ []
         value-list = rw (kind-v t x k)
 
@@ -213,7 +214,7 @@ module _ (t : List ℤ) (n : ℕ) (ok : Accepted t n) (g : ℕ) (links : List �
 
       -- ---- a Group
 
-      module _ (k : kind t x ≡ 1) where
+      module _ (k : kind t x ≡ groupCode) where
         group-list : listed t (listOf t n) x ≡ listOf t n x
         group-list = listed-group t n ok (listOf t n) x (kind-g t x k)
 
@@ -225,8 +226,8 @@ module _ (t : List ℤ) (n : ℕ) (ok : Accepted t n) (g : ℕ) (links : List �
 
       -- ---- a function
 
-      pub none-turn : (kind t x ≡ 2 → ⊥) → (kind t x ≡ 1 → ⊥) → Turn t n g links at plan₀ plan to (getD links (n + x) 0)
+      pub none-turn : (kind t x ≡ valueCode → ⊥) → (kind t x ≡ groupCode → ⊥) → Turn t n g links at plan₀ plan to (getD links (n + x) 0)
       none-turn a b = turn-more plan to (subst (λ (l : List ℕ). Put l to plan plan to) (sym nothing) (put-none to plan))
         where
           nothing : listed t (listOf t n) x ≡ []
-          nothing = rw (ne-eqb (kind t x) 2 a, ne-eqb (kind t x) 1 b)
+          nothing = rw (ne-eqb (kind t x) valueCode a, ne-eqb (kind t x) groupCode b)

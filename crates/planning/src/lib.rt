@@ -4,6 +4,7 @@
 ghost use mathlib.Core.Path.{_≡_};
 ghost use Prim.Native.Nat.{ℕ, _+_, _*_, _≤_, _<_};
 ghost use lib.ListN.{length, take};
+ghost use Rattle.kinds.specs.Kinds.{groupCode};
 ghost use Rattle.cells.specs.Table.{kind};
 ghost use Rattle.cells.specs.Accepted.{Accepted};
 ghost use Rattle.order.specs.Order.{mixedPlan, place16};
@@ -33,7 +34,7 @@ fn list_group(
 ) -> usize
     requires { ⌜ Accepted (now table) n ⌝ }
     requires { ⌜ (2 * n < length (now next)) × Ordered (now table) n (now next) ⌝ }
-    requires { ⌜ (1 ≤ group) × (group ≤ n) × (kind (now table) group ≡ 1) ⌝ }
+    requires { ⌜ (1 ≤ group) × (group ≤ n) × (kind (now table) group ≡ groupCode) ⌝ }
     requires { ⌜ at + length (listOf (now table) n group) ≤ length (now plan) ⌝ }
     ensures { λ r. ⌜ Put (listOf (now (table .entry)) n group) at (now (plan .entry)) (now (plan .exit)) r ⌝ }
 {
@@ -43,10 +44,10 @@ fn list_group(
         let p = marks::widen(x);
         x = next[n + p];
         let k = reach::kind_of(table, n, p);
-        if k == cells::VALUE {
+        if k == kinds::VALUE {
             plan[to] = p as i64;
             to += 1;
-        } else if k == cells::GROUP {
+        } else if k == kinds::GROUP {
             to = list_group(table, n, next, plan, to, p);
         }
     }

@@ -1,17 +1,17 @@
 -- How long a print can get: the line of column names, 36 bytes, and 1,024 lines of at most 48.
-use mathlib.Core.Path.{_≡_, refl, sym, ap, _∙_}
+use mathlib.Core.Path.{_≡_, ap, _∙_}
 use mathlib.Core.Bool.{true}
 use mathlib.Core.List.{List, [], _∷_, _++_}
-use Prim.Native.Nat.{ℕ, _+_, _-_, _*_, _≤_, _<_}
+use Prim.Native.Nat.{ℕ, _+_, _-_, _*_, _≤_}
 use native.Mathlib.Omega.{arith}
 use lib.IntN.{ℤ, natAbs}
-use lib.ListN.{length, take, drop, length-append, length-take, length-drop}
+use lib.ListN.{length, take, length-append, length-take, length-drop}
+use Rattle.kinds.specs.Kinds.{valueCode}
 use Rattle.cells.specs.Table.{kind, nameStart, nameLength}
 use Rattle.cells.specs.Accepted.{Accepted}
 use Rattle.lines.specs.Lines.{labels}
-use Rattle.lines.proofs.Heads.{headed}
 use Rattle.order.specs.Lists.{_∈_}
-use Rattle.order.specs.Order.{NoCycle, Proper}
+use Rattle.order.specs.Order.{NoCycle}
 use Rattle.order.specs.Following.{labelsOf}
 use Rattle.order.proofs.Lists.{in-here, in-there}
 use Rattle.order.proofs.Mixed.{listed-value, proper-no-cycle}
@@ -27,14 +27,18 @@ use Rattle.evaluation.proofs.Range.{Good, value-settled}
 use Rattle.figures.specs.Figures.{resultCells}
 use Rattle.figures.proofs.Working.{value-label, figures-value, figures-stored}
 use Rattle.figures.proofs.Early.{figures-settled}
-use Rattle.calls.specs.Plan.{lengthOf}
+use Rattle.calls.specs.Plan.{numberOf, placeOf, lengthOf}
 use Rattle.calls.specs.Run.{runReply, runTable, runPlan, runResults}
+use Rattle.calls.specs.Leaves.{RunLeaves}
+use Rattle.calls.specs.declared.PlanReply.{PlanReply}
 use Rattle.calls.specs.declared.PlanReply.the-variants as reply
 use Rattle.calls.proofs.Answers.{answers}
 use Rattle.numbers.specs.Numerals.{decimal, integer}
-use Rattle.printing.specs.Print.{lineOf, columnsLine, refusalLine, wholeWord, mixedWord, nameField, valueLine, valueLines, printBound, printWith}
+use Rattle.printing.specs.Print.{lineOf, columnsLine, refusalLine, wholeWord, mixedWord, nameField, valueLine, valueLines, refusalPrint, printBy, printWith, printBound}
+use Rattle.printing.specs.Writing.{lastIndex, Wrote, PrintWritten}
+use Rattle.printing.specs.declared.Printed.{Printed}
 use Rattle.printing.proofs.Sizes.{decimal-length, integer-length}
-use Rattle.printing.proofs.Runs.{run-fine, reads, results-fit, table-is, plan-proper}
+use Rattle.printing.proofs.Runs.{run-fine, reads, results-fit, table-is, plan-proper, replied, printed}
 
 -- ---- one value
 
@@ -79,14 +83,14 @@ lines-length s t r word (v ∷ l) w h =
 -- ---- a value of an accepted table without a cycle, with the results of Working out
 
 module _ (t : List ℤ) (n m : ℕ) (ok : Accepted t n) (nc : NoCycle t) (fit : 3 * n ≤ m) where
-  value-is : (v : ℕ) → kind t v ≡ 2 → stored (resultCells t n m) v ≡ evaluated t (resultCells t n m) v
+  value-is : (v : ℕ) → kind t v ≡ valueCode → stored (resultCells t n m) v ≡ evaluated t (resultCells t n m) v
   value-is v k = figures-stored t n ok m fit v ∙ figures-value t n ok m fit nc v k
 
-  value-good : (v : ℕ) → kind t v ≡ 2 → Good 1 (valueOutcome t (resultCells t n m) v)
+  value-good : (v : ℕ) → kind t v ≡ valueCode → Good 1 (valueOutcome t (resultCells t n m) v)
   value-good v k = value-settled t (resultCells t n m) n ok v k (λ x j _. figures-settled t n ok nc m fit x j)
 
   -- its name is in a table w
-  value-short : (w : List ℤ) (v : ℕ) → kind t v ≡ 2 → nameLength w v ≤ 16 → Short w (resultCells t n m) v
+  value-short : (w : List ℤ) (v : ℕ) → kind t v ≡ valueCode → nameLength w v ≤ 16 → Short w (resultCells t n m) v
   value-short w v k h =
       let e = value-is v k in
       let g = value-good v k in
@@ -116,16 +120,20 @@ module _ (s : List ℕ) (m p q : ℕ) (a : answers (runReply s m p q) ≡ true) 
   all-short v i =
       let o = plan-proper s m p q a in
       let k = listed-value o v i in
-      let name : nameLength (tableOf Fine s m) v ≤ 16 = rw (cell-padded (sheetTable s) (m - 8 * labels s) v 2) (read-short s (reads s m p q a) v k) in
+      let name : nameLength (tableOf Fine s m) v ≤ 16 =
+      rw (cell-padded (sheetTable s) (m - 8 * labels s) v 2) (read-short s (reads s m p q a) v k) in
       rw (table-is s m p q a, results-are)
       (value-short (sheetTable s) (labels s) q ok (proper-no-cycle o) (results-fit s m p q a) (tableOf Fine s m) v k name)
 
-  answer-length : (word : List ℕ) → length word ≤ 5 → length (columnsLine ++ valueLines s (runTable s m p q) (runResults s m p q) word order) ≤ printBound
+  abbrev lines : List ℕ → List ℕ
+  lines word = valueLines s (runTable s m p q) (runResults s m p q) word order
+
+  answer-length : (word : List ℕ) → length word ≤ 5 → length (columnsLine ++ lines word) ≤ printBound
   unfolding columnsLine
   answer-length word w =
       omega (
         arith,
-        length-append columnsLine (valueLines s (runTable s m p q) (runResults s m p q) word order),
+        length-append columnsLine (lines word),
         lines-length s (runTable s m p q) (runResults s m p q) word order w all-short,
         order-short (sheetTable s) (labels s) ok order (plan-proper s m p q a),
         ok .few,
@@ -133,7 +141,7 @@ module _ (s : List ℕ) (m p q : ℕ) (a : answers (runReply s m p q) ≡ true) 
 
 -- ---- the print of a refusal: two numbers of 64 bits
 
-refusal-length : (row place : ℕ) → row < 18446744073709551616 → place < 18446744073709551616 → length (refusalLine ++ lineOf (decimal row ∷ decimal place ∷ [])) ≤ printBound
+refusal-length : (row place : ℕ) → row ≤ lastIndex → place ≤ lastIndex → length (refusalPrint row place) ≤ printBound
 unfolding refusalLine
 refusal-length row place h g =
     omega (
@@ -143,16 +151,24 @@ refusal-length row place h g =
           (field-length (decimal place) 10 [] 20 0 (decimal-length 19 place (omega arith)) (omega arith)),
     )
 
--- ---- any print, by Run's reply
+-- ---- any print, by Run's reply x, whose numbers have 64 bits
 
 module _ (s : List ℕ) (m p q : ℕ) where
-  pub whole-length : (k : ℕ) → runReply s m p q ≡ reply.Whole k → length (printWith s m p q) ≤ printBound
-  unfolding wholeWord
-  whole-length k e = rw e (rw e at (answer-length s m p q (ap answers e) wholeWord (omega arith)))
+  print-short : (x : PlanReply) → runReply s m p q ≡ x → numberOf x ≤ lastIndex → placeOf x ≤ lastIndex → length (printWith s m p q) ≤ printBound
+  unfolding wholeWord mixedWord
+  print-short (reply.Whole k) e h g = rw e (rw e at (answer-length s m p q (ap answers e) wholeWord (omega arith)))
+  print-short (reply.Mixed k) e h g = rw e (rw e at (answer-length s m p q (ap answers e) mixedWord (omega arith)))
+  print-short (reply.Refused row place) e h g = rw e (refusal-length row place h g)
 
-  pub mixed-length : (k : ℕ) → runReply s m p q ≡ reply.Mixed k → length (printWith s m p q) ≤ printBound
-  unfolding mixedWord
-  mixed-length k e = rw e (rw e at (answer-length s m p q (ap answers e) mixedWord (omega arith)))
-
-  pub refused-length : (row place : ℕ) → runReply s m p q ≡ reply.Refused row place → row < 18446744073709551616 → place < 18446744073709551616 → length (printWith s m p q) ≤ printBound
-  refused-length row place e h g = rw e (refusal-length row place h g)
+  -- Run left the reply x, and its print was written
+  module _ (r : PlanReply) (t o u : List ℤ) (left : RunLeaves s m p q r t o u) (x : PlanReply) (is : r ≡ x) where
+    pub print-written : (out : List ℕ) (a : Printed) (w : List ℕ) → numberOf x ≤ lastIndex → placeOf x ≤ lastIndex
+        → a .refusal ≡ numberOf x → a .place ≡ placeOf x → Wrote out 0 (printBy s x t o u) w (a .length) → PrintWritten s m p q out a w
+    print-written out a w h g f i k =
+        let e = replied s m p q r t o u left x is in
+        record {
+          refusal = rw e f;
+          place = rw e i;
+          short = print-short x e h g;
+          wrote = rw (← printed s m p q r t o u left x is) k;
+        }

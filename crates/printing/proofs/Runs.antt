@@ -1,7 +1,7 @@
 -- What Run's reply says of the table, the plan and the results that it leaves, and of the print.
 use mathlib.Core.Path.{_≡_, refl, sym, ap, _∙_}
 use mathlib.Core.Bool.{Bool, true, false, cond}
-use mathlib.Core.List.{List, [], _∷_, _++_, map}
+use mathlib.Core.List.{List, map}
 use Prim.Native.Nat.{ℕ, _-_, _*_, _≤_}
 use native.Mathlib.Omega.{arith}
 use borrow.Author.Tests.{leb-true, le-leb}
@@ -25,7 +25,8 @@ use Rattle.reading.proofs.Padding.{cell-padded}
 use Rattle.reading.proofs.Accepted.{read-names}
 use Rattle.calls.specs.Buffers.{planShort, resultsShort, runBuffers}
 use Rattle.calls.specs.Plan.{planOf, answerBy, listedBy, lengthOf}
-use Rattle.calls.specs.Run.{runBad, runReply, runTable, runPlan, runResults}
+use Rattle.calls.specs.Run.{runBad, runReply, runTable, runPlan}
+use Rattle.calls.specs.Leaves.{RunLeaves}
 use Rattle.calls.specs.declared.PlanReply.{PlanReply}
 use Rattle.calls.proofs.Answers.{answers, answers-number, answers-fine}
 use Rattle.calls.proofs.Sheets.{planned-reads, kept}
@@ -84,7 +85,8 @@ module _ (s : List ℕ) (m p q : ℕ) (a : answers (runReply s m p q) ≡ true) 
   pub name-is : (v : ℕ) → v ≤ labels s → nameField s (runTable s m p q) v ≡ namePart s m (pos v)
   unfolding namePart nameBegin nameSize
   name-is v h =
-      rw (table-is, read-fine, le-leb v (labels s) h, cell-padded (sheetTable s) (m - 8 * labels s) v 1, cell-padded (sheetTable s) (m - 8 * labels s) v 2)
+      let k = m - 8 * labels s in
+      rw (table-is, read-fine, le-leb v (labels s) h, cell-padded (sheetTable s) k v 1, cell-padded (sheetTable s) k v 2)
 
   -- the plan has as many labels as the reply says, and they are a proper order
   pub plan-long : lengthOf (runReply s m p q) ≤ length (runPlan s m p q)
@@ -97,21 +99,25 @@ module _ (s : List ℕ) (m p q : ℕ) (a : answers (runReply s m p q) ≡ true) 
       proper-list _ _ .0
       (kept s (runBuffers s m p q) reads (parts .1) p .proper (answers-number (runReply s m p q) a))
 
--- ---- for the code: the reply r, the table t, the plan o and the results u
+-- ---- for the code: Run left the reply r, the table t, the plan o and the results u
 
-module _ (s : List ℕ) (m p q : ℕ) (r : PlanReply) (er : r ≡ runReply s m p q) where
-  module _ (a : answers r ≡ true) where
+module _ (s : List ℕ) (m p q : ℕ) (r : PlanReply) (t o u : List ℤ) (left : RunLeaves s m p q r t o u) (x : PlanReply) (is : r ≡ x) where
+  -- the reply is x
+  pub replied : runReply s m p q ≡ x
+  replied = sym (left .reply) ∙ is
+
+  pub printed : printBy s x t o u ≡ printWith s m p q
+  printed = rw (replied, left .table, left .plan, left .results)
+
+  module _ (a : answers x ≡ true) where
     answered : answers (runReply s m p q) ≡ true
-    answered = ap answers (sym er) ∙ a
+    answered = ap answers replied ∙ a
 
-    pub names-in : (t : List ℤ) → t ≡ runTable s m p q → NamesIn s t
-    names-in t et l =
-        rw (et ∙ table-is s m p q answered, cell-padded (sheetTable s) (m - 8 * labels s) l 1, cell-padded (sheetTable s) (m - 8 * labels s) l 2)
+    pub names-in : NamesIn s t
+    names-in l =
+        let k = m - 8 * labels s in
+        rw (left .table ∙ table-is s m p q answered, cell-padded (sheetTable s) k l 1, cell-padded (sheetTable s) k l 2)
         (read-names s (reads s m p q answered) l)
 
-    pub count-in : (o : List ℤ) → o ≡ runPlan s m p q → lengthOf r ≤ length o
-    count-in o eo = rw (er, eo) (plan-long s m p q answered)
-
-  module _ (t o u : List ℤ) (et : t ≡ runTable s m p q) (eo : o ≡ runPlan s m p q) (eu : u ≡ runResults s m p q) where
-    pub printed : (x : PlanReply) → r ≡ x → printBy s x t o u ≡ printWith s m p q
-    printed x e = rw (← er, ← et, ← eo, ← eu, e)
+    pub count-in : lengthOf x ≤ length o
+    count-in = rw (← replied, left .plan) (plan-long s m p q answered)

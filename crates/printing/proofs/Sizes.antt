@@ -6,8 +6,6 @@ use Prim.Native.Nat.{ℕ, zero, suc, _+_, _*_, _/_, _%_, _≤_, _<_, _^_}
 use native.Mathlib.Omega.{arith}
 use lib.IntN.{ℤ, pos, negsuc, natAbs, _+ℤ_, +ℤ-one}
 use lib.Signed.{mag}
-use mir.Syntax.{w64}
-use mir.Val.{SFits}
 use Rattle.cells.specs.Cells.{isNegative}
 use Rattle.cells.proofs.Signed.{clash}
 use lib.ListN.{length, length-append}

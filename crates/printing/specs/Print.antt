@@ -46,8 +46,11 @@ abbrev pub nameField : List ℕ → List ℤ → ℕ → List ℕ
 nameField s t l = slice (nameStart t l) (nameStart t l + nameLength t l) s
 
 -- "label, name, whole or mixed, state, number, steps"
+abbrev pub resultFields : List ℤ → ℕ → List (List ℕ)
+resultFields r l = decimal (stateAt r l) ∷ integer (numberAt r l) ∷ decimal (stepsAt r l) ∷ []
+
 unfoldable pub valueLine : List ℕ → List ℤ → List ℤ → List ℕ → ℕ → List ℕ
-valueLine s t r word l = lineOf (decimal l ∷ nameField s t l ∷ word ∷ decimal (stateAt r l) ∷ integer (numberAt r l) ∷ decimal (stepsAt r l) ∷ [])
+valueLine s t r word l = lineOf (decimal l ∷ nameField s t l ∷ word ∷ resultFields r l)
 
 unfoldable pub valueLines : List ℕ → List ℤ → List ℤ → List ℕ → List ℕ → List ℕ
 valueLines s t r word [] = []
@@ -55,11 +58,19 @@ valueLines s t r word (l ∷ ls) = valueLine s t r word l ++ valueLines s t r wo
 
 -- ---- the print
 
+-- "one line of column names, then one line per value in plan order": the first k cells of the plan p
+abbrev pub answerPrint : List ℕ → List ℤ → List ℤ → ℕ → List ℤ → List ℕ → List ℕ
+answerPrint s t p k r word = columnsLine ++ valueLines s t r word (labelsOf (take k p))
+
+-- "A refusal prints `refusal place` and one line of the two numbers"
+abbrev pub refusalPrint : ℕ → ℕ → List ℕ
+refusalPrint row place = refusalLine ++ lineOf (decimal row ∷ decimal place ∷ [])
+
 -- of a reply, with the table t, the plan p and the results r as Run leaves them
 abbrev pub printBy : List ℕ → PlanReply → List ℤ → List ℤ → List ℤ → List ℕ
-printBy s (reply.Whole k) t p r = columnsLine ++ valueLines s t r wholeWord (labelsOf (take k p))
-printBy s (reply.Mixed k) t p r = columnsLine ++ valueLines s t r mixedWord (labelsOf (take k p))
-printBy s (reply.Refused row place) t p r = refusalLine ++ lineOf (decimal row ∷ decimal place ∷ [])
+printBy s (reply.Whole k) t p r = answerPrint s t p k r wholeWord
+printBy s (reply.Mixed k) t p r = answerPrint s t p k r mixedWord
+printBy s (reply.Refused row place) t p r = refusalPrint row place
 
 -- of what Run gives with a table of m cells, a plan of p and results of q
 abbrev pub printWith : List ℕ → ℕ → ℕ → ℕ → List ℕ

@@ -1,15 +1,14 @@
 // What the program prints of a sheet, as bytes in a lent buffer.
 
 ghost use mathlib.Core.Path.{_≡_};
-ghost use mathlib.Core.List.{List, [], _∷_, _++_};
+ghost use mathlib.Core.List.{[], _∷_, _++_};
 ghost use Prim.Native.Nat.{_+_, _-_, _≤_, _<_, min};
 ghost use lib.ListN.{length, take};
 ghost use lib.IntN.{natAbs};
 ghost use Rattle.cells.specs.Cells.{natOf};
 ghost use Rattle.order.specs.Following.{labelsOf};
-ghost use Rattle.evaluation.specs.Results.{stateAt, numberAt, stepsAt};
 ghost use Rattle.numbers.specs.Numerals.{digits, decimal, integer};
-ghost use Rattle.printing.specs.Print.{lineOf, columnsLine, refusalLine, nameField, valueLine, valueLines, zeroBytes, PrintLeaves};
+ghost use Rattle.printing.specs.Print.{lineOf, nameField, resultFields, valueLine, valueLines, answerPrint, refusalPrint, zeroBytes, PrintLeaves};
 ghost use Rattle.printing.specs.Writing.{lastIndex, Wrote, NamesIn, resultAt, PrintWritten};
 use calls::PlanReply;
 
@@ -147,7 +146,7 @@ fn count_at(results: &[i64], label: usize, j: usize) -> u64
 
 // The end of the line: state, number, steps.
 fn put_results(results: &[i64], label: usize, out: &mut [u8], at: usize) -> usize
-    ensures { λ r. ⌜ Wrote (now (out .entry)) at (lineOf (decimal (stateAt (now (results .entry)) label) ∷ integer (numberAt (now (results .entry)) label) ∷ decimal (stepsAt (now (results .entry)) label) ∷ [])) (now (out .exit)) r ⌝ }
+    ensures { λ r. ⌜ Wrote (now (out .entry)) at (lineOf (resultFields (now (results .entry)) label)) (now (out .exit)) r ⌝ }
 {
     let state = count_at(results, label, 0);
     let number = result_at(results, label, 1);
@@ -223,7 +222,7 @@ fn put_answer(
     out: &mut [u8],
 ) -> usize
     requires { ⌜ (count ≤ length (now plan)) × NamesIn (now text) (now table) ⌝ }
-    ensures { λ r. ⌜ Wrote (now (out .entry)) 0 (columnsLine ++ valueLines (now (text .entry)) (now (table .entry)) (now (results .entry)) (now (word .entry)) (labelsOf (take count (now (plan .entry))))) (now (out .exit)) r ⌝ }
+    ensures { λ r. ⌜ Wrote (now (out .entry)) 0 (answerPrint (now (text .entry)) (now (table .entry)) (now (plan .entry)) count (now (results .entry)) (now (word .entry))) (now (out .exit)) r ⌝ }
 {
     let end = put_all(out, 0, b"label name order state number steps\n");
     put_lines(text, table, plan, count, results, word, out, end)
@@ -231,7 +230,7 @@ fn put_answer(
 
 // The print of a refused sheet: `refusal place`, then the two numbers.
 fn put_refusal(row: u64, place: u64, out: &mut [u8]) -> usize
-    ensures { λ r. ⌜ Wrote (now (out .entry)) 0 (refusalLine ++ lineOf (decimal row ∷ decimal place ∷ [])) (now (out .exit)) r ⌝ }
+    ensures { λ r. ⌜ Wrote (now (out .entry)) 0 (refusalPrint row place) (now (out .exit)) r ⌝ }
 {
     let end = put_all(out, 0, b"refusal place\n");
     let behind_row = put_count(out, end, row, b' ');

@@ -2,18 +2,18 @@
 use mathlib.Core.Path.{_≡_, sym, subst}
 use mathlib.Core.Logic.{_⊎_, inl, inr, _↔_}
 use mathlib.Core.List.{List}
-use mathlib.Core.Bool.{true, false}
+use mathlib.Core.Bool.{true}
 use Prim.Native.Nat.{ℕ, _-_, _*_, _≤_, _<_}
 use native.Mathlib.Omega.{arith}
 use native.Mathlib.Decide.{ℕ-discrete}
 use lib.IntN.{ℤ}
-use Rattle.cells.specs.Table.{cell, kind, owner, target}
+use Rattle.kinds.specs.Kinds.{groupCode, valueCode}
+use Rattle.kinds.proofs.Laws.{kind-low, definition-kind, expression-kind, body-definition, path-expression, path-body}
+use Rattle.kinds.proofs.Codes.{group-bodiless}
+use Rattle.cells.specs.Table.{cell, kind, isDefinition, hasBody, owner, target}
 use Rattle.cells.specs.Accepted.{Accepted, HasBody}
 use Rattle.cells.specs.Reaches.{HasPath, Mentions, Reaches, once as mention, then as and}
-use lib.Dec.{eqb}
-use borrow.Author.Tests.{eqb-true, eq-eqb}
-use Rattle.order.specs.Order.{isDefinition, hasPath}
-use Rattle.order.proofs.Tests.{clash, or-cases, or-none-left, or-none-right}
+use Rattle.order.proofs.Tests.{clash}
 use Rattle.order.proofs.Tables.{g-kind, kind-v, v-def, kind-label}
 use Rattle.order.proofs.Tree.{within-owner, leaf}
 use Rattle.reach.specs.Links.{Column, Link, Links, once, then, Around, Touches}
@@ -23,47 +23,28 @@ pub column-range : (j : ℕ) → Column j → (6 ≤ j) × (j ≤ 7)
 column-range j (inl e) = (omega arith, omega arith)
 column-range j (inr e) = (omega arith, omega arith)
 
--- the test of a path
-pub path-of : (t : List ℤ) (x : ℕ) → hasPath t x ≡ true → HasPath t x
-path-of t x h = go (or-cases (eqb (kind t x) 6) (eqb (kind t x) 7) h)
-  where
-    go : (eqb (kind t x) 6 ≡ true) ⊎ (eqb (kind t x) 7 ≡ true) → HasPath t x
-    go (inl q) = inl (eqb-true (kind t x) 6 q)
-    go (inr q) = inr (eqb-true (kind t x) 7 q)
-
-pub no-path : (t : List ℤ) (x : ℕ) → hasPath t x ≡ false → HasPath t x → ⊥
-no-path t x h (inl q) = clash (eqb (kind t x) 6) (eq-eqb (kind t x) 6 q) (or-none-left (eqb (kind t x) 6) (eqb (kind t x) 7) h)
-no-path t x h (inr q) = clash (eqb (kind t x) 7) (eq-eqb (kind t x) 7 q) (or-none-right (eqb (kind t x) 6) (eqb (kind t x) 7) h)
-
 module _ (t : List ℤ) (n : ℕ) (ok : Accepted t n) where
   -- ---- what has a body is a label, and no Group
 
   pub body-label : (y : ℕ) → HasBody t y → (1 ≤ y) × (y ≤ n)
-  body-label y (inl e) = kind-label t n ok y (omega arith)
-  body-label y (inr e) = kind-label t n ok y (omega arith)
+  body-label y b = kind-label t n ok y (kind-low (kind t y) (definition-kind (kind t y) (body-definition (kind t y) b)))
 
-  pub body-group : (y : ℕ) → HasBody t y → kind t y ≡ 1 → ⊥
-  body-group y (inl e) k = omega arith
-  body-group y (inr e) k = omega arith
+  pub body-group : (y : ℕ) → HasBody t y → kind t y ≡ groupCode → ⊥
+  body-group y b k = clash (hasBody t y) b (rw k group-bodiless)
 
   pub in-row : (q : ℕ) → q ≤ n → q < 64 * width n
   in-row q h = omega arith
 
-  pub path-low : (l : ℕ) → HasPath t l → 4 ≤ kind t l
-  path-low l (inl e) = omega arith
-  path-low l (inr e) = omega arith
-
   pub path-label : (l : ℕ) → HasPath t l → (1 ≤ l) × (l ≤ n)
-  path-label l p = kind-label t n ok l (omega (arith, path-low l p))
+  path-label l p = kind-label t n ok l (kind-low (kind t l) (expression-kind (kind t l) (path-expression (kind t l) p)))
 
   -- ---- the ends of a link have bodies
 
   target-body : (l : ℕ) → HasPath t l → HasBody t (target t l)
-  target-body l (inl e) = inl (ok .reads l e)
-  target-body l (inr e) = inr (ok .calls l e)
+  target-body l p = rw (ok .leads l p) (path-body (kind t l) p)
 
   pub end-body : (j l : ℕ) → Column j → HasPath t l → HasBody t (cell t l j)
-  end-body j l (inl e) p = let b = path-label l p in rw e (ok .owners l (b .0) (b .1) (path-low l p))
+  end-body j l (inl e) p = rw e (ok .owners l (path-expression (kind t l) p))
   end-body j l (inr e) p = rw e (target-body l p)
 
   pub other-column : (j : ℕ) → Column j → Column (13 - j)
@@ -84,33 +65,33 @@ module _ (t : List ℤ) (n : ℕ) (ok : Accepted t n) where
 
     -- ---- what is around an end
 
-    v-definition : (y : ℕ) → kind t y ≡ 2 → isDefinition t y ≡ true
+    v-definition : (y : ℕ) → kind t y ≡ valueCode → isDefinition t y ≡ true
     v-definition y e = v-def t y (kind-v t y e)
 
     -- what is around a V is the V or a Group
-    pub around-case : (y q : ℕ) → Around t y q → (q ≡ y) ⊎ (kind t q ≡ 1)
+    pub around-case : (y q : ℕ) → Around t y q → (q ≡ y) ⊎ (kind t q ≡ groupCode)
     around-case y q (inl e) = inl e
     around-case y q (inr (k, h, u)) = go (ℕ-discrete q y)
       where
-        go : Dec (q ≡ y) → (q ≡ y) ⊎ (kind t q ≡ 1)
+        go : Dec (q ≡ y) → (q ≡ y) ⊎ (kind t q ≡ groupCode)
         go (yes e) = inl e
         go (no e) = inr (g-kind t q (leaf t n ok q y h (v-definition y k) u (λ z. e (sym z))))
 
     pub around-body : (y q : ℕ) → HasBody t q → Around t y q → q ≡ y
     around-body y q b a = go (around-case y q a)
       where
-        go : (q ≡ y) ⊎ (kind t q ≡ 1) → q ≡ y
+        go : (q ≡ y) ⊎ (kind t q ≡ groupCode) → q ≡ y
         go (inl e) = e
         go (inr e) = absurd (body-group q b e)
 
-    pub around-owner : (y g : ℕ) → HasBody t y → kind t g ≡ 1 → 1 ≤ owner t g → Around t y g → Around t y (owner t g)
-    around-owner y g b k h (inl e) = absurd (body-group y b (subst (λ (x : ℕ). kind t x ≡ 1) e k))
+    pub around-owner : (y g : ℕ) → HasBody t y → kind t g ≡ groupCode → 1 ≤ owner t g → Around t y g → Around t y (owner t g)
+    around-owner y g b k h (inl e) = absurd (body-group y b (subst (λ (x : ℕ). kind t x ≡ groupCode) e k))
     around-owner y g b k h (inr (v, p, u)) = inr (v, h, within-owner t n ok g y u)
 
     pub around-label : (y q : ℕ) → HasBody t y → Around t y q → (1 ≤ q) × (q ≤ n)
     around-label y q b a = go (around-case y q a)
       where
-        go : (q ≡ y) ⊎ (kind t q ≡ 1) → (1 ≤ q) × (q ≤ n)
+        go : (q ≡ y) ⊎ (kind t q ≡ groupCode) → (1 ≤ q) × (q ≤ n)
         go (inl e) = subst (λ (x : ℕ). (1 ≤ x) × (x ≤ n)) (sym e) (body-label y b)
         go (inr e) = kind-label t n ok q (omega arith)
 
@@ -128,7 +109,7 @@ module _ (t : List ℤ) (n : ℕ) (ok : Accepted t n) where
     pub touch-around : {d y q : ℕ} → Links t j d y → Around t y q → Touches t j d q
     touch-around {d} {y} r a = record { end = y; links = r; around = a }
 
-    pub touch-owner : {d g : ℕ} → Touches t j d g → kind t g ≡ 1 → 1 ≤ owner t g → Touches t j d (owner t g)
+    pub touch-owner : {d g : ℕ} → Touches t j d g → kind t g ≡ groupCode → 1 ≤ owner t g → Touches t j d (owner t g)
     touch-owner {d} {g} h k p = record { end = h .end; links = h .links; around = around-owner (h .end) g (links-body (h .links)) k p (h .around) }
 
 -- ---- links by column 7 are mentions, and links by column 6 lead back

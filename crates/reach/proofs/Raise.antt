@@ -7,7 +7,9 @@ use Prim.Native.Nat.{ℕ, zero, suc, _*_, _≤_, _<_}
 use native.Mathlib.Omega.{arith}
 use native.Mathlib.Decide.{ℕ-discrete}
 use lib.IntN.{ℤ}
-use Rattle.cells.specs.Table.{kind, owner}
+use Rattle.kinds.specs.Kinds.{groupCode, valueCode}
+use Rattle.kinds.proofs.Codes.{group-definition, value-definition}
+use Rattle.cells.specs.Table.{kind, isDefinition, owner}
 use Rattle.cells.specs.Accepted.{Accepted, HasBody}
 use Rattle.order.specs.Order.{up, Within}
 use Rattle.order.proofs.Tree.{within-owner}
@@ -25,16 +27,16 @@ up-zero t (suc i) = up-zero t i
 -- g is what is to be marked next of what is around v
 pub record Climb (t : List ℤ) (n : ℕ) (s₀ s : List ℕ) (w d v g : ℕ) : Type 0 where
   pub low : g ≤ n
-  pub group : (g ≡ 0 → ⊥) → (kind t g ≡ 1) × Within t g (owner t v)
+  pub group : (g ≡ 0 → ⊥) → (kind t g ≡ groupCode) × Within t g (owner t v)
   pub others : (a q : ℕ) → (a ≡ d → ⊥) → mark s w a q ≡ mark s₀ w a q
   pub kept : (q : ℕ) → mark s₀ w d q ≡ true → mark s w d q ≡ true
   pub only : (q : ℕ) → mark s w d q ≡ true → (mark s₀ w d q ≡ true) ⊎ ((1 ≤ q) × Within t q (owner t v))
   pub new : (q : ℕ) → 1 ≤ q → Within t q (owner t v) → (mark s w d q ≡ true) ⊎ Within t q g
-  pub raised : (x : ℕ) → kind t x ≡ 1 → mark s w d x ≡ true → 1 ≤ owner t x → (mark s w d (owner t x) ≡ true) ⊎ (owner t x ≡ g)
+  pub raised : (x : ℕ) → kind t x ≡ groupCode → mark s w d x ≡ true → 1 ≤ owner t x → (mark s w d (owner t x) ≡ true) ⊎ (owner t x ≡ g)
 
 module _ (t : List ℤ) (n : ℕ) (ok : Accepted t n) where
   -- a label other than 1 has a Group
-  has-group : (l : ℕ) → 1 ≤ l → l ≤ n → kind t l ≤ 3 → (owner t l ≡ 0 → ⊥) → kind t (owner t l) ≡ 1
+  has-group : (l : ℕ) → 1 ≤ l → l ≤ n → isDefinition t l ≡ true → (owner t l ≡ 0 → ⊥) → kind t (owner t l) ≡ groupCode
   has-group l a b k z = ok .group l (at l a z) b k
     where
       at : (l : ℕ) → 1 ≤ l → (owner t l ≡ 0 → ⊥) → 2 ≤ l
@@ -43,10 +45,10 @@ module _ (t : List ℤ) (n : ℕ) (ok : Accepted t n) where
       at (suc (suc l)) h z = omega arith
 
   module _ (w d v : ℕ) (s₀ : List ℕ) where
-    pub climb-start : 1 ≤ v → v ≤ n → kind t v ≡ 2 → Raised t (mark s₀ w d) → Climb t n s₀ s₀ w d v (owner t v)
+    pub climb-start : 1 ≤ v → v ≤ n → kind t v ≡ valueCode → Raised t (mark s₀ w d) → Climb t n s₀ s₀ w d v (owner t v)
     climb-start a b k r = record {
       low = omega (arith, ok .falls v a b);
-      group = λ z. (has-group v a b (omega arith) z, (0, refl));
+      group = λ z. (has-group v a b (rw k value-definition) z, (0, refl));
       others = λ x q e. refl;
       kept = λ q e. e;
       only = λ q e. inl e;
@@ -58,7 +60,7 @@ module _ (t : List ℤ) (n : ℕ) (ok : Accepted t n) where
       pub climb-turn : (g ≡ 0 → ⊥) → g < 64 * w → (s′ : List ℕ) → Added (λ (q : ℕ). q ≡ g) s s′ w d → Climb t n s₀ s′ w d v (owner t g)
       climb-turn z room s′ add = record {
         low = omega (arith, ok .falls g some (c .low), c .low);
-        group = λ y. (has-group g some (c .low) (omega (arith, c .group z .0)) y, within-owner t n ok g (owner t v) (c .group z .1));
+        group = λ y. (has-group g some (c .low) (rw (c .group z .0) group-definition) y, within-owner t n ok g (owner t v) (c .group z .1));
         others = λ a q e. add .others a q e ∙ c .others a q e;
         kept = λ q e. add .kept q (c .kept q e);
         only = λ q e. only q (add .only q e);
@@ -78,7 +80,7 @@ module _ (t : List ℤ) (n : ℕ) (ok : Accepted t n) where
           new q h (inr (zero, u)) = inl (add .new q (omega arith) (sym u))
           new q h (inr (suc i, u)) = inr (i, u)
 
-          raised : (x : ℕ) → kind t x ≡ 1 → 1 ≤ owner t x → (mark s w d x ≡ true) ⊎ (x ≡ g) → (mark s′ w d (owner t x) ≡ true) ⊎ (owner t x ≡ owner t g)
+          raised : (x : ℕ) → kind t x ≡ groupCode → 1 ≤ owner t x → (mark s w d x ≡ true) ⊎ (x ≡ g) → (mark s′ w d (owner t x) ≡ true) ⊎ (owner t x ≡ owner t g)
           raised x k h (inr e) = inr (ap (owner t) e)
           raised x k h (inl e) = go (c .raised x k e h)
             where
@@ -99,24 +101,24 @@ module _ (t : List ℤ) (n : ℕ) (ok : Accepted t n) where
       pub climb-found : (g ≡ 0 → ⊥) → mark s w d g ≡ true → Added (λ (q : ℕ). (1 ≤ q) × Within t q (owner t v)) s₀ s w d
       climb-found z m = record { others = c .others; kept = c .kept; new = λ q b p. new q p (c .new q (p .0) (p .1)); only = c .only }
         where
-          full : (x : ℕ) → kind t x ≡ 1 → mark s w d x ≡ true → 1 ≤ owner t x → mark s w d (owner t x) ≡ true
+          full : (x : ℕ) → kind t x ≡ groupCode → mark s w d x ≡ true → 1 ≤ owner t x → mark s w d (owner t x) ≡ true
           full x k e h = go (c .raised x k e h)
             where
               go : (mark s w d (owner t x) ≡ true) ⊎ (owner t x ≡ g) → mark s w d (owner t x) ≡ true
               go (inl y) = y
               go (inr y) = rw y m
 
-          climb : (i x : ℕ) → 1 ≤ x → x ≤ n → kind t x ≡ 1 → mark s w d x ≡ true → 1 ≤ up t i x → mark s w d (up t i x) ≡ true
+          climb : (i x : ℕ) → 1 ≤ x → x ≤ n → kind t x ≡ groupCode → mark s w d x ≡ true → 1 ≤ up t i x → mark s w d (up t i x) ≡ true
           climb zero x a b k e h = e
           climb (suc i) x a b k e h = go (ℕ-discrete (owner t x) 0) (climb i (owner t x))
             where
               go : Dec (owner t x ≡ 0)
-                  → (1 ≤ owner t x → owner t x ≤ n → kind t (owner t x) ≡ 1 → mark s w d (owner t x) ≡ true → 1 ≤ up t i (owner t x) → mark s w d (up t i (owner t x)) ≡ true)
+                  → (1 ≤ owner t x → owner t x ≤ n → kind t (owner t x) ≡ groupCode → mark s w d (owner t x) ≡ true → 1 ≤ up t i (owner t x) → mark s w d (up t i (owner t x)) ≡ true)
                   → mark s w d (up t (suc i) x) ≡ true
               go (yes y) r =
                   let y₁ : up t i (owner t x) ≡ 0 = ap (up t i) y ∙ up-zero t i in
                   absurd (omega arith)
-              go (no y) r = r (omega arith) (omega (arith, ok .falls x a b)) (has-group x a b (omega arith) y) (full x k e (omega arith)) h
+              go (no y) r = r (omega arith) (omega (arith, ok .falls x a b)) (has-group x a b (rw k group-definition) y) (full x k e (omega arith)) h
 
           new : (q : ℕ) → (1 ≤ q) × Within t q (owner t v) → (mark s w d q ≡ true) ⊎ Within t q g → mark s w d q ≡ true
           new q p (inl e) = e
@@ -130,9 +132,9 @@ module _ (t : List ℤ) (n : ℕ) (ok : Accepted t n) where
       where
         go : (mark s w d g ≡ true) ⊎ (g ≡ e) → mark s₁ w d (owner t g) ≡ true
         go (inl y) = put .kept (owner t g) (r g k y h)
-        go (inr y) = absurd (body-group t n ok e b (subst (λ (x : ℕ). kind t x ≡ 1) y k))
+        go (inr y) = absurd (body-group t n ok e b (subst (λ (x : ℕ). kind t x ≡ groupCode) y k))
 
-    pub around-value : kind t e ≡ 2 → (s₂ : List ℕ) → Added (λ (q : ℕ). (1 ≤ q) × Within t q (owner t e)) s₁ s₂ w d → Added (λ (q : ℕ). Around t e q) s s₂ w d
+    pub around-value : kind t e ≡ valueCode → (s₂ : List ℕ) → Added (λ (q : ℕ). (1 ≤ q) × Within t q (owner t e)) s₁ s₂ w d → Added (λ (q : ℕ). Around t e q) s s₂ w d
     around-value k s₂ more = record {
       others = λ a q y. more .others a q y ∙ put .others a q y;
       kept = λ q y. more .kept q (put .kept q y);
@@ -153,7 +155,7 @@ module _ (t : List ℤ) (n : ℕ) (ok : Accepted t n) where
         only q (inl y) = first q (put .only q y)
         only q (inr (p, (i, u))) = inr (inr (k, p, (suc i, u)))
 
-    pub around-other : (kind t e ≡ 2 → ⊥) → Added (λ (q : ℕ). Around t e q) s s₁ w d
+    pub around-other : (kind t e ≡ valueCode → ⊥) → Added (λ (q : ℕ). Around t e q) s s₁ w d
     around-other k = record { others = put .others; kept = put .kept; new = new; only = λ q y. only q (put .only q y) }
       where
         new : (q : ℕ) → q < 64 * w → Around t e q → mark s₁ w d q ≡ true

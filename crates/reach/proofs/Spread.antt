@@ -10,6 +10,7 @@ use native.Mathlib.Decide.{ℕ-discrete, decLt}
 use lib.IntN.{ℤ}
 use lib.ListN.{length, getD, take, length-append}
 use lib.Seq.{take-suc, take-suc-set, length-take-le}
+use Rattle.kinds.specs.Kinds.{groupCode}
 use Rattle.cells.specs.Table.{cell, kind, owner}
 use Rattle.cells.specs.Accepted.{Accepted, HasBody}
 use Rattle.order.specs.Lists.{one, count, _∈_}
@@ -67,7 +68,7 @@ module _ (t : List ℤ) (n : ℕ) (ok : Accepted t n) (j : ℕ) (col : Column j)
       (up : (q : ℕ) → M q ≡ true → M′ q ≡ true) (new : (q : ℕ) → X q → M′ q ≡ true) (only : (q : ℕ) → M′ q ≡ true → (M q ≡ true) ⊎ X q)
       (x-sound : (q : ℕ) → X q → Touches t j d q)
       (x-around : (y q : ℕ) → X y → HasBody t y → Around t y q → X q)
-      (x-owner : (g : ℕ) → X g → kind t g ≡ 1 → 1 ≤ owner t g → X (owner t g))
+      (x-owner : (g : ℕ) → X g → kind t g ≡ groupCode → 1 ≤ owner t g → X (owner t g))
       (x-closed : (y z : ℕ) → X y → HasBody t y → Link t j y z → (M′ z ≡ true) ⊎ (y ∈ S′))
       (more : (x : ℕ) → x ∈ S → x ∈ S′) where
     spread-more : ((x : ℕ) → count x S′ ≤ one (M′ x)) → ((x : ℕ) → x ∈ S′ → HasBody t x) → Spread t j d e M′ S′
@@ -88,7 +89,7 @@ module _ (t : List ℤ) (n : ℕ) (ok : Accepted t n) (j : ℕ) (col : Column j)
         around y q b a (inl m) = up q (h .around y q m b a)
         around y q b a (inr x) = new q (x-around y q x b a)
 
-        raised : (g : ℕ) → kind t g ≡ 1 → 1 ≤ owner t g → (M g ≡ true) ⊎ X g → M′ (owner t g) ≡ true
+        raised : (g : ℕ) → kind t g ≡ groupCode → 1 ≤ owner t g → (M g ≡ true) ⊎ X g → M′ (owner t g) ≡ true
         raised g k i (inl m) = up (owner t g) (h .raised g k m i)
         raised g k i (inr x) = new (owner t g) (x-owner g x k i)
 
@@ -149,7 +150,7 @@ module _ (t : List ℤ) (n : ℕ) (ok : Accepted t n) (j : ℕ) (col : Column j)
         around y q (inl a) b c = inl (subst (λ (x : ℕ). Around t x q) (around-body t n ok j col f y b a) c)
         around y q (inr a) b c = inr (touch-around t n ok j col (touch-body t n ok j col a b) c)
 
-        own : (g : ℕ) → Around t f g ⊎ Touches t j f g → kind t g ≡ 1 → 1 ≤ owner t g → Around t f (owner t g) ⊎ Touches t j f (owner t g)
+        own : (g : ℕ) → Around t f g ⊎ Touches t j f g → kind t g ≡ groupCode → 1 ≤ owner t g → Around t f (owner t g) ⊎ Touches t j f (owner t g)
         own g (inl a) k i = inl (around-owner t n ok j col f g body k i a)
         own g (inr a) k i = inr (touch-owner t n ok j col a k i)
 

@@ -11,6 +11,8 @@ use lib.ListN.{length, getD, set, length-set}
 use lib.Seq.{getD-set-same, getD-set-other}
 use borrow.Author.Count.{below-more}
 use borrow.Author.Tests.{eqb-true, eq-eqb, ne-eqb}
+use Rattle.kinds.proofs.Codes.{value-body}
+use Rattle.kinds.specs.Kinds.{valueCode}
 use Rattle.cells.specs.Table.{kind}
 use Rattle.cells.specs.Accepted.{Accepted, HasBody}
 use Rattle.order.specs.Lists.{filter}
@@ -171,10 +173,10 @@ module _ (t : List ℤ) (n : ℕ) (ok : Accepted t n) (j : ℕ) where
 
   -- ---- all rows
 
-  pub begun-more : (v : ℕ) (state state′ square′ : List ℕ) → ((u : ℕ) → u < v → 1 ≤ u → kind t u ≡ 2 → getD state u 0 ≡ 0 → ⊥) → Visited t n j v state state′ square′
-      → (u : ℕ) → u < v + 1 → 1 ≤ u → kind t u ≡ 2 → getD state′ u 0 ≡ 0 → ⊥
+  pub begun-more : (v : ℕ) (state state′ square′ : List ℕ) → ((u : ℕ) → u < v → 1 ≤ u → kind t u ≡ valueCode → getD state u 0 ≡ 0 → ⊥) → Visited t n j v state state′ square′
+      → (u : ℕ) → u < v + 1 → 1 ≤ u → kind t u ≡ valueCode → getD state′ u 0 ≡ 0 → ⊥
   begun-more v state state′ square′ old h =
-      below-more (λ (u : ℕ). 1 ≤ u → kind t u ≡ 2 → getD state′ u 0 ≡ 0 → ⊥) v (λ u l i k. h .since .kept u (old u l i k)) (λ i k. h .here)
+      below-more (λ (u : ℕ). 1 ≤ u → kind t u ≡ valueCode → getD state′ u 0 ≡ 0 → ⊥) v (λ u l i k. h .since .kept u (old u l i k)) (λ i k. h .here)
 
   pub rows-none : (state square : List ℕ) → ((d : ℕ) → getD state d 0 ≡ 0) → ((d : ℕ) → Blank n square d) → Rows t n j state square
   rows-none state square z b = record {
@@ -185,13 +187,13 @@ module _ (t : List ℤ) (n : ℕ) (ok : Accepted t n) (j : ℕ) where
   }
 
   pub rows-all : (state₀ state square : List ℕ) → ((d : ℕ) → getD state₀ d 0 ≡ 0) → Since state₀ state → Rows t n j state square
-      → ((v : ℕ) → 1 ≤ v → v ≤ n → kind t v ≡ 2 → getD state v 0 ≡ 0 → ⊥) → AllRows t n j square
+      → ((v : ℕ) → 1 ≤ v → v ≤ n → kind t v ≡ valueCode → getD state v 0 ≡ 0 → ⊥) → AllRows t n j square
   rows-all state₀ state square z s r all = record {
-    values = λ v k. r .made v (two v (body-label t n ok v (inl k)) k);
+    values = λ v k. r .made v (two v (body-label t n ok v (rw k value-body)) k);
     groups = λ g k. r .blank g (λ y. body-group t n ok g (r .begun g (λ x. omega arith)) k);
   }
     where
-      two : (v : ℕ) → (1 ≤ v) × (v ≤ n) → kind t v ≡ 2 → getD state v 0 ≡ 2
+      two : (v : ℕ) → (1 ≤ v) × (v ≤ n) → kind t v ≡ valueCode → getD state v 0 ≡ 2
       two v b k =
           let a : getD state v 0 ≡ 0 → ⊥ = all v (b .0) (b .1) k in
           let c : getD state v 0 ≡ 1 → ⊥ = λ y. omega (arith, z v, s .unmade v y) in

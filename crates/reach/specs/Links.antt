@@ -6,6 +6,7 @@ use mathlib.Core.Logic.{_⊎_}
 use mathlib.Core.List.{List}
 use Prim.Native.Nat.{ℕ, _-_, _≤_}
 use lib.IntN.{ℤ}
+use Rattle.kinds.specs.Kinds.{valueCode}
 use Rattle.cells.specs.Table.{cell, kind}
 use Rattle.cells.specs.Reaches.{HasPath}
 use Rattle.order.specs.Order.{Within}
@@ -26,7 +27,7 @@ pub data Links (t : List ℤ) (j d : ℕ) : ℕ → Type 0 where
 
 -- q is y or, if y is a V, a Group around it
 abbrev pub Around : List ℤ → ℕ → ℕ → Type 0
-Around t y q = (q ≡ y) ⊎ ((kind t y ≡ 2) × (1 ≤ q) × Within t q y)
+Around t y q = (q ≡ y) ⊎ ((kind t y ≡ valueCode) × (1 ≤ q) × Within t q y)
 
 -- links lead from d to q, or to a V that lies in the Group q
 pub record Touches (t : List ℤ) (j d q : ℕ) : Type 0 where

@@ -6,6 +6,7 @@ use mathlib.Core.Bool.{true, false}
 use Prim.Native.Nat.{ℕ, _+_, _*_, _/_, _≤_, _<_}
 use lib.IntN.{ℤ}
 use lib.ListN.{length, getD}
+use Rattle.kinds.specs.Kinds.{groupCode, valueCode}
 use Rattle.cells.specs.Table.{kind}
 use Rattle.cells.specs.Accepted.{HasBody}
 use Rattle.marks.specs.Marks.{mark}
@@ -23,8 +24,8 @@ Blank n square d = (q : ℕ) → mark square (width n) d q ≡ false
 
 -- every V's row is made, and a Group's is blank
 pub record AllRows (t : List ℤ) (n j : ℕ) (square : List ℕ) : Type 0 where
-  pub values : (v : ℕ) → kind t v ≡ 2 → Row t n j square v
-  pub groups : (g : ℕ) → kind t g ≡ 1 → Blank n square g
+  pub values : (v : ℕ) → kind t v ≡ valueCode → Row t n j square v
+  pub groups : (g : ℕ) → kind t g ≡ groupCode → Blank n square g
 
 -- State 0: not begun; 1: begun; 2: the row is made. Other rows are blank, and only what has a body is begun.
 pub record Rows (t : List ℤ) (n j : ℕ) (state square : List ℕ) : Type 0 where

@@ -6,6 +6,7 @@ use mathlib.Core.Bool.{Bool, true, false}
 use Prim.Native.Nat.{ℕ, _+_, _≤_}
 use lib.IntN.{ℤ}
 use lib.ListN.{length, getD, set, take}
+use Rattle.kinds.specs.Kinds.{groupCode}
 use Rattle.cells.specs.Table.{kind, owner}
 use Rattle.cells.specs.Accepted.{HasBody}
 use Rattle.order.specs.Lists.{one, count, _∈_, filter}
@@ -16,7 +17,7 @@ use Rattle.reach.specs.Rows.{width, Rows}
 
 -- with a Group, the Groups around it are marked
 abbrev pub Raised : List ℤ → (ℕ → Bool) → Type 0
-Raised t M = (g : ℕ) → kind t g ≡ 1 → M g ≡ true → 1 ≤ owner t g → M (owner t g) ≡ true
+Raised t M = (g : ℕ) → kind t g ≡ groupCode → M g ≡ true → 1 ≤ owner t g → M (owner t g) ≡ true
 
 -- What becomes of row d and the stack where a link leads to f: it was marked already; or it is marked now with what is around it, and its
 -- row is added if that is made, or else f is put on the stack.

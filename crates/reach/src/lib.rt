@@ -5,9 +5,10 @@ ghost use mathlib.Core.Path.{_≡_};
 ghost use mathlib.Core.Logic.{_⊎_};
 ghost use Prim.Native.Nat.{ℕ, _+_, _*_, _≤_, _<_};
 ghost use lib.ListN.{length, getD, take};
-ghost use Rattle.cells.specs.Table.{cell, kind, owner};
+ghost use Rattle.kinds.specs.Kinds.{valueCode, givesValues};
+ghost use Rattle.cells.specs.Table.{cell, kind, isDefinition, hasPath, owner};
 ghost use Rattle.cells.specs.Accepted.{Accepted, HasBody};
-ghost use Rattle.order.specs.Order.{Within, hasPath, place16};
+ghost use Rattle.order.specs.Order.{Within, place16};
 ghost use Rattle.marks.specs.Marks.{mark, Added};
 ghost use Rattle.reach.specs.Links.{Column, Links, Around};
 ghost use Rattle.reach.specs.Rows.{width, Row, Blank, AllRows, Rows, Room};
@@ -34,17 +35,31 @@ pub fn cell_of(table: &[i64], n: usize, label: usize, j: usize) -> usize
     table[8 * (label - 1) + j] as usize
 }
 
-// Whether the line has a path: R or C.
+// Whether the line has a path.
 fn has_path(table: &[i64], n: usize, label: usize) -> bool
     requires { ⌜ Accepted (now table) n ⌝ }
     requires { ⌜ (1 ≤ label) × (label ≤ n) ⌝ }
     ensures { λ r. ⌜ r ≡ hasPath (now (table .entry)) label ⌝ }
 {
-    let k = kind_of(table, n, label);
-    if k == cells::READ {
-        return true;
-    }
-    k == cells::CALL
+    kinds::has_path(kind_of(table, n, label))
+}
+
+// Whether it is a definition.
+pub fn is_definition(table: &[i64], n: usize, label: usize) -> bool
+    requires { ⌜ Accepted (now table) n ⌝ }
+    requires { ⌜ (1 ≤ label) × (label ≤ n) ⌝ }
+    ensures { λ r. ⌜ r ≡ isDefinition (now (table .entry)) label ⌝ }
+{
+    kinds::is_definition(kind_of(table, n, label))
+}
+
+// Whether it has values in a plan: a Group or a value.
+pub fn gives_values(table: &[i64], n: usize, label: usize) -> bool
+    requires { ⌜ Accepted (now table) n ⌝ }
+    requires { ⌜ (1 ≤ label) × (label ≤ n) ⌝ }
+    ensures { λ r. ⌜ r ≡ givesValues (kind (now (table .entry)) label) ⌝ }
+{
+    kinds::gives_values(kind_of(table, n, label))
 }
 
 // ---- chains of lines
@@ -74,7 +89,7 @@ fn link(table: &[i64], n: usize, j: usize, chains: &mut [u16])
 fn mark_groups(table: &[i64], n: usize, square: &mut [u64], d: usize, v: usize)
     requires { ⌜ Accepted (now table) n ⌝ }
     requires { ⌜ (d ≤ n) × (1 ≤ v) × (v ≤ n) × ((n + 1) * width n ≤ length (now square)) ⌝ }
-    requires { ⌜ kind (now table) v ≡ 2 ⌝ }
+    requires { ⌜ kind (now table) v ≡ valueCode ⌝ }
     requires { ⌜ Raised (now table) (mark (now square) (width n) d) ⌝ }
     ensures { λ _. ⌜ Added (λ (q : ℕ). (1 ≤ q) × Within (now (table .entry)) q (owner (now (table .entry)) v)) (now (square .entry)) (now (square .exit)) (width n) d ⌝ }
 {
@@ -98,7 +113,7 @@ fn mark_around(table: &[i64], n: usize, square: &mut [u64], d: usize, e: usize)
     ensures { λ _. ⌜ Added (λ (q : ℕ). Around (now (table .entry)) e q) (now (square .entry)) (now (square .exit)) (width n) d ⌝ }
 {
     marks::put_mark(square, n / 64 + 1, d, e);
-    if kind_of(table, n, e) == cells::VALUE {
+    if kind_of(table, n, e) == kinds::VALUE {
         mark_groups(table, n, square, d, e);
     }
 }
@@ -270,7 +285,7 @@ fn reach_rows(
 {
     let mut v = 1;
     while v <= n {
-        if kind_of(table, n, v) == cells::VALUE {
+        if kind_of(table, n, v) == kinds::VALUE {
             visit(table, n, j, chains, state, square, stack, v);
         }
         v += 1;
@@ -287,7 +302,7 @@ fn first_cycle(table: &[i64], n: usize, j: usize, square: &[u64]) -> usize
 {
     let mut v = 1;
     while v <= n {
-        if kind_of(table, n, v) == cells::VALUE { // functions may reach themselves
+        if kind_of(table, n, v) == kinds::VALUE { // functions may reach themselves
             if marks::has_mark(square, n / 64 + 1, v, v) {
                 return v;
             }

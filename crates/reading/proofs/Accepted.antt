@@ -2,7 +2,7 @@
 -- those that the rules define.
 use mathlib.Core.Path.{_≡_, refl, ap, sym, _∙_}
 use mathlib.Core.Logic.{⊎-elim}
-use mathlib.Core.Bool.{Bool, true, false, _||_}
+use mathlib.Core.Bool.{Bool, true, false}
 use mathlib.Core.List.{List}
 use Prim.Native.Nat.{ℕ, zero, suc, _+_, _-_, _*_, _≤_, _<_}
 use native.Mathlib.Omega.{arith}
@@ -10,9 +10,12 @@ use native.Mathlib.Nat.{eq-or-lt-of-le}
 use lib.Dec.{eqb, leb}
 use lib.IntN.{ℤ, pos}
 use lib.ListN.{length}
-use borrow.Author.Tests.{eqb-true, ne-eqb, leb-true, leb-false}
+use borrow.Author.Tests.{eqb-true, leb-true, leb-false}
+use Rattle.kinds.specs.Kinds.{valueCode, numberCode}
+use Rattle.kinds.specs.Kinds as kinds
+use Rattle.kinds.proofs.Laws.{kind-low, definition-kind, expression-kind, not-expression, body-definition, path-expression, path-body}
 use Rattle.cells.specs.Cells.{natOf, intAt}
-use Rattle.cells.specs.Table.{cell, kind, nameStart, nameLength, fieldA, fieldB, fieldC, owner, target, numberOf}
+use Rattle.cells.specs.Table.{cell, kind, isDefinition, isExpression, hasPath, nameStart, nameLength, fieldA, fieldB, fieldC, owner, target, numberOf}
 use Rattle.cells.specs.Accepted.{Part, Accepted}
 use Rattle.cells.proofs.Table.{cell-at}
 use Rattle.cells.proofs.Columns.{column-length, column-keeps, column-has, column-own, column-other, column-number}
@@ -20,16 +23,13 @@ use Rattle.refusals.specs.Refusal.{firstBad, orElse}
 use Rattle.refusals.specs.declared.Verdict.the-variants.{Fine}
 use Rattle.refusals.proofs.OrElse.{both-fine}
 use Rattle.refusals.proofs.FirstBad.{first-none}
-use Rattle.order.specs.Order.{hasPath}
-use Rattle.text.proofs.Bytes.{true-false, and-left}
 use Rattle.lines.specs.Lines.{labels, headBad, linesBad}
-use Rattle.tree.specs.Tree.{isGroup, isDefinition, isExpression, Owned, ownerOf, treeBad}
+use Rattle.tree.specs.Tree.{Owned, ownerOf, treeBad}
 use Rattle.tree.specs.Treed.{Treed}
-use Rattle.tree.proofs.Codes.{expression-kind, not-expression, label-low, label-high}
+use Rattle.tree.proofs.Codes.{expression-kind as line-kind, label-low, label-high}
 use Rattle.tree.proofs.Parts.{Alike as TreeAlike, alike-expression, alike-definition, alike-parts}
 use Rattle.tree.proofs.Owners.{owner-group}
 use Rattle.tree.proofs.Treed.{treed}
-use Rattle.lines.specs.Kinds.{kindAt}
 use Rattle.paths.specs.Paths.{targetOf, targetCell, wanted, duplicateBad, pathHeadBad, laterBad, targetBad, pathsBad}
 use Rattle.paths.specs.Leads.{NamesApart, Leads}
 use Rattle.paths.proofs.Leads.{paths-kept, target-leads, leads-unique}
@@ -51,18 +51,12 @@ owned-alike : (t w : List ℤ) → TreeAlike t w → (d x : ℕ) → Owned t d x
 owned-alike t w a d x (Owned.body _ _ f p) = Owned.body d x (alike-definition t w a d ∙ f) (rw (alike-parts t w a d) p)
 owned-alike t w a d x (Owned.operand _ u _ o f p) = Owned.operand d u x (owned-alike t w a d u o) (alike-expression t w a u ∙ f) (rw (alike-parts t w a u) p)
 
-definition-kind : (t : List ℤ) (l : ℕ) → isDefinition t l ≡ true → 1 ≤ kind t l
-unfolding isDefinition
-definition-kind t l e = leb-true 1 (kind t l) (and-left (leb 1 (kind t l)) (isGroup (kindAt (kind t l) .a)) e)
+-- what has a path has a kind, and what it must end at has one
+path-low : (k : ℕ) → kinds.hasPath k ≡ true → 1 ≤ k
+path-low k p = kind-low k (expression-kind k (path-expression k p))
 
--- what an R or C line is to lead to is some kind
-path-kind : (k : ℕ) → (eqb k 6 || eqb k 7) ≡ true → (1 ≤ k) × (1 ≤ wanted k)
-path-kind k p = go (eqb k 6) (eqb k 7) refl refl p
-  where
-    go : (a b : Bool) → eqb k 6 ≡ a → eqb k 7 ≡ b → (a || b) ≡ true → (1 ≤ k) × (1 ≤ wanted k)
-    go true b e f h = rw (eqb-true k 6 e) (omega arith, omega arith)
-    go false true e f h = rw (eqb-true k 7 f) (omega arith, omega arith)
-    go false false e f h = absurd (true-false (sym h))
+wanted-low : (k : ℕ) → kinds.hasPath k ≡ true → 1 ≤ wanted k
+wanted-low k p = kind-low (wanted k) (definition-kind (wanted k) (body-definition (wanted k) (path-body k p)))
 
 module _ (s : List ℕ) (t : List ℤ) (n : ℕ) (is : Lined s t n) (tree : treeBad t n ≡ Fine) (paths : pathsBad s (ownedTable t n) n ≡ Fine) where
   abbrev u : List ℤ
@@ -112,7 +106,7 @@ module _ (s : List ℕ) (t : List ℤ) (n : ℕ) (is : Lined s t n) (tree : tree
     rw q (keeps (8 * (l - 1) + 6) (λ k a e. omega arith) ∙ column-has 6 (ownerOf t n) (omega arith) n t (l - 1) (omega arith) (is .room)),
   )
 
-  natural : (l j : ℕ) → 1 ≤ l → l ≤ n → j < 8 → (kind w l ≡ 4 → j ≡ 3 → ⊥) → intAt w (8 * (l - 1) + j) ≡ pos (cell w l j)
+  natural : (l j : ℕ) → 1 ≤ l → l ≤ n → j < 8 → (kind w l ≡ numberCode → j ≡ 3 → ⊥) → intAt w (8 * (l - 1) + j) ≡ pos (cell w l j)
   natural l j h g m d = natural-cell w (8 * (l - 1) + j) (some .0) (some .1) ∙ ap pos (sym (cell-at w l j h))
     where
       line : j < 6 → (x : ℕ) × (intAt w (8 * (l - 1) + j) ≡ pos x)
@@ -132,8 +126,7 @@ module _ (s : List ℕ) (t : List ℤ) (n : ℕ) (is : Lined s t n) (tree : tree
   part l d x p = record {
     above = p .above;
     label = p .label;
-    low = rw (same x 0 (omega arith)) (p .low);
-    high = rw (same x 0 (omega arith)) (p .high);
+    expression = rw (same x 0 (omega arith)) (p .expression);
     owned = same x 6 (omega arith) ∙ p .owned;
   }
 
@@ -154,12 +147,12 @@ module _ (s : List ℕ) (t : List ℤ) (n : ℕ) (is : Lined s t n) (tree : tree
   pub resolved-owned : (x : ℕ) → isExpression w x ≡ true → Owned w (owner w x) x
   resolved-owned x e =
       let q = sym (alike-expression t w alike-lines x) ∙ e in
-      rw (owner-own x (expression-kind t x q)) (owned-alike t w alike-lines (ownerOf t n x) x (rules .owned x q))
+      rw (owner-own x (line-kind t x q)) (owned-alike t w alike-lines (ownerOf t n x) x (rules .owned x q))
 
   pub resolved-owned-only : (d x : ℕ) → Owned w d x → d ≡ owner w x
   resolved-owned-only d x o =
       let q = owned-alike w t (λ l j h. sym (same-lines l j h)) d x o in
-      rules .owned-only d x q ∙ sym (owner-own x (expression-kind t x (go q)))
+      rules .owned-only d x q ∙ sym (owner-own x (line-kind t x (go q)))
     where
       go : Owned t d x → isExpression t x ≡ true
       go (Owned.body _ _ f p) = rules .part d x p .expression
@@ -168,7 +161,7 @@ module _ (s : List ℕ) (t : List ℤ) (n : ℕ) (is : Lined s t n) (tree : tree
   pub resolved-group : (d : ℕ) → isDefinition w d ≡ true → owner w d ≡ fieldA w d
   resolved-group d e =
       let q = sym (alike-definition t w alike-lines d) ∙ e in
-      owner-own d (definition-kind t d q) ∙ owner-group t n d (not-expression t d q) ∙ sym (same-lines d 3 (omega arith))
+      owner-own d (kind-low (kind t d) (definition-kind (kind t d) q)) ∙ owner-group t n d (not-expression (kind t d) q) ∙ sym (same-lines d 3 (omega arith))
 
   -- ---- targets
 
@@ -197,14 +190,10 @@ module _ (s : List ℕ) (t : List ℤ) (n : ℕ) (is : Lined s t n) (tree : tree
       let at : target w l ≡ targetOf s u n l = target-own l h g ∙ rw has in
       (at, rw at (same (targetOf s u n l) 0 (omega arith) ∙ aimed l h g has ∙ ap wanted (sym q)))
 
-  target-found : (l k : ℕ) → kind w l ≡ k → (eqb k 6 || eqb k 7) ≡ true → 1 ≤ k → kind w (target w l) ≡ wanted k
-  target-found l k e p low = target-at l (rw e p) (omega arith) .1 ∙ ap wanted e
-
   target-of : (x : ℕ) → hasPath w x ≡ true → (target w x ≡ targetOf s u n x) × (target w x ≡ 0 → ⊥)
   target-of x p =
-      let b = path-kind (kind w x) p in
-      let a = target-at x p (b .0) in
-      (a .0, λ z. omega (arith, a .1, b .1, ap (kind w) z))
+      let a = target-at x p (path-low (kind w x) p) in
+      (a .0, λ z. omega (arith, a .1, wanted-low (kind w x) p, ap (kind w) z))
 
   -- the target of an R or C is where its path leads, and no other label is
   alike : Alike u w
@@ -220,15 +209,15 @@ module _ (s : List ℕ) (t : List ℤ) (n : ℕ) (is : Lined s t n) (tree : tree
   pub resolved-leads-only : (x m : ℕ) → hasPath w x ≡ true → Leads s w n x m → m ≡ target w x
   resolved-leads-only x m e p = leads-unique s w n names-apart x m (target w x) p (resolved-leads x e)
 
-  no-target : (l : ℕ) → (kind w l ≡ 6 → ⊥) → (kind w l ≡ 7 → ⊥) → target w l ≡ 0
-  no-target l a b = go l (leb l n) refl a b
+  no-target : (l : ℕ) → hasPath w l ≡ false → target w l ≡ 0
+  no-target l p = go l (leb l n) refl p
     where
-      go : (l : ℕ) (c : Bool) → leb l n ≡ c → (kind w l ≡ 6 → ⊥) → (kind w l ≡ 7 → ⊥) → target w l ≡ 0
-      go zero c q x y = refl
-      go (suc k) true q x y =
-          target-own (suc k) (omega arith) (leb-true (suc k) n q)
-          ∙ rw (ne-eqb (kind u (suc k)) 6 (λ e. x (same (suc k) 0 (omega arith) ∙ e)), ne-eqb (kind u (suc k)) 7 (λ e. y (same (suc k) 0 (omega arith) ∙ e)))
-      go (suc k) false q x y = ap natOf (unused (8 * k + 7) (omega (arith, leb-false (suc k) n q)))
+      go : (l : ℕ) (c : Bool) → leb l n ≡ c → hasPath w l ≡ false → target w l ≡ 0
+      go zero c q e = refl
+      go (suc k) true q e =
+          let none : hasPath u (suc k) ≡ false = rw (same (suc k) 0 (omega arith)) at e in
+          target-own (suc k) (omega arith) (leb-true (suc k) n q) ∙ rw none
+      go (suc k) false q e = ap natOf (unused (8 * k + 7) (omega (arith, leb-false (suc k) n q)))
 
   number-same : (l : ℕ) → numberOf w l ≡ numberOf t l
   unfolding resolvedTable ownedTable
@@ -247,15 +236,14 @@ module _ (s : List ℕ) (t : List ℤ) (n : ℕ) (is : Lined s t n) (tree : tree
         root = same-lines 1 0 (omega arith) ∙ is .root;
         top = same 1 6 (omega arith) ∙ omega (arith, a .falls 1 (omega arith) (is .some));
         falls = λ l h g. rw (same l 6 (omega arith)) (a .falls l h g);
-        group = λ l h g k. rw (same l 6 (omega arith), same (owner u l) 0 (omega arith)) (a .group l h g (rw (← same l 0 (omega arith)) k));
-        owners = λ l h g k. rw (same l 6 (omega arith), same (owner u l) 0 (omega arith)) (a .owners l h g (rw (← same l 0 (omega arith)) k));
-        argument = λ l k. rw (same l 6 (omega arith), same (owner u l) 0 (omega arith)) (a .argument l (sym (same l 0 (omega arith)) ∙ k));
-        body = λ l h. rw (same l 4 (omega arith)) (part l l (fieldB u l) (a .body l (rw (← same l 0 (omega arith)) h)));
-        first = λ l h g. rw (same l 3 (omega arith), same l 6 (omega arith)) (part l (owner u l) (fieldA u l) (a .first l (rw (← same l 0 (omega arith)) h) (rw (← same l 0 (omega arith)) g)));
-        second = λ l h g. rw (same l 4 (omega arith), same l 6 (omega arith)) (part l (owner u l) (fieldB u l) (a .second l (rw (← same l 0 (omega arith)) h) (rw (← same l 0 (omega arith)) g)));
-        third = λ l h. rw (same l 5 (omega arith), same l 6 (omega arith)) (part l (owner u l) (fieldC u l) (a .third l (sym (same l 0 (omega arith)) ∙ h)));
-        reads = λ l e. target-found l 6 e refl (omega arith);
-        calls = λ l e. target-found l 7 e refl (omega arith);
+        group = λ l h g k. rw (same l 6 (omega arith), same (owner u l) 0 (omega arith)) (a .group l h g (rw (same l 0 (omega arith)) at k));
+        owners = λ l k. rw (same l 6 (omega arith), same (owner u l) 0 (omega arith)) (a .owners l (rw (same l 0 (omega arith)) at k));
+        argument = λ l. rw (same l 6 (omega arith), same (owner u l) 0 (omega arith), same l 0 (omega arith)) (a .argument l);
+        body = λ l h. rw (same l 4 (omega arith)) (part l l (fieldB u l) (a .body l (rw (same l 0 (omega arith)) at h)));
+        first = λ l h. rw (same l 3 (omega arith), same l 6 (omega arith)) (part l (owner u l) (fieldA u l) (a .first l (rw (same l 0 (omega arith)) at h)));
+        second = λ l h. rw (same l 4 (omega arith), same l 6 (omega arith)) (part l (owner u l) (fieldB u l) (a .second l (rw (same l 0 (omega arith)) at h)));
+        third = λ l h. rw (same l 5 (omega arith), same l 6 (omega arith)) (part l (owner u l) (fieldC u l) (a .third l (rw (same l 0 (omega arith)) at h)));
+        leads = λ l p. target-at l p (path-low (kind w l) p) .1;
         others = no-target;
         number = λ l e. rw (number-same l) (is .number l (sym (same-lines l 0 (omega arith)) ∙ e));
       }
@@ -303,11 +291,11 @@ module _ (s : List ℕ) (low : 1 ≤ labels s) (high : labels s ≤ 1024) (e : s
   any-names = resolved-names s rows n is-lined (tree-fine .0) (tree-fine .1)
 
   -- a value's name has at most 16 bytes
-  pub any-short : (v : ℕ) → kind (sheetTable s) v ≡ 2 → nameLength (sheetTable s) v ≤ 16
+  pub any-short : (v : ℕ) → kind (sheetTable s) v ≡ valueCode → nameLength (sheetTable s) v ≤ 16
   unfolding sheetTable
   any-short v k =
       let same = same-lines s rows n is-lined (tree-fine .0) (tree-fine .1) v in
-      let short : (kind rows v ≡ 2 → nameLength rows v ≤ 16) = rw (rows-lined s) at (names-short s (8 * n) low high (lines-fine .0) v) in
+      let short : (kind rows v ≡ valueCode → nameLength rows v ≤ 16) = rw (rows-lined s) at (names-short s (8 * n) low high (lines-fine .0) v) in
       rw (same 2 (omega arith)) (short (sym (same 0 (omega arith)) ∙ k))
 
   pub any-length : length (sheetTable s) ≡ 8 * labels s
@@ -354,7 +342,7 @@ module _ (s : List ℕ) (e : Reads s) where
   pub read-names : (l : ℕ) → nameStart (sheetTable s) l + nameLength (sheetTable s) l ≤ length s
   read-names = any-names s least most (both .1)
 
-  pub read-short : (v : ℕ) → kind (sheetTable s) v ≡ 2 → nameLength (sheetTable s) v ≤ 16
+  pub read-short : (v : ℕ) → kind (sheetTable s) v ≡ valueCode → nameLength (sheetTable s) v ≤ 16
   read-short = any-short s least most (both .1)
 
   pub read-length : length (sheetTable s) ≡ 8 * labels s

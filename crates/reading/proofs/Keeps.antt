@@ -8,23 +8,25 @@ use lib.Dec.{leb, eqb}
 use lib.IntN.{ℤ}
 use lib.ListN.{length, getD}
 use borrow.Author.Tests.{leb-true, le-leb, lt-ltb, le-ltb, eqb-true, eqb-false, eq-eqb, ne-eqb}
+use Rattle.kinds.specs.Kinds.{groupCode, fieldsAt, takes, placeOf}
+use Rattle.kinds.proofs.Laws.{not-expression}
+use Rattle.kinds.proofs.Codes.{other-place}
 use Rattle.cells.specs.Lists.{count, all}
-use Rattle.cells.specs.Table.{kind, fieldA}
+use Rattle.cells.specs.Table.{kind, isDefinition, isExpression, fieldA}
 use Rattle.refusals.specs.declared.Verdict.the-variants.{Fine}
 use Rattle.refusals.proofs.FirstBad.{first-none, none-first}
 use Rattle.text.specs.Bytes.{same}
 use Rattle.text.specs.Pieces.{cut}
 use Rattle.text.proofs.Bytes.{and-left, and-right}
-use Rattle.lines.specs.Kinds.{kindAt}
 use Rattle.lines.specs.Fields.{kindCode}
 use Rattle.lines.specs.Lines.{isText, line, labels, firstLine, headBad, rootLine, field, formsRight, lineBad, lineCheck, linesBad}
 use Rattle.lines.specs.Lined.{Lined}
 use Rattle.lines.proofs.Heads.{headed}
 use Rattle.lines.proofs.Lined.{lined, fine-fields, fine-forms, known, root-is}
-use Rattle.tree.specs.Tree.{isDefinition, isExpression, parts, groupRight, partRight, structureBad, usesBad, Level, ownerOf, levelOf, argumentBad, levelBad, treeBad}
+use Rattle.tree.specs.Tree.{parts, groupRight, partRight, structureBad, usesBad, Level, ownerOf, levelOf, argumentBad, levelBad, treeBad}
 use Rattle.tree.specs.Treed.{Formed, Treed}
 use Rattle.tree.specs.Steps.{UsedOnce}
-use Rattle.tree.proofs.Codes.{expression-kind, expression-high, not-expression, label-low, label-high}
+use Rattle.tree.proofs.Codes.{expression-kind, label-low, label-high}
 use Rattle.tree.proofs.Owners.{owned, levelled, level-own, owner-group}
 use Rattle.tree.proofs.Treed.{treed}
 use Rattle.paths.specs.Leads.{PathsKept}
@@ -46,7 +48,8 @@ text-kept s e =
 kept-text : (s : List ℕ) → TextKept s → headBad s ≡ Fine
 unfolding headBad isText firstLine
 kept-text s k =
-    rw (le-leb 1 (length s) (k .some), le-leb (length s) 65536 (k .size), eq-eqb (getD s (length s - 1) 0) 10 (k .ends), k .allowed, k .first, le-leb 1 (labels s) (k .low), le-leb (labels s) 1024 (k .high))
+    let ends = eq-eqb (getD s (length s - 1) 0) 10 (k .ends) in
+    rw (le-leb 1 (length s) (k .some), le-leb (length s) 65536 (k .size), ends, k .allowed, k .first, le-leb 1 (labels s) (k .low), le-leb (labels s) 1024 (k .high))
 
 -- ---- the lines
 
@@ -65,7 +68,7 @@ module _ (s : List ℕ) (n l : ℕ) where
       rw (k .five, ne-eqb (kindCode (field (cut 32 (line s l)) 0)) 0 (λ z. omega (arith, k .known))) (go (eqb l 1) refl)
     where
       go : (b : Bool) → eqb l 1 ≡ b
-          → _≡_ {A = ℕ} (cond (cond b (same (line s l) rootLine) (formsRight n (kindAt (kindCode (field (cut 32 (line s l)) 0))) (cut 32 (line s l)))) 0 7) 0
+          → _≡_ {A = ℕ} (cond (cond b (same (line s l) rootLine) (formsRight n (fieldsAt (kindCode (field (cut 32 (line s l)) 0))) (cut 32 (line s l)))) 0 7) 0
       go true e = rw (k .root (eqb-true l 1 e))
       go false e = rw (k .forms (omega (arith, eqb-false l 1 e)))
 
@@ -89,11 +92,11 @@ module _ (t : List ℤ) (n : ℕ) (s : Formed t n) where
     tree-kept : TreeKept t n
     tree-kept = record {
       group = λ l h g d.
-          let q = owner-group t n l (not-expression t l d) in
+          let q = owner-group t n l (not-expression (kind t l) d) in
           (omega (arith, q, is .falls l (omega arith) g), ap (kind t) (sym q) ∙ is .groups l h g d);
       part = λ l x p. (is .part l x p .above, is .part l x p .expression);
       once = is .once;
-      argument = λ d x o p v. omega (arith, ap (kind t) (is .owned-only d x o), is .argument x p);
+      argument = λ d x o. rw (is .owned-only d x o) (is .argument x);
       level = λ x k v.
           let h = expression-kind t x (level-expression x k v) in
           omega (arith, is .level-only x k v, is .level x (label-low t x n s h) (label-high t x n s h));
@@ -110,7 +113,7 @@ module _ (t : List ℤ) (n : ℕ) (s : Formed t n) where
         group : (b : Bool) → (leb 2 l && isDefinition t l) ≡ b → cond b (groupRight t l (fieldA t l)) true ≡ true
         group true e =
             let r = k .group l (leb-true 2 l (and-left (leb 2 l) (isDefinition t l) e)) g (and-right (leb 2 l) (isDefinition t l) e) in
-            rw (lt-ltb (fieldA t l) l (r .0), eq-eqb (kind t (fieldA t l)) 1 (r .1))
+            rw (lt-ltb (fieldA t l) l (r .0), eq-eqb (kind t (fieldA t l)) groupCode (r .1))
         group false e = refl
 
         part : (x : ℕ) → 1 ≤ count x (parts t l) → partRight t l x ≡ true
@@ -124,14 +127,11 @@ module _ (t : List ℤ) (n : ℕ) (s : Formed t n) where
         go false e = rw e
 
     kept-argument : (x : ℕ) → argumentBad t n x ≡ 0
-    kept-argument x = go (eqb (kind t x) 5) (eqb (kind t (ownerOf t n x)) 2) refl refl
+    kept-argument x = rw (le-ltb (takes (kind t (ownerOf t n x))) (placeOf (kind t x)) (go (isExpression t x) refl))
       where
-        go : (a b : Bool) → eqb (kind t x) 5 ≡ a → eqb (kind t (ownerOf t n x)) 2 ≡ b → _≡_ {A = ℕ} (cond (a && b) 10 0) 0
-        go true true e f =
-            let p = eqb-true (kind t x) 5 e in
-            absurd (k .argument (ownerOf t n x) x (owned t n used x (expression-high t x (omega arith) (omega arith))) p (eqb-true (kind t (ownerOf t n x)) 2 f))
-        go true false e f = refl
-        go false b e f = refl
+        go : (b : Bool) → isExpression t x ≡ b → placeOf (kind t x) ≤ takes (kind t (ownerOf t n x))
+        go true e = k .argument (ownerOf t n x) x (owned t n used x e)
+        go false e = omega (arith, other-place (kind t x) e)
 
     kept-level : (x : ℕ) → levelBad t n x ≡ 0
     kept-level x = rw (le-ltb 32 (levelOf t n x) (go (isExpression t x) refl))
@@ -143,7 +143,8 @@ module _ (t : List ℤ) (n : ℕ) (s : Formed t n) where
     kept-tree : treeBad t n ≡ Fine
     unfolding treeBad
     kept-tree =
-        rw (none-first (structureBad t) n 1 (λ l h g. kept-structure l (omega arith)), none-first (usesBad t n) n 1 (λ x h g. kept-uses x), none-first (argumentBad t n) n 1 (λ x h g. kept-argument x))
+        let structure = none-first (structureBad t) n 1 (λ l h g. kept-structure l (omega arith)) in
+        rw (structure, none-first (usesBad t n) n 1 (λ x h g. kept-uses x), none-first (argumentBad t n) n 1 (λ x h g. kept-argument x))
         (none-first (levelBad t n) n 1 (λ x h g. kept-level x))
 
 -- ---- the tree, and names and paths

@@ -14,8 +14,9 @@ use Rattle.refusals.specs.declared.Verdict.{Verdict}
 use Rattle.refusals.specs.declared.Verdict.the-variants.{Fine, Refused}
 use Rattle.refusals.specs.declared.Reply.the-variants as reply
 use Rattle.lines.specs.Lines.{labels}
-use Rattle.reading.specs.Read.{sheetTable, readBad, readReply, readTable, tableOf}
-use Rattle.reading.specs.Name.{labelIn, nameBegin, nameSize, namePart}
+use Rattle.reading.specs.Read.{sheetTable, readBad, readReply, readTable, tableOf, ReadLeaves}
+use Rattle.reading.specs.Name.{labelIn, nameBegin, nameSize, namePart, PartLeaves, NameLeaves}
+use Rattle.reading.specs.declared.Part.{Part}
 use Rattle.reading.proofs.Padding.{cell-padded}
 use Rattle.reading.proofs.Accepted.{read-fine, read-names}
 use Rattle.reading.proofs.Stage.{answered, refused}
@@ -34,28 +35,38 @@ module _ (n : ℕ) (z : ℤ) (r : ℕ) (e : r ≡ natOf z) where
   label-outside h = rw (← e, lt-leb r n h)
 
 module _ (s : List ℕ) (m : ℕ) (z : ℤ) where
-  abbrev Parted : ℕ → ℕ → Type 0
-  Parted x y = (x ≡ nameBegin s m z) × (y ≡ nameSize s m z) × (x + y ≤ length s)
-
-  pub part-answered : (n l x y : ℕ) (w : List ℤ) → reply.Answered n ≡ readReply s m → w ≡ readTable s m → l ≡ labelIn n z → x ≡ cell w l 1 → y ≡ cell w l 2 → Parted x y
+  -- of a sheet that Read accepted, by the cells of the label l in the table w
+  pub part-answered : (n l : ℕ) (p : Part) (w : List ℤ) → ReadLeaves s m (reply.Answered n) w → l ≡ labelIn n z → p .start ≡ cell w l 1 → p .length ≡ cell w l 2
+      → PartLeaves s m z p w
   unfolding readReply readTable nameBegin nameSize
-  part-answered n l x y w e t q a b =
-      let f = answered (readBad s m) (labels s) n (sym e) in
-      let table : w ≡ tableOf Fine s m = t ∙ ap (λ (v : Verdict). tableOf v s m) (f .0) in
+  part-answered n l p w k q a b =
+      let f = answered (readBad s m) (labels s) n (sym (k .reply)) in
+      let table : w ≡ tableOf Fine s m = k .table ∙ ap (λ (v : Verdict). tableOf v s m) (f .0) in
       let label : l ≡ labelIn (labels s) z = q ∙ ap (λ (k : ℕ). labelIn k z) (f .1) in
-      let first : x ≡ cell (sheetTable s) (labelIn (labels s) z) 1 = a ∙ rw (table, label) (cell-padded (sheetTable s) (m - 8 * labels s) (labelIn (labels s) z) 1) in
-      let second : y ≡ cell (sheetTable s) (labelIn (labels s) z) 2 = b ∙ rw (table, label) (cell-padded (sheetTable s) (m - 8 * labels s) (labelIn (labels s) z) 2) in
-      (first ∙ rw (f .0), second ∙ rw (f .0), omega (arith, first, second, read-names s (read-fine s m (f .0)) (labelIn (labels s) z)))
+      let at = labelIn (labels s) z in
+      let first : p .start ≡ cell (sheetTable s) at 1 = a ∙ rw (table, label) (cell-padded (sheetTable s) (m - 8 * labels s) at 1) in
+      let second : p .length ≡ cell (sheetTable s) at 2 = b ∙ rw (table, label) (cell-padded (sheetTable s) (m - 8 * labels s) at 2) in
+      record {
+        begins = first ∙ rw (f .0);
+        size = second ∙ rw (f .0);
+        within = omega (arith, first, second, read-names s (read-fine s m (f .0)) at);
+        table = k .table;
+      }
 
-  pub part-refused : (r p : ℕ) → reply.Refused r p ≡ readReply s m → Parted 0 0
+  pub part-refused : (r l : ℕ) (p : Part) (w : List ℤ) → ReadLeaves s m (reply.Refused r l) w → p .start ≡ 0 → p .length ≡ 0 → PartLeaves s m z p w
   unfolding readReply nameBegin nameSize
-  part-refused r p e =
-      let f = refused (readBad s m) (labels s) r p (sym e) in
-      (rw f, rw f, omega arith)
+  part-refused r l p w k a b =
+      let f = refused (readBad s m) (labels s) r l (sym (k .reply)) in
+      record { begins = rw (f) a; size = rw (f) b; within = omega arith; table = k .table }
 
-  -- a part from its start to its end
-  pub part-is : (x y : ℕ) → x ≡ nameBegin s m z → y ≡ nameSize s m z → take (x + y - x) (drop x s) ≡ namePart s m z
+  -- the part from its start to its end, of the text at `text`
+  pub part-handed : (p : Part) (w : List ℤ) (text : ℕ × ℕ) → PartLeaves s m z p w
+      → NameLeaves s m z text (take (p .start + p .length - p .start) (drop (p .start) s)) (text .0, p .start + text .1) w
   unfolding namePart
-  part-is x y a b =
-      let e : x + y - x ≡ y = omega arith in
-      rw (e, ← a, ← b) (drop-take x y s)
+  part-handed p w text k =
+      let e : p .start + p .length - p .start ≡ p .length = omega arith in
+      record {
+        part = rw (e, ← k .begins, ← k .size) (drop-take (p .start) (p .length) s);
+        very = ap (λ (b : ℕ). (text .0, b + text .1)) (k .begins);
+        table = k .table;
+      }

@@ -75,7 +75,8 @@ module _ (t : List ℤ) (k n : ℕ) (room : 8 * n ≤ length t) where
     unfolding resolvedTable
     resolved-padded =
         rw owned-padded
-        (column-same 7 (targetCell s (ownedTable t n ++ zeros k) n) (targetCell s (ownedTable t n) n) n (ownedTable t n ++ zeros k) (λ l h g. paths.target-cell-alike s (ownedTable t n) (ownedTable t n ++ zeros k) owned-alike n l)
+        (column-same 7 (targetCell s (ownedTable t n ++ zeros k) n) (targetCell s (ownedTable t n) n) n (ownedTable t n ++ zeros k)
+        (λ l h g. paths.target-cell-alike s (ownedTable t n) (ownedTable t n ++ zeros k) owned-alike n l)
         ∙ column-padded 7 (omega arith) (targetCell s (ownedTable t n) n) n (ownedTable t n) (zeros k) owned-long)
 
 -- ---- of a sheet

@@ -1,24 +1,25 @@
 -- From the table that rows 1 to 7 leave to what rows 8 to 11 and rows 12 to 15 ask.
 use mathlib.Core.Path.{_≡_, refl, ap, sym, _∙_}
 use mathlib.Core.Logic.{_⊎_, ⊎-elim}
-use mathlib.Core.Bool.{Bool, true, false, cond, _||_}
+use mathlib.Core.Bool.{Bool, true, false}
 use mathlib.Core.List.{List}
 use Prim.Native.Nat.{ℕ, zero, suc, _+_, _-_, _*_, _≤_, _<_}
 use native.Mathlib.Omega.{arith}
 use native.Mathlib.Nat.{eq-or-lt-of-le}
-use lib.Dec.{eqb}
 use lib.IntN.{ℤ, pos}
 use lib.ListN.{length}
-use borrow.Author.Tests.{eqb-true, ne-eqb}
+use borrow.Author.Tests.{ne-eqb}
+use Rattle.kinds.specs.Kinds.{groupCode, isOperand}
+use Rattle.kinds.specs.Kinds as kinds
+use Rattle.kinds.proofs.Laws.{kind-low, definition-kind}
 use Rattle.cells.specs.Cells.{natOf, intAt}
-use Rattle.cells.specs.Table.{cell, kind, owner, withColumn}
+use Rattle.cells.specs.Table.{cell, kind, isDefinition, owner, withColumn}
 use Rattle.cells.proofs.Columns.{column-length, column-has, column-other}
-use Rattle.lines.specs.declared.Form.{Form}
-use Rattle.lines.specs.declared.Form.the-variants.{Missing, Name, Path, Group, Operand, Number}
+use Rattle.kinds.specs.declared.Form.{Form}
+use Rattle.kinds.specs.declared.Form.the-variants.{Missing, Name, Path, Group, Operand, Number}
 use Rattle.refusals.specs.declared.Verdict.{Verdict}
 use Rattle.refusals.specs.declared.Verdict.the-variants.{Fine, Refused}
-use Rattle.order.specs.Order.{isDefinition}
-use Rattle.tree.specs.Tree.{isOperand, ownerOf, treeBad}
+use Rattle.tree.specs.Tree.{ownerOf, treeBad}
 use Rattle.tree.specs.Treed.{Formed, Plain, Written}
 use Rattle.tree.proofs.Codes.{label-low, label-high}
 use Rattle.tree.proofs.Parts.{parts-zero}
@@ -27,6 +28,8 @@ use Rattle.paths.specs.Buckets.{Rows}
 use Rattle.paths.specs.Paths.{targetCell, pathsBad}
 use Rattle.lines.specs.Lined.{Lined}
 use Rattle.reading.specs.Read.{ownedTable, resolvedBad, resolvedTable}
+use Rattle.reading.specs.Stages.{Resolves}
+use Rattle.reading.proofs.Stage.{refused-judged}
 
 operand : (f : Form) → isOperand f ≡ true → f ≡ Operand
 operand Missing e = let z : _≡_ {A = Bool} false true = e in cc
@@ -35,18 +38,6 @@ operand Path e = let z : _≡_ {A = Bool} false true = e in cc
 operand Group e = let z : _≡_ {A = Bool} false true = e in cc
 operand Operand e = refl
 operand Number e = let z : _≡_ {A = Bool} false true = e in cc
-
-clash : _≡_ {A = Bool} false true → ⊥
-clash e = let z : _≡_ {A = ℕ} 0 1 = ap (λ (b : Bool). cond b 1 0) e in omega arith
-
--- a definition's kind
-pub some-kind : (k : ℕ) → (eqb k 1 || eqb k 2 || eqb k 3) ≡ true → (1 ≤ k) × (k ≤ 3)
-some-kind zero e = absurd (clash e)
-some-kind (suc zero) e = (omega arith, omega arith)
-some-kind (suc (suc zero)) e = (omega arith, omega arith)
-some-kind (suc (suc (suc zero))) e = (omega arith, omega arith)
-some-kind (suc (suc (suc (suc k)))) e =
-    absurd (clash (rw (ne-eqb (suc (suc (suc (suc k)))) 1 (λ q. omega arith), ne-eqb (suc (suc (suc (suc k)))) 2 (λ q. omega arith), ne-eqb (suc (suc (suc (suc k)))) 3 (λ q. omega arith)) at e))
 
 module _ (s : List ℕ) (t : List ℤ) (n : ℕ) (is : Lined s t n) where
   no-kind : (l : ℕ) → n < l → kind t l ≡ 0
@@ -95,12 +86,13 @@ module _ (s : List ℕ) (t : List ℤ) (n : ℕ) (is : Lined s t n) where
 
     root-only : (l : ℕ) → isDefinition (ownedTable t n) l ≡ true → owner (ownedTable t n) l ≡ 0 → l ≡ 1
     root-only l d o =
-        let k : 1 ≤ kind t l = omega (arith, kept l 0 (omega arith), some-kind (kind (ownedTable t n) l) d .0) in
+        let e : kinds.isDefinition (kind t l) ≡ true = rw (kept l 0 (omega arith)) at d in
+        let k = kind-low (kind t l) (definition-kind (kind t l) e) in
         let low = label-low t l n formed k in
         ⊎-elim sym
-        (λ q. absurd (outside (accepted .group l q (label-high t l n formed k) (some-kind (kind (ownedTable t n) l) d .1)))) (eq-or-lt-of-le low)
+        (λ q. absurd (outside (accepted .group l q (label-high t l n formed k) d))) (eq-or-lt-of-le low)
       where
-        outside : kind (ownedTable t n) (owner (ownedTable t n) l) ≡ 1 → ⊥
+        outside : kind (ownedTable t n) (owner (ownedTable t n) l) ≡ groupCode → ⊥
         outside e = let z : _≡_ {A = ℕ} 0 1 = rw o at e in omega arith
 
     pub rows : Rows s (ownedTable t n) n
@@ -125,13 +117,13 @@ module _ (s : List ℕ) (t : List ℤ) (n : ℕ) (v : Verdict) (w : List ℤ) (f
   pub paths-rows : Lined s t n → v ≡ Fine → Written v t n w → Rows s w n
   paths-rows is f h = rw (owned-is t n v w f h) (rows s t n is (sym found ∙ f))
 
-  pub resolved-fine : (r : Verdict) (x : List ℤ) → v ≡ Fine → Written v t n w → r ≡ pathsBad s w n → (r ≡ Fine → x ≡ withColumn 7 (targetCell s w n) n w)
-      → (r ≡ resolvedBad s t n) × (r ≡ Fine → x ≡ resolvedTable s t n)
+  pub resolved-fine : (r : Verdict) (x : List ℤ) → v ≡ Fine → Written v t n w → r ≡ pathsBad s w n
+      → (r ≡ Fine → x ≡ withColumn 7 (targetCell s w n) n w) → Resolves s t n r x
   unfolding resolvedBad resolvedTable
   resolved-fine r x f h e g =
       let o = owned-is t n v w f h in
-      (rw (sym found ∙ f, ← o) e, λ q. rw (← o) (g q))
+      record { found = rw (sym found ∙ f, ← o) e; left = λ q. rw (← o) (g q) }
 
-  pub resolved-refused : (r p : ℕ) (x : List ℤ) → v ≡ Refused r p → (Refused r p ≡ resolvedBad s t n) × (Refused r p ≡ Fine → x ≡ resolvedTable s t n)
+  pub resolved-refused : (r p : ℕ) (x : List ℤ) → v ≡ Refused r p → Resolves s t n (Refused r p) x
   unfolding resolvedBad
-  resolved-refused r p x f = (rw (sym found ∙ f), λ q. let z : _≡_ {A = ℕ} 0 1 = cc in absurd (omega arith))
+  resolved-refused r p x f = refused-judged _ _ r p x (rw (sym found ∙ f))

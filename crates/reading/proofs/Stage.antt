@@ -13,12 +13,14 @@ use Rattle.cells.proofs.Clearing.{clear-split}
 use Rattle.refusals.specs.Refusal.{replyOf}
 use Rattle.refusals.specs.declared.Verdict.{Verdict}
 use Rattle.refusals.specs.declared.Verdict.the-variants.{Fine, Refused}
+use Rattle.refusals.specs.declared.Reply.{Reply}
 use Rattle.refusals.specs.declared.Reply.the-variants as reply
 use Rattle.lines.specs.Lines.{labels, headBad, linesBad, rows}
 use Rattle.lines.specs.Steps.{passed, linesWritten}
 use Rattle.lines.proofs.Pass.{rows-length, written-length}
 use Rattle.lines.specs.Lined.{linedTable, Lined}
-use Rattle.reading.specs.Read.{tableShort, resolvedBad, resolvedTable, sheetBad, sheetTable, bodyBad, readBad, readReply, readTable, tableOf}
+use Rattle.reading.specs.Read.{tableShort, sheetBad, sheetTable, readBad, readReply, readTable, tableOf, ReadLeaves}
+use Rattle.reading.specs.Stages.{Passed, Judged, Resolves, SheetReads}
 use Rattle.lines.proofs.Heads.{headed}
 use Rattle.lines.proofs.Lined.{lined}
 use Rattle.reading.proofs.Padding.{sheet-bad, sheet-table}
@@ -32,6 +34,13 @@ answered (Refused r p) n m e = let z : _≡_ {A = ℕ} 0 1 = cc in absurd (omega
 pub refused : (v : Verdict) (n r p : ℕ) → replyOf v n ≡ reply.Refused r p → v ≡ Refused r p
 refused Fine n r p e = let z : _≡_ {A = ℕ} 0 1 = cc in absurd (omega arith)
 refused (Refused x y) n r p e = cc
+
+-- rows that refuse leave the table to the caller
+pub refused-judged : (wanted : Verdict) (made : List ℤ) (r p : ℕ) (t : List ℤ) → Refused r p ≡ wanted → Judged wanted made (Refused r p) t
+refused-judged wanted made r p t e = record {
+  found = e;
+  left = λ q. let z : _≡_ {A = ℕ} 0 1 = cc in absurd (omega arith);
+}
 
 -- ---- rows 5 to 15, after the lines of a table t found v and left u
 
@@ -54,44 +63,52 @@ module _ (s : List ℕ) (n : ℕ) (t u : List ℤ) (v : Verdict) (is : n ≡ lab
   lined-left x h f w e = rw (e ∙ table-lined f w, is) (lined s (length t) (headed s h .low) (headed s h .high) (lines-are ∙ f) (omega arith))
 
   pub sheet-resolved : (x y : List ℤ) (r : Verdict) → v ≡ Fine → u ≡ linesWritten s n (passed v n) t → x ≡ clearFrom (8 * n) u
-      → r ≡ resolvedBad s x n → (r ≡ Fine → y ≡ resolvedTable s x n) → (r ≡ sheetBad s) × (r ≡ Fine → y ≡ tableOf Fine s (length t))
+      → Resolves s x n r y → SheetReads s (length t) r y
   unfolding sheetBad sheetTable
-  sheet-resolved x y r f w e b g =
+  sheet-resolved x y r f w e b =
       let q = e ∙ table-lined f w in
-      (rw (lines-are ∙ f) (b ∙ rw (q, is) (sheet-bad s (length t))), λ z. g z ∙ rw (q, is) (sheet-table s (length t)))
+      record {
+        found = rw (lines-are ∙ f) (b .found ∙ rw (q, is) (sheet-bad s (length t)));
+        left = λ z. b .left z ∙ rw (q, is) (sheet-table s (length t));
+      }
 
-  pub sheet-refused : (r p : ℕ) (y : List ℤ) → v ≡ Refused r p → (Refused r p ≡ sheetBad s) × (Refused r p ≡ Fine → y ≡ tableOf Fine s (length t))
+  pub sheet-refused : (r p : ℕ) (y : List ℤ) → v ≡ Refused r p → SheetReads s (length t) (Refused r p) y
   unfolding sheetBad
-  sheet-refused r p y f = (rw (lines-are ∙ f), λ q. let z : _≡_ {A = ℕ} 0 1 = cc in absurd (omega arith))
+  sheet-refused r p y f = refused-judged _ _ r p y (rw (lines-are ∙ f))
 
--- ---- row 4, and rows 1 to 3
+-- ---- rows 1 to 3, and row 4
+
+-- rows 1 to 3 replied q
+module _ (s : List ℕ) (q : Reply) (e : q ≡ replyOf (headBad s) (labels s)) where
+  pub head-passed : (k : ℕ) → q ≡ reply.Answered k → Passed s k
+  head-passed k f =
+      let a = answered (headBad s) (labels s) k (sym e ∙ f) in
+      record { head = a .0; count = a .1; few = omega (arith, a .1, headed s (a .0) .high) }
 
 module _ (s : List ℕ) (m : ℕ) where
-  pub body-short : m < 8 * labels s → bodyBad s m ≡ Refused 4 1
-  unfolding tableShort
-  body-short h = rw (lt-leb (8 * labels s) m h)
+  -- reply r and table t of what rows 1 to 15 found
+  leaves : (v : Verdict) (r : Reply) (t : List ℤ) → readBad s m ≡ v → r ≡ replyOf v (labels s) → t ≡ tableOf v s m → ReadLeaves s m r t
+  unfolding readReply readTable
+  leaves v r t e f g = record { reply = rw e f; table = rw e g }
 
-  pub body-long : 8 * labels s ≤ m → bodyBad s m ≡ sheetBad s
-  unfolding tableShort
-  body-long h = rw (le-leb (8 * labels s) m h)
-
-  pub head-fine : headBad s ≡ Fine → readBad s m ≡ bodyBad s m
+  pub head-refused : (q : Reply) → q ≡ replyOf (headBad s) (labels s) → (r p : ℕ) (t : List ℤ) → q ≡ reply.Refused r p → t ≡ zeros m
+      → ReadLeaves s m (reply.Refused r p) t
   unfolding readBad
-  head-fine e = rw e
+  head-refused q e r p t f g = leaves (Refused r p) _ t (rw (refused (headBad s) (labels s) r p (sym e ∙ f))) refl g
 
-  pub head-refused : (r p : ℕ) → headBad s ≡ Refused r p → readBad s m ≡ Refused r p
-  unfolding readBad
-  head-refused r p e = rw e
+  module _ (n : ℕ) (h : Passed s n) where
+    pub table-short : (t : List ℤ) → m < 8 * n → t ≡ zeros m → ReadLeaves s m (reply.Refused 4 1) t
+    unfolding readBad tableShort
+    table-short t g e = leaves (Refused 4 1) _ t (rw (h .head, lt-leb (8 * labels s) m (omega (arith, h .count)))) refl e
 
-  -- the reply and table of what rows 1 to 15 found
-  pub reply-is : (v : Verdict) → readBad s m ≡ v → replyOf v (labels s) ≡ readReply s m
-  unfolding readReply
-  reply-is v e = rw e
+    -- the table is long enough; rows 5 to 15 found v and left t
+    module _ (room : 8 * n ≤ m) (v : Verdict) (t : List ℤ) (b : SheetReads s m v t) where
+      rows-are : readBad s m ≡ v
+      unfolding readBad tableShort
+      rows-are = rw (h .head, le-leb (8 * labels s) m (omega (arith, h .count))) (sym (b .found))
 
-  pub table-is : (v : Verdict) → readBad s m ≡ v → tableOf v s m ≡ readTable s m
-  unfolding readTable
-  table-is v e = rw e
+      pub sheet-leaves : v ≡ Fine → ReadLeaves s m (reply.Answered n) t
+      sheet-leaves e = leaves Fine _ t (rows-are ∙ e) (ap reply.Answered (h .count)) (b .left e)
 
-  -- and of what rows 4 to 15 found
-  pub body-is : (v : Verdict) → bodyBad s m ≡ v → (replyOf v (labels s) ≡ replyOf (bodyBad s m) (labels s)) × (tableOf v s m ≡ tableOf (bodyBad s m) s m)
-  body-is v e = (ap (λ (x : Verdict). replyOf x (labels s)) (sym e), ap (λ (x : Verdict). tableOf x s m) (sym e))
+      pub refused-leaves : (r p : ℕ) (w : List ℤ) → v ≡ Refused r p → w ≡ zeros m → ReadLeaves s m (reply.Refused r p) w
+      refused-leaves r p w e g = leaves (Refused r p) _ w (rows-are ∙ e) refl g

@@ -5,13 +5,13 @@ use mathlib.Core.List.{List}
 use Prim.Native.Nat.{ℕ, _≤_, _<_}
 use lib.IntN.{ℤ}
 use lib.ListN.{length}
-use Rattle.cells.specs.Table.{kind, fieldA}
+use Rattle.kinds.specs.Kinds.{groupCode, fieldsAt, takes, placeOf}
+use Rattle.cells.specs.Table.{kind, isDefinition, isExpression, fieldA}
 use Rattle.text.specs.Bytes.{all, isAllowed, endsLines}
 use Rattle.text.specs.Pieces.{cut, fieldsAre}
-use Rattle.lines.specs.Kinds.{kindAt}
 use Rattle.lines.specs.Fields.{kindCode}
 use Rattle.lines.specs.Lines.{line, labels, firstLine, rootLine, field, formsRight}
-use Rattle.tree.specs.Tree.{isDefinition, isExpression, uses, IsPart, Owned, Level}
+use Rattle.tree.specs.Tree.{uses, IsPart, Owned, Level}
 use Rattle.paths.specs.Leads.{PathsKept}
 use Rattle.reading.specs.Read.{ownedTable, sheetRows}
 
@@ -37,18 +37,18 @@ pub record LineKept (s : List ℕ) (n l : ℕ) : Type 0 where
   -- "Label 1 is always `G - 0 - -`, the outermost Group"
   pub root : l ≡ 1 → line s l ≡ rootLine
   -- "Which fields a kind has is one fixed table of twelve rows; a field not listed is `-`"
-  pub forms : 2 ≤ l → formsRight n (kindAt (kindCode (field (cut 32 (line s l)) 0))) (cut 32 (line s l)) ≡ true
+  pub forms : 2 ≤ l → formsRight n (fieldsAt (kindCode (field (cut 32 (line s l)) 0))) (cut 32 (line s l)) ≡ true
 
 -- the lines as a table t of n labels
 pub record TreeKept (t : List ℤ) (n : ℕ) : Type 0 where
   -- from label 2, a definition's Group field is a G with a label below its own
-  pub group : (l : ℕ) → 2 ≤ l → l ≤ n → isDefinition t l ≡ true → (fieldA t l < l) × (kind t (fieldA t l) ≡ 1)
+  pub group : (l : ℕ) → 2 ≤ l → l ≤ n → isDefinition t l ≡ true → (fieldA t l < l) × (kind t (fieldA t l) ≡ groupCode)
   -- a body or operand is an expression with a label above its own line's
   pub part : (l x : ℕ) → IsPart t l x → (l < x) × (isExpression t x ≡ true)
   -- an expression is used by one field, once
   pub once : (x : ℕ) → isExpression t x ≡ true → uses t n x ≡ 1
-  -- no P (code 5) is owned by a V (code 2): "owned by the definition whose body it is or stands in"
-  pub argument : (d x : ℕ) → Owned t d x → kind t x ≡ 5 → kind t d ≡ 2 → ⊥
+  -- no P is owned by a V: "owned by the definition whose body it is or stands in", an argument is one that this body is given
+  pub argument : (d x : ℕ) → Owned t d x → placeOf (kind t x) ≤ takes (kind t d)
   -- "A body has level 1, its operands level 2, and so on": up to 32
   pub level : (x k : ℕ) → Level t x k → k ≤ 32
 

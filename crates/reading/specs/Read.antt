@@ -63,3 +63,10 @@ tableOf (Refused r p) s m = zeros m
 
 unfoldable pub readTable : List ℕ → ℕ → List ℤ
 readTable s m = tableOf (readBad s m) s m
+
+-- all that Read leaves of a text s and a table of m cells: the reply r and the table t
+pub record ReadLeaves (s : List ℕ) (m : ℕ) (r : Reply) (t : List ℤ) : Type 0 where
+  -- "It answers n", or the first refusal that applies
+  pub reply : r ≡ readReply s m
+  -- "Read writes the table": every cell of it
+  pub table : t ≡ readTable s m

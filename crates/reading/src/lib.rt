@@ -1,22 +1,19 @@
 // Read: rows 1 to 15 of document 01's table of refusals in its order, and the table of the sheet.
 
 ghost use mathlib.Core.Path.{_≡_};
-ghost use Prim.Native.Nat.{_+_, _*_, _≤_};
+ghost use Prim.Native.Nat.{_*_, _≤_};
 ghost use lib.ListN.{length};
-ghost use Rattle.cells.specs.Cells.{natOf};
-ghost use Rattle.refusals.specs.Refusal.{replyOf};
-ghost use Rattle.lines.specs.Lines.{labels, headBad};
 ghost use Rattle.lines.specs.Lined.{Lined};
-ghost use Rattle.reading.specs.Read.{resolvedBad, resolvedTable, sheetBad, bodyBad, tableOf, readReply, readTable};
-ghost use Rattle.reading.specs.Name.{labelIn, nameBegin, nameSize, namePart};
+ghost use Rattle.reading.specs.Read.{ReadLeaves};
+ghost use Rattle.reading.specs.Name.{labelIn, PartLeaves, NameLeaves};
+ghost use Rattle.reading.specs.Stages.{Passed, Resolves, SheetReads};
 use refusals::Reply;
 use refusals::Verdict;
 
 // Rows 8 to 15, and owners and targets in a table of lines.
 fn resolve(text: &[u8], table: &mut [i64], n: usize) -> Verdict
     requires { ⌜ Lined (now text) (now table) n ⌝ }
-    ensures { λ r. ⌜ r ≡ resolvedBad (now (text .entry)) (now (table .entry)) n ⌝ }
-    ensures { λ r. ⌜ (r ≡ Verdict.Fine → now (table .exit) ≡ resolvedTable (now (text .entry)) (now (table .entry)) n) ⌝ }
+    ensures { λ r. ⌜ Resolves (now (text .entry)) (now (table .entry)) n r (now (table .exit)) ⌝ }
 {
     match tree::read_tree(table, n) {
         Verdict::Fine => paths::read_paths(text, table, n),
@@ -26,9 +23,8 @@ fn resolve(text: &[u8], table: &mut [i64], n: usize) -> Verdict
 
 // Rows 5 to 15 of a text that rows 1 to 4 let pass. Where they refuse, the table is for the caller to clear.
 pub fn read_sheet(text: &[u8], n: usize, table: &mut [i64]) -> Verdict
-    requires { ⌜ (headBad (now text) ≡ Verdict.Fine) × (n ≡ labels (now text)) × (8 * n ≤ length (now table)) ⌝ }
-    ensures { λ r. ⌜ r ≡ sheetBad (now (text .entry)) ⌝ }
-    ensures { λ r. ⌜ (r ≡ Verdict.Fine → now (table .exit) ≡ tableOf Verdict.Fine (now (text .entry)) (length (now (table .entry)))) ⌝ }
+    requires { ⌜ Passed (now text) n × (8 * n ≤ length (now table)) ⌝ }
+    ensures { λ r. ⌜ SheetReads (now (text .entry)) (length (now (table .entry))) r (now (table .exit)) ⌝ }
 {
     match lines::read_lines(text, n, table) {
         Verdict::Fine => {
@@ -41,9 +37,8 @@ pub fn read_sheet(text: &[u8], n: usize, table: &mut [i64]) -> Verdict
 
 // Rows 4 to 15 of a text that rows 1 to 3 let pass.
 fn read_body(text: &[u8], n: usize, table: &mut [i64]) -> Reply
-    requires { ⌜ (headBad (now text) ≡ Verdict.Fine) × (n ≡ labels (now text)) × (n ≤ 1024) ⌝ }
-    ensures { λ r. ⌜ r ≡ replyOf (bodyBad (now (text .entry)) (length (now (table .entry)))) (labels (now (text .entry))) ⌝ }
-    ensures { λ _. ⌜ now (table .exit) ≡ tableOf (bodyBad (now (text .entry)) (length (now (table .entry)))) (now (text .entry)) (length (now (table .entry))) ⌝ }
+    requires { ⌜ Passed (now text) n ⌝ }
+    ensures { λ r. ⌜ ReadLeaves (now (text .entry)) (length (now (table .entry))) r (now (table .exit)) ⌝ }
 {
     if table.len() < 8 * n {
         cells::clear(table);
@@ -60,8 +55,7 @@ fn read_body(text: &[u8], n: usize, table: &mut [i64]) -> Reply
 
 // Read.
 pub fn read(text: &[u8], table: &mut [i64]) -> Reply
-    ensures { λ r. ⌜ r ≡ readReply (now (text .entry)) (length (now (table .entry))) ⌝ }
-    ensures { λ _. ⌜ now (table .exit) ≡ readTable (now (text .entry)) (length (now (table .entry))) ⌝ }
+    ensures { λ r. ⌜ ReadLeaves (now (text .entry)) (length (now (table .entry))) r (now (table .exit)) ⌝ }
 {
     match lines::check_head(text) {
         Reply::Answered(n) => read_body(text, n as usize, table),
@@ -74,10 +68,11 @@ pub fn read(text: &[u8], table: &mut [i64]) -> Reply
 
 // ---- Name
 
-// A part of the text: its start and its length.
+// A part of the text: its start and its length, 0 and 0 where it is empty. C sees it as it is.
+#[repr(C)]
 pub struct Part {
-    pub start: usize,
-    pub length: usize,
+    pub start: u64,
+    pub length: u64,
 }
 
 // The label that an i64 is; 0 where it is outside 1 to n.
@@ -90,17 +85,14 @@ fn label_in(label: i64, n: usize) -> usize
 
 // Where the name field of a label stands in the text, and the table as Read writes it.
 pub fn name_part(text: &[u8], table: &mut [i64], label: i64) -> Part
-    ensures { λ r. ⌜ r .start ≡ nameBegin (now (text .entry)) (length (now (table .entry))) label ⌝ }
-    ensures { λ r. ⌜ r .length ≡ nameSize (now (text .entry)) (length (now (table .entry))) label ⌝ }
-    ensures { λ r. ⌜ r .start + r .length ≤ length (now (text .entry)) ⌝ }
-    ensures { λ _. ⌜ now (table .exit) ≡ readTable (now (text .entry)) (length (now (table .entry))) ⌝ }
+    ensures { λ r. ⌜ PartLeaves (now (text .entry)) (length (now (table .entry))) label r (now (table .exit)) ⌝ }
 {
     match read(text, table) {
         Reply::Answered(n) => {
             let l = label_in(label, n as usize);
             Part {
-                start: cells::cell_at(table, l, cells::NAME_START),
-                length: cells::cell_at(table, l, cells::NAME_LENGTH),
+                start: cells::cell_at(table, l, cells::NAME_START) as u64,
+                length: cells::cell_at(table, l, cells::NAME_LENGTH) as u64,
             }
         }
         Reply::Refused(_, _) => Part {
@@ -113,12 +105,10 @@ pub fn name_part(text: &[u8], table: &mut [i64], label: i64) -> Part
 // Name: that very part of the caller's text. Promised are its bytes, and its place: the text's own block, so many bytes from where the
 // text begins.
 pub fn name<'a>(text: &'a [u8], table: &mut [i64], label: i64) -> &'a [u8]
-    ensures { λ r. ⌜ now r ≡ namePart (now (text .entry)) (length (now (table .entry))) label ⌝ }
-    ensures { λ r. ⌜ r .ptr ≡ (text .entry .ptr .0, nameBegin (now (text .entry)) (length (now (table .entry))) label + text .entry .ptr .1) ⌝ }
-    ensures { λ _. ⌜ now (table .exit) ≡ readTable (now (text .entry)) (length (now (table .entry))) ⌝ }
+    ensures { λ r. ⌜ NameLeaves (now (text .entry)) (length (now (table .entry))) label (text .entry .ptr) (now r) (r .ptr) (now (table .exit)) ⌝ }
 {
     let part = name_part(text, table, label);
-    let start = part.start;
-    let end = start + part.length;
+    let start = part.start as usize;
+    let end = start + part.length as usize;
     &text[start..end]
 }

@@ -1,6 +1,6 @@
 -- One label, case by case, as the code finds it.
 use mathlib.Core.Path.{_≡_, refl, sym}
-use mathlib.Core.Bool.{Bool, true, false, not, cond, _&&_, and-true}
+use mathlib.Core.Bool.{Bool, true, false, cond, _&&_, and-true}
 use mathlib.Core.List.{List, [], _∷_}
 use Prim.Native.Nat.{ℕ, _+_, _-_, _*_, _≤_, _<_}
 use native.Mathlib.Omega.{arith}
@@ -9,35 +9,27 @@ use lib.Dec.{eqb}
 use lib.IntN.{ℤ, pos}
 use lib.ListN.{set}
 use Rattle.cells.specs.Lists.{one, count, all}
-use Rattle.cells.specs.Table.{kind, fieldA, fieldB, fieldC, owner, target}
-use Rattle.lines.specs.Kinds.{kindAt}
-use Rattle.lines.specs.declared.Form.{Form}
-use Rattle.lines.specs.declared.Kind.{Kind}
-use Rattle.tree.specs.Tree.{isGroup, isOperand, isDefinition, isExpression, operandIn, parts, partRight, structureBad, notOnce, argumentIn, tooDeep}
+use Rattle.cells.specs.Table.{kind, isDefinition, isExpression, fieldA, fieldB, fieldC, owner, target}
+use Rattle.kinds.specs.Kinds as kinds
+use Rattle.kinds.specs.Kinds.{groupCode, fieldsAt, isOperand, takes, placeOf}
+use Rattle.kinds.specs.declared.Fields.{Fields}
+use Rattle.kinds.specs.declared.Form.{Form}
+use Rattle.tree.specs.Tree.{operandIn, parts, partRight, structureBad, notOnce, argumentIn, tooDeep}
 use Rattle.tree.specs.Treed.{Formed}
 use Rattle.tree.specs.Steps.{partIn, nodeAt, Readable, groupFits, partFits, counted, assigned, assignedAll, propagated}
 use Rattle.tree.specs.declared.Node.{Node}
-use Rattle.tree.proofs.Codes.{definition-is, kind-high}
 use Rattle.tree.proofs.Parts.{count-parts, all-parts}
 
 pub readable : (t : List ℤ) (n l : ℕ) → Formed t n → 1 ≤ l → l ≤ n → Readable t l
-readable t n l s h g = record { low = s .kinds l h g .0; high = kind-high t n s; labels = s .labels l h g }
+readable t n l s h g = record { known = s .kinds l h g; labels = s .labels l h g }
 
 -- ---- what the table of kinds says of the line
 
-module _ (t : List ℤ) (l code : ℕ) (k : Kind) (e : code ≡ kind t l) (q : k ≡ kindAt code) where
-  pub node-is : (g : Bool) (a b c : ℕ) → g ≡ isGroup (k .a) → a ≡ partIn (k .a) (fieldA t l) → b ≡ partIn (k .b) (fieldB t l) → c ≡ partIn (k .c) (fieldC t l)
+module _ (t : List ℤ) (l code : ℕ) (k : Fields) (e : code ≡ kind t l) (q : k ≡ fieldsAt code) where
+  pub node-is : (g : Bool) (a b c : ℕ) → g ≡ kinds.isDefinition code → a ≡ partIn (k .a) (fieldA t l) → b ≡ partIn (k .b) (fieldB t l) → c ≡ partIn (k .c) (fieldC t l)
       → _≡_ {A = Node} (record { definition = g; a = a; b = b; c = c }) (nodeAt t l)
   unfolding nodeAt
   node-is g a b c h i j m = rw (← e, ← q, h, i, j, m)
-
-  pub expression-is : (g : Bool) → (code ≡ 0 → ⊥) → g ≡ isGroup (k .a) → isExpression t l ≡ not g
-  unfolding isExpression
-  expression-is g d h = let p : 1 ≤ code = omega (arith, d) in rw (← e, le-leb 1 code p, ← q, ← h)
-
-pub expression-none : (t : List ℤ) (l code : ℕ) → code ≡ kind t l → code ≡ 0 → isExpression t l ≡ false
-unfolding isExpression
-expression-none t l code e z = rw (← e, z)
 
 -- ---- row 8: the Group
 
@@ -49,7 +41,7 @@ module _ (t : List ℤ) (l : ℕ) (d : Bool) where
     pub fits-expression : d ≡ false → groupFits t l d ≡ true
     fits-expression e = rw (le-leb 2 l h, e)
 
-    pub fits-below : d ≡ true → (g k : ℕ) → g ≡ fieldA t l → g < l → k ≡ kind t g → groupFits t l d ≡ eqb k 1
+    pub fits-below : d ≡ true → (g k : ℕ) → g ≡ fieldA t l → g < l → k ≡ kind t g → groupFits t l d ≡ eqb k groupCode
     fits-below e g k q b j = rw (le-leb 2 l h, e, ← q, lt-ltb g l b, ← j)
 
     pub fits-above : d ≡ true → (g : ℕ) → g ≡ fieldA t l → l ≤ g → groupFits t l d ≡ false
@@ -89,22 +81,22 @@ field-count f x y h = go (isOperand f)
     go false = rw (ne-eqb x 0 (λ e. omega arith))
 
 module _ (t : List ℤ) (l : ℕ) where
-  pub node-definition : 1 ≤ kind t l → nodeAt t l .definition ≡ isDefinition t l
+  pub node-definition : nodeAt t l .definition ≡ isDefinition t l
   unfolding nodeAt
-  node-definition h = sym (definition-is t l h)
+  node-definition = refl
 
   pub node-count : (x : ℕ) → 1 ≤ x → count x (parts t l) ≡ one (eqb x (nodeAt t l .a)) + one (eqb x (nodeAt t l .b)) + one (eqb x (nodeAt t l .c))
   unfolding nodeAt
   node-count x h =
-      rw (count-parts t l x, field-count (kindAt (kind t l) .a) x (fieldA t l) h, field-count (kindAt (kind t l) .b) x (fieldB t l) h, field-count (kindAt (kind t l) .c) x (fieldC t l) h)
+      rw (count-parts t l x, field-count (fieldsAt (kind t l) .a) x (fieldA t l) h, field-count (fieldsAt (kind t l) .b) x (fieldB t l) h, field-count (fieldsAt (kind t l) .c) x (fieldC t l) h)
 
   pub parts-fit : count 0 (parts t l) ≡ 0 → all (partRight t l) (parts t l) ≡ (partFits t l (nodeAt t l .a) && partFits t l (nodeAt t l .b) && partFits t l (nodeAt t l .c))
   unfolding nodeAt
   parts-fit z =
-      let a : count 0 (operandIn (kindAt (kind t l) .a) (fieldA t l)) ≡ 0 = omega (arith, count-parts t l 0) in
-      let b : count 0 (operandIn (kindAt (kind t l) .b) (fieldB t l)) ≡ 0 = omega (arith, count-parts t l 0) in
-      let c : count 0 (operandIn (kindAt (kind t l) .c) (fieldC t l)) ≡ 0 = omega (arith, count-parts t l 0) in
-      rw (all-parts t l (partRight t l), field-all (partRight t l) (kindAt (kind t l) .a) (fieldA t l) a, field-all (partRight t l) (kindAt (kind t l) .b) (fieldB t l) b, field-all (partRight t l) (kindAt (kind t l) .c) (fieldC t l) c)
+      let a : count 0 (operandIn (fieldsAt (kind t l) .a) (fieldA t l)) ≡ 0 = omega (arith, count-parts t l 0) in
+      let b : count 0 (operandIn (fieldsAt (kind t l) .b) (fieldB t l)) ≡ 0 = omega (arith, count-parts t l 0) in
+      let c : count 0 (operandIn (fieldsAt (kind t l) .c) (fieldC t l)) ≡ 0 = omega (arith, count-parts t l 0) in
+      rw (all-parts t l (partRight t l), field-all (partRight t l) (fieldsAt (kind t l) .a) (fieldA t l) a, field-all (partRight t l) (fieldsAt (kind t l) .b) (fieldB t l) b, field-all (partRight t l) (fieldsAt (kind t l) .c) (fieldC t l) c)
 
   pub parts-right : count 0 (parts t l) ≡ 0 → (p : Node) → p ≡ nodeAt t l → (x y z : Bool) → x ≡ partFits t l (p .a) → y ≡ partFits t l (p .b) → z ≡ partFits t l (p .c)
       → all (partRight t l) (parts t l) ≡ (x && y && z)
@@ -129,11 +121,14 @@ module _ (e : Bool) (u : ℕ) where
   uses-wrong h d = rw (h, ne-eqb u 1 d)
 
 module _ (k d : ℕ) where
-  pub argument-fine : k ≡ 5 → (d ≡ 2 → ⊥) → argumentIn k d ≡ 0
-  argument-fine h g = rw (h, ne-eqb d 2 g)
+  pub argument-none : placeOf k ≡ 0 → argumentIn k d ≡ 0
+  argument-none h = rw (h, le-ltb (takes d) 0 (omega arith))
 
-  pub argument-wrong : k ≡ 5 → d ≡ 2 → argumentIn k d ≡ 10
-  argument-wrong h g = rw (h, g)
+  pub argument-fine : placeOf k ≤ takes d → argumentIn k d ≡ 0
+  argument-fine h = rw (le-ltb (takes d) (placeOf k) h)
+
+  pub argument-wrong : takes d < placeOf k → argumentIn k d ≡ 10
+  argument-wrong h = rw (lt-ltb (takes d) (placeOf k) h)
 
 module _ (v : ℕ) where
   pub level-wrong : 32 < v → tooDeep v ≡ 11

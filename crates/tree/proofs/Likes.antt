@@ -1,17 +1,20 @@
 -- Rows 8 to 11 of tables that the tree does not tell apart.
-use mathlib.Core.Path.{_≡_, refl, sym, _∙_}
+use mathlib.Core.Path.{_≡_, refl, ap, sym, _∙_}
 use mathlib.Core.Bool.{Bool, true, false, cond, _&&_}
 use mathlib.Core.List.{List, [], _∷_}
 use Prim.Native.Nat.{ℕ}
-use native.Mathlib.Omega.{arith}
 use lib.Dec.{leb}
 use lib.IntN.{ℤ}
 use Rattle.cells.specs.Lists.{all}
-use Rattle.cells.specs.Table.{kind, fieldA}
+use Rattle.kinds.specs.Kinds.{numberCode}
+use Rattle.kinds.specs.Kinds as kinds
+use Rattle.kinds.proofs.Tests.{and-right}
+use Rattle.kinds.proofs.Laws.{not-definition}
+use Rattle.kinds.proofs.Codes.{number-expression}
+use Rattle.cells.specs.Table.{kind, isDefinition, fieldA}
 use Rattle.cells.proofs.Signed.{clash}
 use Rattle.refusals.proofs.FirstBad.{first-same}
-use Rattle.tree.specs.Tree.{isDefinition, parts, groupRight, partRight, structureBad, usesBad, ownerOf, argumentBad, levelBad, treeBad}
-use Rattle.tree.proofs.Codes.{and-right, not-definition, expression-high}
+use Rattle.tree.specs.Tree.{parts, groupRight, partRight, structureBad, usesBad, ownerOf, argumentBad, levelBad, treeBad}
 use Rattle.tree.proofs.Parts.{Like, like-expression, like-definition, like-parts}
 use Rattle.tree.proofs.Users.{like-uses}
 use Rattle.tree.proofs.Owners.{like-level, like-owner}
@@ -22,8 +25,8 @@ all-same f g h (x ∷ xs) = rw (h x, all-same f g h xs)
 
 module _ (t w : List ℤ) (same : Like t w) where
   -- a definition is no N line
-  definition-other : (l : ℕ) → isDefinition t l ≡ true → kind t l ≡ 4 → ⊥
-  definition-other l d q = clash (sym d ∙ not-definition t l (expression-high t l (omega arith) (omega arith)))
+  definition-other : (l : ℕ) → isDefinition t l ≡ true → kind t l ≡ numberCode → ⊥
+  definition-other l d q = clash (sym d ∙ not-definition (kind t l) (ap kinds.isExpression q ∙ number-expression))
 
   part-like : (l x : ℕ) → partRight w l x ≡ partRight t l x
   part-like l x = rw (like-expression t w same x)

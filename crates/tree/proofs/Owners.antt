@@ -7,12 +7,16 @@ use Prim.Native.Nat.{ℕ, zero, suc, _≤_, _<_}
 use native.Mathlib.Omega.{arith}
 use lib.IntN.{ℤ}
 use lib.ListN.{length}
-use Rattle.cells.specs.Table.{kind, fieldA}
+use Rattle.kinds.specs.Kinds.{numberCode}
+use Rattle.kinds.specs.Kinds as kinds
+use Rattle.kinds.proofs.Laws.{kind-low, not-expression, either}
+use Rattle.kinds.proofs.Codes.{number-expression}
+use Rattle.cells.specs.Table.{kind, isDefinition, isExpression, fieldA}
 use Rattle.cells.specs.Accepted.{HasBody}
 use Rattle.cells.proofs.Signed.{clash}
-use Rattle.tree.specs.Tree.{isDefinition, isExpression, IsPart, Owned, Level, userOf, climb, lastOf, definitionOf, ownerOf, levelOf}
+use Rattle.tree.specs.Tree.{IsPart, Owned, Level, userOf, climb, lastOf, definitionOf, ownerOf, levelOf}
 use Rattle.tree.specs.Steps.{UsedOnce}
-use Rattle.tree.proofs.Codes.{not-expression, expression-high, either, part-line, definition-high, two-or-three, label-low, label-high, kind-high}
+use Rattle.tree.proofs.Codes.{part-kind, part-body, label-low, label-high}
 use Rattle.tree.proofs.Parts.{Like, Alike, like, like-expression}
 use Rattle.tree.proofs.Users.{User, user-some, user-only, like-user}
 
@@ -91,7 +95,7 @@ module _ (t : List ℤ) (n : ℕ) (s : UsedOnce t n) where
     part-expression = s .structure .part l x p .1
 
     line-kind : 1 ≤ kind t l
-    line-kind = omega (arith, part-line t l x p)
+    line-kind = kind-low (kind t l) (part-kind t l x p)
 
     part-user : userOf t n x ≡ l
     part-user =
@@ -114,10 +118,10 @@ module _ (t : List ℤ) (n : ℕ) (s : UsedOnce t n) where
 
   module _ (d x : ℕ) (e : isDefinition t d ≡ true) (p : IsPart t d x) where
     pub body-owner : ownerOf t n x ≡ d
-    body-owner = part-owner d x p ∙ definition-own t n d (not-expression t d e)
+    body-owner = part-owner d x p ∙ definition-own t n d (not-expression (kind t d) e)
 
     pub body-level : levelOf t n x ≡ 1
-    body-level = part-level d x p ∙ ap suc (level-own t n d (not-expression t d e))
+    body-level = part-level d x p ∙ ap suc (level-own t n d (not-expression (kind t d) e))
 
   -- ---- what holds of bodies, and of operands where it holds of their line, holds of every expression
 
@@ -135,7 +139,7 @@ module _ (t : List ℤ) (n : ℕ) (s : UsedOnce t n) where
         go rest =
             ⊎-elim (λ d. base (userOf t n x) x d (u .part))
             (λ f. step (userOf t n x) x f (rest (omega (arith, user-below x e)) f) (u .part))
-            (either t (userOf t n x) (omega (arith, part-line t (userOf t n x) x (u .part))))
+            (either (kind t (userOf t n x)) (part-kind t (userOf t n x) x (u .part)))
 
     pub by-user : (x : ℕ) → isExpression t x ≡ true → P x
     by-user x e = within x x (omega arith) e
@@ -162,14 +166,14 @@ module _ (t : List ℤ) (n : ℕ) (s : UsedOnce t n) where
   level-only x k (Level.body d _ e p) = sym (body-level d x e p)
   level-only x k (Level.operand u _ m o e p) = ap suc (level-only u m o) ∙ sym (part-level u x p)
 
-  -- ---- the owner is a V or F with a smaller label
+  -- ---- the owner has a body and a smaller label
 
   pub owned-below : (d x : ℕ) → Owned t d x → d < x
   owned-below d x (Owned.body _ _ e p) = s .structure .part d x p .0
   owned-below d x (Owned.operand _ u _ o e p) = omega (arith, owned-below d u o, s .structure .part u x p .0)
 
   pub owned-body : (d x : ℕ) → Owned t d x → HasBody t d
-  owned-body d x (Owned.body _ _ e p) = two-or-three t d (part-line t d x p) (definition-high t d (kind-high t n (s .structure .formed) d) e)
+  owned-body d x (Owned.body _ _ e p) = part-body t d x e p
   owned-body d x (Owned.operand _ u _ o e p) = owned-body d u o
 
 -- ---- of tables that the tree does not tell apart
@@ -189,7 +193,7 @@ module _ (t w : List ℤ) (n : ℕ) (same : Like t w) where
     where
       go : (b : Bool) → isExpression t x ≡ b → cond b (lastOf x (climb t n x x)) (fieldA w x) ≡ cond b (lastOf x (climb t n x x)) (fieldA t x)
       go true e = refl
-      go false e = same .a x (λ q. clash (sym (expression-high t x (omega arith) (omega arith)) ∙ e))
+      go false e = same .a x (λ q. clash (sym (ap kinds.isExpression q ∙ number-expression) ∙ e))
 
 module _ (t w : List ℤ) (n : ℕ) (same : Alike t w) where
   pub alike-level : (x : ℕ) → levelOf w n x ≡ levelOf t n x

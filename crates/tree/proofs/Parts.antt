@@ -8,16 +8,19 @@ use borrow.Author.Tests.{ltb-true, eqb-true, eqb-false, le-leb, eq-eqb, ne-eqb}
 use lib.Dec.{leb, ltb, eqb}
 use lib.IntN.{ℤ}
 use Rattle.cells.specs.Lists.{one, count, all}
-use Rattle.cells.specs.Table.{cell, kind, fieldA, fieldB, fieldC}
-use Rattle.lines.specs.Kinds.{kinds, kindAt}
-use Rattle.lines.specs.declared.Form.{Form}
+use Rattle.kinds.specs.Kinds.{groupCode, numberCode, fieldsAt, isOperand}
+use Rattle.kinds.specs.declared.Form.{Form}
+use Rattle.kinds.proofs.Tests.{and-left, and-right}
+use Rattle.kinds.proofs.Laws.{kind-low}
+use Rattle.kinds.proofs.Codes.{number-operand}
+use Rattle.cells.specs.Table.{cell, kind, isDefinition, isExpression, fieldA, fieldB, fieldC}
 use Rattle.refusals.specs.declared.Verdict.the-variants.{Fine}
 use Rattle.refusals.specs.Refusal.{firstBad}
 use Rattle.refusals.proofs.FirstBad.{first-none}
-use Rattle.tree.specs.Tree.{isOperand, isDefinition, isExpression, operandIn, parts, groupRight, partRight, lineRight, structureBad, IsPart}
+use Rattle.tree.specs.Tree.{operandIn, parts, groupRight, partRight, lineRight, structureBad, IsPart}
 use Rattle.tree.specs.Treed.{Formed}
 use Rattle.tree.specs.Steps.{Structured}
-use Rattle.tree.proofs.Codes.{and-left, and-right, part-line, label-low, label-high}
+use Rattle.tree.proofs.Codes.{part-kind, label-low, label-high}
 
 -- ---- lists of labels
 
@@ -41,13 +44,13 @@ all-has test (y ∷ ys) x e h = go (eqb x y) refl h (all-has test ys x (and-righ
 
 module _ (t : List ℤ) (l : ℕ) where
   abbrev listA : List ℕ
-  listA = operandIn (kindAt (kind t l) .a) (fieldA t l)
+  listA = operandIn (fieldsAt (kind t l) .a) (fieldA t l)
 
   abbrev listB : List ℕ
-  listB = operandIn (kindAt (kind t l) .b) (fieldB t l)
+  listB = operandIn (fieldsAt (kind t l) .b) (fieldB t l)
 
   abbrev listC : List ℕ
-  listC = operandIn (kindAt (kind t l) .c) (fieldC t l)
+  listC = operandIn (fieldsAt (kind t l) .c) (fieldC t l)
 
   pub count-parts : (x : ℕ) → count x (parts t l) ≡ count x listA + count x listB + count x listC
   unfolding parts
@@ -81,9 +84,9 @@ field-zero f x h = go (isOperand f) h
     go true g = rw (ne-eqb 0 x (λ e. omega (arith, g refl)))
     go false g = refl
 
-pub parts-zero : (t : List ℤ) (l : ℕ) → (isOperand (kindAt (kind t l) .a) ≡ true → 1 ≤ fieldA t l) → (isOperand (kindAt (kind t l) .b) ≡ true → 1 ≤ fieldB t l) → (isOperand (kindAt (kind t l) .c) ≡ true → 1 ≤ fieldC t l) → count 0 (parts t l) ≡ 0
+pub parts-zero : (t : List ℤ) (l : ℕ) → (isOperand (fieldsAt (kind t l) .a) ≡ true → 1 ≤ fieldA t l) → (isOperand (fieldsAt (kind t l) .b) ≡ true → 1 ≤ fieldB t l) → (isOperand (fieldsAt (kind t l) .c) ≡ true → 1 ≤ fieldC t l) → count 0 (parts t l) ≡ 0
 parts-zero t l a b c =
-    omega (arith, count-parts t l 0, field-zero (kindAt (kind t l) .a) (fieldA t l) a, field-zero (kindAt (kind t l) .b) (fieldB t l) b, field-zero (kindAt (kind t l) .c) (fieldC t l) c)
+    omega (arith, count-parts t l 0, field-zero (fieldsAt (kind t l) .a) (fieldA t l) a, field-zero (fieldsAt (kind t l) .b) (fieldB t l) b, field-zero (fieldsAt (kind t l) .c) (fieldC t l) c)
 
 -- ---- row 8
 
@@ -103,7 +106,7 @@ module _ (t : List ℤ) (n : ℕ) (s : Formed t n) (fine : firstBad (structureBa
 
   right-part : (l x : ℕ) → IsPart t l x → partRight t l x ≡ true
   right-part l x p =
-      let k : 1 ≤ kind t l = omega (arith, part-line t l x p) in
+      let k : 1 ≤ kind t l = kind-low (kind t l) (part-kind t l x p) in
       all-has (partRight t l) (parts t l) x
       (and-right (cond (leb 2 l && isDefinition t l) (groupRight t l (fieldA t l)) true) (all (partRight t l) (parts t l)) (right-line l (label-low t l n s k) (label-high t l n s k))) p
 
@@ -111,37 +114,31 @@ module _ (t : List ℤ) (n : ℕ) (s : Formed t n) (fine : firstBad (structureBa
   structured = record {
     formed = s;
     group = λ l h g d.
-        (ltb-true (fieldA t l) l (and-left (ltb (fieldA t l) l) (eqb (kind t (fieldA t l)) 1) (right-group l h g d)), eqb-true (kind t (fieldA t l)) 1 (and-right (ltb (fieldA t l) l) (eqb (kind t (fieldA t l)) 1) (right-group l h g d)));
+        (ltb-true (fieldA t l) l (and-left (ltb (fieldA t l) l) (eqb (kind t (fieldA t l)) groupCode) (right-group l h g d)), eqb-true (kind t (fieldA t l)) groupCode (and-right (ltb (fieldA t l) l) (eqb (kind t (fieldA t l)) groupCode) (right-group l h g d)));
     part = λ l x p.
         (ltb-true l x (and-left (ltb l x) (isExpression t x) (right-part l x p)), and-right (ltb l x) (isExpression t x) (right-part l x p));
   }
 
--- ---- the tree reads the kinds and the fields a, b and c alone, and of an N line (code 4) no field
+-- ---- the tree reads the kinds and the fields a, b and c alone, and of an N line no field
 
 pub record Like (t w : List ℤ) : Type 0 where
   pub kinds : (l : ℕ) → kind w l ≡ kind t l
-  pub a : (l : ℕ) → (kind t l ≡ 4 → ⊥) → fieldA w l ≡ fieldA t l
+  pub a : (l : ℕ) → (kind t l ≡ numberCode → ⊥) → fieldA w l ≡ fieldA t l
   pub b : (l : ℕ) → fieldB w l ≡ fieldB t l
   pub c : (l : ℕ) → fieldC w l ≡ fieldC t l
 
-number-operand : isOperand (kindAt 4 .a) ≡ false
-unfolding kindAt kinds
-number-operand = refl
-
-operand-like : (k x y : ℕ) → ((k ≡ 4 → ⊥) → x ≡ y) → operandIn (kindAt k .a) x ≡ operandIn (kindAt k .a) y
-operand-like k x y h = go (eqb k 4) refl
+operand-like : (k x y : ℕ) → ((k ≡ numberCode → ⊥) → x ≡ y) → operandIn (fieldsAt k .a) x ≡ operandIn (fieldsAt k .a) y
+operand-like k x y h = go (eqb k numberCode) refl
   where
-    go : (b : Bool) → eqb k 4 ≡ b → operandIn (kindAt k .a) x ≡ operandIn (kindAt k .a) y
-    go true e = rw (eqb-true k 4 e, number-operand)
-    go false e = ap (operandIn (kindAt k .a)) (h (eqb-false k 4 e))
+    go : (b : Bool) → eqb k numberCode ≡ b → operandIn (fieldsAt k .a) x ≡ operandIn (fieldsAt k .a) y
+    go true e = rw (eqb-true k numberCode e, number-operand)
+    go false e = ap (operandIn (fieldsAt k .a)) (h (eqb-false k numberCode e))
 
 module _ (t w : List ℤ) (same : Like t w) (l : ℕ) where
   pub like-expression : isExpression w l ≡ isExpression t l
-  unfolding isExpression
   like-expression = rw (same .kinds l)
 
   pub like-definition : isDefinition w l ≡ isDefinition t l
-  unfolding isDefinition
   like-definition = rw (same .kinds l)
 
   pub like-parts : parts w l ≡ parts t l

@@ -10,16 +10,18 @@ use borrow.Author.Tests.{eq-eqb, eqb-true, eqb-false}
 use lib.Dec.{eqb}
 use lib.IntN.{ℤ, pos}
 use lib.ListN.{length, set}
+use Rattle.kinds.specs.Kinds.{isKind}
+use Rattle.kinds.proofs.Laws.{not-expression, either}
 use Rattle.cells.specs.Cells.{natOf}
 use Rattle.cells.specs.Lists.{one, count}
-use Rattle.cells.specs.Table.{kind, fieldA, owner, target}
+use Rattle.cells.specs.Table.{kind, isDefinition, isExpression, fieldA, owner, target}
 use Rattle.cells.proofs.Signed.{clash}
 use Rattle.cells.proofs.Table.{cell-put, cell-other}
-use Rattle.tree.specs.Tree.{isDefinition, isExpression, parts, uses, IsPart, userOf, ownerOf, levelOf}
+use Rattle.tree.specs.Tree.{parts, uses, IsPart, userOf, ownerOf, levelOf}
 use Rattle.tree.specs.Treed.{Plain}
 use Rattle.tree.specs.Steps.{nodeAt, counted, countedAll, assigned, assignedAll, propagated, Inside, Countable, Propagable, Structured, UsedOnce, Natural, Over, Counted, turnOf, Propagated, Cleared}
 use Rattle.tree.specs.declared.Node.{Node}
-use Rattle.tree.proofs.Codes.{expression-kind, not-expression, either, label-high}
+use Rattle.tree.proofs.Codes.{expression-kind, label-high}
 use Rattle.tree.proofs.Users.{user-some, uses-most}
 use Rattle.tree.proofs.Labels.{node-definition, node-count, propagated-definition, propagated-expression}
 use Rattle.tree.proofs.Owners as own
@@ -85,8 +87,7 @@ module _ (t : List ℤ) (n : ℕ) (s : Structured t n) (w : List ℤ) (l : ℕ) 
       let k = kind-over t n s w (r .over) l in
       let m = node-most t n s l in
       record {
-        low = omega (arith, s .formed .kinds l h g .0);
-        high = omega (arith, s .formed .kinds l h g .1);
+        known = rw k (s .formed .kinds l h g);
         inside = rw e (inside t n s w (r .over) l);
         a = rw e (few-uses (nodeAt t l .a) (m .0));
         b = rw e (few-uses (nodeAt t l .b) (m .1));
@@ -157,11 +158,11 @@ propagate-start t n s natural = record {
     late x h false e q = let z : x ≤ 0 = rw e at q in omega arith
 
 module _ (t : List ℤ) (n : ℕ) (s : UsedOnce t n) (w : List ℤ) (l : ℕ) (h : 1 ≤ l) (g : l ≤ n) (r : Propagated t n (l - 1) w) where
-  line-kind : 1 ≤ kind t l
-  line-kind = s .structure .formed .kinds l h g .0
+  line-kind : isKind (kind t l) ≡ true
+  line-kind = s .structure .formed .kinds l h g
 
   definition-over : nodeAt w l .definition ≡ isDefinition t l
-  definition-over = ap (λ (p : Node). p .definition) (node-over t n (s .structure) w (r .over) l) ∙ node-definition t l line-kind
+  definition-over = ap (λ (p : Node). p .definition) (node-over t n (s .structure) w (r .over) l) ∙ node-definition t l
 
   group-over : fieldA w l ≡ fieldA t l
   group-over = over-alike t w n (r .over) l 3 (omega arith)
@@ -182,15 +183,14 @@ module _ (t : List ℤ) (n : ℕ) (s : UsedOnce t n) (w : List ℤ) (l : ℕ) (h
     level-there = r .levels l h g early
 
   expression-else : nodeAt w l .definition ≡ false → isExpression t l ≡ true
-  expression-else e = ⊎-elim (λ d. clash (sym d ∙ sym definition-over ∙ e)) (λ f. f) (either t l line-kind)
+  expression-else e = ⊎-elim (λ d. clash (sym d ∙ sym definition-over ∙ e)) (λ f. f) (either (kind t l) line-kind)
 
   pub propagate-ready : Propagable w l
   propagate-ready =
       let k = kind-over t n (s .structure) w (r .over) l in
       let f = s .structure .formed .few in
       record {
-        low = omega (arith, line-kind);
-        high = omega (arith, s .structure .formed .kinds l h g .1);
+        known = rw k line-kind;
         inside = rw (node-over t n (s .structure) w (r .over) l) (inside t n (s .structure) w (r .over) l);
         room = omega (arith, r .over .size, s .structure .formed .room);
         few = omega arith;
@@ -257,7 +257,7 @@ module _ (t : List ℤ) (n : ℕ) (s : UsedOnce t n) (w : List ℤ) (l : ℕ) (h
   turn-definition : isDefinition t l ≡ true → Propagated t n l (assignedAll (nodeAt t l) l 1 (assigned l (fieldA t l) 0 w))
   turn-definition d =
       let room : 8 * l ≤ length w = omega (arith, r .over .size, s .structure .formed .room) in
-      let f = not-expression t l d in
+      let f = not-expression (kind t l) d in
       let right : (1 ≤ l → (fieldA t l ≡ ownerOf t n l) × (0 ≡ levelOf t n l)) = λ z. (sym (own.owner-group t n l f), sym (own.level-own t n l f)) in
       propagated-so l 1 (λ x q. (sym (own.body-owner t n s l x d q), sym (own.body-level t n s l x d q))) (assigned l (fieldA t l) 0 w) (over-assigned t w n (s .structure .formed .room) (r .over) l (fieldA t l) 0 g)
       (λ y a b c. settled room right y a b c)

@@ -10,13 +10,13 @@ use lib.IntN.{ℤ, pos}
 use lib.ListN.{length}
 use lib.Seq.{ext-getD}
 use Rattle.cells.specs.Cells.{intAt}
-use Rattle.cells.specs.Table.{kind, owner, target, withColumn}
+use Rattle.cells.specs.Table.{kind, isExpression, owner, target, withColumn}
 use Rattle.cells.proofs.Columns.{column-length, column-keeps, column-has}
 use Rattle.refusals.specs.Refusal.{firstBad, orElse}
 use Rattle.refusals.proofs.FirstBad.{first-same}
 use Rattle.refusals.specs.declared.Verdict.{Verdict}
 use Rattle.refusals.specs.declared.Verdict.the-variants.{Fine, Refused}
-use Rattle.tree.specs.Tree.{isExpression, usesBad, userOf, argumentBad, levelBad, ownerOf}
+use Rattle.tree.specs.Tree.{usesBad, userOf, argumentBad, levelBad, ownerOf}
 use Rattle.tree.specs.Treed.{Formed, Plain, Written}
 use Rattle.tree.specs.Steps.{cellBad, UsedOnce, Over, Counted, turnOf, Propagated, Cleared, Owning}
 use Rattle.tree.specs.declared.Rule.the-variants as rule

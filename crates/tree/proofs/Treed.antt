@@ -7,21 +7,23 @@ use Prim.Native.Nat.{ℕ, _≤_, _<_}
 use native.Mathlib.Omega.{arith}
 use native.Mathlib.Nat.{eq-or-lt-of-le}
 use native.Mathlib.Numerals.{add-one}
-use borrow.Author.Tests.{ltb-false}
-use lib.Dec.{ltb}
+use borrow.Author.Tests.{ltb-false, leb-true, leb-false}
+use lib.Dec.{leb, ltb}
 use lib.IntN.{ℤ}
-use Rattle.cells.specs.Table.{kind, fieldA, fieldB, fieldC, owner, withColumn}
+use Rattle.kinds.specs.Kinds.{groupCode, fieldsAt, isOperand, operandA, operandB, operandC, hasBody, takes, placeOf}
+use Rattle.kinds.proofs.Tests.{and-left, and-right}
+use Rattle.kinds.proofs.Laws.{not-expression, either}
+use Rattle.cells.specs.Table.{kind, isDefinition, isExpression, fieldA, fieldB, fieldC, owner, withColumn}
 use Rattle.cells.specs.Accepted.{HasBody, Part}
 use Rattle.cells.proofs.Columns.{column-own, column-other}
-use Rattle.lines.specs.Kinds.{kindAt}
 use Rattle.refusals.specs.declared.Verdict.the-variants.{Fine}
 use Rattle.refusals.proofs.OrElse.{both-fine}
 use Rattle.refusals.specs.Refusal.{firstBad}
 use Rattle.refusals.proofs.FirstBad.{first-none}
-use Rattle.tree.specs.Tree.{isOperand, isDefinition, isExpression, IsPart, usesBad, definitionOf, ownerOf, levelOf, argumentIn, argumentBad, levelBad, structureBad, treeBad}
+use Rattle.tree.specs.Tree.{IsPart, usesBad, definitionOf, ownerOf, levelOf, argumentIn, argumentBad, levelBad, structureBad, treeBad}
 use Rattle.tree.specs.Treed.{Formed, PartOf, Treed}
 use Rattle.tree.specs.Steps.{UsedOnce}
-use Rattle.tree.proofs.Codes.{expression-kind, not-expression, either, definition-low, expression-low, expression-high, body-code, first-code, second-code, third-code, label-low, label-high, kind-high}
+use Rattle.tree.proofs.Codes.{expression-kind, no-place, label-low, label-high}
 use Rattle.tree.proofs.Parts.{Alike, structured, count-parts, field-part}
 use Rattle.tree.proofs.Users.{tree}
 use Rattle.tree.proofs.Owners as own
@@ -39,10 +41,10 @@ module _ (t : List ℤ) (n : ℕ) (s : Formed t n) (fine : treeBad t n ≡ Fine)
   is = tree t n (structured t n s (rows .0)) (rows .1)
 
   group-own : (l : ℕ) → isDefinition t l ≡ true → ownerOf t n l ≡ fieldA t l
-  group-own l d = own.owner-group t n l (not-expression t l d)
+  group-own l d = own.owner-group t n l (not-expression (kind t l) d)
 
   owner-falls : (l : ℕ) → 1 ≤ l → l ≤ n → ownerOf t n l < l
-  owner-falls l h g = ⊎-elim (λ d. group d (eq-or-lt-of-le h)) (λ e. own.owned-below t n is (ownerOf t n l) l (own.owned t n is l e)) (either t l (s .kinds l h g .0))
+  owner-falls l h g = ⊎-elim (λ d. group d (eq-or-lt-of-le h)) (λ e. own.owned-below t n is (ownerOf t n l) l (own.owned t n is l e)) (either (kind t l) (s .kinds l h g))
     where
       group : isDefinition t l ≡ true → (1 ≡ l) ⊎ (1 < l) → ownerOf t n l < l
       group d c =
@@ -57,8 +59,6 @@ module _ (t : List ℤ) (n : ℕ) (s : Formed t n) (fine : treeBad t n ≡ Fine)
         above = is .structure .part l x p .0;
         label = label-high t x n s k;
         expression = e;
-        low = expression-low t x e;
-        high = kind-high t n s x;
         owner = own.part-owner t n is l x p;
         level = own.part-level t n is l x p ∙ sym (add-one (levelOf t n l));
       }
@@ -66,14 +66,21 @@ module _ (t : List ℤ) (n : ℕ) (s : Formed t n) (fine : treeBad t n ≡ Fine)
   has-body : (x : ℕ) → isExpression t x ≡ true → HasBody t (ownerOf t n x)
   has-body x e = own.owned-body t n is (ownerOf t n x) x (own.owned t n is x e)
 
-  refused : (a b : ℕ) → a ≡ 5 → b ≡ 2 → argumentIn a b ≡ 0 → ⊥
-  refused a b k v z = let y : _≡_ {A = ℕ} 10 0 = rw (k, v) at z in omega arith
+  argument-in : (x : ℕ) → placeOf (kind t x) ≤ takes (kind t (ownerOf t n x))
+  argument-in x = go (leb 1 (kind t x)) refl
+    where
+      given : (k d : ℕ) → argumentIn k d ≡ 0 → (b : Bool) → ltb (takes d) (placeOf k) ≡ b → placeOf k ≤ takes d
+      given k d z true q = let y : _≡_ {A = ℕ} 10 0 = rw q at z in absurd (omega arith)
+      given k d z false q = ltb-false (takes d) (placeOf k) q
 
-  argument-in : (x : ℕ) → kind t x ≡ 5 → kind t (ownerOf t n x) ≡ 3
-  argument-in x k =
-      let h : 1 ≤ kind t x = omega arith in
-      let z : argumentBad t n x ≡ 0 = first-none (argumentBad t n) n 1 (rows .2) x (label-low t x n s h) (omega (arith, label-high t x n s h)) in
-      ⊎-elim (λ v. absurd (refused (kind t x) (kind t (ownerOf t n x)) k v z)) (λ f. f) (has-body x (expression-high t x (omega arith) (kind-high t n s x)))
+      go : (b : Bool) → leb 1 (kind t x) ≡ b → placeOf (kind t x) ≤ takes (kind t (ownerOf t n x))
+      go true q =
+          let h = leb-true 1 (kind t x) q in
+          let z : argumentBad t n x ≡ 0 = first-none (argumentBad t n) n 1 (rows .2) x (label-low t x n s h) (omega (arith, label-high t x n s h)) in
+          given (kind t x) (kind t (ownerOf t n x)) z (ltb (takes (kind t (ownerOf t n x))) (placeOf (kind t x))) refl
+      go false q =
+          let z : kind t x ≡ 0 = omega (arith, leb-false 1 (kind t x) q) in
+          omega (arith, ap placeOf z ∙ no-place)
 
   low-level : (x : ℕ) → 1 ≤ x → x ≤ n → levelOf t n x ≤ 32
   low-level x h g = go (ltb 32 (levelOf t n x)) refl (first-none (levelBad t n) n 1 (rows .3) x h (omega arith))
@@ -87,7 +94,7 @@ module _ (t : List ℤ) (n : ℕ) (s : Formed t n) (fine : treeBad t n ≡ Fine)
     groups = λ l h g d. rw (group-own l d) (is .structure .group l h g d .1);
     falls = owner-falls;
     part = part-of;
-    itself = λ l d. own.definition-own t n l (not-expression t l d);
+    itself = λ l d. own.definition-own t n l (not-expression (kind t l) d);
     standing = λ l e. sym (own.owner-standing t n l e);
     once = is .once;
     owners = has-body;
@@ -103,13 +110,13 @@ module _ (t : List ℤ) (n : ℕ) (s : Formed t n) (fine : treeBad t n ≡ Fine)
 
 pub record TreeAccepted (w : List ℤ) (n : ℕ) : Type 0 where
   pub falls : (l : ℕ) → 1 ≤ l → l ≤ n → owner w l < l
-  pub group : (l : ℕ) → 2 ≤ l → l ≤ n → kind w l ≤ 3 → kind w (owner w l) ≡ 1
-  pub owners : (l : ℕ) → 1 ≤ l → l ≤ n → 4 ≤ kind w l → HasBody w (owner w l)
-  pub argument : (l : ℕ) → kind w l ≡ 5 → kind w (owner w l) ≡ 3
+  pub group : (l : ℕ) → 2 ≤ l → l ≤ n → isDefinition w l ≡ true → kind w (owner w l) ≡ groupCode
+  pub owners : (l : ℕ) → isExpression w l ≡ true → HasBody w (owner w l)
+  pub argument : (l : ℕ) → placeOf (kind w l) ≤ takes (kind w (owner w l))
   pub body : (l : ℕ) → HasBody w l → Part w n l l (fieldB w l)
-  pub first : (l : ℕ) → 7 ≤ kind w l → kind w l ≤ 12 → Part w n l (owner w l) (fieldA w l)
-  pub second : (l : ℕ) → 8 ≤ kind w l → kind w l ≤ 12 → Part w n l (owner w l) (fieldB w l)
-  pub third : (l : ℕ) → kind w l ≡ 12 → Part w n l (owner w l) (fieldC w l)
+  pub first : (l : ℕ) → operandA (kind w l) ≡ true → Part w n l (owner w l) (fieldA w l)
+  pub second : (l : ℕ) → operandB (kind w l) ≡ true → Part w n l (owner w l) (fieldB w l)
+  pub third : (l : ℕ) → operandC (kind w l) ≡ true → Part w n l (owner w l) (fieldC w l)
 
 module _ (t : List ℤ) (n : ℕ) (s : Formed t n) (r : Treed t n) where
   abbrev owned-table : List ℤ
@@ -135,50 +142,67 @@ module _ (t : List ℤ) (n : ℕ) (s : Formed t n) (r : Treed t n) where
       rw q (record {
         above = h .above;
         label = h .label;
-        low = rw (kind-same x) (h .low);
-        high = rw (kind-same x) (h .high);
+        expression = rw (kind-same x) (h .expression);
         owned = owner-at x (expression-kind t x (h .expression)) ∙ h .owner ∙ e;
       })
 
   -- an operand of an expression
-  operand-placed : (l x y : ℕ) → y ≡ x → 7 ≤ kind t l → IsPart t l x → Part owned-table n l (owner owned-table l) y
-  operand-placed l x y q k p =
-      placed l (owner owned-table l) x y q p
-      (r .standing l (expression-high t l (omega arith) (kind-high t n s l)) ∙ sym (owner-at l (omega arith)))
+  operand-placed : (l x y : ℕ) → y ≡ x → isExpression t l ≡ true → IsPart t l x → Part owned-table n l (owner owned-table l) y
+  operand-placed l x y q e p = placed l (owner owned-table l) x y q p (r .standing l e ∙ sym (owner-at l (expression-kind t l e)))
 
-  first-part : (l : ℕ) → isOperand (kindAt (kind t l) .a) ≡ true → IsPart t l (fieldA t l)
-  first-part l e = omega (arith, count-parts t l (fieldA t l), field-part (kindAt (kind t l) .a) (fieldA t l) e)
+  first-part : (l : ℕ) → isOperand (fieldsAt (kind t l) .a) ≡ true → IsPart t l (fieldA t l)
+  first-part l e = omega (arith, count-parts t l (fieldA t l), field-part (fieldsAt (kind t l) .a) (fieldA t l) e)
 
-  second-part : (l : ℕ) → isOperand (kindAt (kind t l) .b) ≡ true → IsPart t l (fieldB t l)
-  second-part l e = omega (arith, count-parts t l (fieldB t l), field-part (kindAt (kind t l) .b) (fieldB t l) e)
+  second-part : (l : ℕ) → isOperand (fieldsAt (kind t l) .b) ≡ true → IsPart t l (fieldB t l)
+  second-part l e = omega (arith, count-parts t l (fieldB t l), field-part (fieldsAt (kind t l) .b) (fieldB t l) e)
 
-  third-part : (l : ℕ) → isOperand (kindAt (kind t l) .c) ≡ true → IsPart t l (fieldC t l)
-  third-part l e = omega (arith, count-parts t l (fieldC t l), field-part (kindAt (kind t l) .c) (fieldC t l) e)
+  third-part : (l : ℕ) → isOperand (fieldsAt (kind t l) .c) ≡ true → IsPart t l (fieldC t l)
+  third-part l e = omega (arith, count-parts t l (fieldC t l), field-part (fieldsAt (kind t l) .c) (fieldC t l) e)
 
-  body-placed : (l : ℕ) → 2 ≤ kind t l → kind t l ≤ 3 → Part owned-table n l l (fieldB owned-table l)
-  body-placed l h g =
-      placed l l (fieldB t l) (fieldB owned-table l) (same l 4 (omega arith)) (second-part l (body-code (kind t l) h g))
-      (r .itself l (definition-low t l (omega arith) g))
+  body-placed : (l : ℕ) → HasBody t l → Part owned-table n l l (fieldB owned-table l)
+  unfolding hasBody
+  body-placed l h =
+      placed l l (fieldB t l) (fieldB owned-table l) (same l 4 (omega arith)) (second-part l (and-right (isDefinition t l) (isOperand (fieldsAt (kind t l) .b)) h))
+      (r .itself l (and-left (isDefinition t l) (isOperand (fieldsAt (kind t l) .b)) h))
+
+  first-placed : (l : ℕ) → operandA (kind t l) ≡ true → Part owned-table n l (owner owned-table l) (fieldA owned-table l)
+  unfolding operandA
+  first-placed l h =
+      operand-placed l (fieldA t l) (fieldA owned-table l) (same l 3 (omega arith)) (and-left (isExpression t l) (isOperand (fieldsAt (kind t l) .a)) h)
+      (first-part l (and-right (isExpression t l) (isOperand (fieldsAt (kind t l) .a)) h))
+
+  second-placed : (l : ℕ) → operandB (kind t l) ≡ true → Part owned-table n l (owner owned-table l) (fieldB owned-table l)
+  unfolding operandB
+  second-placed l h =
+      operand-placed l (fieldB t l) (fieldB owned-table l) (same l 4 (omega arith)) (and-left (isExpression t l) (isOperand (fieldsAt (kind t l) .b)) h)
+      (second-part l (and-right (isExpression t l) (isOperand (fieldsAt (kind t l) .b)) h))
+
+  third-placed : (l : ℕ) → operandC (kind t l) ≡ true → Part owned-table n l (owner owned-table l) (fieldC owned-table l)
+  unfolding operandC
+  third-placed l h =
+      operand-placed l (fieldC t l) (fieldC owned-table l) (same l 5 (omega arith)) (and-left (isExpression t l) (isOperand (fieldsAt (kind t l) .c)) h)
+      (third-part l (and-right (isExpression t l) (isOperand (fieldsAt (kind t l) .c)) h))
+
+  -- an argument's owner; what is no label stands for none
+  argument-given : (l : ℕ) → placeOf (kind owned-table l) ≤ takes (kind owned-table (owner owned-table l))
+  argument-given l = rw (kind-same l) (go (leb 1 (kind t l)) refl)
+    where
+      go : (b : Bool) → leb 1 (kind t l) ≡ b → placeOf (kind t l) ≤ takes (kind owned-table (owner owned-table l))
+      go true q = rw (owner-at l (leb-true 1 (kind t l) q), kind-same (ownerOf t n l)) (r .argument l)
+      go false q =
+          let z : kind t l ≡ 0 = omega (arith, leb-false 1 (kind t l) q) in
+          omega (arith, ap placeOf z ∙ no-place)
 
   pub tree-accepted : TreeAccepted owned-table n
   tree-accepted = record {
     falls = λ l h g. rw (owner-is l h g) (r .falls l h g);
-    group = λ l h g k.
-        let a : 1 ≤ l = omega arith in
-        let b = s .kinds l a g .0 in
-        rw (owner-is l a g, kind-same (ownerOf t n l)) (r .groups l h g (definition-low t l b (omega (arith, kind-same l))));
-    owners = λ l h g k. rw (owner-is l h g, kind-same (ownerOf t n l)) (r .owners l (expression-high t l (omega (arith, kind-same l)) (s .kinds l h g .1)));
-    argument = λ l k.
-        let e : kind t l ≡ 5 = sym (kind-same l) ∙ k in
-        rw (owner-at l (omega arith), kind-same (ownerOf t n l)) (r .argument l e);
-    body = λ l h. ⊎-elim (λ q. body-placed l (omega (arith, kind-same l)) (omega (arith, kind-same l))) (λ q. body-placed l (omega (arith, kind-same l)) (omega (arith, kind-same l))) h;
-    first = λ l h g.
-        let a : 7 ≤ kind t l = omega (arith, kind-same l) in
-        operand-placed l (fieldA t l) (fieldA owned-table l) (same l 3 (omega arith)) a (first-part l (first-code (kind t l) a (kind-high t n s l)));
-    second = λ l h g.
-        let a : 8 ≤ kind t l = omega (arith, kind-same l) in
-        operand-placed l (fieldB t l) (fieldB owned-table l) (same l 4 (omega arith)) (omega arith) (second-part l (second-code (kind t l) a (kind-high t n s l)));
-    third = λ l h.
-        let a : 12 ≤ kind t l = omega (arith, kind-same l) in
-        operand-placed l (fieldC t l) (fieldC owned-table l) (same l 5 (omega arith)) (omega arith) (third-part l (third-code (kind t l) a (kind-high t n s l)));
+    group = λ l h g d. rw (owner-is l (omega arith) g, kind-same (ownerOf t n l)) (r .groups l h g (rw (kind-same l) at d));
+    owners = λ l e.
+        let x : isExpression t l ≡ true = rw (kind-same l) at e in
+        rw (owner-at l (expression-kind t l x), kind-same (ownerOf t n l)) (r .owners l x);
+    argument = argument-given;
+    body = λ l h. body-placed l (rw (kind-same l) at h);
+    first = λ l h. first-placed l (rw (kind-same l) at h);
+    second = λ l h. second-placed l (rw (kind-same l) at h);
+    third = λ l h. third-placed l (rw (kind-same l) at h);
   }

@@ -10,12 +10,12 @@ use borrow.Author.Tests.{leb-true, leb-false, eqb-true}
 use lib.Dec.{leb, eqb}
 use lib.IntN.{ℤ}
 use Rattle.cells.specs.Lists.{count}
-use Rattle.cells.specs.Table.{kind, fieldA, fieldB, fieldC}
-use Rattle.lines.specs.Kinds.{kindAt}
+use Rattle.cells.specs.Table.{kind, isExpression, fieldA, fieldB, fieldC}
+use Rattle.kinds.specs.Kinds.{fieldsAt}
 use Rattle.refusals.specs.declared.Verdict.the-variants.{Fine}
 use Rattle.refusals.specs.Refusal.{firstBad}
 use Rattle.refusals.proofs.FirstBad.{first-none}
-use Rattle.tree.specs.Tree.{isExpression, parts, uses, usesBad, IsPart, userOf}
+use Rattle.tree.specs.Tree.{parts, uses, usesBad, IsPart, userOf}
 use Rattle.tree.specs.Steps.{Structured, UsedOnce}
 use Rattle.tree.proofs.Codes.{expression-kind, label-low, label-high}
 use Rattle.tree.proofs.Parts.{Like, Alike, like, count-parts, field-most, like-parts}
@@ -23,7 +23,7 @@ use Rattle.tree.proofs.Parts.{Like, Alike, like, count-parts, field-mos
 module _ (t : List ℤ) (x : ℕ) where
   pub line-most : (l : ℕ) → count x (parts t l) ≤ 3
   line-most l =
-      omega (arith, count-parts t l x, field-most (kindAt (kind t l) .a) x (fieldA t l), field-most (kindAt (kind t l) .b) x (fieldB t l), field-most (kindAt (kind t l) .c) x (fieldC t l))
+      omega (arith, count-parts t l x, field-most (fieldsAt (kind t l) .a) x (fieldA t l), field-most (fieldsAt (kind t l) .b) x (fieldB t l), field-most (fieldsAt (kind t l) .c) x (fieldC t l))
 
   pub uses-most : (k : ℕ) → uses t k x ≤ 3 * k
   uses-most zero = omega arith

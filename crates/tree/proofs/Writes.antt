@@ -9,12 +9,13 @@ use borrow.Author.Tests.{ne-eqb, eqb-true, eqb-false}
 use lib.Dec.{eqb}
 use lib.IntN.{ℤ, pos}
 use lib.ListN.{length, set, length-set}
+use Rattle.kinds.specs.Kinds.{groupCode}
 use Rattle.cells.specs.Cells.{natOf, intAt}
 use Rattle.cells.specs.Lists.{one, count}
-use Rattle.cells.specs.Table.{cell, kind, fieldA, owner, target}
+use Rattle.cells.specs.Table.{cell, kind, isExpression, fieldA, owner, target}
 use Rattle.cells.proofs.Stores.{intAt-put, intAt-other}
 use Rattle.cells.proofs.Table.{cell-put, cell-other}
-use Rattle.tree.specs.Tree.{isExpression, IsPart}
+use Rattle.tree.specs.Tree.{IsPart}
 use Rattle.tree.specs.Treed.{Formed, Plain}
 use Rattle.tree.specs.Steps.{nodeAt, counted, assigned, Inside, Countable, Structured, UsedOnce, Natural, Over}
 use Rattle.tree.specs.declared.Node.{Node}
@@ -71,7 +72,7 @@ module _ (t w : List ℤ) (same : Alike t w) where
       part = λ l x p. part s l x (s .part l x (alike-part l x p));
     }
       where
-        group : Structured t n → (l : ℕ) → (fieldA t l < l) × (kind t (fieldA t l) ≡ 1) → (fieldA w l < l) × (kind w (fieldA w l) ≡ 1)
+        group : Structured t n → (l : ℕ) → (fieldA t l < l) × (kind t (fieldA t l) ≡ groupCode) → (fieldA w l < l) × (kind w (fieldA w l) ≡ groupCode)
         group s l h = rw (same l 3 (omega arith)) (h .0, same (fieldA t l) 0 (omega arith) ∙ h .1)
 
         part : Structured t n → (l x : ℕ) → (l < x) × (isExpression t x ≡ true) → (l < x) × (isExpression w x ≡ true)

@@ -9,10 +9,10 @@ use lib.IntN.{ℤ, pos}
 use lib.ListN.{length, set}
 use Rattle.cells.specs.Cells.{intAt}
 use Rattle.cells.specs.Lists.{count}
-use Rattle.cells.specs.Table.{cell, kind, fieldA, fieldB, fieldC, owner, target}
-use Rattle.lines.specs.Kinds.{kindAt}
-use Rattle.lines.specs.declared.Form.{Form}
-use Rattle.tree.specs.Tree.{isGroup, isOperand, isDefinition, isExpression, parts, groupRight, partRight, structureBad, uses, notOnce, IsPart, userOf, ownerOf, levelOf, argumentIn, tooDeep}
+use Rattle.cells.specs.Table.{cell, kind, isDefinition, isExpression, fieldA, fieldB, fieldC, owner, target}
+use Rattle.kinds.specs.Kinds.{groupCode, fieldsAt, isKind, isOperand}
+use Rattle.kinds.specs.declared.Form.{Form}
+use Rattle.tree.specs.Tree.{parts, groupRight, partRight, structureBad, uses, notOnce, IsPart, userOf, ownerOf, levelOf, argumentIn, tooDeep}
 use Rattle.tree.specs.Treed.{Formed}
 use Rattle.tree.specs.declared.Node.{Node}
 use Rattle.tree.specs.declared.Rule.{Rule}
@@ -26,16 +26,15 @@ partIn f x = cond (isOperand f) x 0
 
 unfoldable pub nodeAt : List ℤ → ℕ → Node
 nodeAt t l = record {
-  definition = isGroup (kindAt (kind t l) .a);
-  a = partIn (kindAt (kind t l) .a) (fieldA t l);
-  b = partIn (kindAt (kind t l) .b) (fieldB t l);
-  c = partIn (kindAt (kind t l) .c) (fieldC t l);
+  definition = isDefinition t l;
+  a = partIn (fieldsAt (kind t l) .a) (fieldA t l);
+  b = partIn (fieldsAt (kind t l) .b) (fieldB t l);
+  c = partIn (fieldsAt (kind t l) .c) (fieldC t l);
 }
 
--- a line of known kind in a table of known kinds
+-- a line of known kind whose body or operands are labels
 pub record Readable (t : List ℤ) (l : ℕ) : Type 0 where
-  pub low : 1 ≤ kind t l
-  pub high : (x : ℕ) → kind t x ≤ 12
+  pub known : isKind (kind t l) ≡ true
   pub labels : count 0 (parts t l) ≡ 0
 
 -- row 8 by the node: a definition's Group, from label 2, and what may be a body or operand
@@ -80,16 +79,14 @@ pub record Inside (t : List ℤ) (p : Node) : Type 0 where
   pub c : 8 * p .c ≤ length t
 
 pub record Countable (t : List ℤ) (l : ℕ) : Type 0 where
-  pub low : 1 ≤ kind t l
-  pub high : kind t l ≤ 12
+  pub known : isKind (kind t l) ≡ true
   pub inside : Inside t (nodeAt t l)
   pub a : target t (nodeAt t l .a) ≤ 3072
   pub b : target t (nodeAt t l .b) ≤ 3072
   pub c : target t (nodeAt t l .c) ≤ 3072
 
 pub record Propagable (t : List ℤ) (l : ℕ) : Type 0 where
-  pub low : 1 ≤ kind t l
-  pub high : kind t l ≤ 12
+  pub known : isKind (kind t l) ≡ true
   pub inside : Inside t (nodeAt t l)
   pub room : 8 * l ≤ length t
   pub few : l ≤ 1024
@@ -101,7 +98,7 @@ pub record Propagable (t : List ℤ) (l : ℕ) : Type 0 where
 
 pub record Structured (t : List ℤ) (n : ℕ) : Type 0 where
   pub formed : Formed t n
-  pub group : (l : ℕ) → 2 ≤ l → l ≤ n → isDefinition t l ≡ true → (fieldA t l < l) × (kind t (fieldA t l) ≡ 1)
+  pub group : (l : ℕ) → 2 ≤ l → l ≤ n → isDefinition t l ≡ true → (fieldA t l < l) × (kind t (fieldA t l) ≡ groupCode)
   pub part : (l x : ℕ) → IsPart t l x → (l < x) × (isExpression t x ≡ true)
 
 pub record UsedOnce (t : List ℤ) (n : ℕ) : Type 0 where

@@ -1,46 +1,21 @@
 -- The tree of a table: what a line is made of, who uses an expression, who owns it and at what level; rows 8 to 11 of document 01's table
 -- "Where each refusal is found". Which fields are a Group, a body or an operand is read off the table of kinds.
 use mathlib.Core.Path.{_≡_}
-use mathlib.Core.Bool.{Bool, true, false, not, cond, _&&_}
+use mathlib.Core.Bool.{Bool, true, not, cond, _&&_}
 use mathlib.Core.List.{List, [], _∷_, _++_}
 use Prim.Native.Nat.{ℕ, zero, suc, _+_, _≤_}
 use lib.Dec.{leb, ltb, eqb}
 use lib.IntN.{ℤ}
 use lib.ListN.{length}
 use Rattle.cells.specs.Lists.{count, all}
-use Rattle.cells.specs.Table.{kind, fieldA, fieldB, fieldC}
-use Rattle.lines.specs.Kinds.{kindAt}
-use Rattle.lines.specs.declared.Form.{Form}
-use Rattle.lines.specs.declared.Form.the-variants.{Missing, Name, Path, Group, Operand, Number}
+use Rattle.cells.specs.Table.{kind, isDefinition, isExpression, fieldA, fieldB, fieldC}
+use Rattle.kinds.specs.Kinds.{groupCode, fieldsAt, isOperand, takes, placeOf}
+use Rattle.kinds.specs.declared.Form.{Form}
 use Rattle.refusals.specs.Refusal.{firstBad, orElse}
 use Rattle.refusals.specs.declared.Verdict.{Verdict}
 use Rattle.refusals.specs.Rows.{structureRow, usesRow, argumentRow, levelRow}
 
--- ---- definitions, expressions and their parts
-
-abbrev pub isGroup : Form → Bool
-isGroup Missing = false
-isGroup Name = false
-isGroup Path = false
-isGroup Group = true
-isGroup Operand = false
-isGroup Number = false
-
--- G, V and F lines are definitions: the kinds whose field a is a Group. The rest are expressions
-unfoldable pub isDefinition : List ℤ → ℕ → Bool
-isDefinition t l = leb 1 (kind t l) && isGroup (kindAt (kind t l) .a)
-
-unfoldable pub isExpression : List ℤ → ℕ → Bool
-isExpression t l = leb 1 (kind t l) && not (isGroup (kindAt (kind t l) .a))
-
--- a body or an operand
-abbrev pub isOperand : Form → Bool
-isOperand Missing = false
-isOperand Name = false
-isOperand Path = false
-isOperand Group = false
-isOperand Operand = true
-isOperand Number = false
+-- ---- the parts of a line
 
 abbrev pub operandIn : Form → ℕ → List ℕ
 operandIn f x = cond (isOperand f) (x ∷ []) []
@@ -48,14 +23,14 @@ operandIn f x = cond (isOperand f) (x ∷ []) []
 -- a definition's body, an expression's operands; arguments, tests and branches count as operands
 unfoldable pub parts : List ℤ → ℕ → List ℕ
 parts t l =
-    let k = kindAt (kind t l) in
+    let k = fieldsAt (kind t l) in
     operandIn (k .a) (fieldA t l) ++ operandIn (k .b) (fieldB t l) ++ operandIn (k .c) (fieldC t l)
 
 -- ---- row 8
 
 -- g is a G with a label below l
 abbrev pub groupRight : List ℤ → ℕ → ℕ → Bool
-groupRight t l g = ltb g l && eqb (kind t g) 1
+groupRight t l g = ltb g l && eqb (kind t g) groupCode
 
 -- x is an expression with a label above l
 abbrev pub partRight : List ℤ → ℕ → ℕ → Bool
@@ -130,9 +105,9 @@ levelOf t n x = length (climb t n x x)
 
 -- ---- rows 10 and 11
 
--- a P (code 5) owned by a V (code 2): the two codes
+-- "P owned by a V": an argument that the body of its owner is not given; k and d are the codes of the two
 abbrev pub argumentIn : ℕ → ℕ → ℕ
-argumentIn k d = cond (eqb k 5 && eqb d 2) argumentRow 0
+argumentIn k d = cond (ltb (takes d) (placeOf k)) argumentRow 0
 
 abbrev pub argumentBad : List ℤ → ℕ → ℕ → ℕ
 argumentBad t n x = argumentIn (kind t x) (kind t (ownerOf t n x))

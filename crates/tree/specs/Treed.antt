@@ -7,17 +7,18 @@ use lib.IntN.{ℤ, pos}
 use lib.ListN.{length}
 use Rattle.cells.specs.Cells.{intAt}
 use Rattle.cells.specs.Lists.{count}
-use Rattle.cells.specs.Table.{kind, fieldA, withColumn}
+use Rattle.cells.specs.Table.{kind, isDefinition, isExpression, fieldA, withColumn}
 use Rattle.cells.specs.Accepted.{HasBody}
+use Rattle.kinds.specs.Kinds.{groupCode, isKind, takes, placeOf}
 use Rattle.refusals.specs.declared.Verdict.{Verdict}
 use Rattle.refusals.specs.declared.Verdict.the-variants.{Fine, Refused}
-use Rattle.tree.specs.Tree.{isDefinition, isExpression, parts, uses, IsPart, Owned, Level, definitionOf, ownerOf, levelOf}
+use Rattle.tree.specs.Tree.{parts, uses, IsPart, Owned, Level, definitionOf, ownerOf, levelOf}
 
 -- the lines of a table of n labels that passed rows 1 to 7
 pub record Formed (t : List ℤ) (n : ℕ) : Type 0 where
   pub few : n ≤ 1024
   pub room : 8 * n ≤ length t
-  pub kinds : (l : ℕ) → 1 ≤ l → l ≤ n → (1 ≤ kind t l) × (kind t l ≤ 12)
+  pub kinds : (l : ℕ) → 1 ≤ l → l ≤ n → isKind (kind t l) ≡ true
   pub unused : (l : ℕ) → n < l → kind t l ≡ 0
   -- a body or operand field holds a label, and label 1 has no Group
   pub labels : (l : ℕ) → 1 ≤ l → l ≤ n → count 0 (parts t l) ≡ 0
@@ -38,24 +39,22 @@ pub record PartOf (t : List ℤ) (n l x : ℕ) : Type 0 where
   pub above : l < x
   pub label : x ≤ n
   pub expression : isExpression t x ≡ true
-  pub low : 4 ≤ kind t x
-  pub high : kind t x ≤ 12
   pub owner : ownerOf t n x ≡ definitionOf t n l
   pub level : levelOf t n x ≡ levelOf t n l + 1
 
 -- a table of n labels that passes rows 8 to 11
 pub record Treed (t : List ℤ) (n : ℕ) : Type 0 where
   -- a definition's Group is a G with a smaller label; label 1 has none
-  pub groups : (l : ℕ) → 2 ≤ l → l ≤ n → isDefinition t l ≡ true → kind t (ownerOf t n l) ≡ 1
+  pub groups : (l : ℕ) → 2 ≤ l → l ≤ n → isDefinition t l ≡ true → kind t (ownerOf t n l) ≡ groupCode
   pub falls : (l : ℕ) → 1 ≤ l → l ≤ n → ownerOf t n l < l
   pub part : (l x : ℕ) → IsPart t l x → PartOf t n l x
   -- the definition that a line stands in: a definition itself, an expression's owner
   pub itself : (l : ℕ) → isDefinition t l ≡ true → definitionOf t n l ≡ l
   pub standing : (l : ℕ) → isExpression t l ≡ true → definitionOf t n l ≡ ownerOf t n l
-  -- an expression is used once, and owned by a V or F; a P by an F
+  -- an expression is used once, and owned by what has a body; an argument is given to its owner
   pub once : (x : ℕ) → isExpression t x ≡ true → uses t n x ≡ 1
   pub owners : (x : ℕ) → isExpression t x ≡ true → HasBody t (ownerOf t n x)
-  pub argument : (x : ℕ) → kind t x ≡ 5 → kind t (ownerOf t n x) ≡ 3
+  pub argument : (x : ℕ) → placeOf (kind t x) ≤ takes (kind t (ownerOf t n x))
   pub level : (x : ℕ) → 1 ≤ x → x ≤ n → levelOf t n x ≤ 32
   -- the computed owner and level are those of the relations, and the only ones
   pub owned : (x : ℕ) → isExpression t x ≡ true → Owned t (ownerOf t n x) x

@@ -2,15 +2,17 @@
 // it uses, so that one pass upward through the labels propagates owners and levels; uses and levels stand in the target cells meanwhile.
 
 ghost use mathlib.Core.Path.{_≡_};
+ghost use mathlib.Core.Bool.{true};
 ghost use Prim.Native.Nat.{_*_, _≤_, _<_};
 ghost use lib.ListN.{length};
 ghost use Rattle.cells.specs.Lists.{all};
-ghost use Rattle.cells.specs.Table.{cell, kind, target};
+ghost use Rattle.kinds.specs.Kinds.{isKind};
+ghost use Rattle.cells.specs.Table.{cell, kind, isExpression, target};
 ghost use Rattle.refusals.specs.Refusal.{firstBad, orElse};
-ghost use Rattle.tree.specs.Tree.{isGroup, isExpression, partRight, parts, structureBad, usesBad, argumentBad, levelBad, treeBad};
+ghost use Rattle.tree.specs.Tree.{partRight, parts, structureBad, usesBad, argumentBad, levelBad, treeBad};
 ghost use Rattle.tree.specs.Treed.{Formed, Plain, Written};
 ghost use Rattle.tree.specs.Steps.{partIn, nodeAt, Readable, groupFits, partFits, cellBad, counted, countedAll, assigned, assignedAll, propagated, Inside, Countable, Propagable, Structured, UsedOnce, Natural, Counted, Propagated, Cleared, Owning};
-use lines::Form;
+use kinds::Form;
 use refusals::Verdict;
 
 // ---- one line
@@ -21,16 +23,6 @@ pub struct Node {
     pub a: usize,
     pub b: usize,
     pub c: usize,
-}
-
-// Whether a field holds the Group of a definition.
-fn is_group(form: Form) -> bool
-    ensures { λ r. ⌜ r ≡ isGroup form ⌝ }
-{
-    match form {
-        Form::Group => true,
-        _ => false,
-    }
 }
 
 // What field j of a label holds as a body or operand, else 0.
@@ -46,14 +38,15 @@ fn part_at(table: &[i64], label: usize, j: usize, form: Form) -> usize
 
 // The line as a node, by the table of kinds.
 fn node_at(table: &[i64], label: usize) -> Node
-    requires { ⌜ (1 ≤ kind (now table) label) × (kind (now table) label ≤ 12) ⌝ }
+    requires { ⌜ isKind (kind (now table) label) ≡ true ⌝ }
     ensures { λ r. ⌜ r ≡ nodeAt (now (table .entry)) label ⌝ }
 {
-    let kind = lines::kind_row(cells::cell_at(table, label, cells::KIND));
-    let form_a = kind.a;
-    let form_b = kind.b;
-    let form_c = kind.c;
-    let definition = is_group(form_a);
+    let code = cells::cell_at(table, label, cells::KIND);
+    let definition = kinds::is_definition(code);
+    let fields = kinds::fields_of(code);
+    let form_a = fields.a;
+    let form_b = fields.b;
+    let form_c = fields.c;
     let a = part_at(table, label, cells::A, form_a);
     let b = part_at(table, label, cells::B, form_b);
     let c = part_at(table, label, cells::C, form_c);
@@ -67,19 +60,9 @@ fn node_at(table: &[i64], label: usize) -> Node
 
 // Whether the line is an expression; what is no label is none.
 fn is_expression(table: &[i64], label: usize) -> bool
-    requires { ⌜ kind (now table) label ≤ 12 ⌝ }
     ensures { λ r. ⌜ r ≡ isExpression (now (table .entry)) label ⌝ }
 {
-    let code = cells::cell_at(table, label, cells::KIND);
-    if code == 0 {
-        return false;
-    }
-    let kind = lines::kind_row(code);
-    let form = kind.a;
-    if is_group(form) {
-        return false;
-    }
-    true
+    kinds::is_expression(cells::cell_at(table, label, cells::KIND))
 }
 
 // ---- rows 8 to 11, a label at a time
@@ -94,7 +77,7 @@ fn group_right(table: &[i64], label: usize, definition: bool) -> bool
     if definition {
         let group = cells::cell_at(table, label, cells::A);
         if group < label {
-            return cells::cell_at(table, group, cells::KIND) == cells::GROUP;
+            return cells::cell_at(table, group, cells::KIND) == kinds::GROUP;
         }
         return false;
     }
@@ -103,7 +86,6 @@ fn group_right(table: &[i64], label: usize, definition: bool) -> bool
 
 // Whether x, if it is a body or operand of the label, is an expression with a larger label.
 fn part_right(table: &[i64], label: usize, x: usize) -> bool
-    requires { ⌜ kind (now table) x ≤ 12 ⌝ }
     ensures { λ r. ⌜ r ≡ partFits (now (table .entry)) label x ⌝ }
 {
     if x == 0 {
@@ -152,7 +134,6 @@ pub enum Rule {
 
 // Row 9, by the uses in the target cell: an expression is used by one field, once.
 fn uses_bad(table: &[i64], label: usize) -> u64
-    requires { ⌜ kind (now table) label ≤ 12 ⌝ }
     ensures { λ r. ⌜ r ≡ cellBad Rule.Uses (now (table .entry)) label ⌝ }
 {
     if is_expression(table, label) {
@@ -163,15 +144,17 @@ fn uses_bad(table: &[i64], label: usize) -> u64
     0
 }
 
-// Row 10: no P is owned by a V.
+// Row 10: the body of its owner is given the argument that a line stands for.
 fn argument_bad(table: &[i64], label: usize) -> u64
     ensures { λ r. ⌜ r ≡ cellBad Rule.Argument (now (table .entry)) label ⌝ }
 {
-    if cells::cell_at(table, label, cells::KIND) == cells::ARGUMENT {
-        let owner = cells::cell_at(table, label, cells::OWNER);
-        if cells::cell_at(table, owner, cells::KIND) == cells::VALUE {
-            return refusals::ARGUMENT;
-        }
+    let place = kinds::place_of(cells::cell_at(table, label, cells::KIND));
+    if place == 0 {
+        return 0;
+    }
+    let owner = cells::cell_at(table, label, cells::OWNER);
+    if kinds::takes(cells::cell_at(table, owner, cells::KIND)) < place {
+        return refusals::ARGUMENT;
     }
     0
 }

@@ -13,8 +13,11 @@ enum-known-n c = search needs
 
 follow-sheet-requires : tie.Need-follow-sheet-requires
 follow-sheet-requires c κs =
-    let a = c .before .before .before .before .before .before .before .args in
-    follow-ready (a .text .now) (a .order .now) (length (a .table .now)) (length (a .results .now)) _ (c .before .before .before .before .before .head-follow .ensures) _ (c .before .before .before .n .given .1)
+    let told = c .before .before .before in
+    let headed = told .before .before in
+    let entry = headed .before .before in
+    follow-ready (entry .args .text .now) (entry .args .order .now) (length (entry .args .table .now)) (length (entry .args .results .now)) _
+    (headed .head-follow .ensures) _ (told .n .given .1)
 
 enum-known-row : tie.Need-enum-known-row
 enum-known-row c = search needs
@@ -30,8 +33,12 @@ same-length-2 c = search needs
 
 returns : tie.Need-returns
 returns c =
-    let a = c .before .before .before .before .before .before .before .before .before .before .args in
-    follow-answered (a .text .now) (a .order .now) (length (a .table .now)) (length (a .results .now)) _ (c .before .before .before .before .before .before .before .before .head-follow .ensures) _ _ _ _ (c .before .before .before .before .before .before .n .given .1) (c .before .before .follow-sheet .ensures)
+    let done = c .before .before in
+    let told = done .before .before .before .before in
+    let headed = told .before .before in
+    let entry = headed .before .before in
+    follow-answered (entry .args .text .now) (entry .args .order .now) (length (entry .args .table .now)) (length (entry .args .results .now)) _
+    (headed .head-follow .ensures) _ _ _ _ (told .n .given .1) (done .follow-sheet .ensures)
 
 same-length-3 : tie.Need-same-length-3
 same-length-3 c = search needs
@@ -41,9 +48,13 @@ same-length-4 c = search needs
 
 returns-2 : tie.Need-returns-2
 returns-2 c =
-    let a = c .before .before .before .before .before .before .before .before .before .before .args in
-    let k = c .before .before .clear-both .ensures in
-    follow-refused (a .text .now) (a .order .now) (length (a .table .now)) (length (a .results .now)) _ (c .before .before .before .before .before .before .before .before .head-follow .ensures) _ _ _ _ (c .before .before .before .before .before .before .row .given .1) (k .0) (k .1)
+    let cleared = c .before .before in
+    let told = cleared .before .before .before .before in
+    let headed = told .before .before in
+    let entry = headed .before .before in
+    let zeroed = cleared .clear-both .ensures in
+    follow-refused (entry .args .text .now) (entry .args .order .now) (length (entry .args .table .now)) (length (entry .args .results .now)) _
+    (headed .head-follow .ensures) _ _ _ _ (told .row .given .1) (zeroed .0) (zeroed .1)
 
 pub follow-spec : {M : Type 1} → statement M
 follow-spec =

@@ -23,13 +23,17 @@ slice-reshare-prefix-check-order : tie.Need-slice-reshare-prefix-check-order
 slice-reshare-prefix-check-order c = search needs
 
 slice-aggregate-check-order : tie.Need-slice-aggregate-check-order
-slice-aggregate-check-order c = sym (length-take-le (8 * c .before .before .before .before .before .before .before .args .n) (c .before .before .before .before .read-sheet .last .1 .1 .0) (omega (arith, c .before .before .before .before .before .before .before .pre .2, c .before .before .before .before .read-sheet .kept .1 .1 .0)))
+slice-aggregate-check-order c =
+    let made = c .before .before .before .before in
+    let entry = made .before .before .before in
+    sym (length-take-le (8 * entry .args .n) (made .read-sheet .last .1 .1 .0) (omega (arith, entry .pre .1, made .read-sheet .kept .1 .1 .0)))
 
 check-order-requires : tie.Need-check-order-requires
 check-order-requires c κs =
-    let p = c .before .before .before .before .before .before .before .pre in
-    let k = c .before .before .before .before .read-sheet .ensures in
-    sheet-ready (c .before .before .before .before .before .before .before .args .text .now) (length (c .before .before .before .before .before .before .before .args .table .now)) (p .0) _ (p .1) _ _ (k .0) (k .1) (c .before .enum-told .given .1)
+    let told = c .before in
+    let made = told .before .before .before in
+    let entry = made .before .before .before in
+    sheet-ready _ (length (entry .args .table .now)) _ (entry .pre .0) _ _ (made .read-sheet .ensures) (told .enum-told .given .1)
 
 enum-known-row : tie.Need-enum-known-row
 enum-known-row c = search needs
@@ -39,20 +43,21 @@ same-length c = search needs
 
 returns : tie.Need-returns
 returns c =
-    let a = c .before .before .before .before .before .before .before .before .args in
-    let k = c .before .before .before .before .before .read-sheet .ensures in
-    let p = c .before .before .before .before .before .before .before .before .pre in
-    list-checked (a .text .now) (a .order .now) (length (a .table .now)) (p .0) _ (p .1) _ _ (k .0) (k .1) _ (c .before .before .enum-told .given .1) (c .check-order .ensures)
+    let told = c .before .before in
+    let made = told .before .before .before in
+    let entry = made .before .before .before in
+    list-checked _ (entry .args .order .now) (length (entry .args .table .now)) _ (entry .pre .0) _ _ (made .read-sheet .ensures) _
+    (told .enum-told .given .1) (c .check-order .ensures)
 
 same-length-2 : tie.Need-same-length-2
 same-length-2 c = search needs
 
 returns-2 : tie.Need-returns-2
 returns-2 c =
-    let a = c .before .before .before .before .before .before .before .args in
-    let k = c .before .before .before .before .read-sheet .ensures in
-    let p = c .before .before .before .before .before .before .before .pre in
-    list-unread (a .text .now) (a .order .now) (length (a .table .now)) (p .0) _ (p .1) _ _ (k .0) (k .1) _ _ _ (c .before .row .given .1)
+    let told = c .before in
+    let made = told .before .before .before in
+    let entry = made .before .before .before in
+    list-unread _ (entry .args .order .now) (length (entry .args .table .now)) _ (entry .pre .0) _ _ (made .read-sheet .ensures) _ _ _ (told .row .given .1)
 
 pub follow-rows-spec : {M : Type 1} → statement M
 follow-rows-spec =

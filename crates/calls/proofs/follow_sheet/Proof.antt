@@ -6,7 +6,7 @@ use lib.ListN.{length}
 use lib.Seq.{length-take-le}
 use borrow.Author.Needs.{needs}
 use Rattle.cells.specs.Cells.{zeros}
-use Rattle.calls.proofs.Lists.{list-ready, list-ends, list-refused}
+use Rattle.calls.proofs.Lists.{list-ready, list-follows, list-refused}
 use Rattle.calls.proofs.follow_sheet.Statement.{statement}
 use Rattle.calls.proofs.follow_sheet.Tie as tie
 
@@ -23,15 +23,18 @@ slice-reshare-prefix-run-down : tie.Need-slice-reshare-prefix-run-down
 slice-reshare-prefix-run-down c = search needs
 
 slice-aggregate-run-down : tie.Need-slice-aggregate-run-down
-slice-aggregate-run-down c = sym (length-take-le (8 * c .before .before .before .before .before .before .before .args .n) (c .before .before .before .before .follow-rows .last .1 .1 .1 .0) (omega (arith, c .before .before .before .before .before .before .before .pre .2, c .before .before .before .before .follow-rows .kept .1 .1 .1 .0)))
+slice-aggregate-run-down c =
+    let judged = c .before .before .before .before in
+    let entry = judged .before .before .before in
+    sym (length-take-le (8 * entry .args .n) (judged .follow-rows .last .1 .1 .1 .0) (omega (arith, entry .pre .1, judged .follow-rows .kept .1 .1 .1 .0)))
 
 run-down-requires : tie.Need-run-down-requires
 run-down-requires c κs =
-    let a = c .before .before .before .before .before .before .before .before .args in
-    let p = c .before .before .before .before .before .before .before .before .pre in
-    let k = c .before .before .before .before .before .follow-rows .ensures in
-    let w = list-ready (a .text .now) (a .order .now) (length (a .table .now)) (p .0) _ (p .1) _ _ (k .0) (k .1) (c .before .before .enum-told .given .1) in
-    (w .0, omega arith, p .3, w .1)
+    let told = c .before .before in
+    let judged = told .before .before .before in
+    let entry = judged .before .before .before in
+    let w = list-ready _ (entry .args .order .now) (length (entry .args .table .now)) _ (entry .pre .0) _ _ (judged .follow-rows .ensures) (told .enum-told .given .1) in
+    (w .0, omega arith, entry .pre .2, w .1)
 
 enum-known-row : tie.Need-enum-known-row
 enum-known-row c = search needs
@@ -47,10 +50,12 @@ same-length-2 c = search needs
 
 returns : tie.Need-returns
 returns c =
-    let a = c .before .before .before .before .before .before .before .before .before .before .args in
-    let k = c .before .before .before .before .before .before .before .follow-rows .ensures in
-    let p = c .before .before .before .before .before .before .before .before .before .before .pre in
-    list-ends (a .text .now) (a .order .now) (length (a .table .now)) (p .0) _ (p .1) _ _ (k .0) (k .1) _ _ (c .before .before .before .before .enum-told .given .1) (c .before .run-down .ensures)
+    let done = c .before in
+    let told = done .before .before .before in
+    let judged = told .before .before .before in
+    let entry = judged .before .before .before in
+    list-follows _ (entry .args .order .now) (length (entry .args .table .now)) _ (entry .pre .0) _ _ (judged .follow-rows .ensures) _ _
+    (told .enum-told .given .1) (done .run-down .ensures)
 
 same-length-3 : tie.Need-same-length-3
 same-length-3 c = search needs
@@ -60,11 +65,13 @@ same-length-4 c = search needs
 
 returns-2 : tie.Need-returns-2
 returns-2 c =
-    let a = c .before .before .before .before .before .before .before .before .before .before .before .before .args in
-    let k = c .before .before .before .before .before .before .before .before .before .follow-rows .ensures in
-    let l = c .before .before .clear-both .ensures in
-    let p = c .before .before .before .before .before .before .before .before .before .before .before .before .pre in
-    list-refused (a .text .now) (a .order .now) (length (a .table .now)) (p .0) _ (p .1) _ _ (k .0) (k .1) _ _ _ _ _ (c .before .before .before .before .before .before .row .given .1) (l .0 ∙ ap zeros (c .before .before .before .before .before .before .before .before .before .follow-rows .kept .1 .1 .1 .0)) (l .1)
+    let cleared = c .before .before in
+    let told = cleared .before .before .before .before in
+    let judged = told .before .before .before in
+    let entry = judged .before .before .before in
+    let zeroed = cleared .clear-both .ensures in
+    list-refused _ (entry .args .order .now) (length (entry .args .table .now)) _ (entry .pre .0) _ _ (judged .follow-rows .ensures) _ _ _ _ _
+    (told .row .given .1) (zeroed .0 ∙ ap zeros (judged .follow-rows .kept .1 .1 .1 .0)) (zeroed .1)
 
 pub follow-sheet-spec : {M : Type 1} → statement M
 follow-sheet-spec =

@@ -12,7 +12,7 @@ enum-known-n : tie.Need-enum-known-n
 enum-known-n c = search needs
 
 mul-with-room : tie.Need-mul-with-room
-mul-with-room c = let h = opened _ _ _ (c .before .before .before .head-plan .ensures) _ (c .before .n .given .1) in omega (arith, h .3)
+mul-with-room c = let h = opened _ _ _ (c .before .before .before .head-plan .ensures) _ (c .before .n .given .1) in omega (arith, h .0 .few)
 
 with-room-requires : tie.Need-with-room-requires
 with-room-requires c κs = search needs

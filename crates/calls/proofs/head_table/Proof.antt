@@ -1,7 +1,8 @@
 -- Rows 1 to 3, then row 4 of the table.
 use native.Mathlib.Omega.{arith}
 use borrow.Author.Needs.{needs}
-use Rattle.calls.proofs.Rooms.{few, table-next, table-stop}
+use Rattle.reading.proofs.Stage.{head-passed}
+use Rattle.calls.proofs.Rooms.{table-next, table-stop}
 use Rattle.calls.proofs.head_table.Statement.{statement}
 use Rattle.calls.proofs.head_table.Tie as tie
 
@@ -12,7 +13,7 @@ enum-known-n : tie.Need-enum-known-n
 enum-known-n c = search needs
 
 mul-with-room : tie.Need-mul-with-room
-mul-with-room c = let h = few _ _ (c .before .before .before .check-head .ensures) _ (c .before .n .given .1) in omega arith
+mul-with-room c = let h = head-passed _ _ (c .before .before .before .check-head .ensures) _ (c .before .n .given .1) in omega (arith, h .few)
 
 with-room-requires : tie.Need-with-room-requires
 with-room-requires c κs = search needs

@@ -13,8 +13,10 @@ enum-known-n c = search needs
 
 plan-sheet-requires : tie.Need-plan-sheet-requires
 plan-sheet-requires c κs =
-    let a = c .before .before .before .before .before .before .before .args in
-    plan-ready (a .text .now) (length (a .table .now)) (length (a .plan .now)) _ (c .before .before .before .before .before .head-plan .ensures) _ (c .before .before .before .n .given .1)
+    let told = c .before .before .before in
+    let headed = told .before .before in
+    let entry = headed .before .before in
+    plan-ready (entry .args .text .now) (length (entry .args .table .now)) (length (entry .args .plan .now)) _ (headed .head-plan .ensures) _ (told .n .given .1)
 
 enum-known-row : tie.Need-enum-known-row
 enum-known-row c = search needs
@@ -30,8 +32,12 @@ same-length-2 c = search needs
 
 returns : tie.Need-returns
 returns c =
-    let a = c .before .before .before .before .before .before .before .before .before .before .args in
-    plan-answered (a .text .now) (length (a .table .now)) (length (a .plan .now)) _ (c .before .before .before .before .before .before .before .before .head-plan .ensures) _ _ _ _ (c .before .before .before .before .before .before .n .given .1) (c .before .before .plan-sheet .ensures)
+    let done = c .before .before in
+    let told = done .before .before .before .before in
+    let headed = told .before .before in
+    let entry = headed .before .before in
+    plan-answered (entry .args .text .now) (length (entry .args .table .now)) (length (entry .args .plan .now)) _
+    (headed .head-plan .ensures) _ _ _ _ (told .n .given .1) (done .plan-sheet .ensures)
 
 same-length-3 : tie.Need-same-length-3
 same-length-3 c = search needs
@@ -41,9 +47,13 @@ same-length-4 c = search needs
 
 returns-2 : tie.Need-returns-2
 returns-2 c =
-    let a = c .before .before .before .before .before .before .before .before .before .before .args in
-    let k = c .before .before .clear-both .ensures in
-    plan-refused (a .text .now) (length (a .table .now)) (length (a .plan .now)) _ (c .before .before .before .before .before .before .before .before .head-plan .ensures) _ _ _ _ (c .before .before .before .before .before .before .row .given .1) (k .0) (k .1)
+    let cleared = c .before .before in
+    let told = cleared .before .before .before .before in
+    let headed = told .before .before in
+    let entry = headed .before .before in
+    let zeroed = cleared .clear-both .ensures in
+    plan-refused (entry .args .text .now) (length (entry .args .table .now)) (length (entry .args .plan .now)) _
+    (headed .head-plan .ensures) _ _ _ _ (told .row .given .1) (zeroed .0) (zeroed .1)
 
 pub plan-spec : {M : Type 1} → statement M
 plan-spec =

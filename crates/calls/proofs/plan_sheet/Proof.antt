@@ -4,7 +4,7 @@ use native.Mathlib.Omega.{arith}
 use lib.ListN.{length}
 use borrow.Author.Needs.{needs}
 use Rattle.cells.specs.Cells.{zeros}
-use Rattle.calls.proofs.Sheets.{sheet-ready, sheet-stands, sheet-refused, refused-stands}
+use Rattle.calls.proofs.Sheets.{sheet-ready, sheet-plans, sheet-refused, refused-plans}
 use Rattle.calls.proofs.plan_sheet.Statement.{statement}
 use Rattle.calls.proofs.plan_sheet.Tie as tie
 
@@ -16,9 +16,11 @@ enum-told c = search needs
 
 plan-table-requires : tie.Need-plan-table-requires
 plan-table-requires c κs =
-    let p = c .before .before .before .before .before .before .before .before .pre in
-    let k = c .before .before .before .before .before .read-sheet .ensures in
-    (sheet-ready (c .before .before .before .before .before .before .before .before .args .text .now) _ (p .0) _ (p .1) _ _ (k .0) (k .1) (c .before .before .enum-told .given .1), omega (arith, p .2, c .before .before .before .before .before .read-sheet .kept .1 .1 .0), p .3)
+    let told = c .before .before in
+    let made = told .before .before .before in
+    let entry = made .before .before .before in
+    let ok = sheet-ready _ (length (entry .args .table .now)) _ (entry .pre .0) _ _ (made .read-sheet .ensures) (told .enum-told .given .1) in
+    (ok, omega (arith, entry .pre .1, made .read-sheet .kept .1 .1 .0), entry .pre .2)
 
 enum-known-row : tie.Need-enum-known-row
 enum-known-row c = search needs
@@ -34,11 +36,12 @@ same-length-2 c = search needs
 
 returns : tie.Need-returns
 returns c =
-    let a = c .before .before .before .before .before .before .before .before .before .before .before .args in
-    let k = c .before .before .before .before .before .before .before .before .read-sheet .ensures in
-    let l = c .before .before .plan-table .ensures in
-    let p = c .before .before .before .before .before .before .before .before .before .before .before .pre in
-    sheet-stands (a .text .now) (length (a .table .now)) (p .0) _ (p .1) _ _ (k .0) (k .1) _ _ _ _ (c .before .before .before .before .before .enum-told .given .1) (c .before .before .before .before .before .before .before .before .read-sheet .kept .1 .1 .0) (l .0) (l .1 .0) (l .1 .1)
+    let done = c .before .before in
+    let told = done .before .before .before in
+    let made = told .before .before .before in
+    let entry = made .before .before .before in
+    sheet-plans _ (length (entry .args .table .now)) _ (entry .pre .0) _ _ (made .read-sheet .ensures) _ _ _ _
+    (told .enum-told .given .1) (made .read-sheet .kept .1 .1 .0) (done .plan-table .ensures)
 
 same-length-3 : tie.Need-same-length-3
 same-length-3 c = search needs
@@ -48,11 +51,13 @@ same-length-4 c = search needs
 
 returns-2 : tie.Need-returns-2
 returns-2 c =
-    let a = c .before .before .before .before .before .before .before .before .before .before .before .before .args in
-    let k = c .before .before .before .before .before .before .before .before .before .read-sheet .ensures in
-    let l = c .before .before .clear-both .ensures in
-    let p = c .before .before .before .before .before .before .before .before .before .before .before .before .pre in
-    refused-stands (a .text .now) (length (a .table .now)) _ _ _ _ _ _ (sheet-refused (a .text .now) (length (a .table .now)) (p .0) _ (p .1) _ _ (k .0) (k .1) _ _ (c .before .before .before .before .before .before .row .given .1)) (l .0 ∙ ap zeros (c .before .before .before .before .before .before .before .before .before .read-sheet .kept .1 .1 .0)) (l .1)
+    let cleared = c .before .before in
+    let told = cleared .before .before .before .before in
+    let made = told .before .before .before in
+    let entry = made .before .before .before in
+    let refused = sheet-refused _ (length (entry .args .table .now)) _ (entry .pre .0) _ _ (made .read-sheet .ensures) _ _ (told .row .given .1) in
+    let zeroed = cleared .clear-both .ensures in
+    refused-plans _ _ (length (entry .args .table .now)) _ _ _ _ _ refused (zeroed .0 ∙ ap zeros (made .read-sheet .kept .1 .1 .0)) (zeroed .1)
 
 pub plan-sheet-spec : {M : Type 1} → statement M
 plan-sheet-spec =

@@ -4,7 +4,7 @@ use Prim.Native.Nat.{_*_}
 use lib.Seq.{length-take-le}
 use borrow.Author.Needs.{needs}
 use Rattle.planning.specs.declared.Planned.the-variants as made
-use Rattle.calls.proofs.Answers.{planned-left}
+use Rattle.calls.proofs.Answers.{table-plans}
 use Rattle.calls.proofs.plan_table.Statement.{statement}
 use Rattle.calls.proofs.plan_table.Tie as tie
 
@@ -15,7 +15,7 @@ slice-reshare-prefix-plan-of : tie.Need-slice-reshare-prefix-plan-of
 slice-reshare-prefix-plan-of c = search needs
 
 slice-aggregate-plan-of : tie.Need-slice-aggregate-plan-of
-slice-aggregate-plan-of c = sym (length-take-le (8 * c .before .args .n) (c .before .args .table .now) (c .before .pre .1))
+slice-aggregate-plan-of c = let entry = c .before in sym (length-take-le (8 * entry .args .n) (entry .args .table .now) (entry .pre .1))
 
 plan-of-requires : tie.Need-plan-of-requires
 plan-of-requires c κs = search needs
@@ -45,7 +45,12 @@ same-length-2 : tie.Need-same-length-2
 same-length-2 c = search needs
 
 returns : tie.Need-returns
-returns c = planned-left _ _ (c .before .before .before .before .before .before .before .before .before .before .pre .0) _ _ _ _ (c .before .before .before .before .before .before .before .plan-of .ensures) (made.Whole _) _ _ (c .before .before .before .before .whole .given .1) refl (c .before .clear-from .ensures)
+returns c =
+    let done = c .before in
+    let told = done .before .before .before in
+    let planned = told .before .before .before in
+    let entry = planned .before .before .before in
+    table-plans _ _ _ _ _ (entry .pre .0) (planned .plan-of .ensures) (made.Whole _) _ _ (told .whole .given .1) refl (done .clear-from .ensures)
 
 same-length-3 : tie.Need-same-length-3
 same-length-3 c = search needs
@@ -54,7 +59,12 @@ same-length-4 : tie.Need-same-length-4
 same-length-4 c = search needs
 
 returns-2 : tie.Need-returns-2
-returns-2 c = planned-left _ _ (c .before .before .before .before .before .before .before .before .before .before .pre .0) _ _ _ _ (c .before .before .before .before .before .before .before .plan-of .ensures) (made.Mixed _) _ _ (c .before .before .before .before .mixed .given .1) refl (c .before .clear-from2 .ensures)
+returns-2 c =
+    let done = c .before in
+    let told = done .before .before .before in
+    let planned = told .before .before .before in
+    let entry = planned .before .before .before in
+    table-plans _ _ _ _ _ (entry .pre .0) (planned .plan-of .ensures) (made.Mixed _) _ _ (told .mixed .given .1) refl (done .clear-from2 .ensures)
 
 same-length-5 : tie.Need-same-length-5
 same-length-5 c = search needs
@@ -64,8 +74,12 @@ same-length-6 c = search needs
 
 returns-3 : tie.Need-returns-3
 returns-3 c =
-    let k = c .before .before .clear-both .ensures in
-    planned-left _ _ (c .before .before .before .before .before .before .before .before .before .before .before .before .pre .0) _ _ _ _ (c .before .before .before .before .before .before .before .before .before .plan-of .ensures) (made.Cycle _) _ _ (c .before .before .before .before .before .before .label .given .1) (k .0) (k .1)
+    let cleared = c .before .before in
+    let told = cleared .before .before .before .before in
+    let planned = told .before .before .before in
+    let entry = planned .before .before .before in
+    let zeroed = cleared .clear-both .ensures in
+    table-plans _ _ _ _ _ (entry .pre .0) (planned .plan-of .ensures) (made.Cycle _) _ _ (told .label .given .1) (zeroed .0) (zeroed .1)
 
 pub plan-table-spec : {M : Type 1} → statement M
 plan-table-spec =

@@ -13,8 +13,11 @@ enum-known-n c = search needs
 
 run-sheet-requires : tie.Need-run-sheet-requires
 run-sheet-requires c κs =
-    let a = c .before .before .before .before .before .before .before .before .args in
-    run-ready (a .text .now) (length (a .table .now)) (length (a .plan .now)) (length (a .results .now)) _ (c .before .before .before .before .before .before .head-run .ensures) _ (c .before .before .before .before .n .given .1)
+    let told = c .before .before .before .before in
+    let headed = told .before .before in
+    let entry = headed .before .before in
+    run-ready (entry .args .text .now) (length (entry .args .table .now)) (length (entry .args .plan .now)) (length (entry .args .results .now)) _
+    (headed .head-run .ensures) _ (told .n .given .1)
 
 enum-known-row : tie.Need-enum-known-row
 enum-known-row c = search needs
@@ -36,9 +39,12 @@ same-length-3 c = search needs
 
 returns : tie.Need-returns
 returns c =
-    let a = c .before .before .before .before .before .before .before .before .before .before .before .before .args in
-    let k = c .before .before .before .run-sheet .ensures in
-    run-answered (a .text .now) (length (a .table .now)) (length (a .plan .now)) (length (a .results .now)) _ (c .before .before .before .before .before .before .before .before .before .before .head-run .ensures) _ _ _ _ _ (c .before .before .before .before .before .before .before .before .n .given .1) (k .0, (k .1 .0, k .1 .1 .0)) (k .1 .1 .1)
+    let done = c .before .before .before in
+    let told = done .before .before .before .before .before in
+    let headed = told .before .before in
+    let entry = headed .before .before in
+    run-answered (entry .args .text .now) (length (entry .args .table .now)) (length (entry .args .plan .now)) (length (entry .args .results .now)) _
+    (headed .head-run .ensures) _ _ _ _ _ (told .n .given .1) (done .run-sheet .ensures)
 
 same-length-4 : tie.Need-same-length-4
 same-length-4 c = search needs
@@ -51,9 +57,14 @@ same-length-6 c = search needs
 
 returns-2 : tie.Need-returns-2
 returns-2 c =
-    let a = c .before .before .before .before .before .before .before .before .before .before .before .before .before .args in
-    let k = c .before .before .before .before .before .clear-both .ensures in
-    run-refused (a .text .now) (length (a .table .now)) (length (a .plan .now)) (length (a .results .now)) _ (c .before .before .before .before .before .before .before .before .before .before .before .head-run .ensures) _ _ _ _ _ (c .before .before .before .before .before .before .before .before .before .row .given .1) (k .0) (k .1) (c .before .clear .ensures)
+    let cleared = c .before in
+    let both = cleared .before .before .before .before in
+    let told = both .before .before .before .before in
+    let headed = told .before .before in
+    let entry = headed .before .before in
+    let zeroed = both .clear-both .ensures in
+    run-refused (entry .args .text .now) (length (entry .args .table .now)) (length (entry .args .plan .now)) (length (entry .args .results .now)) _
+    (headed .head-run .ensures) _ _ _ _ _ (told .row .given .1) (zeroed .0) (zeroed .1) (cleared .clear .ensures)
 
 pub run-spec : {M : Type 1} → statement M
 run-spec =

@@ -1,13 +1,11 @@
 -- The plan, and the results down it.
-use mathlib.Core.Path.{_∙_, ap, sym}
+use mathlib.Core.Path.{refl, sym}
 use Prim.Native.Nat.{_*_}
 use native.Mathlib.Omega.{arith}
 use lib.ListN.{length}
 use lib.Seq.{length-take-le}
 use borrow.Author.Needs.{needs}
-use Rattle.calls.specs.Plan.{lengthOf}
 use Rattle.calls.proofs.Calls.{run-down-ready, results-evaluated, results-cleared}
-use Rattle.calls.proofs.Answers.{answers}
 use Rattle.calls.proofs.run_sheet.Statement.{statement}
 use Rattle.calls.proofs.run_sheet.Tie as tie
 
@@ -24,15 +22,20 @@ slice-reshare-prefix-run-down : tie.Need-slice-reshare-prefix-run-down
 slice-reshare-prefix-run-down c = search needs
 
 slice-aggregate-run-down : tie.Need-slice-aggregate-run-down
-slice-aggregate-run-down c = sym (length-take-le (8 * c .before .before .before .before .before .before .before .before .before .before .args .n) (c .before .before .before .before .before .before .plan-sheet .last .1 .1 .0) (omega (arith, c .before .before .before .before .before .before .before .before .before .before .pre .2, c .before .before .before .before .before .before .plan-sheet .kept .1 .1 .0)))
+slice-aggregate-run-down c =
+    let planned = c .before .before .before .before .before .before in
+    let entry = planned .before .before .before .before in
+    sym (length-take-le (8 * entry .args .n) (planned .plan-sheet .last .1 .1 .0) (omega (arith, entry .pre .1, planned .plan-sheet .kept .1 .1 .0)))
 
 run-down-requires : tie.Need-run-down-requires
 run-down-requires c κs =
-    let a = c .before .before .before .before .before .before .before .before .before .before .before .before .args in
-    let p = c .before .before .before .before .before .before .before .before .before .before .before .before .pre in
-    let e = c .before .before .before .before .count .given .1 in
-    let w = run-down-ready (a .text .now) (length (a .table .now)) (length (a .plan .now)) _ _ _ _ (p .1) (p .0) (c .before .before .before .before .before .before .before .before .plan-sheet .ensures) _ (ap answers e) (ap lengthOf e) (p .3) in
-    (w .0, omega (arith, w .1, c .before .before .before .before .before .before .before .before .plan-sheet .kept .1 .1 .1 .0), p .4, w .2)
+    let told = c .before .before .before .before in
+    let planned = told .before .before .before .before in
+    let entry = planned .before .before .before .before in
+    let k = planned .plan-sheet in
+    let w = run-down-ready _ (length (entry .args .table .now)) (length (entry .args .plan .now)) _ _ _ _ (entry .pre .0) (k .ensures) _
+    (told .count .given .1) refl _ refl (entry .pre .2) in
+    (w .0, omega (arith, w .1, k .kept .1 .1 .1 .0), entry .pre .3, w .2)
 
 enum-known-count-2 : tie.Need-enum-known-count-2
 enum-known-count-2 c = search needs
@@ -44,15 +47,20 @@ slice-reshare-prefix-run-down-2 : tie.Need-slice-reshare-prefix-run-down-2
 slice-reshare-prefix-run-down-2 c = search needs
 
 slice-aggregate-run-down-2 : tie.Need-slice-aggregate-run-down-2
-slice-aggregate-run-down-2 c = sym (length-take-le (8 * c .before .before .before .before .before .before .before .before .before .before .args .n) (c .before .before .before .before .before .before .plan-sheet .last .1 .1 .0) (omega (arith, c .before .before .before .before .before .before .before .before .before .before .pre .2, c .before .before .before .before .before .before .plan-sheet .kept .1 .1 .0)))
+slice-aggregate-run-down-2 c =
+    let planned = c .before .before .before .before .before .before in
+    let entry = planned .before .before .before .before in
+    sym (length-take-le (8 * entry .args .n) (planned .plan-sheet .last .1 .1 .0) (omega (arith, entry .pre .1, planned .plan-sheet .kept .1 .1 .0)))
 
 run-down-requires-2 : tie.Need-run-down-requires-2
 run-down-requires-2 c κs =
-    let a = c .before .before .before .before .before .before .before .before .before .before .before .before .args in
-    let p = c .before .before .before .before .before .before .before .before .before .before .before .before .pre in
-    let e = c .before .before .before .before .count2 .given .1 in
-    let w = run-down-ready (a .text .now) (length (a .table .now)) (length (a .plan .now)) _ _ _ _ (p .1) (p .0) (c .before .before .before .before .before .before .before .before .plan-sheet .ensures) _ (ap answers e) (ap lengthOf e) (p .3) in
-    (w .0, omega (arith, w .1, c .before .before .before .before .before .before .before .before .plan-sheet .kept .1 .1 .1 .0), p .4, w .2)
+    let told = c .before .before .before .before in
+    let planned = told .before .before .before .before in
+    let entry = planned .before .before .before .before in
+    let k = planned .plan-sheet in
+    let w = run-down-ready _ (length (entry .args .table .now)) (length (entry .args .plan .now)) _ _ _ _ (entry .pre .0) (k .ensures) _
+    (told .count2 .given .1) refl _ refl (entry .pre .2) in
+    (w .0, omega (arith, w .1, k .kept .1 .1 .1 .0), entry .pre .3, w .2)
 
 enum-known-row : tie.Need-enum-known-row
 enum-known-row c = search needs
@@ -71,11 +79,12 @@ same-length-3 c = search needs
 
 returns : tie.Need-returns
 returns c =
-    let a = c .before .before .before .before .before .before .before .before .before .before .before .before .before .before .args in
-    let p = c .before .before .before .before .before .before .before .before .before .before .before .before .before .before .pre in
-    let e = c .before .before .before .before .before .before .count .given .1 in
-    let k = c .before .before .before .before .before .before .before .before .before .before .plan-sheet .ensures in
-    (sym e ∙ k .0, (k .1 .0, (k .1 .1, results-evaluated (a .text .now) (length (a .table .now)) (length (a .plan .now)) _ _ _ _ (p .1) (p .0) k _ (ap answers e) (ap lengthOf e) _ _ (c .before .run-down .ensures))))
+    let done = c .before in
+    let told = done .before .before .before .before .before in
+    let planned = told .before .before .before .before in
+    let entry = planned .before .before .before .before in
+    results-evaluated _ (length (entry .args .table .now)) (length (entry .args .plan .now)) _ _ _ _ (entry .pre .0) (planned .plan-sheet .ensures) _
+    (told .count .given .1) refl _ refl _ _ (done .run-down .ensures)
 
 same-length-4 : tie.Need-same-length-4
 same-length-4 c = search needs
@@ -88,11 +97,12 @@ same-length-6 c = search needs
 
 returns-2 : tie.Need-returns-2
 returns-2 c =
-    let a = c .before .before .before .before .before .before .before .before .before .before .before .before .before .before .args in
-    let p = c .before .before .before .before .before .before .before .before .before .before .before .before .before .before .pre in
-    let e = c .before .before .before .before .before .before .count2 .given .1 in
-    let k = c .before .before .before .before .before .before .before .before .before .before .plan-sheet .ensures in
-    (sym e ∙ k .0, (k .1 .0, (k .1 .1, results-evaluated (a .text .now) (length (a .table .now)) (length (a .plan .now)) _ _ _ _ (p .1) (p .0) k _ (ap answers e) (ap lengthOf e) _ _ (c .before .run-down2 .ensures))))
+    let done = c .before in
+    let told = done .before .before .before .before .before in
+    let planned = told .before .before .before .before in
+    let entry = planned .before .before .before .before in
+    results-evaluated _ (length (entry .args .table .now)) (length (entry .args .plan .now)) _ _ _ _ (entry .pre .0) (planned .plan-sheet .ensures) _
+    (told .count2 .given .1) refl _ refl _ _ (done .run-down2 .ensures)
 
 same-length-7 : tie.Need-same-length-7
 same-length-7 c = search needs
@@ -105,11 +115,12 @@ same-length-9 c = search needs
 
 returns-3 : tie.Need-returns-3
 returns-3 c =
-    let a = c .before .before .before .before .before .before .before .before .before .before .before .before .args in
-    let p = c .before .before .before .before .before .before .before .before .before .before .before .before .pre in
-    let e = c .before .before .before .before .row .given .1 in
-    let k = c .before .before .before .before .before .before .before .before .plan-sheet .ensures in
-    (sym e ∙ k .0, (k .1 .0, (k .1 .1, results-cleared (a .text .now) (length (a .table .now)) (length (a .plan .now)) _ _ _ _ (p .1) (p .0) k _ _ _ _ e (c .before .clear .ensures))))
+    let cleared = c .before in
+    let told = cleared .before .before .before in
+    let planned = told .before .before .before .before in
+    let entry = planned .before .before .before .before in
+    results-cleared _ (length (entry .args .table .now)) (length (entry .args .plan .now)) _ _ _ _ (entry .pre .0) (planned .plan-sheet .ensures) _ _ _ _
+    (told .row .given .1) (cleared .clear .ensures)
 
 pub run-sheet-spec : {M : Type 1} → statement M
 run-sheet-spec =

@@ -6,6 +6,7 @@ use Prim.Native.Nat.{ℕ, _+_, _-_, _*_, _/_, _≤_, _<_}
 use native.Mathlib.Omega.{arith}
 use borrow.Author.Needs.{needs}
 use lib.ListN.{length, getD, take, drop, set, length-set}
+use Rattle.kinds.specs.Kinds.{valueCode}
 use Rattle.cells.specs.Table.{kind, owner}
 use Rattle.order.specs.Lists.{count, _∈_, filter, upFrom}
 use lib.Seq.{length-take-le}
@@ -66,14 +67,14 @@ loop-again c =
       omega arith,
       omega arith,
       simp length-set (omega (arith, room l, a .pre .1, l .loop .inv .0)),
-      take-label (isV t) (a .args .n) (l .loop .items) (l .loop .l) (l .loop .m) (c .before .before .loop-test .taken) (l .loop .inv .4) (eq-eqb (kind t (l .loop .l)) 2 (sym e ∙ w .0 .taken)) (omega (arith, room l, a .pre .1, l .loop .inv .0)),
+      take-label (isV t) (a .args .n) (l .loop .items) (l .loop .l) (l .loop .m) (c .before .before .loop-test .taken) (l .loop .inv .4) (eq-eqb (kind t (l .loop .l)) valueCode (sym e ∙ w .0 .taken)) (omega (arith, room l, a .pre .1, l .loop .inv .0)),
     ))
     (λ w. rw (w .1, w .2) (
       l .loop .inv .0,
       omega arith,
       omega arith,
       l .loop .inv .3,
-      skip-label (isV t) (a .args .n) (l .loop .items) (l .loop .l) (l .loop .m) (c .before .before .loop-test .taken) (l .loop .inv .4) (ne-eqb (kind t (l .loop .l)) 2 (λ z. w .0 .left (e ∙ z))),
+      skip-label (isV t) (a .args .n) (l .loop .items) (l .loop .l) (l .loop .m) (c .before .before .loop-test .taken) (l .loop .inv .4) (ne-eqb (kind t (l .loop .l)) valueCode (λ z. w .0 .left (e ∙ z))),
     ))
     (c .if1 .came)
 

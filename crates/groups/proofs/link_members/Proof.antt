@@ -8,7 +8,7 @@ use borrow.Author.Needs.{needs}
 use lib.ListN.{length, getD, take, drop, set, length-set}
 use Rattle.cells.specs.Table.{kind, owner}
 use Rattle.order.specs.Lists.{count, _∈_, filter, upFrom}
-use Rattle.groups.proofs.Chains.{Linked, linked-none, linked-skip, linked-push, linked-all, def-of, not-def}
+use Rattle.groups.proofs.Chains.{Linked, linked-none, linked-skip, linked-push, linked-all}
 use Rattle.groups.proofs.link_members.Statement.{statement}
 use Rattle.groups.proofs.link_members.Tie as tie
 use Rattle.groups.proofs.link_members.Reads as reads
@@ -29,8 +29,8 @@ low c =
 loop-holds : tie.Need-loop-holds Inv-loop μ-loop
 loop-holds c = let p = c .before .pre in (refl, omega arith, linked-none _ _ _ (p .1 .1))
 
-kind-of-requires : tie.Need-kind-of-requires Inv-loop μ-loop
-kind-of-requires c κs = (c .before .before .before .pre .0, (omega (arith, c .loop-test .taken), c .before .loop .inv .1))
+is-definition-requires : tie.Need-is-definition-requires Inv-loop μ-loop
+is-definition-requires c κs = (c .before .before .before .pre .0, (omega (arith, c .loop-test .taken), c .before .loop .inv .1))
 
 cell-of-requires : tie.Need-cell-of-requires Inv-loop μ-loop
 cell-of-requires c κs = (c .before .before .before .before .before .pre .0, (omega (arith, c .before .before .loop-test .taken), c .before .before .before .loop .inv .1, omega arith, omega arith))
@@ -77,10 +77,10 @@ loop-again c =
     rw (w .3) (
       length-set (set (l .loop .next) _ _) _ _ ∙ length-set (l .loop .next) _ _ ∙ l .loop .inv .0,
       omega arith,
-      linked-push _ _ _ some (l .loop .inv .1) _ (l .loop .inv .2) (def-of t k (a .pre .0 .kinds k some (l .loop .inv .1) .0) (omega (arith, c .before .kind-of .ensures, w .0 .taken)))
+      linked-push _ _ _ some (l .loop .inv .1) _ (l .loop .inv .2) (sym (c .before .is-definition .ensures) ∙ w .0 .taken)
           (omega (arith, a .pre .1 .0, l .loop .inv .0)) (omega (arith, low p, w .1 .ensures)) _ (w .1 .ensures),
     ))
-    (λ w. rw (w .1) (l .loop .inv .0, omega arith, linked-skip _ _ _ some (l .loop .inv .1) _ (l .loop .inv .2) (not-def t k (omega (arith, c .before .kind-of .ensures, w .0 .left)))))
+    (λ w. rw (w .1) (l .loop .inv .0, omega arith, linked-skip _ _ _ some (l .loop .inv .1) _ (l .loop .inv .2) (sym (c .before .is-definition .ensures) ∙ w .0 .left)))
     (c .if1 .came)
 
 same-length : tie.Need-same-length Inv-loop μ-loop
@@ -96,7 +96,7 @@ link-members-spec =
     Inv-loop
     μ-loop
     loop-holds
-    kind-of-requires
+    is-definition-requires
     cell-of-requires
     mul-next
     slice-read-next

@@ -6,6 +6,7 @@ use Prim.Native.Nat.{ℕ, _+_, _-_, _*_, _/_, _≤_, _<_}
 use native.Mathlib.Omega.{arith}
 use borrow.Author.Needs.{needs}
 use lib.ListN.{length, getD, take, drop, set, length-set}
+use Rattle.kinds.proofs.Plans.{gives-cases}
 use Rattle.cells.specs.Table.{kind, owner}
 use Rattle.order.specs.Lists.{count, _∈_, filter, upFrom}
 use lib.Seq.{take-all}
@@ -13,7 +14,7 @@ use Rattle.marks.specs.Marks.{mark}
 use Rattle.order.proofs.Tests.{clash}
 use Rattle.needs.specs.Needs.{Holder}
 use Rattle.placing.proofs.Lists.{in-at}
-use Rattle.groups.proofs.Orders.{holder-of, no-holder, item-label, mask-put, mask-skip}
+use Rattle.groups.proofs.Orders.{no-holder, item-label, mask-put, mask-skip}
 use Rattle.groups.proofs.mask_items.Statement.{statement}
 use Rattle.groups.proofs.mask_items.Tie as tie
 use Rattle.groups.proofs.mask_items.Reads as reads
@@ -51,8 +52,8 @@ shared-slice-read-widen c = search needs
 widen-requires : tie.Need-widen-requires Inv-loop μ-loop
 widen-requires c κs = search needs
 
-kind-of-requires : tie.Need-kind-of-requires Inv-loop μ-loop
-kind-of-requires c κs = (c .before .before .before .before .before .before .before .before .before .before .pre .0, label c)
+gives-values-requires : tie.Need-gives-values-requires Inv-loop μ-loop
+gives-values-requires c κs = (c .before .before .before .before .before .before .before .before .before .before .pre .0, label c)
 
 put-mark-requires : tie.Need-put-mark-requires Inv-loop μ-loop
 put-mark-requires c κs = (omega (arith, label (c .before .before .before)), omega (arith, c .before .before .before .before .before .before .before .before .before .before .before .before .before .pre .1 .1, c .before .before .before .before .before .before .loop .inv .0, c .before .before .before .before .before .before .before .before .before .clear-marks .kept .0))
@@ -71,16 +72,15 @@ loop-again c =
     let t = a .args .table .now in
     let h = c .before .before .before .before .loop-test .taken in
     let b = label q in
-    let k = a .pre .0 .kinds (q .widen .result) (b .0) (b .1) .0 in
     ⊎-elim (λ w. rw (w .5) (
       w .2 .kept .0 ∙ l .loop .inv .0,
       omega arith,
-      mask-put t (a .args .n) (a .args .items .now) (l .loop .mask) (l .loop .i) _ (q .widen .ensures) h (l .loop .inv .2) (omega (arith, b)) (holder-of t (q .widen .result) k (omega (arith, c .before .kind-of .ensures, w .0 .taken))) _ (w .2 .ensures),
+      mask-put t (a .args .n) (a .args .items .now) (l .loop .mask) (l .loop .i) _ (q .widen .ensures) h (l .loop .inv .2) (omega (arith, b)) (gives-cases (kind t (q .widen .result)) (sym (c .before .gives-values .ensures) ∙ w .0 .taken)) _ (w .2 .ensures),
     ))
     (λ w. rw (w .1) (
       l .loop .inv .0,
       omega arith,
-      mask-skip t (a .args .n) (a .args .items .now) (l .loop .mask) (l .loop .i) _ (q .widen .ensures) h (l .loop .inv .2) (no-holder t (q .widen .result) (omega (arith, c .before .kind-of .ensures, w .0 .left))),
+      mask-skip t (a .args .n) (a .args .items .now) (l .loop .mask) (l .loop .i) _ (q .widen .ensures) h (l .loop .inv .2) (no-holder t (q .widen .result) (sym (c .before .gives-values .ensures) ∙ w .0 .left)),
     ))
     (c .if1 .came)
 
@@ -106,7 +106,7 @@ mask-items-spec =
     mul-widen
     shared-slice-read-widen
     widen-requires
-    kind-of-requires
+    gives-values-requires
     put-mark-requires
     add-i
     loop-less

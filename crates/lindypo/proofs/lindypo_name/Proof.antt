@@ -1,4 +1,4 @@
--- Start and length of the part.
+-- The part and the table are those of the call.
 use mir.Facts.{toZ-ofZ}
 use borrow.Author.Needs.{needs}
 use Rattle.lindypo.proofs.lindypo_name.Statement.{statement}
@@ -12,9 +12,9 @@ same-length c = search needs
 
 returns : tie.Need-returns
 returns c =
-    let e = c .before .name-part .ensures in
-    let f = toZ-ofZ (c .before .before .before .before .fits .label) in
-    (rw f at (e .0), (rw f at (e .1 .0), e .1 .1 .1))
+    let parted = c .before in
+    let entry = parted .before .before .before in
+    rw (toZ-ofZ (entry .fits .label)) at (parted .name-part .ensures)
 
 pub lindypo-name-spec : {M : Type 1} → statement M
 lindypo-name-spec = tie.close (tie.spec name-part-requires same-length returns)

@@ -11,14 +11,17 @@ slice-aggregate-same-bytes c = search needs
 same-bytes-requires : tie.Need-same-bytes-requires
 same-bytes-requires c κs = search needs
 
+cast-t9 : tie.Need-cast-t9
+cast-t9 c = search needs
+
 returns : tie.Need-returns
 unfolding rootLine
-returns c = root-right (c .before .before .before .before .args .n) (c .before .before .before .before .args .text .now) (c .before .before .before .before .args .from) (c .before .before .before .before .args .e) (c .before .before .before .before .pre) (sym (c .before .same-bytes .ensures) ∙ c .if1 .taken)
+returns c = root-right (c .before .before .before .before .args .text .now) (c .before .before .before .before .args .from) (c .before .before .before .before .args .e) (c .before .before .before .before .pre) (sym (c .before .same-bytes .ensures) ∙ c .if1 .taken)
 
 returns-2 : tie.Need-returns-2
 unfolding rootLine
-returns-2 c = root-wrong (c .before .before .before .before .args .n) (c .before .before .before .before .args .text .now) (c .before .before .before .before .args .from) (c .before .before .before .before .args .e) (c .before .before .before .before .pre) (sym (c .before .same-bytes .ensures) ∙ c .if1 .left)
+returns-2 c = root-wrong (c .before .before .before .before .args .text .now) (c .before .before .before .before .args .from) (c .before .before .before .before .args .e) (c .before .before .before .before .pre) (sym (c .before .same-bytes .ensures) ∙ c .if1 .left)
 
 pub read-root-spec : {M : Type 1} → statement M
 read-root-spec =
-    tie.close (tie.spec slice-aggregate-same-bytes same-bytes-requires returns returns-2)
+    tie.close (tie.spec slice-aggregate-same-bytes same-bytes-requires cast-t9 returns returns-2)

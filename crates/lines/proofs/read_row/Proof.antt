@@ -1,5 +1,6 @@
 -- The kind that the code looks up is that of the line's first field.
-use mathlib.Core.Path.{_∙_, sym}
+use mathlib.Core.Path.{_≡_, _∙_, sym}
+use mathlib.Core.Bool.{true}
 use Prim.Native.Nat.{_≤_}
 use native.Mathlib.Omega.{arith}
 use lib.ListN.{length}
@@ -7,13 +8,14 @@ use lib.Seq.{slice}
 use mir.Facts.{toZ-ofZ}
 use mir.Syntax.{w64}
 use borrow.Author.Needs.{sfits-of, needs}
-use Rattle.lines.proofs.Codes.{kind-bound}
+use Rattle.kinds.specs.Kinds.{isKind}
+use Rattle.lines.proofs.Fields.{kind-known}
 use Rattle.lines.proofs.Rows.{read-name-wrong, read-operands-wrong, read-right}
 use Rattle.lines.proofs.read_row.Statement.{statement}
 use Rattle.lines.proofs.read_row.Tie as tie
 
-few : (c : tie.Start) → c .args .code ≤ 12
-few c = omega (arith, c .pre .1, kind-bound (slice (c .args .from) (c .args .e .kind) (c .args .text .now)))
+known : (c : tie.Start) → isKind (c .args .code) ≡ true
+known c = rw (c .pre .1) (kind-known (slice (c .args .from) (c .args .e .kind) (c .args .text .now)) (omega (arith, c .pre .1, c .pre .2)))
 
 -- the name field ends inside the text
 inside : (c : tie.Start) → (c .args .e .name ≤ length (c .args .text .now)) × (c .args .e .name ≤ 65536)
@@ -21,8 +23,8 @@ inside c =
     let f = c .pre .0 in
     (omega (arith, f .wide2, f .wide3, f .wide4, f .ending .inside), omega (arith, f .wide2, f .wide3, f .wide4, f .ending .inside, c .pre .4))
 
-kind-row-requires : tie.Need-kind-row-requires
-kind-row-requires c κs = (c .before .pre .2, few (c .before))
+fields-of-requires : tie.Need-fields-of-requires
+fields-of-requires c κs = known (c .before)
 
 add-read-field : tie.Need-add-read-field
 add-read-field c = search needs
@@ -38,7 +40,7 @@ enum-told-2 c = search needs
 
 returns : tie.Need-returns
 returns c =
-    read-name-wrong (c .before .before .before .before .before .before .args .n) (c .before .before .before .before .before .before .args .text .now) (c .before .before .before .before .before .before .args .from) (c .before .before .before .before .before .before .args .e) (c .before .before .before .before .before .before .pre .0) (c .before .before .before .before .before .before .args .code) (c .before .before .before .before .kind-row .result) (c .before .before .before .before .before .before .pre .1) (c .before .before .before .before .kind-row .ensures)
+    read-name-wrong (c .before .before .before .before .before .before .args .n) (c .before .before .before .before .before .before .args .text .now) (c .before .before .before .before .before .before .args .from) (c .before .before .before .before .before .before .args .e) (c .before .before .before .before .before .before .pre .0) (c .before .before .before .before .before .before .args .code) (c .before .before .before .before .fields-of .result) (c .before .before .before .before .before .before .pre .1) (c .before .before .before .before .fields-of .ensures)
     (sym (c .before .before .read-field .ensures) ∙ c .enum-told2 .given .1)
 
 read-operands-requires : tie.Need-read-operands-requires
@@ -52,19 +54,19 @@ enum-told-3 c = search needs
 
 returns-2 : tie.Need-returns-2
 returns-2 c =
-    read-operands-wrong (c .before .before .before .before .before .before .before .before .before .args .n) (c .before .before .before .before .before .before .before .before .before .args .text .now) (c .before .before .before .before .before .before .before .before .before .args .from) (c .before .before .before .before .before .before .before .before .before .args .e) (c .before .before .before .before .before .before .before .before .before .pre .0) (c .before .before .before .before .before .before .before .before .before .args .code) (c .before .before .before .before .before .before .before .kind-row .result) (c .before .before .before .before .before .before .before .before .before .pre .1) (c .before .before .before .before .before .before .before .kind-row .ensures)
+    read-operands-wrong (c .before .before .before .before .before .before .before .before .before .args .n) (c .before .before .before .before .before .before .before .before .before .args .text .now) (c .before .before .before .before .before .before .before .before .before .args .from) (c .before .before .before .before .before .before .before .before .before .args .e) (c .before .before .before .before .before .before .before .before .before .pre .0) (c .before .before .before .before .before .before .before .before .before .args .code) (c .before .before .before .before .before .before .before .fields-of .result) (c .before .before .before .before .before .before .before .before .before .pre .1) (c .before .before .before .before .before .before .before .fields-of .ensures)
     (sym (c .before .before .read-operands .ensures) ∙ c .enum-told3 .given .1)
 
 row-of-requires : tie.Need-row-of-requires
 row-of-requires c κs =
     let f = c .before .before .before .before .before .before .before .before .before .before .pre .0 in
-    (f .wide1, inside (c .before .before .before .before .before .before .before .before .before .before) .0, inside (c .before .before .before .before .before .before .before .before .before .before) .1, few (c .before .before .before .before .before .before .before .before .before .before))
+    (f .wide1, inside (c .before .before .before .before .before .before .before .before .before .before) .0, inside (c .before .before .before .before .before .before .before .before .before .before) .1, known (c .before .before .before .before .before .before .before .before .before .before))
 
 returns-3 : tie.Need-returns-3
 returns-3 c =
     let o = c .before .before .a .given .0 in
     let g = c .before .known-told .given in
-    read-right (c .before .before .before .before .before .before .before .before .before .before .before .args .n) (c .before .before .before .before .before .before .before .before .before .before .before .args .text .now) (c .before .before .before .before .before .before .before .before .before .before .before .args .from) (c .before .before .before .before .before .before .before .before .before .before .before .args .e) (c .before .before .before .before .before .before .before .before .before .before .before .pre .0) (c .before .before .before .before .before .before .before .before .before .before .before .args .code) (c .before .before .before .before .before .before .before .before .before .kind-row .result) (c .before .before .before .before .before .before .before .before .before .before .before .pre .1) (c .before .before .before .before .before .before .before .before .before .kind-row .ensures)
+    read-right (c .before .before .before .before .before .before .before .before .before .before .before .args .n) (c .before .before .before .before .before .before .before .before .before .before .before .args .text .now) (c .before .before .before .before .before .before .before .before .before .before .before .args .from) (c .before .before .before .before .before .before .before .before .before .before .before .args .e) (c .before .before .before .before .before .before .before .before .before .before .before .pre .0) (c .before .before .before .before .before .before .before .before .before .before .before .args .code) (c .before .before .before .before .before .before .before .before .before .fields-of .result) (c .before .before .before .before .before .before .before .before .before .before .before .pre .1) (c .before .before .before .before .before .before .before .before .before .fields-of .ensures)
     (c .before .before .before .before .before .enum-told .given .0 .0) (o .0) (o .1 .0) (o .1 .1 .0) (c .row-of .result)
     (sym (c .before .before .before .before .before .before .before .read-field .ensures) ∙ c .before .before .before .before .before .enum-told .given .1) (sym (c .before .before .before .before .read-operands .ensures) ∙ c .before .before .a .given .1) (simp (toZ-ofZ (sfits-of {w = w64} {z = o .0} (g .0 .1)), toZ-ofZ (sfits-of {w = w64} {z = o .1 .0} (g .1 .0 .1)), toZ-ofZ (sfits-of {w = w64} {z = o .1 .1 .0} (g .1 .1 .0 .1))) at (c .row-of .ensures))
 
@@ -72,7 +74,7 @@ pub read-row-spec : {M : Type 1} → statement M
 read-row-spec =
     tie.close
     (tie.spec
-    kind-row-requires
+    fields-of-requires
     add-read-field
     read-field-requires
     enum-told

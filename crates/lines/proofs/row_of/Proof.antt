@@ -3,6 +3,7 @@ use mathlib.Core.Path.{_∙_, sym}
 use mir.Facts.{toZ-ofZ}
 use mir.Syntax.{w64}
 use borrow.Author.Needs.{sfits-of, needs}
+use Rattle.kinds.proofs.Laws.{kind-fits}
 use Rattle.lines.proofs.row_of.Statement.{statement}
 use Rattle.lines.proofs.row_of.Tie as tie
 
@@ -10,7 +11,7 @@ add-from : tie.Need-add-from
 add-from c = search needs
 
 cell-of-requires : tie.Need-cell-of-requires
-cell-of-requires c κs = search needs
+cell-of-requires c κs = kind-fits _ (c .before .before .pre .3)
 
 is-dash-requires : tie.Need-is-dash-requires
 is-dash-requires c κs = search needs

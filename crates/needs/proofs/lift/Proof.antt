@@ -2,10 +2,13 @@ use mathlib.Core.Path.{_≡_, refl, sym, ap, _∙_, subst}
 use mathlib.Core.Logic.{_⊎_, inl, inr, ⊎-elim}
 use Prim.Native.Nat.{ℕ, _+_, _-_, _*_, _/_, _≤_, _<_}
 use native.Mathlib.Omega.{arith}
-use native.Mathlib.Decide.{ℕ-discrete}
 use borrow.Author.Needs.{needs}
 use lib.ListN.{length}
+use mathlib.Core.Bool.{false}
+use Rattle.kinds.specs.Kinds.{groupCode, valueCode, givesValues}
+use Rattle.kinds.proofs.Plans.{group-gives, value-gives, gives-cases}
 use Rattle.cells.specs.Table.{kind, owner}
+use Rattle.order.proofs.Tests.{clash}
 use Rattle.reach.proofs.Reading.{row-room}
 use Rattle.needs.specs.Needs.{Holder, Lifting, Cut}
 use Rattle.reach.specs.Rows.{width}
@@ -21,23 +24,16 @@ Inv-loop table n square₀ k₀ square k = (length square ≡ length square₀) 
 abbrev μ-loop : tie.MeasureT-loop
 μ-loop table n square₀ k₀ square k = k
 
--- a kind of at most 2, and a greater one
-holder : (k : ℕ) → 1 ≤ k → k ≤ 2 → (k ≡ 1) ⊎ (k ≡ 2)
-holder k a b = go (ℕ-discrete k 1)
-  where
-    go : Dec (k ≡ 1) → (k ≡ 1) ⊎ (k ≡ 2)
-    go (yes e) = inl e
-    go (no e) = inr (omega arith)
-
-no-holder : (k : ℕ) → 2 < k → (k ≡ 1) ⊎ (k ≡ 2) → ⊥
-no-holder k h (inl e) = omega arith
-no-holder k h (inr e) = omega arith
+-- what gives no values is neither a Group nor a value
+no-holder : (k : ℕ) → givesValues k ≡ false → (k ≡ groupCode) ⊎ (k ≡ valueCode) → ⊥
+no-holder k h (inl e) = clash (givesValues k) (rw e group-gives) h
+no-holder k h (inr e) = clash (givesValues k) (rw e value-gives) h
 
 loop-holds : tie.Need-loop-holds Inv-loop μ-loop
 loop-holds c = let p = c .before .pre in (refl, p .0 .some, omega arith, lifting-start _ _ (p .0) _ (p .1 .1))
 
-kind-of-requires : tie.Need-kind-of-requires Inv-loop μ-loop
-kind-of-requires c κs = (c .before .before .before .pre .0, (c .before .loop .inv .1, c .before .loop .inv .2))
+gives-values-requires : tie.Need-gives-values-requires Inv-loop μ-loop
+gives-values-requires c κs = (c .before .before .before .pre .0, (c .before .loop .inv .1, c .before .loop .inv .2))
 
 cell-of-requires : tie.Need-cell-of-requires Inv-loop μ-loop
 cell-of-requires c κs = (c .before .before .before .before .before .pre .0, (c .before .before .before .loop .inv .1, c .before .before .before .loop .inv .2, omega arith, omega arith))
@@ -68,19 +64,18 @@ loop-again c =
     let t = a .args .table .now in
     let k = l .loop .k in
     let two : 2 ≤ k = omega (arith, c .before .before .loop-test .taken) in
-    let kind-low = a .pre .0 .kinds k (l .loop .inv .1) (l .loop .inv .2) .0 in
     ⊎-elim (λ w. rw (w .6) (
       w .3 .kept .0 ∙ l .loop .inv .0,
       omega arith,
       omega arith,
-      lifting-turn _ _ (a .pre .0) _ _ (l .loop .inv .3) two (l .loop .inv .2) (holder (kind t k) kind-low (omega (arith, c .before .kind-of .ensures, w .0 .taken))) _
+      lifting-turn _ _ (a .pre .0) _ _ (l .loop .inv .3) two (l .loop .inv .2) (gives-cases (kind t k) (sym (c .before .gives-values .ensures) ∙ w .0 .taken)) _
           _ (w .1 .ensures) (w .3 .ensures),
     ))
     (λ w. rw (w .1) (
       l .loop .inv .0,
       omega arith,
       omega arith,
-      lifting-skip _ _ (a .pre .0) _ _ (l .loop .inv .3) two (l .loop .inv .2) (no-holder (kind t k) (omega (arith, c .before .kind-of .ensures, w .0 .left))),
+      lifting-skip _ _ (a .pre .0) _ _ (l .loop .inv .3) two (l .loop .inv .2) (no-holder (kind t k) (sym (c .before .gives-values .ensures) ∙ w .0 .left)),
     ))
     (c .if1 .came)
 
@@ -100,7 +95,7 @@ lift-spec =
     Inv-loop
     μ-loop
     loop-holds
-    kind-of-requires
+    gives-values-requires
     cell-of-requires
     add-merge-row
     merge-row-requires

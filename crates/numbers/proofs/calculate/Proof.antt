@@ -7,8 +7,8 @@ use mir.Val.{SFits, toZ, ofZ}
 use borrow.Author.Needs.{sfits-of, needs}
 use Rattle.cells.proofs.Signed.{equal, unequal, nonzero-size}
 use Rattle.numbers.specs.Arithmetic.{rangedOf, dividesByZero, result, calculated}
-use Rattle.numbers.specs.declared.Operation.{Operation}
-use Rattle.numbers.specs.declared.Operation.the-variants.{Sum, Difference, Product, Quotient}
+use Rattle.kinds.specs.declared.Operation.{Operation}
+use Rattle.kinds.specs.declared.Operation.the-variants.{Sum, Difference, Product, Quotient}
 use Rattle.numbers.specs.declared.Calculated.{Calculated}
 use Rattle.numbers.proofs.Arithmetic.{arm-fits, arm-is, calculated-by}
 use Rattle.numbers.proofs.calculate.Statement.{statement}

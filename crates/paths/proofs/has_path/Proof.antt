@@ -1,17 +1,18 @@
-use mathlib.Core.Path.{_∙_, sym}
-use borrow.Author.Tests.{ne-eqb}
+-- By the code in the kind cell.
+use mathlib.Core.Path.{_∙_, ap}
 use borrow.Author.Needs.{needs}
+use Rattle.kinds.specs.Kinds.{hasPath}
 use Rattle.paths.proofs.has_path.Statement.{statement}
 use Rattle.paths.proofs.has_path.Tie as tie
 
 cell-at-requires : tie.Need-cell-at-requires
 cell-at-requires c κs = search needs
 
-returns : tie.Need-returns
-returns c = rw (sym (c .before .cell-at .ensures) ∙ c .if1 .taken)
+has-path-requires : tie.Need-has-path-requires
+has-path-requires c κs = search needs
 
-returns-2 : tie.Need-returns-2
-returns-2 c = rw (← (c .before .cell-at .ensures), ne-eqb (c .before .cell-at .result) 6 (c .if1 .left))
+returns : tie.Need-returns
+returns c = c .has-path .ensures ∙ ap hasPath (c .before .cell-at .ensures)
 
 pub has-path-spec : {M : Type 1} → statement M
-has-path-spec = tie.close (tie.spec cell-at-requires returns returns-2)
+has-path-spec = tie.close (tie.spec cell-at-requires has-path-requires returns)

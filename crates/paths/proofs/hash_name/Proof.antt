@@ -1,34 +1,36 @@
--- What is left of the name, hashed on from here, is the hash of the name.
-use mathlib.Core.Path.{_≡_, _∙_, sym}
-use Prim.Native.Nat.{_-_, _≤_, _<_}
+use Prim.Native.Nat.{_-_}
+use Rattle.paths.proofs.SameName.{Hashing, hash-start, hash-turn, hash-done}
 use native.Mathlib.Omega.{arith}
 use borrow.Author.Needs.{needs}
-use lib.Seq.{slice}
-use Rattle.paths.specs.Buckets.{hashFrom}
-use Rattle.paths.proofs.Scanning.{hash-step, hash-end, hash-is}
 use Rattle.paths.proofs.hash_name.Statement.{statement}
 use Rattle.paths.proofs.hash_name.Tie as tie
 
 abbrev Inv-loop : tie.InvT-loop
-Inv-loop text from to hash₀ i₀ hash i = (from ≤ i) × (i ≤ to) × (hash < 4294967296) × (hashFrom hash (slice i to text) ≡ hashFrom 0 (slice from to text))
+Inv-loop text from to hash₀ i₀ hash i = Hashing text from to hash i
 
 abbrev μ-loop : tie.MeasureT-loop
 μ-loop text from to hash₀ i₀ hash i = to - i
 
 loop-holds : tie.Need-loop-holds Inv-loop μ-loop
-loop-holds c = search needs
+loop-holds c =
+    let a = c .before .args in
+    hash-start (a .text .now) (a .from) (a .to) (c .before .pre .0)
 
-mul-hash : tie.Need-mul-hash Inv-loop μ-loop
-mul-hash c = omega arith
+shared-slice-read-compared-byte : tie.Need-shared-slice-read-compared-byte Inv-loop μ-loop
+shared-slice-read-compared-byte c = omega arith
 
-shared-slice-read-hash : tie.Need-shared-slice-read-hash Inv-loop μ-loop
-shared-slice-read-hash c = omega arith
-
-cast-hash : tie.Need-cast-hash Inv-loop μ-loop
-cast-hash c = omega (arith, c .shared-slice-known .given (c .before .before .loop .i))
+compared-byte-requires : tie.Need-compared-byte-requires Inv-loop μ-loop
+compared-byte-requires c κs = search needs
 
 add-hash : tie.Need-add-hash Inv-loop μ-loop
-add-hash c = omega (arith, c .shared-slice-known .given (c .before .before .loop .i))
+add-hash c =
+    let l = c .before .before .before .loop in
+    omega (arith, l .inv .small, c .compared-byte .ensures .1)
+
+mul-hash : tie.Need-mul-hash Inv-loop μ-loop
+mul-hash c =
+    let l = c .before .before .before .loop in
+    omega (arith, l .inv .small, c .compared-byte .ensures .1)
 
 add-i : tie.Need-add-i Inv-loop μ-loop
 add-i c = omega arith
@@ -37,10 +39,12 @@ loop-less : tie.Need-loop-less Inv-loop μ-loop
 loop-less c = omega arith
 
 loop-again : tie.Need-loop-again Inv-loop μ-loop
-loop-again c = let a = c .before .before .before .args in let l = c .before .before .loop in (omega arith, omega arith, omega arith, hash-step (a .text .now) (l .i) (a .to) (l .hash) (omega arith) (omega arith) ∙ l .inv .3)
+loop-again c =
+    let l = c .before .before .before .loop in
+    hash-turn (l .inv) (omega arith) (omega arith) (c .compared-byte .ensures .0)
 
 returns : tie.Need-returns Inv-loop μ-loop
-returns c = let a = c .before .before .args in let l = c .before .loop in sym (hash-end (a .text .now) (l .i) (a .to) (l .hash) (omega arith)) ∙ l .inv .3 ∙ sym (hash-is (slice (a .from) (a .to) (a .text .now)))
+returns c = hash-done (c .before .loop .inv) (omega arith)
 
 pub hash-name-spec : {M : Type 1} → statement M
 hash-name-spec =
@@ -49,10 +53,10 @@ hash-name-spec =
     Inv-loop
     μ-loop
     loop-holds
-    mul-hash
-    shared-slice-read-hash
-    cast-hash
+    shared-slice-read-compared-byte
+    compared-byte-requires
     add-hash
+    mul-hash
     add-i
     loop-less
     loop-again

@@ -1,17 +1,18 @@
-use mathlib.Core.Path.{_∙_, sym}
-use Rattle.paths.proofs.Definitions.{no-kind, is-definition}
+-- By the code in the kind cell.
+use mathlib.Core.Path.{_∙_, ap}
 use borrow.Author.Needs.{needs}
+use Rattle.kinds.specs.Kinds.{isDefinition}
 use Rattle.paths.proofs.is_definition.Statement.{statement}
 use Rattle.paths.proofs.is_definition.Tie as tie
 
 cell-at-requires : tie.Need-cell-at-requires
 cell-at-requires c κs = search needs
 
-returns : tie.Need-returns
-returns c = no-kind (c .before .before .args .table .now) (c .before .before .args .label) (sym (c .before .cell-at .ensures) ∙ c .if1 .taken)
+is-definition-requires : tie.Need-is-definition-requires
+is-definition-requires c κs = search needs
 
-returns-2 : tie.Need-returns-2
-returns-2 c = is-definition (c .before .before .args .table .now) (c .before .before .args .label) (c .before .cell-at .result) (c .before .cell-at .ensures) (c .if1 .left)
+returns : tie.Need-returns
+returns c = c .is-definition .ensures ∙ ap isDefinition (c .before .cell-at .ensures)
 
 pub is-definition-spec : {M : Type 1} → statement M
-is-definition-spec = tie.close (tie.spec cell-at-requires returns returns-2)
+is-definition-spec = tie.close (tie.spec cell-at-requires is-definition-requires returns)

@@ -1,51 +1,71 @@
--- The labels above `label` are linked.
-use mathlib.Core.Path.{_≡_, refl, _∙_, sym}
-use Prim.Native.Nat.{_+_, _-_, _≤_}
+use mathlib.Core.Path.{_∙_, sym}
+use Prim.Native.Nat.{_+_, _-_}
+use Rattle.paths.proofs.Passes.{pass-stop, pass-done, not-fine}
+use Rattle.paths.proofs.Linking.{Linking, linking-start, linking-turn, linking-done}
 use native.Mathlib.Omega.{arith}
-use lib.ListN.{length}
-use Rattle.paths.specs.Buckets.{LinkedFrom}
-use Rattle.paths.proofs.Chains.{link-one, relinked}
 use Rattle.paths.proofs.link.Statement.{statement}
 use Rattle.paths.proofs.link.Tie as tie
 
 abbrev Inv-loop : tie.InvT-loop
-Inv-loop text table n first₀ next₀ label₀ first next label = (label ≤ n) × (length first ≡ length first₀) × (length next ≡ length next₀) × LinkedFrom text table n (label + 1) first next
+Inv-loop text table n starts first₀ next₀ label₀ first next label = Linking text table n starts first₀ next₀ first next label
 
 abbrev μ-loop : tie.MeasureT-loop
-μ-loop text table n first₀ next₀ label₀ first next label = label
+μ-loop text table n starts first₀ next₀ label₀ first next label = n + 1 - label
 
 loop-holds : tie.Need-loop-holds Inv-loop μ-loop
-loop-holds c = (omega arith, refl, refl, c .before .before .before .pre .1)
+loop-holds c =
+    let p = c .before .before .before .before .pre in
+    linking-start (p .1)
 
 link-label-requires : tie.Need-link-label-requires Inv-loop μ-loop
 link-label-requires c κs =
-    let r = c .before .before .before .before .before .before .before .pre .0 .0 in
-    let l = c .before .before .before .loop .label in
-    ((r .names l, omega (arith, r .falls l (omega arith) (omega arith), r .few), omega arith, omega (arith, r .few)), (omega arith, omega arith))
+    let p = c .before .before .before .before .before .before .before .before .pre in
+    let l = c .before .before .before .loop in
+    let g = l .inv in
+    ((p .0, g .linked), (g .pass .low, omega arith))
 
-sub-label : tie.Need-sub-label Inv-loop μ-loop
-sub-label c = omega arith
+same-length : tie.Need-same-length Inv-loop μ-loop
+same-length c =
+    let l = c .before .before .before .before .before .before .before .before .before .loop in
+    let link-label = c .before .before .before .before .before .link-label in
+    link-label .kept .1 .1 .1 .1 .0 ∙ l .inv .buckets
+
+same-length-2 : tie.Need-same-length-2 Inv-loop μ-loop
+same-length-2 c =
+    let l = c .before .before .before .before .before .before .before .before .before .loop in
+    let link-label = c .before .before .before .before .before .link-label in
+    link-label .kept .1 .1 .1 .1 .1 .0 ∙ l .inv .room
+
+returns : tie.Need-returns Inv-loop μ-loop
+returns c =
+    let l = c .before .before .before .before .before .before .before .before .before .loop in
+    let link-label = c .before .before .before .before .before .link-label in
+    (pass-stop (l .inv .pass) (omega arith) (link-label .ensures .0) (c .if1 .taken), λ z. not-fine z)
+
+add-label : tie.Need-add-label Inv-loop μ-loop
+add-label c =
+    let p = c .before .before .before .before .before .before .before .before .before .before .before .before .before .before .pre in
+    omega (arith, p .0 .few)
 
 loop-less : tie.Need-loop-less Inv-loop μ-loop
 loop-less c = omega arith
 
 loop-again : tie.Need-loop-again Inv-loop μ-loop
 loop-again c =
-    let l = c .before .before .before .before .before .before .before .before .loop in
-    let back : l .label - 1 + 1 ≡ l .label = omega arith in
-    (omega arith, c .before .before .before .before .link-label .kept .1 .1 .1 .0 ∙ l .inv .1, c .before .before .before .before .link-label .kept .1 .1 .1 .1 .0 ∙ l .inv .2, rw back (link-one (c .before .before .before .before .before .before .before .before .before .before .before .before .args .text .now) (c .before .before .before .before .before .before .before .before .before .before .before .before .args .table .now) (c .before .before .before .before .before .before .before .before .before .before .before .before .args .n) (l .label) (l .first) (l .next) (c .before .before .before .before .link-label .last .1 .1 .1 .0) (c .before .before .before .before .link-label .last .1 .1 .1 .1 .0) (l .inv .3) (omega arith) (omega arith) (omega (arith, l .inv .1)) (omega arith) (c .before .before .before .before .link-label .ensures .0) (c .before .before .before .before .link-label .ensures .1)))
+    let l = c .before .before .before .before .before .before .before .before .before .loop in
+    let k = c .before .before .before .before .before .link-label in
+    linking-turn (l .inv) (omega arith) (sym (k .ensures .0) ∙ c .if1 .left) (k .ensures .1) (k .kept .1 .1 .1 .1 .0) (k .kept .1 .1 .1 .1 .1 .0)
 
-same-length : tie.Need-same-length Inv-loop μ-loop
-same-length c = c .before .loop .inv .1
+same-length-3 : tie.Need-same-length-3 Inv-loop μ-loop
+same-length-3 c = c .before .loop .inv .buckets
 
-same-length-2 : tie.Need-same-length-2 Inv-loop μ-loop
-same-length-2 c = c .before .loop .inv .2
+same-length-4 : tie.Need-same-length-4 Inv-loop μ-loop
+same-length-4 c = c .before .loop .inv .room
 
-returns : tie.Need-returns Inv-loop μ-loop
-returns c =
-    let l = c .before .loop in
-    let z : l .label ≡ 0 = omega arith in
-    record { buckets = omega arith; room = omega arith; chains = relinked _ z (l .inv .3) }
+returns-2 : tie.Need-returns-2 Inv-loop μ-loop
+returns-2 c =
+    let g = c .before .loop .inv in
+    (pass-done (g .pass) (omega arith), λ z. linking-done g (omega arith))
 
 pub link-spec : {M : Type 1} → statement M
 link-spec =
@@ -55,9 +75,12 @@ link-spec =
     μ-loop
     loop-holds
     link-label-requires
-    sub-label
-    loop-less
-    loop-again
     same-length
     same-length-2
-    returns)
+    returns
+    add-label
+    loop-less
+    loop-again
+    same-length-3
+    same-length-4
+    returns-2)

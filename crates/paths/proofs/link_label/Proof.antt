@@ -1,7 +1,6 @@
-use mathlib.Core.Path.{_∙_, sym, ap}
-use native.Mathlib.Omega.{arith}
-use lib.ListN.{length, getD, set}
-use Rattle.paths.proofs.Chains.{bucket-inside}
+use mathlib.Core.Path.{_∙_, sym}
+use Rattle.paths.proofs.Chains.{link-other}
+use Rattle.paths.proofs.Resolving.{duplicate-none, duplicate-some, duplicate-other}
 use borrow.Author.Needs.{needs}
 use Rattle.paths.proofs.link_label.Statement.{statement}
 use Rattle.paths.proofs.link_label.Tie as tie
@@ -9,29 +8,11 @@ use Rattle.paths.proofs.link_label.Tie as tie
 is-definition-requires : tie.Need-is-definition-requires
 is-definition-requires c κs = search needs
 
-bucket-at-requires : tie.Need-bucket-at-requires
-bucket-at-requires c κs = search needs
-
-mul-next : tie.Need-mul-next
-mul-next c = omega (arith, c .bucket-at .ensures, bucket-inside (c .before .before .before .before .before .before .args .text .now) (c .before .before .before .before .before .before .args .table .now) (c .before .before .before .before .before .before .args .label))
-
-slice-read-next : tie.Need-slice-read-next
-slice-read-next c = omega (arith, c .before .bucket-at .ensures, bucket-inside (c .before .before .before .before .before .before .before .args .text .now) (c .before .before .before .before .before .before .before .args .table .now) (c .before .before .before .before .before .before .before .args .label))
-
-mul-next-2 : tie.Need-mul-next-2
-mul-next-2 c = search needs
-
-slice-write-next : tie.Need-slice-write-next
-slice-write-next c = search needs
-
-cast-first : tie.Need-cast-first
-cast-first c = search needs
-
-mul-first : tie.Need-mul-first
-mul-first c = omega (arith, c .before .bucket-at .ensures, bucket-inside (c .before .before .before .before .before .before .before .args .text .now) (c .before .before .before .before .before .before .before .args .table .now) (c .before .before .before .before .before .before .before .args .label))
-
-slice-write-first : tie.Need-slice-write-first
-slice-write-first c = omega (arith, c .before .bucket-at .ensures, bucket-inside (c .before .before .before .before .before .before .before .args .text .now) (c .before .before .before .before .before .before .before .args .table .now) (c .before .before .before .before .before .before .before .args .label))
+link-definition-requires : tie.Need-link-definition-requires
+link-definition-requires c κs =
+    let p = c .before .before .before .before .before .before .before .before .pre in
+    let is = c .before .before .before .is-definition in
+    (p .0, (p .1 .0, p .1 .1, sym (is .ensures) ∙ c .before .before .if1 .taken))
 
 same-length : tie.Need-same-length
 same-length c = search needs
@@ -41,29 +22,48 @@ same-length-2 c = search needs
 
 returns : tie.Need-returns
 returns c =
-    let d = sym (c .before .before .before .is-definition .ensures) ∙ c .before .before .if1 .taken in
-    let e = c .before .bucket-at .ensures in
-    (rw d (ap (λ i. set (c .before .before .before .before .before .before .before .args .first .now) i (c .before .before .before .before .before .before .before .args .label)) e), rw d (ap (λ i. set (c .before .before .before .before .before .before .before .args .next .now) (c .before .before .before .before .before .before .before .args .label) (getD (c .before .before .before .before .before .before .before .args .first .now) i 0)) e))
+    let is-definition = c .before .before .before .before .before .before .before .before .before .is-definition in
+    let if1 = c .before .before .before .before .before .before .before .before .if1 in
+    let link-definition = c .before .before .before .before .before .link-definition in
+    let a = c .before .before .before .before .before .before .before .before .before .before .before .before .before .before .args in
+    let d = sym (is-definition .ensures) ∙ if1 .taken in
+    let linked = link-definition .ensures in
+    (duplicate-some (a .text .now) (a .table .now) (a .n) (a .label) d (linked .0) (c .if2 .taken), linked .1)
+
+same-length-3 : tie.Need-same-length-3
+same-length-3 c = search needs
+
+same-length-4 : tie.Need-same-length-4
+same-length-4 c = search needs
 
 returns-2 : tie.Need-returns-2
 returns-2 c =
+    let is-definition = c .before .before .before .before .before .before .before .before .before .is-definition in
+    let if1 = c .before .before .before .before .before .before .before .before .if1 in
+    let link-definition = c .before .before .before .before .before .link-definition in
+    let a = c .before .before .before .before .before .before .before .before .before .before .before .before .before .before .args in
+    let d = sym (is-definition .ensures) ∙ if1 .taken in
+    let linked = link-definition .ensures in
+    (duplicate-none (a .text .now) (a .table .now) (a .n) (a .label) d (linked .0) (c .if2 .left), linked .1)
+
+returns-3 : tie.Need-returns-3
+returns-3 c =
+    let e = c .before .before .before .before .before .before in
+    let a = e .args in
+    let p = e .pre in
     let d = sym (c .before .is-definition .ensures) ∙ c .if1 .left in
-    (rw d, rw d)
+    (duplicate-other (a .text .now) (a .table .now) (a .n) (a .label) d, link-other (p .0 .0) (p .0 .1) (p .1 .0) (p .1 .1) d)
 
 pub link-label-spec : {M : Type 1} → statement M
 link-label-spec =
     tie.close
     (tie.spec
     is-definition-requires
-    bucket-at-requires
-    mul-next
-    slice-read-next
-    mul-next-2
-    slice-write-next
-    cast-first
-    mul-first
-    slice-write-first
+    link-definition-requires
     same-length
     same-length-2
     returns
-    returns-2)
+    same-length-3
+    same-length-4
+    returns-2
+    returns-3)

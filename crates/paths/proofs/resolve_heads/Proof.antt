@@ -1,7 +1,5 @@
 use mathlib.Core.Path.{_∙_, sym}
-use Rattle.refusals.specs.Refusal.{firstBad}
-use Rattle.paths.specs.Paths.{pathHeadBad, laterRows}
-use Rattle.refusals.proofs.OrElse.{refused-first, fine-then}
+use Rattle.refusals.proofs.OrElse.{refused-first, or-next}
 use Rattle.paths.proofs.Joining.{heads-alike, heads-size, heads-held, heads-rows, heads-targets}
 use Rattle.paths.proofs.Alike.{rows-alike, linked-alike}
 use Rattle.paths.proofs.Passes.{not-fine}
@@ -17,10 +15,17 @@ enum-told c = search needs
 
 resolve-later-requires : tie.Need-resolve-later-requires
 resolve-later-requires c κs =
-    let e = c .before .before .before .before .settle-heads .ensures .1 (c .before .enum-told .given .1) in
-    let u = c .before .before .before .before .settle-heads .last .1 .0 in
-    let al = heads-alike (c .before .before .before .before .before .before .before .before .before .args .text .now) (c .before .before .before .before .before .before .before .before .before .args .table .now) u (c .before .before .before .before .before .before .before .before .before .args .n) e (c .before .before .before .before .before .before .before .before .before .pre .0 .room) in
-    ((rows-alike (c .before .before .before .before .before .before .before .before .before .args .text .now) (c .before .before .before .before .before .before .before .before .before .args .table .now) u al (c .before .before .before .before .before .before .before .before .before .args .n) (heads-size (c .before .before .before .before .before .before .before .before .before .args .text .now) (c .before .before .before .before .before .before .before .before .before .args .table .now) u (c .before .before .before .before .before .before .before .before .before .args .n) e (c .before .before .before .before .before .before .before .before .before .pre .0 .room)) (c .before .before .before .before .before .before .before .before .before .pre .0), linked-alike (c .before .before .before .before .before .before .before .before .before .args .text .now) (c .before .before .before .before .before .before .before .before .before .args .table .now) u al (c .before .before .before .before .before .before .before .before .before .args .n) (c .before .before .before .before .before .before .before .before .before .args .first .now) (c .before .before .before .before .before .before .before .before .before .args .next .now) (c .before .before .before .before .before .before .before .before .before .pre .1)), heads-held (c .before .before .before .before .before .before .before .before .before .args .text .now) (c .before .before .before .before .before .before .before .before .before .args .table .now) u (c .before .before .before .before .before .before .before .before .before .args .n) e (c .before .before .before .before .before .before .before .before .before .pre .0 .room))
+    let settle-heads = c .before .before .before .before .settle-heads in
+    let e = c .before .before .before .before .before .before .before .before .before .before in
+    let a = e .args in
+    let s = a .text .now in
+    let t = a .table .now in
+    let p = e .pre in
+    let u = settle-heads .last .1 .0 in
+    let w = settle-heads .ensures .1 (c .before .enum-told .given .1) in
+    let al = heads-alike s t u (a .n) w (p .0 .room) in
+    let rows = rows-alike s t u al (a .n) (heads-size s t u (a .n) w (p .0 .room)) (p .0) in
+    ((rows, linked-alike s t u al (p .1)), heads-held s t u (a .n) w (p .0 .room))
 
 enum-known-row : tie.Need-enum-known-row
 enum-known-row c = search needs
@@ -30,20 +35,27 @@ same-length c = search needs
 
 returns : tie.Need-returns
 returns c =
-    let f = c .before .before .before .enum-told .given .1 in
-    let e = c .before .before .before .before .before .before .settle-heads .ensures .1 f in
-    let u = c .before .before .before .before .before .before .settle-heads .last .1 .0 in
+    let enum-told = c .before .before .before .enum-told in
+    let e = c .before .before .before .before .before .before .before .before .before .before .before .before in
+    let a = e .args in
+    let s = a .text .now in
+    let t = a .table .now in
+    let h = c .before .before .before .before .before .before .settle-heads in
+    let f = enum-told .given .1 in
+    let w = h .ensures .1 f in
+    let u = h .last .1 .0 in
     let r = c .before .resolve-later .ensures in
-    (r .0 ∙ heads-rows (c .before .before .before .before .before .before .before .before .before .before .before .args .text .now) (c .before .before .before .before .before .before .before .before .before .before .before .args .table .now) u (c .before .before .before .before .before .before .before .before .before .before .before .args .n) e (c .before .before .before .before .before .before .before .before .before .before .before .pre .0 .room) ∙ fine-then (firstBad (pathHeadBad (c .before .before .before .before .before .before .before .before .before .before .before .args .text .now) (c .before .before .before .before .before .before .before .before .before .before .before .args .table .now) (c .before .before .before .before .before .before .before .before .before .before .before .args .n)) 1 (c .before .before .before .before .before .before .before .before .before .before .before .args .n)) (laterRows (c .before .before .before .before .before .before .before .before .before .before .before .args .text .now) (c .before .before .before .before .before .before .before .before .before .before .before .args .table .now) (c .before .before .before .before .before .before .before .before .before .before .before .args .n)) (sym (c .before .before .before .before .before .before .settle-heads .ensures .0) ∙ f), λ z. r .1 z ∙ heads-targets (c .before .before .before .before .before .before .before .before .before .before .before .args .text .now) (c .before .before .before .before .before .before .before .before .before .before .before .args .table .now) u (c .before .before .before .before .before .before .before .before .before .before .before .args .n) e (c .before .before .before .before .before .before .before .before .before .before .before .pre .0 .room))
+    let rows = heads-rows s t u (a .n) w (e .pre .0 .room) in
+    (or-next _ _ _ _ (h .ensures .0) f (r .0 ∙ rows), λ z. r .1 z ∙ heads-targets s t u (a .n) w (e .pre .0 .room))
 
 same-length-2 : tie.Need-same-length-2
 same-length-2 c = search needs
 
 returns-2 : tie.Need-returns-2
 returns-2 c =
-    let u = c .before .before .before .before .settle-heads .ensures in
+    let settle-heads = c .before .before .before .before .settle-heads in
     let r = c .before .row .given in
-    (refused-first _ _ (r .0 .0) (r .0 .1 .0) (sym (u .0) ∙ r .1), λ z. not-fine (r .0 .0) (r .0 .1 .0) z)
+    (refused-first _ _ (r .0 .0) (r .0 .1 .0) (sym (settle-heads .ensures .0) ∙ r .1), λ z. not-fine z)
 
 pub resolve-heads-spec : {M : Type 1} → statement M
 resolve-heads-spec =

@@ -1,7 +1,5 @@
 use mathlib.Core.Path.{_∙_, sym}
-use Rattle.refusals.specs.Refusal.{firstBad}
-use Rattle.paths.specs.Paths.{laterBad}
-use Rattle.refusals.proofs.OrElse.{refused-first, fine-then}
+use Rattle.refusals.proofs.OrElse.{refused-first, or-next}
 use Rattle.paths.proofs.Joining.{targets-checked}
 use Rattle.paths.proofs.Passes.{not-fine}
 use borrow.Author.Needs.{needs}
@@ -25,19 +23,22 @@ same-length c = search needs
 
 returns : tie.Need-returns
 returns c =
-    let u = c .before .before .before .before .before .settle-targets .ensures in
+    let p = c .before .before .before .before .before .before .before .before .before .before .before .pre in
+    let a = c .before .before .before .before .before .before .before .before .before .before .before .args in
+    let u = c .before .before .before .before .before .settle-targets in
     let f = c .before .before .enum-told .given .1 in
-    let e = u .1 f in
-    (c .check-targets .ensures ∙ targets-checked (c .before .before .before .before .before .before .before .before .before .before .args .text .now) (c .before .before .before .before .before .before .before .before .before .before .args .table .now) (c .before .before .before .before .before .settle-targets .last .1 .0) (c .before .before .before .before .before .before .before .before .before .before .args .n) e (c .before .before .before .before .before .before .before .before .before .before .pre .0 .0 .room) ∙ fine-then (firstBad (laterBad (c .before .before .before .before .before .before .before .before .before .before .args .text .now) (c .before .before .before .before .before .before .before .before .before .before .args .table .now) (c .before .before .before .before .before .before .before .before .before .before .args .n)) 1 (c .before .before .before .before .before .before .before .before .before .before .args .n)) _ (sym (u .0) ∙ f), λ _. e)
+    let e = u .ensures .1 f in
+    let checked = targets-checked (a .text .now) (a .table .now) (u .last .1 .0) (a .n) e (p .0 .0 .room) in
+    (or-next _ _ _ _ (u .ensures .0) f (c .check-targets .ensures ∙ checked), λ _. e)
 
 same-length-2 : tie.Need-same-length-2
 same-length-2 c = search needs
 
 returns-2 : tie.Need-returns-2
 returns-2 c =
-    let u = c .before .before .before .before .settle-targets .ensures in
+    let settle-targets = c .before .before .before .before .settle-targets in
     let r = c .before .row .given in
-    (refused-first _ _ (r .0 .0) (r .0 .1 .0) (sym (u .0) ∙ r .1), λ z. not-fine (r .0 .0) (r .0 .1 .0) z)
+    (refused-first _ _ (r .0 .0) (r .0 .1 .0) (sym (settle-targets .ensures .0) ∙ r .1), λ z. not-fine z)
 
 pub resolve-later-spec : {M : Type 1} → statement M
 resolve-later-spec =

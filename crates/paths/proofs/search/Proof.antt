@@ -1,29 +1,29 @@
--- The outer loop keeps what is still to be searched, the inner one what is left of the bucket.
-use mathlib.Core.Path.{refl}
-use mathlib.Core.Path.{_≡_, _∙_, sym}
-use Prim.Native.Nat.{_+_, _-_, _≤_}
-use native.Mathlib.Omega.{arith}
-use borrow.Author.Needs.{needs}
-use lib.ListN.{length, getD}
+-- The outer loop keeps what is still to be searched, the inner one what is left of the chain of the Group's bucket.
+use mathlib.Core.Path.{_≡_, refl, _∙_, sym}
+use Prim.Native.Nat.{_≤_}
 use lib.Seq.{slice}
-use Rattle.paths.specs.Buckets.{hashOf, bucketOf, bucketAt, inBucket, outward}
-use Rattle.paths.specs.Names.{firstLabel}
-use Rattle.paths.proofs.Scanning.{hashed-small}
-use Rattle.paths.proofs.Chains.{Walk, ahead, bucket-of-inside, walk-less, walk-start, walk-none, walk-definition, walk-hit, walk-turn, out-end, out-found, out-next}
+use Rattle.paths.specs.Names.{member}
+use Rattle.paths.specs.Paths.{headFrom}
+use Rattle.paths.proofs.SameName.{hash-small}
+use Rattle.paths.proofs.Chains.{Walking, linked-walkable, member-walking, walking-less, walking-hit, walking-turn, walking-end}
+use Rattle.paths.proofs.Resolving.{head-end, head-found, head-next}
+use native.Mathlib.Omega.{arith}
 use Rattle.paths.proofs.search.Statement.{statement}
 use Rattle.paths.proofs.search.Tie as tie
 
 abbrev Inv-loop : tie.InvT-loop
-Inv-loop text table n first next group stop from to hash g found₀ m₀ found m = (found ≡ 0) × Walk text table n (slice from to text) g m
+Inv-loop text table n starts first next group from to hash g found₀ m₀ found m =
+    (found ≡ 0) × Walking text table next (slice from to text) (member text table n g (slice from to text)) m
 
 abbrev μ-loop : tie.MeasureT-loop
-μ-loop text table n first next group stop from to hash g found₀ m₀ found m = ahead n m
+μ-loop text table n starts first next group from to hash g found₀ m₀ found m = m
 
 abbrev Inv-groups : tie.InvT-groups
-Inv-groups text table n first next group stop from to hash g₀ found₀ g found = (g ≤ n) × (found ≡ 0) × (outward text table n (slice from to text) stop g g ≡ outward text table n (slice from to text) stop group group)
+Inv-groups text table n starts first next group from to hash g₀ found₀ g found =
+    (g ≤ n) × (found ≡ 0) × (headFrom text table n (slice from to text) g ≡ headFrom text table n (slice from to text) group)
 
 abbrev μ-groups : tie.MeasureT-groups
-μ-groups text table n first next group stop from to hash g₀ found₀ g found = g
+μ-groups text table n starts first next group from to hash g₀ found₀ g found = g
 
 hash-name-requires : tie.Need-hash-name-requires Inv-loop μ-loop Inv-groups μ-groups
 hash-name-requires c κs = omega arith
@@ -31,70 +31,98 @@ hash-name-requires c κs = omega arith
 groups-holds : tie.Need-groups-holds Inv-loop μ-loop Inv-groups μ-groups
 groups-holds c = (omega arith, refl, refl)
 
-bucket-requires : tie.Need-bucket-requires Inv-loop μ-loop Inv-groups μ-groups
-bucket-requires c κs = (omega (arith, c .before .before .hash-name .ensures, hashed-small (slice (c .before .before .before .before .before .before .args .from) (c .before .before .before .before .before .before .args .to) (c .before .before .before .before .before .before .args .text .now))), omega (arith, c .before .before .before .before .before .before .pre .0 .0 .few))
-
-mul-m : tie.Need-mul-m Inv-loop μ-loop Inv-groups μ-groups
-mul-m c = omega (arith, c .bucket .ensures, bucket-of-inside (c .before .before .before .hash-name .result) (c .before .before .groups .g))
-
-shared-slice-read-m : tie.Need-shared-slice-read-m Inv-loop μ-loop Inv-groups μ-groups
-shared-slice-read-m c = omega (arith, c .before .bucket .ensures, bucket-of-inside (c .before .before .before .before .hash-name .result) (c .before .before .before .groups .g))
-
-cast-m : tie.Need-cast-m Inv-loop μ-loop Inv-groups μ-groups
-cast-m c = omega (arith, c .shared-slice-known4 .given (c .before .bucket .result))
-
--- what stands at the head of the bucket's chain
-headed : (c : tie.After-shared-slice-known4 Inv-loop μ-loop Inv-groups μ-groups) → getD (c .before .before .before .before .before .before .before .before .args .first .now) (c .before .bucket .result) 0 ≡ firstLabel (inBucket (c .before .before .before .before .before .before .before .before .args .text .now) (c .before .before .before .before .before .before .before .before .args .table .now) (bucketOf (hashOf (slice (c .before .before .before .before .before .before .before .before .args .from) (c .before .before .before .before .before .before .before .before .args .to) (c .before .before .before .before .before .before .before .before .args .text .now))) (c .before .before .before .groups .g))) 1 (c .before .before .before .before .before .before .before .before .args .n)
-headed c =
-    let n = c .before .before .before .before .before .before .before .before .args .n in
-    let same : n + 1 - 1 ≡ n = omega arith in
-    rw (← (c .before .before .before .before .hash-name .ensures), ← (c .before .bucket .ensures))
-    (rw same at (c .before .before .before .before .before .before .before .before .pre .0 .1 .chains .heads (c .before .bucket .result) (omega (arith, c .before .bucket .ensures, bucket-of-inside (c .before .before .before .before .hash-name .result) (c .before .before .before .groups .g)))))
-
--- what stands behind m in its chain
-follows : (c : tie.After-shared-slice-known5 Inv-loop μ-loop Inv-groups μ-groups) → getD (c .before .before .before .before .before .before .before .before .before .before .before .before .before .args .next .now) (c .before .before .before .before .loop .m) 0 ≡ firstLabel (inBucket (c .before .before .before .before .before .before .before .before .before .before .before .before .before .args .text .now) (c .before .before .before .before .before .before .before .before .before .before .before .before .before .args .table .now) (bucketAt (c .before .before .before .before .before .before .before .before .before .before .before .before .before .args .text .now) (c .before .before .before .before .before .before .before .before .before .before .before .before .before .args .table .now) (c .before .before .before .before .loop .m))) (c .before .before .before .before .loop .m + 1) (c .before .before .before .before .before .before .before .before .before .before .before .before .before .args .n - c .before .before .before .before .loop .m)
-follows c =
-    c .before .before .before .before .before .before .before .before .before .before .before .before .before .pre .0 .1 .chains .nexts (c .before .before .before .before .loop .m) (omega (arith, c .before .before .before .loop-test .taken)) (c .before .before .before .before .loop .inv .1 .high) (walk-definition (c .before .before .before .before .before .before .before .before .before .before .before .before .before .args .text .now) (c .before .before .before .before .before .before .before .before .before .before .before .before .before .args .table .now) (c .before .before .before .before .before .before .before .before .before .before .before .before .before .args .n) (slice (c .before .before .before .before .before .before .before .before .before .before .before .before .before .args .from) (c .before .before .before .before .before .before .before .before .before .before .before .before .before .args .to) (c .before .before .before .before .before .before .before .before .before .before .before .before .before .args .text .now)) (c .before .before .before .before .before .before .before .before .groups .g) (c .before .before .before .before .loop .m) (c .before .before .before .before .loop .inv .1) (c .before .before .before .loop-test .taken))
+first-in-requires : tie.Need-first-in-requires Inv-loop μ-loop Inv-groups μ-groups
+first-in-requires c κs =
+    let p = c .before .before .before .before .before .before .before .pre in
+    let a = c .before .before .before .before .before .before .before .args in
+    let p = p .0 in
+    let h = linked-walkable (p .0) (p .1) (c .before .groups .g) (omega arith) in
+    let small = hash-small (slice (a .from) (a .to) (a .text .now)) in
+    (h .stretch, omega (arith, c .before .before .hash-name .ensures), h .buckets)
 
 loop-holds : tie.Need-loop-holds Inv-loop μ-loop Inv-groups μ-groups
-loop-holds c = (c .before .before .before .groups .inv .1, walk-start (c .before .before .before .before .before .before .before .before .args .text .now) (c .before .before .before .before .before .before .before .before .args .table .now) (c .before .before .before .before .before .before .before .before .args .n) (slice (c .before .before .before .before .before .before .before .before .args .from) (c .before .before .before .before .before .before .before .before .args .to) (c .before .before .before .before .before .before .before .before .args .text .now)) (c .before .before .before .groups .g) _ (headed c))
+loop-holds c =
+    let p = c .before .before .before .before .before .before .before .before .pre in
+    let hash-name = c .before .before .before .hash-name in
+    let a = c .before .before .before .before .before .before .before .before .args in
+    let p = p .0 in
+    let w = slice (a .from) (a .to) (a .text .now) in
+    (c .before .before .groups .inv .1, member-walking (p .0) (p .1) (c .before .before .groups .g) (omega arith) w (hash-name .ensures) (c .first-in .ensures))
 
-is-named-requires : tie.Need-is-named-requires Inv-loop μ-loop Inv-groups μ-groups
-is-named-requires c κs = (omega arith, omega arith, c .before .before .before .before .before .before .before .before .before .before .pre .0 .0 .names (c .before .loop .m), walk-definition (c .before .before .before .before .before .before .before .before .before .before .args .text .now) (c .before .before .before .before .before .before .before .before .before .before .args .table .now) (c .before .before .before .before .before .before .before .before .before .before .args .n) (slice (c .before .before .before .before .before .before .before .before .before .before .args .from) (c .before .before .before .before .before .before .before .before .before .before .args .to) (c .before .before .before .before .before .before .before .before .before .before .args .text .now)) (c .before .before .before .before .before .groups .g) (c .before .loop .m) (c .before .loop .inv .1) (c .loop-test .taken))
+has-name-requires : tie.Need-has-name-requires Inv-loop μ-loop Inv-groups μ-groups
+has-name-requires c κs =
+    let p = c .before .before .before .before .before .before .before .before .before .before .pre in
+    (omega arith, omega arith, p .0 .0 .names (c .before .loop .m))
 
-mul-m-2 : tie.Need-mul-m-2 Inv-loop μ-loop Inv-groups μ-groups
-mul-m-2 c = omega (arith, c .before .before .before .loop .inv .1 .high, c .before .before .before .before .before .before .before .before .before .before .before .before .pre .0 .1 .room)
+mul-m : tie.Need-mul-m Inv-loop μ-loop Inv-groups μ-groups
+mul-m c =
+    let l = c .before .before .before .loop in
+    omega (arith, l .inv .1 .inside)
 
-shared-slice-read-m-2 : tie.Need-shared-slice-read-m-2 Inv-loop μ-loop Inv-groups μ-groups
-shared-slice-read-m-2 c = omega (arith, c .before .before .before .before .loop .inv .1 .high, c .before .before .before .before .before .before .before .before .before .before .before .before .before .pre .0 .1 .room)
+shared-slice-read-m : tie.Need-shared-slice-read-m Inv-loop μ-loop Inv-groups μ-groups
+shared-slice-read-m c =
+    let l = c .before .before .before .before .loop in
+    omega (arith, l .inv .1 .inside)
 
-cast-m-2 : tie.Need-cast-m-2 Inv-loop μ-loop Inv-groups μ-groups
-cast-m-2 c = omega (arith, c .shared-slice-known5 .given (c .before .before .before .before .loop .m))
+cast-m : tie.Need-cast-m Inv-loop μ-loop Inv-groups μ-groups
+cast-m c =
+    let l = c .before .before .before .before .loop in
+    omega (arith, c .shared-slice-known5 .given (l .m))
 
 loop-less : tie.Need-loop-less Inv-loop μ-loop Inv-groups μ-groups
-loop-less c = walk-less (c .before .before .before .before .before .before .before .before .before .before .before .before .before .args .text .now) (c .before .before .before .before .before .before .before .before .before .before .before .before .before .args .table .now) (c .before .before .before .before .before .before .before .before .before .before .before .before .before .args .n) (slice (c .before .before .before .before .before .before .before .before .before .before .before .before .before .args .from) (c .before .before .before .before .before .before .before .before .before .before .before .before .before .args .to) (c .before .before .before .before .before .before .before .before .before .before .before .before .before .args .text .now)) (c .before .before .before .before .before .before .before .before .groups .g) (c .before .before .before .before .loop .m) (c .before .before .before .before .loop .inv .1) (c .before .before .before .loop-test .taken) _ (follows c)
+loop-less c =
+    let l = c .before .before .before .before .loop in
+    let loop-test = c .before .before .before .loop-test in
+    walking-less (l .inv .1) (loop-test .taken)
 
 loop-again : tie.Need-loop-again Inv-loop μ-loop Inv-groups μ-groups
-loop-again c = (c .before .before .before .before .loop .inv .0, walk-turn (c .before .before .before .before .before .before .before .before .before .before .before .before .before .args .text .now) (c .before .before .before .before .before .before .before .before .before .before .before .before .before .args .table .now) (c .before .before .before .before .before .before .before .before .before .before .before .before .before .args .n) (slice (c .before .before .before .before .before .before .before .before .before .before .before .before .before .args .from) (c .before .before .before .before .before .before .before .before .before .before .before .before .before .args .to) (c .before .before .before .before .before .before .before .before .before .before .before .before .before .args .text .now)) (c .before .before .before .before .before .before .before .before .groups .g) (c .before .before .before .before .loop .m) (c .before .before .before .before .loop .inv .1) (c .before .before .before .loop-test .taken) (sym (c .before .before .is-named .ensures) ∙ c .before .if1 .left) _ (follows c))
+loop-again c =
+    let l = c .before .before .before .before .loop in
+    let loop-test = c .before .before .before .loop-test in
+    (l .inv .0, walking-turn (l .inv .1) (loop-test .taken) (sym (c .before .before .has-name .ensures) ∙ c .before .if1 .left))
 
 natural-cell-requires : tie.Need-natural-cell-requires Inv-loop μ-loop Inv-groups μ-groups
 natural-cell-requires c κs =
-    let r = c .before .before .before .before .before .before .before .before .before .before .pre .0 .0 in
-    (omega arith, omega (arith, r .room), omega arith, r .owners (c .before .before .before .before .before .groups .g) (omega arith) (omega arith))
+    let p = c .before .before .before .before .before .before .before .before .before .before .pre in
+    let g = c .before .before .before .before .groups in
+    let r = p .0 .0 in
+    (omega arith, omega (arith, r .room), omega arith, r .owners (g .g) (omega arith) (omega arith))
 
 groups-less : tie.Need-groups-less Inv-loop μ-loop Inv-groups μ-groups
-groups-less c = omega (arith, c .natural-cell .ensures, c .before .before .before .before .before .before .before .before .before .before .before .pre .0 .0 .falls (c .before .before .before .before .before .before .groups .g) (omega arith) (omega arith))
+groups-less c =
+    let p = c .before .before .before .before .before .before .before .before .before .before .before .pre in
+    let g = c .before .before .before .before .before .groups in
+    omega (arith, c .natural-cell .ensures, p .0 .0 .falls (g .g) (omega arith) (omega arith))
 
 groups-again : tie.Need-groups-again Inv-loop μ-loop Inv-groups μ-groups
 groups-again c =
-    let f = c .before .before .before .before .before .before .before .before .before .before .before .pre .0 .0 .falls (c .before .before .before .before .before .before .groups .g) (omega arith) (omega arith) in
-    (omega (arith, c .natural-cell .ensures), c .before .before .loop .inv .0, rw (c .natural-cell .ensures) (sym (out-next (c .before .before .before .before .before .before .before .before .before .before .before .args .text .now) (c .before .before .before .before .before .before .before .before .before .before .before .args .table .now) (c .before .before .before .before .before .before .before .before .before .before .before .args .n) (slice (c .before .before .before .before .before .before .before .before .before .before .before .args .from) (c .before .before .before .before .before .before .before .before .before .before .before .args .to) (c .before .before .before .before .before .before .before .before .before .before .before .args .text .now)) (c .before .before .before .before .before .before .before .before .before .before .before .args .stop) (c .before .before .before .before .before .before .before .before .before .before .before .pre .0 .0 .falls) (c .before .before .before .before .before .before .groups .g) (omega arith) (omega arith) (walk-none (c .before .before .before .before .before .before .before .before .before .before .before .args .text .now) (c .before .before .before .before .before .before .before .before .before .before .before .args .table .now) (c .before .before .before .before .before .before .before .before .before .before .before .args .n) (slice (c .before .before .before .before .before .before .before .before .before .before .before .args .from) (c .before .before .before .before .before .before .before .before .before .before .before .args .to) (c .before .before .before .before .before .before .before .before .before .before .before .args .text .now)) (c .before .before .before .before .before .before .groups .g) (c .before .before .loop .m) (c .before .before .loop .inv .1) (c .before .loop-test .left))) ∙ c .before .before .before .before .before .before .groups .inv .2))
+    let p = c .before .before .before .before .before .before .before .before .before .before .before .pre in
+    let a = c .before .before .before .before .before .before .before .before .before .before .before .args in
+    let r = p .0 .0 in
+    let g = c .before .before .before .before .before .groups in
+    let f = r .falls (g .g) (omega arith) (omega arith) in
+    let w = slice (a .from) (a .to) (a .text .now) in
+    let none = sym (walking-end (c .before .before .loop .inv .1) (c .before .loop-test .left)) in
+    let next = head-next (a .text .now) (a .table .now) (a .n) w (r .falls) (g .g) (omega arith) (g .inv .0) none in
+    (omega (arith, c .natural-cell .ensures), c .before .before .loop .inv .0, rw (c .natural-cell .ensures) (sym next ∙ g .inv .2))
 
 returns : tie.Need-returns Inv-loop μ-loop Inv-groups μ-groups
-returns c = c .before .groups .inv .1 ∙ sym (out-end (c .before .before .before .before .before .before .args .text .now) (c .before .before .before .before .before .before .args .table .now) (c .before .before .before .before .before .before .args .n) (slice (c .before .before .before .before .before .before .args .from) (c .before .before .before .before .before .before .args .to) (c .before .before .before .before .before .before .args .text .now)) (c .before .before .before .before .before .before .args .stop) (c .before .before .before .before .before .before .pre .0 .0 .falls) (c .before .groups .g) (omega arith)) ∙ c .before .groups .inv .2
+returns c =
+    let p = c .before .before .before .before .before .before .before .pre in
+    let a = c .before .before .before .before .before .before .before .args in
+    let g = c .before .groups in
+    let w = slice (a .from) (a .to) (a .text .now) in
+    g .inv .1 ∙ sym (head-end (a .text .now) (a .table .now) (a .n) w (p .0 .0 .falls) (g .g) (omega arith)) ∙ g .inv .2
 
 returns-2 : tie.Need-returns-2 Inv-loop μ-loop Inv-groups μ-groups
-returns-2 c = sym (out-found (c .before .before .before .before .before .before .before .before .before .before .before .before .args .text .now) (c .before .before .before .before .before .before .before .before .before .before .before .before .args .table .now) (c .before .before .before .before .before .before .before .before .before .before .before .before .args .n) (slice (c .before .before .before .before .before .before .before .before .before .before .before .before .args .from) (c .before .before .before .before .before .before .before .before .before .before .before .before .args .to) (c .before .before .before .before .before .before .before .before .before .before .before .before .args .text .now)) (c .before .before .before .before .before .before .before .before .before .before .before .before .args .stop) (c .before .before .before .before .before .before .before .before .before .before .before .before .pre .0 .0 .falls) (c .before .before .before .before .before .before .before .groups .g) (c .before .before .before .loop .m) (omega arith) (walk-hit (c .before .before .before .before .before .before .before .before .before .before .before .before .args .text .now) (c .before .before .before .before .before .before .before .before .before .before .before .before .args .table .now) (c .before .before .before .before .before .before .before .before .before .before .before .before .args .n) (slice (c .before .before .before .before .before .before .before .before .before .before .before .before .args .from) (c .before .before .before .before .before .before .before .before .before .before .before .before .args .to) (c .before .before .before .before .before .before .before .before .before .before .before .before .args .text .now)) (c .before .before .before .before .before .before .before .groups .g) (c .before .before .before .loop .m) (c .before .before .before .loop .inv .1) (c .before .before .loop-test .taken) (sym (c .before .is-named .ensures) ∙ c .if1 .taken)) (c .before .before .loop-test .taken)) ∙ c .before .before .before .before .before .before .before .groups .inv .2
+returns-2 c =
+    let p = c .before .before .before .before .before .before .before .before .before .before .before .before .pre in
+    let l = c .before .before .before .loop in
+    let a = c .before .before .before .before .before .before .before .before .before .before .before .before .args in
+    let g = c .before .before .before .before .before .before .groups in
+    let w = slice (a .from) (a .to) (a .text .now) in
+    let hit = walking-hit (l .inv .1) (c .before .before .loop-test .taken) (sym (c .before .has-name .ensures) ∙ c .if1 .taken) in
+    sym (head-found (a .text .now) (a .table .now) (a .n) w (p .0 .0 .falls) (g .g) (l .m) (omega arith) (sym hit) (c .before .before .loop-test .taken)) ∙ g .inv .2
 
 pub search-spec : {M : Type 1} → statement M
 search-spec =
@@ -106,15 +134,12 @@ search-spec =
     μ-groups
     hash-name-requires
     groups-holds
-    bucket-requires
+    first-in-requires
+    loop-holds
+    has-name-requires
     mul-m
     shared-slice-read-m
     cast-m
-    loop-holds
-    is-named-requires
-    mul-m-2
-    shared-slice-read-m-2
-    cast-m-2
     loop-less
     loop-again
     natural-cell-requires

@@ -16,7 +16,17 @@ same-length : tie.Need-same-length
 same-length c = search needs
 
 returns : tie.Need-returns
-returns c = let e = c .before .before .before .head-at .ensures .0 in (e, c .before .put-cell .ensures ∙ ap (λ v. set (c .before .before .before .before .before .before .before .before .args .table .now) (8 * (c .before .before .before .before .before .before .before .before .args .label - 1) + 7) (pos v)) e)
+returns c =
+    let head-at = c .before .before .before .head-at in
+    let a = c .before .before .before .before .before .before .before .before .before .args in
+    let e = head-at .ensures .0 in
+    (e, c .before .put-cell .ensures ∙ ap (λ v. set (a .table .now) (8 * (a .label - 1) + 7) (pos v)) e)
 
 pub settle-head-spec : {M : Type 1} → statement M
-settle-head-spec = tie.close (tie.spec head-at-requires put-cell-requires same-length returns)
+settle-head-spec =
+    tie.close
+    (tie.spec
+    head-at-requires
+    put-cell-requires
+    same-length
+    returns)

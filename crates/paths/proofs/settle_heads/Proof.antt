@@ -1,68 +1,90 @@
--- What the pass keeps is `Settling`; its laws are in Passes.
-use Rattle.cells.proofs.Columns.{column-length}
-use mathlib.Core.Path.{_≡_, _∙_, sym, ap}
-use mathlib.Core.Bool.{cond}
-use Prim.Native.Nat.{_+_, _-_, _*_}
+use mathlib.Core.Path.{_≡_}
+use Prim.Native.Nat.{_+_, _-_}
+use Rattle.paths.specs.Paths.{headCell, pathHeadBad}
+use Rattle.paths.proofs.Alike.{head-cell-alike, rows-alike, linked-alike}
+use Rattle.paths.proofs.Passes.{Settling, settle-start, settle-size, settle-alike, settle-all, settle-kept}
+use Rattle.paths.proofs.Passes.{settle-turn, settle-stop, pass-done, head-rule, not-fine}
 use native.Mathlib.Omega.{arith}
 use borrow.Author.Needs.{needs}
-use lib.IntN.{pos}
-use lib.ListN.{length, set}
-use Rattle.cells.specs.Table.{withColumn}
-use Rattle.paths.specs.Paths.{headCell, pathHeadBad}
-use Rattle.paths.proofs.Alike.{column-alike, path-alike, head-cell-alike, rows-alike, linked-alike}
-use Rattle.paths.proofs.Passes.{Settling, settle-start, settle-size, settle-alike, settle-put, settle-turn, settle-stop, settle-done, settle-all, head-unresolved, not-fine}
 use Rattle.paths.proofs.settle_heads.Statement.{statement}
 use Rattle.paths.proofs.settle_heads.Tie as tie
 
 abbrev Inv-loop : tie.InvT-loop
-Inv-loop text table₀ n first next label₀ table label = Settling (pathHeadBad text table₀ n) (headCell text table₀ n) n table₀ label table
+Inv-loop text table₀ n starts first next label₀ table label =
+    Settling (pathHeadBad text table₀ n) (headCell text table₀ n) n table₀ label table
 
 abbrev μ-loop : tie.MeasureT-loop
-μ-loop text table₀ n first next label₀ table label = n + 1 - label
+μ-loop text table₀ n starts first next label₀ table label = n + 1 - label
+
+-- what is settled in the table so far is what is settled in the first
+same : (c : tie.At-loop Inv-loop μ-loop) → let a = c .before .before .before .before .before .args in let l = c .loop in
+    headCell (a .text .now) (l .table) (a .n) (l .label) ≡ headCell (a .text .now) (a .table .now) (a .n) (l .label)
+same c =
+    let a = c .before .before .before .before .before .args in
+    let l = c .loop in
+    head-cell-alike (a .text .now) (a .table .now) (l .table) (settle-alike (l .inv)) (a .n) (l .label)
 
 loop-holds : tie.Need-loop-holds Inv-loop μ-loop
-loop-holds c = settle-start (pathHeadBad (c .before .before .before .args .text .now) (c .before .before .before .args .table .now) (c .before .before .before .args .n)) (headCell (c .before .before .before .args .text .now) (c .before .before .before .args .table .now) (c .before .before .before .args .n)) (c .before .before .before .args .n) (c .before .before .before .args .table .now)
+loop-holds c =
+    let a = c .before .before .before .before .args in
+    settle-start (pathHeadBad (a .text .now) (a .table .now) (a .n)) (headCell (a .text .now) (a .table .now) (a .n)) (a .n) (a .table .now)
 
 settle-head-requires : tie.Need-settle-head-requires Inv-loop μ-loop
 settle-head-requires c κs =
+    let e = c .before .before .before .before .before .before .before in
+    let a = e .args in
     let l = c .before .before .loop in
-    ((rows-alike (c .before .before .before .before .before .before .args .text .now) (c .before .before .before .before .before .before .args .table .now) (c .before .before .loop .table) (settle-alike (pathHeadBad (c .before .before .before .before .before .before .args .text .now) (c .before .before .before .before .before .before .args .table .now) (c .before .before .before .before .before .before .args .n)) (headCell (c .before .before .before .before .before .before .args .text .now) (c .before .before .before .before .before .before .args .table .now) (c .before .before .before .before .before .before .args .n)) (c .before .before .before .before .before .before .args .n) (c .before .before .before .before .before .before .args .table .now) (c .before .before .loop .label) (c .before .before .loop .table) (c .before .before .loop .inv)) (c .before .before .before .before .before .before .args .n) (settle-size (pathHeadBad (c .before .before .before .before .before .before .args .text .now) (c .before .before .before .before .before .before .args .table .now) (c .before .before .before .before .before .before .args .n)) (headCell (c .before .before .before .before .before .before .args .text .now) (c .before .before .before .before .before .before .args .table .now) (c .before .before .before .before .before .before .args .n)) (c .before .before .before .before .before .before .args .n) (c .before .before .before .before .before .before .args .table .now) (c .before .before .loop .label) (c .before .before .loop .table) (c .before .before .loop .inv)) (c .before .before .before .before .before .before .pre .0), linked-alike (c .before .before .before .before .before .before .args .text .now) (c .before .before .before .before .before .before .args .table .now) (c .before .before .loop .table) (settle-alike (pathHeadBad (c .before .before .before .before .before .before .args .text .now) (c .before .before .before .before .before .before .args .table .now) (c .before .before .before .before .before .before .args .n)) (headCell (c .before .before .before .before .before .before .args .text .now) (c .before .before .before .before .before .before .args .table .now) (c .before .before .before .before .before .before .args .n)) (c .before .before .before .before .before .before .args .n) (c .before .before .before .before .before .before .args .table .now) (c .before .before .loop .label) (c .before .before .loop .table) (c .before .before .loop .inv)) (c .before .before .before .before .before .before .args .n) (c .before .before .before .before .before .before .args .first .now) (c .before .before .before .before .before .before .args .next .now) (c .before .before .before .before .before .before .pre .1)), (l .inv .low, omega arith))
-
--- the table with the label's cell
-written : (c : tie.After-is-unresolved-arg Inv-loop μ-loop) → (c .before .before .settle-head .last .1 .0) ≡ withColumn 7 (headCell (c .before .before .before .before .before .before .before .before .before .args .text .now) (c .before .before .before .before .before .before .before .before .before .args .table .now) (c .before .before .before .before .before .before .before .before .before .args .n)) (c .before .before .before .before .before .loop .label) (c .before .before .before .before .before .before .before .before .before .args .table .now)
-written c =
-    settle-put (pathHeadBad (c .before .before .before .before .before .before .before .before .before .args .text .now) (c .before .before .before .before .before .before .before .before .before .args .table .now) (c .before .before .before .before .before .before .before .before .before .args .n)) (headCell (c .before .before .before .before .before .before .before .before .before .args .text .now) (c .before .before .before .before .before .before .before .before .before .args .table .now) (c .before .before .before .before .before .before .before .before .before .args .n)) (c .before .before .before .before .before .before .before .before .before .args .n) (c .before .before .before .before .before .before .before .before .before .args .table .now) (c .before .before .before .before .before .loop .label) (c .before .before .before .before .before .loop .table) (c .before .before .before .before .before .loop .inv) (c .before .before .settle-head .last .1 .0)
-    (c .before .before .settle-head .ensures .1 ∙ ap (λ v. set (c .before .before .before .before .before .loop .table) (8 * (c .before .before .before .before .before .loop .label - 1) + 7) (pos v)) (head-cell-alike (c .before .before .before .before .before .before .before .before .before .args .text .now) (c .before .before .before .before .before .before .before .before .before .args .table .now) (c .before .before .before .before .before .loop .table) (settle-alike (pathHeadBad (c .before .before .before .before .before .before .before .before .before .args .text .now) (c .before .before .before .before .before .before .before .before .before .args .table .now) (c .before .before .before .before .before .before .before .before .before .args .n)) (headCell (c .before .before .before .before .before .before .before .before .before .args .text .now) (c .before .before .before .before .before .before .before .before .before .args .table .now) (c .before .before .before .before .before .before .before .before .before .args .n)) (c .before .before .before .before .before .before .before .before .before .args .n) (c .before .before .before .before .before .before .before .before .before .args .table .now) (c .before .before .before .before .before .loop .label) (c .before .before .before .before .before .loop .table) (c .before .before .before .before .before .loop .inv)) (c .before .before .before .before .before .before .before .before .before .args .n) (c .before .before .before .before .before .loop .label)))
-
--- what the row says of the label
-unresolved : (c : tie.After-is-unresolved Inv-loop μ-loop) → pathHeadBad (c .before .before .before .before .before .before .before .before .before .before .args .text .now) (c .before .before .before .before .before .before .before .before .before .before .args .table .now) (c .before .before .before .before .before .before .before .before .before .before .args .n) (c .before .before .before .before .before .before .loop .label) ≡ cond (c .is-unresolved .result) 13 0
-unresolved c =
-    head-unresolved (c .before .before .before .before .before .before .before .before .before .before .args .text .now) (c .before .before .before .before .before .before .before .before .before .before .args .table .now) (c .before .before .before .before .before .before .before .before .before .before .args .n) (c .before .before .before .before .before .before .loop .label) (c .is-unresolved .result)
-    (sym (c .is-unresolved .ensures ∙ rw (written (c .before), path-alike (c .before .before .before .before .before .before .before .before .before .before .args .text .now) (c .before .before .before .before .before .before .before .before .before .before .args .table .now) (withColumn 7 (headCell (c .before .before .before .before .before .before .before .before .before .before .args .text .now) (c .before .before .before .before .before .before .before .before .before .before .args .table .now) (c .before .before .before .before .before .before .before .before .before .before .args .n)) (c .before .before .before .before .before .before .loop .label) (c .before .before .before .before .before .before .before .before .before .before .args .table .now)) (column-alike (headCell (c .before .before .before .before .before .before .before .before .before .before .args .text .now) (c .before .before .before .before .before .before .before .before .before .before .args .table .now) (c .before .before .before .before .before .before .before .before .before .before .args .n)) (c .before .before .before .before .before .before .loop .label) (c .before .before .before .before .before .before .before .before .before .before .args .table .now)) (c .before .before .before .before .before .before .loop .label), c .before .before .before .settle-head .ensures .0 ∙ head-cell-alike (c .before .before .before .before .before .before .before .before .before .before .args .text .now) (c .before .before .before .before .before .before .before .before .before .before .args .table .now) (c .before .before .before .before .before .before .loop .table) (settle-alike (pathHeadBad (c .before .before .before .before .before .before .before .before .before .before .args .text .now) (c .before .before .before .before .before .before .before .before .before .before .args .table .now) (c .before .before .before .before .before .before .before .before .before .before .args .n)) (headCell (c .before .before .before .before .before .before .before .before .before .before .args .text .now) (c .before .before .before .before .before .before .before .before .before .before .args .table .now) (c .before .before .before .before .before .before .before .before .before .before .args .n)) (c .before .before .before .before .before .before .before .before .before .before .args .n) (c .before .before .before .before .before .before .before .before .before .before .args .table .now) (c .before .before .before .before .before .before .loop .label) (c .before .before .before .before .before .before .loop .table) (c .before .before .before .before .before .before .loop .inv)) (c .before .before .before .before .before .before .before .before .before .before .args .n) (c .before .before .before .before .before .before .loop .label))))
+    let g = l .inv in
+    let al = settle-alike g in
+    let rows = rows-alike (a .text .now) (a .table .now) (l .table) al (a .n) (settle-size g) (e .pre .0) in
+    ((rows, linked-alike (a .text .now) (a .table .now) (l .table) al (e .pre .1)), (g .pass .low, omega arith))
 
 is-unresolved-requires : tie.Need-is-unresolved-requires Inv-loop μ-loop
 is-unresolved-requires c κs = search needs
 
 same-length : tie.Need-same-length Inv-loop μ-loop
-same-length c = ap length (written (c .before .before)) ∙ column-length 7 (headCell (c .before .before .before .before .before .before .before .before .before .before .before .args .text .now) (c .before .before .before .before .before .before .before .before .before .before .before .args .table .now) (c .before .before .before .before .before .before .before .before .before .before .before .args .n)) (c .before .before .before .before .before .before .before .loop .label) (c .before .before .before .before .before .before .before .before .before .before .before .args .table .now)
+same-length c =
+    let l = c .before .before .before .before .before .before .before .loop in
+    let settle-head = c .before .before .before .before .settle-head in
+    let at = c .before .before .before .before .before .before .before in
+    settle-kept (l .inv) (same at) (settle-head .ensures .1)
 
 returns : tie.Need-returns Inv-loop μ-loop
-returns c = (settle-stop (pathHeadBad (c .before .before .before .before .before .before .before .before .before .before .before .args .text .now) (c .before .before .before .before .before .before .before .before .before .before .before .args .table .now) (c .before .before .before .before .before .before .before .before .before .before .before .args .n)) (headCell (c .before .before .before .before .before .before .before .before .before .before .before .args .text .now) (c .before .before .before .before .before .before .before .before .before .before .before .args .table .now) (c .before .before .before .before .before .before .before .before .before .before .before .args .n)) (c .before .before .before .before .before .before .before .before .before .before .before .args .n) (c .before .before .before .before .before .before .before .before .before .before .before .args .table .now) (c .before .before .before .before .before .before .before .loop .label) (c .before .before .before .before .before .before .before .loop .table) (c .before .before .before .before .before .before .before .loop .inv) 13 (omega arith) (unresolved (c .before) ∙ ap (λ y. cond y 13 0) (c .if1 .taken)) (λ z. omega arith), λ z. not-fine 13 (c .before .before .before .before .before .before .before .loop .label) z)
+returns c =
+    let l = c .before .before .before .before .before .before .before .loop in
+    let settle-head = c .before .before .before .before .settle-head in
+    let a = c .before .before .before .before .before .before .before .before .before .before .before .before .args in
+    let at = c .before .before .before .before .before .before .before in
+    let h = settle-head .ensures in
+    let rule = head-rule (a .text .now) (a .table .now) (a .n) in
+    let stop = settle-stop (l .inv) (same at) (h .1) 13 rule (h .0) (c .before .is-unresolved .ensures) in
+    (stop (omega arith) (c .if1 .taken) (λ z. omega arith), λ z. not-fine z)
 
 add-label : tie.Need-add-label Inv-loop μ-loop
-add-label c = omega (arith, c .before .before .before .before .before .before .before .before .before .before .before .pre .0 .few)
+add-label c =
+    let p = c .before .before .before .before .before .before .before .before .before .before .before .before .pre in
+    omega (arith, p .0 .few)
 
 loop-less : tie.Need-loop-less Inv-loop μ-loop
 loop-less c = omega arith
 
 loop-again : tie.Need-loop-again Inv-loop μ-loop
-loop-again c = settle-turn (pathHeadBad (c .before .before .before .before .before .before .before .before .before .before .before .args .text .now) (c .before .before .before .before .before .before .before .before .before .before .before .args .table .now) (c .before .before .before .before .before .before .before .before .before .before .before .args .n)) (headCell (c .before .before .before .before .before .before .before .before .before .before .before .args .text .now) (c .before .before .before .before .before .before .before .before .before .before .before .args .table .now) (c .before .before .before .before .before .before .before .before .before .before .before .args .n)) (c .before .before .before .before .before .before .before .before .before .before .before .args .n) (c .before .before .before .before .before .before .before .before .before .before .before .args .table .now) (c .before .before .before .before .before .before .before .loop .label) (c .before .before .before .before .before .before .before .loop .table) (c .before .before .before .before .before .before .before .loop .inv) (c .before .before .before .before .settle-head .last .1 .0) (omega arith) (unresolved (c .before) ∙ ap (λ y. cond y 13 0) (c .if1 .left)) (written (c .before .before))
+loop-again c =
+    let l = c .before .before .before .before .before .before .before .loop in
+    let settle-head = c .before .before .before .before .settle-head in
+    let a = c .before .before .before .before .before .before .before .before .before .before .before .before .args in
+    let at = c .before .before .before .before .before .before .before in
+    let h = settle-head .ensures in
+    let rule = head-rule (a .text .now) (a .table .now) (a .n) in
+    settle-turn (l .inv) (same at) (h .1) 13 rule (h .0) (c .before .is-unresolved .ensures) (omega arith) (c .if1 .left)
 
 same-length-2 : tie.Need-same-length-2 Inv-loop μ-loop
-same-length-2 c = settle-size (pathHeadBad (c .before .before .before .before .before .args .text .now) (c .before .before .before .before .before .args .table .now) (c .before .before .before .before .before .args .n)) (headCell (c .before .before .before .before .before .args .text .now) (c .before .before .before .before .before .args .table .now) (c .before .before .before .before .before .args .n)) (c .before .before .before .before .before .args .n) (c .before .before .before .before .before .args .table .now) (c .before .loop .label) (c .before .loop .table) (c .before .loop .inv)
+same-length-2 c = settle-size (c .before .loop .inv)
 
 returns-2 : tie.Need-returns-2 Inv-loop μ-loop
-returns-2 c = (settle-done (pathHeadBad (c .before .before .before .before .before .args .text .now) (c .before .before .before .before .before .args .table .now) (c .before .before .before .before .before .args .n)) (headCell (c .before .before .before .before .before .args .text .now) (c .before .before .before .before .before .args .table .now) (c .before .before .before .before .before .args .n)) (c .before .before .before .before .before .args .n) (c .before .before .before .before .before .args .table .now) (c .before .loop .label) (c .before .loop .table) (c .before .loop .inv) (omega arith), λ _. settle-all (pathHeadBad (c .before .before .before .before .before .args .text .now) (c .before .before .before .before .before .args .table .now) (c .before .before .before .before .before .args .n)) (headCell (c .before .before .before .before .before .args .text .now) (c .before .before .before .before .before .args .table .now) (c .before .before .before .before .before .args .n)) (c .before .before .before .before .before .args .n) (c .before .before .before .before .before .args .table .now) (c .before .loop .label) (c .before .loop .table) (c .before .loop .inv) (omega arith))
+returns-2 c =
+    let g = c .before .loop .inv in
+    (pass-done (g .pass) (omega arith), λ z. settle-all g (omega arith))
 
 pub settle-heads-spec : {M : Type 1} → statement M
 settle-heads-spec =

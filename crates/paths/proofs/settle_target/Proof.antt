@@ -21,9 +21,18 @@ same-length c = search needs
 
 returns : tie.Need-returns
 returns c =
-    let e = c .before .before .before .target-at .ensures .0 ∙ ap (targetBy (c .before .before .before .before .before .before .before .before .before .before .args .text .now) (c .before .before .before .before .before .before .before .before .before .before .args .table .now) (c .before .before .before .before .before .before .before .before .before .before .args .n) (c .before .before .before .before .before .before .before .before .before .before .args .label)) (c .before .before .before .before .before .cell-at .ensures) in
-    (e, c .before .put-cell .ensures ∙ ap (λ v. set (c .before .before .before .before .before .before .before .before .before .before .args .table .now) (8 * (c .before .before .before .before .before .before .before .before .before .before .args .label - 1) + 7) (pos v)) e)
+    let cell-at = c .before .before .before .before .before .cell-at in
+    let target-at = c .before .before .before .target-at in
+    let a = c .before .before .before .before .before .before .before .before .before .before .before .args in
+    let e = target-at .ensures .0 ∙ ap (targetBy (a .text .now) (a .table .now) (a .n) (a .label)) (cell-at .ensures) in
+    (e, c .before .put-cell .ensures ∙ ap (λ v. set (a .table .now) (8 * (a .label - 1) + 7) (pos v)) e)
 
 pub settle-target-spec : {M : Type 1} → statement M
 settle-target-spec =
-    tie.close (tie.spec cell-at-requires target-at-requires put-cell-requires same-length returns)
+    tie.close
+    (tie.spec
+    cell-at-requires
+    target-at-requires
+    put-cell-requires
+    same-length
+    returns)

@@ -1,79 +1,96 @@
--- What the pass keeps is `Settling`; its laws are in Passes.
-use Rattle.cells.proofs.Columns.{column-length}
-use mathlib.Core.Path.{_≡_, _∙_, sym, ap}
-use mathlib.Core.Bool.{cond}
-use Prim.Native.Nat.{_+_, _-_, _*_, _≤_}
+use mathlib.Core.Path.{_≡_, _∙_}
+use Prim.Native.Nat.{_+_, _-_}
+use Rattle.cells.specs.Table.{target}
+use Rattle.paths.specs.Paths.{targetBy, targetCell, laterBad}
+use Rattle.paths.proofs.Alike.{rows-alike, linked-alike}
+use Rattle.paths.proofs.Passes.{Settling, settle-start, settle-size, settle-alike, settle-later, settle-all, settle-kept}
+use Rattle.paths.proofs.Passes.{settle-turn, settle-stop, pass-done, later-rule, head-cell-high, target-now, not-fine}
 use native.Mathlib.Omega.{arith}
 use borrow.Author.Needs.{needs}
-use lib.IntN.{pos}
-use lib.ListN.{length, set}
-use Rattle.cells.specs.Table.{target, withColumn}
-use Rattle.paths.specs.Paths.{headCell, targetBy, targetCell, laterBad}
-use Rattle.paths.proofs.Alike.{column-alike, path-alike, target-by-alike, rows-alike, linked-alike}
-use Rattle.paths.proofs.Passes.{Settling, settle-start, settle-size, settle-alike, settle-put, settle-turn, settle-stop, settle-done, settle-all, later-unresolved, target-from, head-cell-high, column-later, not-fine}
 use Rattle.paths.proofs.settle_targets.Statement.{statement}
 use Rattle.paths.proofs.settle_targets.Tie as tie
 
 abbrev Inv-loop : tie.InvT-loop
-Inv-loop text table₀ n first next label₀ table label = Settling (laterBad text table₀ n) (targetCell text table₀ n) n table₀ label table
+Inv-loop text table₀ n starts first next label₀ table label =
+    Settling (laterBad text table₀ n) (targetCell text table₀ n) n table₀ label table
 
 abbrev μ-loop : tie.MeasureT-loop
-μ-loop text table₀ n first next label₀ table label = n + 1 - label
+μ-loop text table₀ n starts first next label₀ table label = n + 1 - label
+
+-- what the head in the label's cell leads to is the target
+same : (c : tie.In-loop Inv-loop μ-loop) → let a = c .before .before .before .before .before .before .args in let l = c .before .loop in
+    targetBy (a .text .now) (l .table) (a .n) (l .label) (target (l .table) (l .label)) ≡ targetCell (a .text .now) (a .table .now) (a .n) (l .label)
+same c =
+    let e = c .before .before .before .before .before .before in
+    let a = e .args in
+    let l = c .before .loop in
+    let g = l .inv in
+    let head = settle-later g ∙ e .pre .1 (l .label) (g .pass .low) (omega arith) in
+    target-now (a .text .now) (a .table .now) (a .n) (l .label) (l .table) (settle-alike g) head
 
 loop-holds : tie.Need-loop-holds Inv-loop μ-loop
-loop-holds c = settle-start (laterBad (c .before .before .before .args .text .now) (c .before .before .before .args .table .now) (c .before .before .before .args .n)) (targetCell (c .before .before .before .args .text .now) (c .before .before .before .args .table .now) (c .before .before .before .args .n)) (c .before .before .before .args .n) (c .before .before .before .args .table .now)
-
--- the cell holds the head still
-held : (c : tie.After-settle-target Inv-loop μ-loop) → target (c .before .before .before .loop .table) (c .before .before .before .loop .label) ≡ headCell (c .before .before .before .before .before .before .before .args .text .now) (c .before .before .before .before .before .before .before .args .table .now) (c .before .before .before .before .before .before .before .args .n) (c .before .before .before .loop .label)
-held c =
-    let l = c .before .before .before .loop in
-    ap (λ u. target u (l .label)) (l .inv .table) ∙ column-later (targetCell (c .before .before .before .before .before .before .before .args .text .now) (c .before .before .before .before .before .before .before .args .table .now) (c .before .before .before .before .before .before .before .args .n)) (l .label - 1) (l .label) (c .before .before .before .before .before .before .before .args .table .now) (omega (arith, l .inv .low)) ∙ c .before .before .before .before .before .before .before .pre .1 (l .label) (l .inv .low) (omega arith)
-
-headed : (c : tie.After-settle-target-arg Inv-loop μ-loop) → target (c .before .before .loop .table) (c .before .before .loop .label) ≤ c .before .before .before .before .before .before .args .n
-headed c =
-    let l = c .before .before .loop in
-    omega (arith, ap (λ u. target u (l .label)) (l .inv .table) ∙ column-later (targetCell (c .before .before .before .before .before .before .args .text .now) (c .before .before .before .before .before .before .args .table .now) (c .before .before .before .before .before .before .args .n)) (l .label - 1) (l .label) (c .before .before .before .before .before .before .args .table .now) (omega (arith, l .inv .low)) ∙ c .before .before .before .before .before .before .pre .1 (l .label) (l .inv .low) (omega arith), head-cell-high (c .before .before .before .before .before .before .args .text .now) (c .before .before .before .before .before .before .args .table .now) (c .before .before .before .before .before .before .args .n) (l .label))
+loop-holds c =
+    let a = c .before .before .before .before .args in
+    settle-start (laterBad (a .text .now) (a .table .now) (a .n)) (targetCell (a .text .now) (a .table .now) (a .n)) (a .n) (a .table .now)
 
 settle-target-requires : tie.Need-settle-target-requires Inv-loop μ-loop
 settle-target-requires c κs =
+    let e = c .before .before .before .before .before .before .before in
+    let a = e .args in
     let l = c .before .before .loop in
-    ((rows-alike (c .before .before .before .before .before .before .args .text .now) (c .before .before .before .before .before .before .args .table .now) (c .before .before .loop .table) (settle-alike (laterBad (c .before .before .before .before .before .before .args .text .now) (c .before .before .before .before .before .before .args .table .now) (c .before .before .before .before .before .before .args .n)) (targetCell (c .before .before .before .before .before .before .args .text .now) (c .before .before .before .before .before .before .args .table .now) (c .before .before .before .before .before .before .args .n)) (c .before .before .before .before .before .before .args .n) (c .before .before .before .before .before .before .args .table .now) (c .before .before .loop .label) (c .before .before .loop .table) (c .before .before .loop .inv)) (c .before .before .before .before .before .before .args .n) (settle-size (laterBad (c .before .before .before .before .before .before .args .text .now) (c .before .before .before .before .before .before .args .table .now) (c .before .before .before .before .before .before .args .n)) (targetCell (c .before .before .before .before .before .before .args .text .now) (c .before .before .before .before .before .before .args .table .now) (c .before .before .before .before .before .before .args .n)) (c .before .before .before .before .before .before .args .n) (c .before .before .before .before .before .before .args .table .now) (c .before .before .loop .label) (c .before .before .loop .table) (c .before .before .loop .inv)) (c .before .before .before .before .before .before .pre .0 .0), linked-alike (c .before .before .before .before .before .before .args .text .now) (c .before .before .before .before .before .before .args .table .now) (c .before .before .loop .table) (settle-alike (laterBad (c .before .before .before .before .before .before .args .text .now) (c .before .before .before .before .before .before .args .table .now) (c .before .before .before .before .before .before .args .n)) (targetCell (c .before .before .before .before .before .before .args .text .now) (c .before .before .before .before .before .before .args .table .now) (c .before .before .before .before .before .before .args .n)) (c .before .before .before .before .before .before .args .n) (c .before .before .before .before .before .before .args .table .now) (c .before .before .loop .label) (c .before .before .loop .table) (c .before .before .loop .inv)) (c .before .before .before .before .before .before .args .n) (c .before .before .before .before .before .before .args .first .now) (c .before .before .before .before .before .before .args .next .now) (c .before .before .before .before .before .before .pre .0 .1)), (l .inv .low, omega arith, headed c))
-
--- the table with the label's cell
-written : (c : tie.After-is-unresolved-arg Inv-loop μ-loop) → (c .before .before .settle-target .last .1 .0) ≡ withColumn 7 (targetCell (c .before .before .before .before .before .before .before .before .before .args .text .now) (c .before .before .before .before .before .before .before .before .before .args .table .now) (c .before .before .before .before .before .before .before .before .before .args .n)) (c .before .before .before .before .before .loop .label) (c .before .before .before .before .before .before .before .before .before .args .table .now)
-written c =
-    settle-put (laterBad (c .before .before .before .before .before .before .before .before .before .args .text .now) (c .before .before .before .before .before .before .before .before .before .args .table .now) (c .before .before .before .before .before .before .before .before .before .args .n)) (targetCell (c .before .before .before .before .before .before .before .before .before .args .text .now) (c .before .before .before .before .before .before .before .before .before .args .table .now) (c .before .before .before .before .before .before .before .before .before .args .n)) (c .before .before .before .before .before .before .before .before .before .args .n) (c .before .before .before .before .before .before .before .before .before .args .table .now) (c .before .before .before .before .before .loop .label) (c .before .before .before .before .before .loop .table) (c .before .before .before .before .before .loop .inv) (c .before .before .settle-target .last .1 .0)
-    (c .before .before .settle-target .ensures .1 ∙ ap (λ v. set (c .before .before .before .before .before .loop .table) (8 * (c .before .before .before .before .before .loop .label - 1) + 7) (pos v)) ((target-by-alike (c .before .before .before .before .before .before .before .before .before .args .text .now) (c .before .before .before .before .before .before .before .before .before .args .table .now) (c .before .before .before .before .before .loop .table) (settle-alike (laterBad (c .before .before .before .before .before .before .before .before .before .args .text .now) (c .before .before .before .before .before .before .before .before .before .args .table .now) (c .before .before .before .before .before .before .before .before .before .args .n)) (targetCell (c .before .before .before .before .before .before .before .before .before .args .text .now) (c .before .before .before .before .before .before .before .before .before .args .table .now) (c .before .before .before .before .before .before .before .before .before .args .n)) (c .before .before .before .before .before .before .before .before .before .args .n) (c .before .before .before .before .before .before .before .before .before .args .table .now) (c .before .before .before .before .before .loop .label) (c .before .before .before .before .before .loop .table) (c .before .before .before .before .before .loop .inv)) (c .before .before .before .before .before .before .before .before .before .args .n) (c .before .before .before .before .before .loop .label) (target (c .before .before .before .before .before .loop .table) (c .before .before .before .before .before .loop .label)) ∙ ap (targetBy (c .before .before .before .before .before .before .before .before .before .args .text .now) (c .before .before .before .before .before .before .before .before .before .args .table .now) (c .before .before .before .before .before .before .before .before .before .args .n) (c .before .before .before .before .before .loop .label)) (held (c .before .before)) ∙ target-from (c .before .before .before .before .before .before .before .before .before .args .text .now) (c .before .before .before .before .before .before .before .before .before .args .table .now) (c .before .before .before .before .before .before .before .before .before .args .n) (c .before .before .before .before .before .loop .label))))
-
--- what the row says of the label
-unresolved : (c : tie.After-is-unresolved Inv-loop μ-loop) → laterBad (c .before .before .before .before .before .before .before .before .before .before .args .text .now) (c .before .before .before .before .before .before .before .before .before .before .args .table .now) (c .before .before .before .before .before .before .before .before .before .before .args .n) (c .before .before .before .before .before .before .loop .label) ≡ cond (c .is-unresolved .result) 14 0
-unresolved c =
-    later-unresolved (c .before .before .before .before .before .before .before .before .before .before .args .text .now) (c .before .before .before .before .before .before .before .before .before .before .args .table .now) (c .before .before .before .before .before .before .before .before .before .before .args .n) (c .before .before .before .before .before .before .loop .label) (c .is-unresolved .result)
-    (sym (c .is-unresolved .ensures ∙ rw (written (c .before), path-alike (c .before .before .before .before .before .before .before .before .before .before .args .text .now) (c .before .before .before .before .before .before .before .before .before .before .args .table .now) (withColumn 7 (targetCell (c .before .before .before .before .before .before .before .before .before .before .args .text .now) (c .before .before .before .before .before .before .before .before .before .before .args .table .now) (c .before .before .before .before .before .before .before .before .before .before .args .n)) (c .before .before .before .before .before .before .loop .label) (c .before .before .before .before .before .before .before .before .before .before .args .table .now)) (column-alike (targetCell (c .before .before .before .before .before .before .before .before .before .before .args .text .now) (c .before .before .before .before .before .before .before .before .before .before .args .table .now) (c .before .before .before .before .before .before .before .before .before .before .args .n)) (c .before .before .before .before .before .before .loop .label) (c .before .before .before .before .before .before .before .before .before .before .args .table .now)) (c .before .before .before .before .before .before .loop .label), c .before .before .before .settle-target .ensures .0 ∙ (target-by-alike (c .before .before .before .before .before .before .before .before .before .before .args .text .now) (c .before .before .before .before .before .before .before .before .before .before .args .table .now) (c .before .before .before .before .before .before .loop .table) (settle-alike (laterBad (c .before .before .before .before .before .before .before .before .before .before .args .text .now) (c .before .before .before .before .before .before .before .before .before .before .args .table .now) (c .before .before .before .before .before .before .before .before .before .before .args .n)) (targetCell (c .before .before .before .before .before .before .before .before .before .before .args .text .now) (c .before .before .before .before .before .before .before .before .before .before .args .table .now) (c .before .before .before .before .before .before .before .before .before .before .args .n)) (c .before .before .before .before .before .before .before .before .before .before .args .n) (c .before .before .before .before .before .before .before .before .before .before .args .table .now) (c .before .before .before .before .before .before .loop .label) (c .before .before .before .before .before .before .loop .table) (c .before .before .before .before .before .before .loop .inv)) (c .before .before .before .before .before .before .before .before .before .before .args .n) (c .before .before .before .before .before .before .loop .label) (target (c .before .before .before .before .before .before .loop .table) (c .before .before .before .before .before .before .loop .label)) ∙ ap (targetBy (c .before .before .before .before .before .before .before .before .before .before .args .text .now) (c .before .before .before .before .before .before .before .before .before .before .args .table .now) (c .before .before .before .before .before .before .before .before .before .before .args .n) (c .before .before .before .before .before .before .loop .label)) (held (c .before .before .before)) ∙ target-from (c .before .before .before .before .before .before .before .before .before .before .args .text .now) (c .before .before .before .before .before .before .before .before .before .before .args .table .now) (c .before .before .before .before .before .before .before .before .before .before .args .n) (c .before .before .before .before .before .before .loop .label)))))
+    let g = l .inv in
+    let al = settle-alike g in
+    let rows = rows-alike (a .text .now) (a .table .now) (l .table) al (a .n) (settle-size g) (e .pre .0 .0) in
+    let head = settle-later g ∙ e .pre .1 (l .label) (g .pass .low) (omega arith) in
+    let high = head-cell-high (a .text .now) (a .table .now) (a .n) (l .label) in
+    ((rows, linked-alike (a .text .now) (a .table .now) (l .table) al (e .pre .0 .1)), (g .pass .low, omega arith, omega (arith, head)))
 
 is-unresolved-requires : tie.Need-is-unresolved-requires Inv-loop μ-loop
 is-unresolved-requires c κs = search needs
 
 same-length : tie.Need-same-length Inv-loop μ-loop
-same-length c = ap length (written (c .before .before)) ∙ column-length 7 (targetCell (c .before .before .before .before .before .before .before .before .before .before .before .args .text .now) (c .before .before .before .before .before .before .before .before .before .before .before .args .table .now) (c .before .before .before .before .before .before .before .before .before .before .before .args .n)) (c .before .before .before .before .before .before .before .loop .label) (c .before .before .before .before .before .before .before .before .before .before .before .args .table .now)
+same-length c =
+    let l = c .before .before .before .before .before .before .before .loop in
+    let settle-target = c .before .before .before .before .settle-target in
+    let at = c .before .before .before .before .before .before in
+    settle-kept (l .inv) (same at) (settle-target .ensures .1)
 
 returns : tie.Need-returns Inv-loop μ-loop
-returns c = (settle-stop (laterBad (c .before .before .before .before .before .before .before .before .before .before .before .args .text .now) (c .before .before .before .before .before .before .before .before .before .before .before .args .table .now) (c .before .before .before .before .before .before .before .before .before .before .before .args .n)) (targetCell (c .before .before .before .before .before .before .before .before .before .before .before .args .text .now) (c .before .before .before .before .before .before .before .before .before .before .before .args .table .now) (c .before .before .before .before .before .before .before .before .before .before .before .args .n)) (c .before .before .before .before .before .before .before .before .before .before .before .args .n) (c .before .before .before .before .before .before .before .before .before .before .before .args .table .now) (c .before .before .before .before .before .before .before .loop .label) (c .before .before .before .before .before .before .before .loop .table) (c .before .before .before .before .before .before .before .loop .inv) 14 (omega arith) (unresolved (c .before) ∙ ap (λ y. cond y 14 0) (c .if1 .taken)) (λ z. omega arith), λ z. not-fine 14 (c .before .before .before .before .before .before .before .loop .label) z)
+returns c =
+    let l = c .before .before .before .before .before .before .before .loop in
+    let settle-target = c .before .before .before .before .settle-target in
+    let a = c .before .before .before .before .before .before .before .before .before .before .before .before .args in
+    let at = c .before .before .before .before .before .before in
+    let h = settle-target .ensures in
+    let rule = later-rule (a .text .now) (a .table .now) (a .n) in
+    let stop = settle-stop (l .inv) (same at) (h .1) 14 rule (h .0) (c .before .is-unresolved .ensures) in
+    (stop (omega arith) (c .if1 .taken) (λ z. omega arith), λ z. not-fine z)
 
 add-label : tie.Need-add-label Inv-loop μ-loop
-add-label c = omega (arith, c .before .before .before .before .before .before .before .before .before .before .before .pre .0 .0 .few)
+add-label c =
+    let p = c .before .before .before .before .before .before .before .before .before .before .before .before .pre in
+    omega (arith, p .0 .0 .few)
 
 loop-less : tie.Need-loop-less Inv-loop μ-loop
 loop-less c = omega arith
 
 loop-again : tie.Need-loop-again Inv-loop μ-loop
-loop-again c = settle-turn (laterBad (c .before .before .before .before .before .before .before .before .before .before .before .args .text .now) (c .before .before .before .before .before .before .before .before .before .before .before .args .table .now) (c .before .before .before .before .before .before .before .before .before .before .before .args .n)) (targetCell (c .before .before .before .before .before .before .before .before .before .before .before .args .text .now) (c .before .before .before .before .before .before .before .before .before .before .before .args .table .now) (c .before .before .before .before .before .before .before .before .before .before .before .args .n)) (c .before .before .before .before .before .before .before .before .before .before .before .args .n) (c .before .before .before .before .before .before .before .before .before .before .before .args .table .now) (c .before .before .before .before .before .before .before .loop .label) (c .before .before .before .before .before .before .before .loop .table) (c .before .before .before .before .before .before .before .loop .inv) (c .before .before .before .before .settle-target .last .1 .0) (omega arith) (unresolved (c .before) ∙ ap (λ y. cond y 14 0) (c .if1 .left)) (written (c .before .before))
+loop-again c =
+    let l = c .before .before .before .before .before .before .before .loop in
+    let settle-target = c .before .before .before .before .settle-target in
+    let a = c .before .before .before .before .before .before .before .before .before .before .before .before .args in
+    let at = c .before .before .before .before .before .before in
+    let h = settle-target .ensures in
+    let rule = later-rule (a .text .now) (a .table .now) (a .n) in
+    settle-turn (l .inv) (same at) (h .1) 14 rule (h .0) (c .before .is-unresolved .ensures) (omega arith) (c .if1 .left)
 
 same-length-2 : tie.Need-same-length-2 Inv-loop μ-loop
-same-length-2 c = settle-size (laterBad (c .before .before .before .before .before .args .text .now) (c .before .before .before .before .before .args .table .now) (c .before .before .before .before .before .args .n)) (targetCell (c .before .before .before .before .before .args .text .now) (c .before .before .before .before .before .args .table .now) (c .before .before .before .before .before .args .n)) (c .before .before .before .before .before .args .n) (c .before .before .before .before .before .args .table .now) (c .before .loop .label) (c .before .loop .table) (c .before .loop .inv)
+same-length-2 c = settle-size (c .before .loop .inv)
 
 returns-2 : tie.Need-returns-2 Inv-loop μ-loop
-returns-2 c = (settle-done (laterBad (c .before .before .before .before .before .args .text .now) (c .before .before .before .before .before .args .table .now) (c .before .before .before .before .before .args .n)) (targetCell (c .before .before .before .before .before .args .text .now) (c .before .before .before .before .before .args .table .now) (c .before .before .before .before .before .args .n)) (c .before .before .before .before .before .args .n) (c .before .before .before .before .before .args .table .now) (c .before .loop .label) (c .before .loop .table) (c .before .loop .inv) (omega arith), λ _. settle-all (laterBad (c .before .before .before .before .before .args .text .now) (c .before .before .before .before .before .args .table .now) (c .before .before .before .before .before .args .n)) (targetCell (c .before .before .before .before .before .args .text .now) (c .before .before .before .before .before .args .table .now) (c .before .before .before .before .before .args .n)) (c .before .before .before .before .before .args .n) (c .before .before .before .before .before .args .table .now) (c .before .loop .label) (c .before .loop .table) (c .before .loop .inv) (omega arith))
+returns-2 c =
+    let g = c .before .loop .inv in
+    (pass-done (g .pass) (omega arith), λ z. settle-all g (omega arith))
 
 pub settle-targets-spec : {M : Type 1} → statement M
 settle-targets-spec =

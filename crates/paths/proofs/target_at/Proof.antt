@@ -1,12 +1,18 @@
 use mathlib.Core.Path.{_≡_, _∙_, sym}
 use Prim.Native.Nat.{_+_, _≤_}
-use native.Mathlib.Omega.{arith}
 use lib.ListN.{length}
 use Rattle.cells.specs.Table.{nameStart, nameLength}
 use Rattle.paths.proofs.Resolving.{target-is}
+use native.Mathlib.Omega.{arith}
 use borrow.Author.Needs.{needs}
 use Rattle.paths.proofs.target_at.Statement.{statement}
 use Rattle.paths.proofs.target_at.Tie as tie
+
+-- the name field lies in the text
+inside : (c : tie.After-cell-at2) → let a = c .before .before .before .before .before .before .before .before .args in c .before .cell-at .result + c .cell-at2 .result ≤ length (a .text .now)
+inside c =
+    let e = c .before .before .before .before .before .before .before .before in
+    omega (arith, c .before .cell-at .ensures, c .cell-at2 .ensures, e .pre .0 .0 .names (e .args .label))
 
 has-path-requires : tie.Need-has-path-requires
 has-path-requires c κs = search needs
@@ -18,19 +24,26 @@ cell-at-requires-2 : tie.Need-cell-at-requires-2
 cell-at-requires-2 c κs = search needs
 
 add-descend : tie.Need-add-descend
-add-descend c = omega (arith, c .before .cell-at .ensures, c .cell-at2 .ensures, c .before .before .before .before .before .before .before .pre .0 .0 .names (c .before .before .before .before .before .before .before .args .label))
+add-descend c = omega (arith, inside c)
 
 descend-requires : tie.Need-descend-requires
-descend-requires c κs = ((c .before .before .before .before .before .before .before .pre .0 .0, c .before .before .before .before .before .before .before .pre .0 .1), (c .before .before .before .before .before .before .before .pre .1, omega arith, omega (arith, c .before .cell-at .ensures, c .cell-at2 .ensures, c .before .before .before .before .before .before .before .pre .0 .0 .names (c .before .before .before .before .before .before .before .args .label))))
+descend-requires c κs =
+    let p = c .before .before .before .before .before .before .before .before .pre in
+    (p .0, (p .1, omega arith, inside c))
 
 returns : tie.Need-returns
 returns c =
-    let a = c .before .before .before .before .before .before .before .before .args in
+    let has-path = c .before .before .before .before .has-path in
+    let if1 = c .before .before .before .if1 in
+    let a = c .before .before .before .before .before .before .before .before .before .args in
+    let t = a .table .now in
     let from = c .before .before .cell-at .result in
     let to = from + c .before .cell-at2 .result in
-    let i : to ≤ length (a .text .now) = omega (arith, c .before .before .cell-at .ensures, c .before .cell-at2 .ensures, c .before .before .before .before .before .before .before .before .pre .0 .0 .names (c .before .before .before .before .before .before .before .before .args .label)) in
-    let end : to ≡ nameStart (a .table .now) (a .label) + nameLength (a .table .now) (a .label) = omega (arith, c .before .before .cell-at .ensures, c .before .cell-at2 .ensures) in
-    (c .descend .ensures .0 ∙ target-is (c .before .before .before .before .before .before .before .before .args .text .now) (c .before .before .before .before .before .before .before .before .args .table .now) (c .before .before .before .before .before .before .before .before .args .n) (a .label) from to (c .before .before .cell-at .ensures) end i (a .head) (sym (c .before .before .before .before .has-path .ensures) ∙ c .before .before .before .if1 .taken), c .descend .ensures .1)
+    let end : to ≡ nameStart t (a .label) + nameLength t (a .label) = omega (arith, c .before .before .cell-at .ensures, c .before .cell-at2 .ensures) in
+    let named = c .before in
+    let path = sym (has-path .ensures) ∙ if1 .taken in
+    let is = target-is (a .text .now) t (a .n) (a .label) from to (c .before .before .cell-at .ensures) end (inside named) (a .head) path in
+    (c .descend .ensures .0 ∙ is, c .descend .ensures .1)
 
 returns-2 : tie.Need-returns-2
 returns-2 c = (rw (sym (c .before .has-path .ensures) ∙ c .if1 .left), omega arith)

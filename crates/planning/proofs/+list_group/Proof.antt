@@ -5,6 +5,7 @@ use borrow.Author.Needs.{needs}
 use lib.ListN.{length, getD, length-set}
 use mir.Syntax.{w64}
 use mir.Facts.{toZ-pos}
+use Rattle.kinds.specs.Kinds.{valueCode}
 use Rattle.cells.specs.Table.{kind}
 use Rattle.order.proofs.Tables.{kind-g}
 use Rattle.planning.specs.Listing.{listOf, Put}
@@ -53,7 +54,7 @@ label t c = turn-label _ _ (c .before .before .before .before .pre .1 .0) _ _ _ 
 
 -- where it is a value, there is room for it
 module _ (t : ℕ) (c : list-group-lts.Then1 (claims t) (list-group-at t) list-group.Post list-group-Inv-loop list-group-μ-loop) where
-  value : kind (c .before .before .before .before .before .before .before .before .args .table .now) (c .before .before .before .before .before .loop .x) ≡ 2
+  value : kind (c .before .before .before .before .before .before .before .before .args .table .now) (c .before .before .before .before .before .loop .x) ≡ valueCode
   value = ap (kind (c .before .before .before .before .before .before .before .before .args .table .now)) (sym (c .before .before .before .widen .ensures)) ∙ sym (c .before .kind-of .ensures) ∙ c .if1 .taken
 
   room : c .before .before .before .before .before .loop .to < length (c .before .before .before .before .before .loop .plan)

@@ -1,10 +1,9 @@
-use mathlib.Core.Path.{_∙_, ap}
 use Prim.Native.Nat.{ℕ, _<_}
 use native.Mathlib.Omega.{arith}
 use borrow.Author.Needs.{needs}
 use borrow.Fn.Kinds.{In}
 use borrow.Fn.PlainCycle.{Measures, is, falls, and}
-use Rattle.printing.proofs.Writing.{nothing, same-size, then}
+use Rattle.printing.proofs.Writing.{nothing, then}
 use Rattle.numbers.proofs.Numerals.{digits-none, digits-last}
 use Rattle.printing.proofs.put_digits.Reads as put-digits
 use Rattle.printing.proofs.put_digits.Kinds as put-digits-kinds
@@ -50,8 +49,10 @@ put-digits-same-length t c = search needs
 
 put-digits-returns-2 : (t : ℕ) → put-digits-lts.Need-returns-2 (claims t) (put-digits-at t) put-digits.Post
 put-digits-returns-2 t c =
-    rw (digits-last (c .before .before .before .before .before .before .before .before .before .before .args .n) (omega arith))
-    (then _ _ _ _ _ (c .before .before .before .before .before .before .put-digits .ensures) _ _ _ (c .before .before .put .ensures))
+    let last = c .before .before in
+    let first = last .before .before .before .before in
+    let entry = first .before .before .before .before in
+    rw (digits-last (entry .args .n) (omega arith)) (then _ _ _ _ _ (first .put-digits .ensures) _ _ _ (last .put .ensures))
 
 pub +put-digits-spec : {M : Type 1} → statement M
 +put-digits-spec = close μ-put-digits λ t. put-digits-lts.spec (claims t)

@@ -1,10 +1,7 @@
-use mathlib.Core.Path.{_∙_, sym, ap}
-use lib.ListN.{length}
-use Rattle.calls.specs.Plan.{numberOf, placeOf, lengthOf}
-use Rattle.calls.proofs.Answers.{answers}
+use mathlib.Core.Path.{refl}
 use Rattle.printing.specs.Print.{wholeWord, mixedWord}
-use Rattle.printing.proofs.Runs.{names-in, count-in, printed}
-use Rattle.printing.proofs.Bounds.{whole-length, mixed-length, refused-length}
+use Rattle.printing.proofs.Runs.{names-in, count-in}
+use Rattle.printing.proofs.Bounds.{print-written}
 use native.Mathlib.Omega.{arith}
 use borrow.Author.Needs.{needs}
 use Rattle.printing.proofs.print_with.Statement.{statement}
@@ -21,12 +18,10 @@ slice-aggregate-put-answer c = search needs
 
 put-answer-requires : tie.Need-put-answer-requires
 put-answer-requires c κs =
-    let a = c .before .before .before .before .before .before .before .before .before .before .before .before .before .before .before .before .before .args in
-    let k = c .before .before .before .before .before .before .before .before .before .before .before .run in
-    let g = c .before .before .before .before .before .before .count .given .1 in (
-      rw (ap lengthOf g) at (count-in (a .text .now) (length (a .table .now)) (length (a .plan .now)) (length (a .results .now)) (k .result) (k .ensures .0) (ap answers g) _ (k .ensures .1 .1 .0)),
-      names-in (a .text .now) (length (a .table .now)) (length (a .plan .now)) (length (a .results .now)) (k .result) (k .ensures .0) (ap answers g) _ (k .ensures .1 .0),
-    )
+    let told = c .before .before .before .before .before .before in
+    let ran = told .before .before .before .before .before in
+    let is = told .count .given .1 in
+    (count-in _ _ _ _ _ _ _ _ (ran .run .ensures) _ is refl, names-in _ _ _ _ _ _ _ _ (ran .run .ensures) _ is refl)
 
 enum-known-count-2 : tie.Need-enum-known-count-2
 enum-known-count-2 c = search needs
@@ -36,12 +31,10 @@ slice-aggregate-put-answer-2 c = search needs
 
 put-answer-requires-2 : tie.Need-put-answer-requires-2
 put-answer-requires-2 c κs =
-    let a = c .before .before .before .before .before .before .before .before .before .before .before .before .before .before .before .before .before .args in
-    let k = c .before .before .before .before .before .before .before .before .before .before .before .run in
-    let g = c .before .before .before .before .before .before .count2 .given .1 in (
-      rw (ap lengthOf g) at (count-in (a .text .now) (length (a .table .now)) (length (a .plan .now)) (length (a .results .now)) (k .result) (k .ensures .0) (ap answers g) _ (k .ensures .1 .1 .0)),
-      names-in (a .text .now) (length (a .table .now)) (length (a .plan .now)) (length (a .results .now)) (k .result) (k .ensures .0) (ap answers g) _ (k .ensures .1 .0),
-    )
+    let told = c .before .before .before .before .before .before in
+    let ran = told .before .before .before .before .before in
+    let is = told .count2 .given .1 in
+    (count-in _ _ _ _ _ _ _ _ (ran .run .ensures) _ is refl, names-in _ _ _ _ _ _ _ _ (ran .run .ensures) _ is refl)
 
 enum-known-row : tie.Need-enum-known-row
 enum-known-row c = search needs
@@ -64,16 +57,10 @@ same-length-4 c = search needs
 returns : tie.Need-returns
 unfolding wholeWord
 returns c =
-    let a = c .before .before .before .before .before .before .before .before .before .before .before .before .before .before .before .before .before .before .before .before .args in
-    let k = c .before .before .before .before .before .before .before .before .before .before .before .before .before .before .run in
-    let g = c .before .before .before .before .before .before .before .before .before .count .given .1 in
-    let e = sym (k .ensures .0) ∙ g in
-    record {
-      refusal = sym (ap numberOf e);
-      place = sym (ap placeOf e);
-      short = whole-length (a .text .now) (length (a .table .now)) (length (a .plan .now)) (length (a .results .now)) _ e;
-      wrote = rw (← printed (a .text .now) (length (a .table .now)) (length (a .plan .now)) (length (a .results .now)) (k .result) (k .ensures .0) _ _ _ (k .ensures .1 .0) (k .ensures .1 .1 .0) (k .ensures .1 .1 .1 .0) _ g) (c .before .before .put-answer .ensures);
-    }
+    let written = c .before .before in
+    let told = written .before .before .before .before .before .before .before in
+    let ran = told .before .before .before .before .before in
+    print-written _ _ _ _ _ _ _ _ (ran .run .ensures) _ (told .count .given .1) _ _ _ (omega arith) (omega arith) refl refl (written .put-answer .ensures)
 
 same-length-5 : tie.Need-same-length-5
 same-length-5 c = search needs
@@ -90,16 +77,10 @@ same-length-8 c = search needs
 returns-2 : tie.Need-returns-2
 unfolding mixedWord
 returns-2 c =
-    let a = c .before .before .before .before .before .before .before .before .before .before .before .before .before .before .before .before .before .before .before .before .args in
-    let k = c .before .before .before .before .before .before .before .before .before .before .before .before .before .before .run in
-    let g = c .before .before .before .before .before .before .before .before .before .count2 .given .1 in
-    let e = sym (k .ensures .0) ∙ g in
-    record {
-      refusal = sym (ap numberOf e);
-      place = sym (ap placeOf e);
-      short = mixed-length (a .text .now) (length (a .table .now)) (length (a .plan .now)) (length (a .results .now)) _ e;
-      wrote = rw (← printed (a .text .now) (length (a .table .now)) (length (a .plan .now)) (length (a .results .now)) (k .result) (k .ensures .0) _ _ _ (k .ensures .1 .0) (k .ensures .1 .1 .0) (k .ensures .1 .1 .1 .0) _ g) (c .before .before .put-answer2 .ensures);
-    }
+    let written = c .before .before in
+    let told = written .before .before .before .before .before .before .before in
+    let ran = told .before .before .before .before .before in
+    print-written _ _ _ _ _ _ _ _ (ran .run .ensures) _ (told .count2 .given .1) _ _ _ (omega arith) (omega arith) refl refl (written .put-answer2 .ensures)
 
 same-length-9 : tie.Need-same-length-9
 same-length-9 c = search needs
@@ -115,16 +96,11 @@ same-length-12 c = search needs
 
 returns-3 : tie.Need-returns-3
 returns-3 c =
-    let a = c .before .before .before .before .before .before .before .before .before .before .before .before .before .before .before .before .args in
-    let k = c .before .before .before .before .before .before .before .before .before .before .run in
-    let g = c .before .before .before .before .before .row .given .1 in
-    let e = sym (k .ensures .0) ∙ g in
-    record {
-      refusal = sym (ap numberOf e);
-      place = sym (ap placeOf e);
-      short = refused-length (a .text .now) (length (a .table .now)) (length (a .plan .now)) (length (a .results .now)) _ _ e (omega (arith, c .before .before .before .before .known-told3 .given)) (omega (arith, c .before .before .before .before .known-told3 .given));
-      wrote = rw (← printed (a .text .now) (length (a .table .now)) (length (a .plan .now)) (length (a .results .now)) (k .result) (k .ensures .0) _ _ _ (k .ensures .1 .0) (k .ensures .1 .1 .0) (k .ensures .1 .1 .1 .0) _ g) (c .before .before .put-refusal .ensures);
-    }
+    let written = c .before .before in
+    let told = written .before .before .before in
+    let ran = told .before .before .before .before .before in
+    let bits = written .before .before .known-told3 .given in
+    print-written _ _ _ _ _ _ _ _ (ran .run .ensures) _ (told .row .given .1) _ _ _ (omega (arith, bits)) (omega (arith, bits)) refl refl (written .put-refusal .ensures)
 
 pub print-with-spec : {M : Type 1} → statement M
 print-with-spec =

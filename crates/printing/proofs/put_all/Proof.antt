@@ -33,10 +33,12 @@ loop-less c = omega arith
 
 loop-again : tie.Need-loop-again Inv-loop μ-loop
 loop-again c =
-    let l = c .before .before .before .before .before .before .loop in
-    let b = c .before .before .before .before .before .before .before .before .before .args .bytes .now in
-    let h = c .before .before .before .before .before .loop-test .taken in
-    (omega arith, rw (add-one, take-suc b (l .i) 0 h) (then _ _ _ _ _ (l .inv .1) _ _ _ (c .before .before .put .ensures)))
+    let written = c .before .before in
+    let start = written .before .before .before .before in
+    let l = start .loop in
+    let bytes = start .before .before .before .args .bytes .now in
+    let h = written .before .before .before .loop-test .taken in
+    (omega arith, rw (add-one, take-suc bytes (l .i) 0 h) (then _ _ _ _ _ (l .inv .1) _ _ _ (written .put .ensures)))
 
 same-length : tie.Need-same-length Inv-loop μ-loop
 same-length c = same-size _ _ _ _ _ (c .before .loop .inv .1)

@@ -18,7 +18,10 @@ same-length c = search needs
 
 returns : tie.Need-returns
 unfolding columnsLine
-returns c = then _ _ _ _ _ (c .before .before .before .before .before .before .put-all .ensures) _ _ _ (c .before .before .put-lines .ensures)
+returns c =
+    let last = c .before .before in
+    let first = last .before .before .before .before in
+    then _ _ _ _ _ (first .put-all .ensures) _ _ _ (last .put-lines .ensures)
 
 pub put-answer-spec : {M : Type 1} → statement M
 put-answer-spec =

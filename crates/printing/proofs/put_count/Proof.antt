@@ -13,7 +13,10 @@ same-length : tie.Need-same-length
 same-length c = search needs
 
 returns : tie.Need-returns
-returns c = then _ _ _ _ _ (c .before .before .before .before .before .before .put-decimal .ensures) _ _ _ (c .before .before .put .ensures)
+returns c =
+    let last = c .before .before in
+    let first = last .before .before .before .before in
+    then _ _ _ _ _ (first .put-decimal .ensures) _ _ _ (last .put .ensures)
 
 pub put-count-spec : {M : Type 1} → statement M
 put-count-spec = tie.close (tie.spec put-decimal-requires put-requires same-length returns)

@@ -25,11 +25,15 @@ same-length c = search needs
 
 returns : tie.Need-returns
 returns c =
-    let s = c .before .before .before .before .before .before .before .before .before .before .before .before in
-    let f = toZ-ofZ (s .fits .x) in
-    let e : isNegative (s .args .x) ≡ true = rw f at (sym (c .before .before .before .before .before .before .before .before .before .before .is-negative .ensures) ∙ c .before .before .before .before .before .before .before .before .before .if1 .taken) in
-    rw (integer-negative (s .args .x) e, ← (rw f at (c .before .before .before .size-of .ensures)))
-    (then _ _ _ _ _ (c .before .before .before .before .before .before .before .put .ensures) _ _ _ (c .before .before .put-decimal .ensures))
+    let last = c .before .before in
+    let sized = last .before in
+    let first = sized .before .before .before .before in
+    let test = first .before .before in
+    let asked = test .before in
+    let entry = asked .before .before in
+    let f = toZ-ofZ (entry .fits .x) in
+    let e : isNegative (entry .args .x) ≡ true = rw f at (sym (asked .is-negative .ensures) ∙ test .if1 .taken) in
+    rw (integer-negative (entry .args .x) e, ← (rw f at (sized .size-of .ensures))) (then _ _ _ _ _ (first .put .ensures) _ _ _ (last .put-decimal .ensures))
 
 size-of-requires-2 : tie.Need-size-of-requires-2
 size-of-requires-2 c κs = search needs
@@ -42,10 +46,14 @@ same-length-2 c = search needs
 
 returns-2 : tie.Need-returns-2
 returns-2 c =
-    let s = c .before .before .before .before .before .before .before .before in
-    let f = toZ-ofZ (s .fits .x) in
-    let e : isNegative (s .args .x) ≡ false = rw f at (sym (c .before .before .before .before .before .before .is-negative .ensures) ∙ c .before .before .before .before .before .if1 .left) in
-    rw (integer-natural (s .args .x) e, ← (rw f at (c .before .before .before .size-of2 .ensures))) (c .before .before .put-decimal2 .ensures)
+    let last = c .before .before in
+    let sized = last .before in
+    let test = sized .before .before in
+    let asked = test .before in
+    let entry = asked .before .before in
+    let f = toZ-ofZ (entry .fits .x) in
+    let e : isNegative (entry .args .x) ≡ false = rw f at (sym (asked .is-negative .ensures) ∙ test .if1 .left) in
+    rw (integer-natural (entry .args .x) e, ← (rw f at (sized .size-of2 .ensures))) (last .put-decimal2 .ensures)
 
 pub put-integer-spec : {M : Type 1} → statement M
 put-integer-spec =

@@ -23,10 +23,14 @@ same-length c = search needs
 returns : tie.Need-returns
 unfolding valueLine
 returns c =
-    let a = c .before .before .before .before .before .before .before .before .before .before .before .before .before .before .before .before .before .before .before .args in
-    field-then _ _ (decimal (a .label)) 32 _ _ (c .before .before .before .before .before .before .before .before .before .before .before .before .before .before .put-count .ensures) _ _ _
-    (field-then _ _ (nameField (a .text .now) (a .table .now) (a .label)) 32 _ _ (c .before .before .before .before .before .before .before .before .before .before .put-name .ensures) _ _ _
-    (field-then _ _ (a .word .now) 32 _ _ (c .before .before .before .before .before .before .put-text .ensures) _ _ _ (c .before .before .put-results .ensures)))
+    let results = c .before .before in
+    let word = results .before .before .before .before in
+    let name = word .before .before .before .before in
+    let label = name .before .before .before .before in
+    let a = label .before .before .before .before .before .args in
+    let third = field-then _ _ (a .word .now) 32 _ _ (word .put-text .ensures) _ _ _ (results .put-results .ensures) in
+    let second = field-then _ _ (nameField (a .text .now) (a .table .now) (a .label)) 32 _ _ (name .put-name .ensures) _ _ _ third in
+    field-then _ _ (decimal (a .label)) 32 _ _ (label .put-count .ensures) _ _ _ second
 
 pub put-line-spec : {M : Type 1} → statement M
 put-line-spec =

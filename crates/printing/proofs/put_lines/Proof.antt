@@ -26,7 +26,7 @@ nat-at-requires : tie.Need-nat-at-requires Inv-loop μ-loop
 nat-at-requires c κs = search needs
 
 put-line-requires : tie.Need-put-line-requires Inv-loop μ-loop
-put-line-requires c κs = c .before .before .before .before .before .before .before .pre .1
+put-line-requires c κs = let start = c .before .before .before in start .before .before .before .before .pre .1
 
 add-i : tie.Need-add-i Inv-loop μ-loop
 add-i c = omega arith
@@ -36,13 +36,14 @@ loop-less c = omega arith
 
 loop-again : tie.Need-loop-again Inv-loop μ-loop
 loop-again c =
-    let a = c .before .before .before .before .before .before .before .before .before .before .args in
-    let l = c .before .before .before .before .before .before .loop in
-    let h : l .i < length (a .plan .now) = omega (arith, c .before .before .before .before .before .before .before .before .before .before .pre .0) in (
-      omega arith,
-      rw (one-line-more (a .text .now) (a .table .now) (a .results .now) (a .word .now) (a .plan .now) (l .i) _ h (c .before .before .before .before .nat-at .ensures))
-          (then _ _ _ _ _ (l .inv .1) _ _ _ (c .before .before .put-line .ensures)),
-    )
+    let written = c .before .before in
+    let label = written .before .before in
+    let l = label .before .before .loop in
+    let entry = label .before .before .before .before .before .before in
+    let a = entry .args in
+    let h : l .i < length (a .plan .now) = omega (arith, entry .pre .0) in
+    let more = one-line-more (a .text .now) (a .table .now) (a .results .now) (a .word .now) (a .plan .now) (l .i) _ h (label .nat-at .ensures) in
+    (omega arith, rw more (then _ _ _ _ _ (l .inv .1) _ _ _ (written .put-line .ensures)))
 
 same-length : tie.Need-same-length Inv-loop μ-loop
 same-length c = same-size _ _ _ _ _ (c .before .loop .inv .1)

@@ -13,7 +13,10 @@ cell-at-requires-2 : tie.Need-cell-at-requires-2
 cell-at-requires-2 c κs = search needs
 
 add-end : tie.Need-add-end
-add-end c = omega (arith, c .cell-at2 .ensures, c .before .cell-at .ensures, c .before .before .before .before .pre (c .before .before .before .before .args .label), c .before .before .before .before .good)
+add-end c =
+    let first = c .before in
+    let entry = first .before .before .before in
+    omega (arith, c .cell-at2 .ensures, first .cell-at .ensures, entry .pre (entry .args .label), entry .good)
 
 sub-put-text : tie.Need-sub-put-text
 sub-put-text c = search needs
@@ -22,7 +25,11 @@ part-put-text-start : tie.Need-part-put-text-start
 part-put-text-start c = search needs
 
 part-put-text-end : tie.Need-part-put-text-end
-part-put-text-end c = omega (arith, c .before .cell-at2 .ensures, c .before .before .cell-at .ensures, c .before .before .before .before .before .pre (c .before .before .before .before .before .args .label))
+part-put-text-end c =
+    let second = c .before in
+    let first = second .before in
+    let entry = first .before .before .before in
+    omega (arith, second .cell-at2 .ensures, first .cell-at .ensures, entry .pre (entry .args .label))
 
 put-text-requires : tie.Need-put-text-requires
 put-text-requires c κs = search needs
@@ -32,11 +39,14 @@ same-length c = search needs
 
 returns : tie.Need-returns
 returns c =
-    let a = c .before .before .before .before .before .before .before .before .before .args in
-    let x = c .before .before .before .before .before .before .cell-at in
-    let y = c .before .before .before .before .before .cell-at2 in
+    let written = c .before .before in
+    let second = written .before .before .before in
+    let first = second .before in
+    let a = first .before .before .before .args in
+    let x = first .cell-at in
+    let y = second .cell-at2 in
     let e : x .result + y .result - x .result ≡ y .result = omega arith in
-    rw (← x .ensures, ← y .ensures, ← part-is (x .result) (y .result) (a .text .now), ← e) (c .before .before .put-text .ensures)
+    rw (← x .ensures, ← y .ensures, ← part-is (x .result) (y .result) (a .text .now), ← e) (written .put-text .ensures)
 
 pub put-name-spec : {M : Type 1} → statement M
 put-name-spec =

@@ -14,7 +14,11 @@ same-length : tie.Need-same-length
 same-length c = search needs
 
 returns : tie.Need-returns
-returns c = then _ _ _ _ _ (rw (toZ-ofZ (c .before .before .before .before .before .before .before .before .before .fits .x)) at (c .before .before .before .before .before .before .put-integer .ensures)) _ _ _ (c .before .before .put .ensures)
+returns c =
+    let last = c .before .before in
+    let first = last .before .before .before .before in
+    let entry = first .before .before .before in
+    then _ _ _ _ _ (rw (toZ-ofZ (entry .fits .x)) at (first .put-integer .ensures)) _ _ _ (last .put .ensures)
 
 pub put-number-spec : {M : Type 1} → statement M
 put-number-spec = tie.close (tie.spec put-integer-requires put-requires same-length returns)

@@ -22,7 +22,13 @@ same-length c = search needs
 
 returns : tie.Need-returns
 unfolding refusalLine
-returns c = then _ _ _ _ _ (c .before .before .before .before .before .before .before .before .before .before .put-all .ensures) _ _ _ (field-then _ _ (decimal (c .before .before .before .before .before .before .before .before .before .before .before .before .before .before .args .row)) 32 _ _ (c .before .before .before .before .before .before .put-count .ensures) _ _ _ (c .before .before .put-count2 .ensures))
+returns c =
+    let last = c .before .before in
+    let second = last .before .before .before .before in
+    let first = second .before .before .before .before in
+    let entry = first .before .before .before .before in
+    let numbers = field-then _ _ (decimal (entry .args .row)) 32 _ _ (second .put-count .ensures) _ _ _ (last .put-count2 .ensures) in
+    then _ _ _ _ _ (first .put-all .ensures) _ _ _ numbers
 
 pub put-refusal-spec : {M : Type 1} → statement M
 put-refusal-spec =

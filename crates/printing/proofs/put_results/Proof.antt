@@ -29,13 +29,17 @@ same-length c = search needs
 
 returns : tie.Need-returns
 returns c =
-    let a = c .before .before .before .before .before .before .before .before .before .before .before .before .before .before .before .before .args in
-    let n = c .before .before .before .before .before .before .before .before .before .before .before .before .before .result-at in
-    let w = whole (n .result) (n .ok) in
-    let x = c .before .before .before .before .before .before .before .before .before .before .before .before .before .before .count-at in
-    rw (state-is (a .results .now) (a .label), number-is (a .results .now) (a .label), steps-is (a .results .now) (a .label), ← x .ensures, ← c .before .before .before .before .before .before .before .before .before .before .before .before .count-at2 .ensures, ← n .ensures)
-    (field-then _ _ (decimal (x .result)) 32 _ _ (c .before .before .before .before .before .before .before .before .before .before .put-count .ensures) _ _ _
-    (field-then _ _ (integer (n .result)) 32 _ _ (rw w at (c .before .before .before .before .before .before .put-number .ensures)) _ _ _ (c .before .before .put-count2 .ensures)))
+    let third = c .before .before in
+    let second = third .before .before .before .before in
+    let first = second .before .before .before .before in
+    let steps = first .before .before in
+    let number = steps .before .result-at in
+    let state = steps .before .before .count-at in
+    let a = steps .before .before .before .before .args in
+    let fields = field-then _ _ (integer (number .result)) 32 _ _ (rw (whole (number .result) (number .ok)) at (second .put-number .ensures)) _ _ _ (third .put-count2 .ensures) in
+    let line = field-then _ _ (decimal (state .result)) 32 _ _ (first .put-count .ensures) _ _ _ fields in
+    rw (state-is (a .results .now) (a .label), number-is (a .results .now) (a .label), steps-is (a .results .now) (a .label))
+    (rw (← state .ensures, ← steps .count-at2 .ensures, ← number .ensures) line)
 
 pub put-results-spec : {M : Type 1} → statement M
 put-results-spec =

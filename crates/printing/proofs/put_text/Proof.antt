@@ -13,7 +13,10 @@ same-length : tie.Need-same-length
 same-length c = search needs
 
 returns : tie.Need-returns
-returns c = then _ _ _ _ _ (c .before .before .before .before .before .before .put-all .ensures) _ _ _ (c .before .before .put .ensures)
+returns c =
+    let last = c .before .before in
+    let first = last .before .before .before .before in
+    then _ _ _ _ _ (first .put-all .ensures) _ _ _ (last .put .ensures)
 
 pub put-text-spec : {M : Type 1} → statement M
 put-text-spec = tie.close (tie.spec put-all-requires put-requires same-length returns)

@@ -4,6 +4,7 @@ use Prim.Native.Nat.{ℕ, _+_, _-_, _≤_, _<_}
 use native.Mathlib.Omega.{arith}
 use borrow.Author.Needs.{needs}
 use borrow.Author.Count.{below-more}
+use Rattle.kinds.specs.Kinds.{valueCode}
 use Rattle.cells.specs.Table.{kind}
 use Rattle.cells.specs.Reaches.{Reaches}
 use Rattle.order.proofs.Tables.{kind-label}
@@ -13,7 +14,7 @@ use Rattle.reach.proofs.first_cycle.Statement.{statement}
 use Rattle.reach.proofs.first_cycle.Tie as tie
 
 abbrev Inv-loop : tie.InvT-loop
-Inv-loop table n j square v₀ v = (1 ≤ v) × (v ≤ n + 1) × ((u : ℕ) → u < v → kind table u ≡ 2 → Reaches table u u → ⊥)
+Inv-loop table n j square v₀ v = (1 ≤ v) × (v ≤ n + 1) × ((u : ℕ) → u < v → kind table u ≡ valueCode → Reaches table u u → ⊥)
 
 abbrev μ-loop : tie.MeasureT-loop
 μ-loop table n j square v₀ v = n + 1 - v
@@ -51,7 +52,7 @@ loop-again c =
     let t = a .args .table .now in (
       omega arith,
       omega arith,
-      below-more (λ (u : ℕ). kind t u ≡ 2 → Reaches t u u → ⊥) (l .loop .v) (l .loop .inv .2)
+      below-more (λ (u : ℕ). kind t u ≡ valueCode → Reaches t u u → ⊥) (l .loop .v) (l .loop .inv .2)
           (λ k. ⊎-elim (λ w. cycle-unmarked _ _ (a .pre .0) _ (a .pre .1 .0) _ (a .pre .1 .1 .1) _ k (sym (w .1 .ensures) ∙ w .2 .left))
           (λ w. absurd (w .left (c .before .kind-of .ensures ∙ k))) (c .if1 .came)),
     )

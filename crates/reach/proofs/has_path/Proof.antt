@@ -1,20 +1,17 @@
+use mathlib.Core.Path.{ap, _∙_}
 use borrow.Author.Needs.{needs}
-use borrow.Author.Tests.{eq-eqb, ne-eqb}
+use Rattle.kinds.specs.Kinds as kinds
 use Rattle.reach.proofs.has_path.Statement.{statement}
 use Rattle.reach.proofs.has_path.Tie as tie
 
 kind-of-requires : tie.Need-kind-of-requires
 kind-of-requires c κs = search needs
 
-returns : tie.Need-returns
-returns c =
-    let e = c .before .kind-of in
-    rw (← (e .ensures), eq-eqb (e .result) 6 (c .if1 .taken))
+has-path-requires : tie.Need-has-path-requires
+has-path-requires c κs = search needs
 
-returns-2 : tie.Need-returns-2
-returns-2 c =
-    let e = c .before .kind-of in
-    rw (← (e .ensures), ne-eqb (e .result) 6 (c .if1 .left))
+returns : tie.Need-returns
+returns c = c .has-path .ensures ∙ ap kinds.hasPath (c .before .kind-of .ensures)
 
 pub has-path-spec : {M : Type 1} → statement M
-has-path-spec = tie.close (tie.spec kind-of-requires returns returns-2)
+has-path-spec = tie.close (tie.spec kind-of-requires has-path-requires returns)

@@ -4,10 +4,11 @@ use Prim.Native.Nat.{ℕ, _+_, _-_, _≤_}
 use native.Mathlib.Omega.{arith}
 use borrow.Author.Needs.{needs}
 use lib.ListN.{length, getD, set, length-set}
+use Rattle.order.proofs.Tests.{clash}
 use Rattle.cells.specs.Table.{cell}
 use Rattle.cells.specs.Reaches.{HasPath}
 use Rattle.reach.specs.Chains.{Hangs, Linked}
-use Rattle.reach.proofs.Links.{column-range, path-of, no-path, body-label, path-label, end-body, other-column}
+use Rattle.reach.proofs.Links.{column-range, body-label, path-label, end-body, other-column}
 use Rattle.reach.proofs.Chains.{linked-none, linked-skip, linked-push}
 use Rattle.reach.proofs.link.Statement.{statement}
 use Rattle.reach.proofs.link.Tie as tie
@@ -21,7 +22,7 @@ abbrev μ-loop : tie.MeasureT-loop
 -- where line l has a path, it hangs at a label
 module _ (c : tie.After-cell-of Inv-loop μ-loop) where
   hangs : Hangs (c .before .before .before .before .before .before .args .table .now) (c .before .before .before .before .before .before .args .j) (c .cell-of .result) (c .before .before .before .before .loop .l)
-  hangs = record { path = path-of (c .before .before .before .before .before .before .args .table .now) (c .before .before .before .before .loop .l) (sym (c .before .before .has-path .ensures) ∙ c .before .if1 .taken); from = sym (c .cell-of .ensures) }
+  hangs = record { path = sym (c .before .before .has-path .ensures) ∙ c .before .if1 .taken; from = sym (c .cell-of .ensures) }
 
   low : c .cell-of .result ≤ c .before .before .before .before .before .before .args .n
   low =
@@ -96,7 +97,7 @@ loop-again c =
       omega arith,
       omega arith,
       l .loop .inv .2,
-      linked-skip _ _ _ _ _ (l .loop .inv .3) (λ d h. no-path _ (l .loop .l) (sym (c .before .has-path .ensures) ∙ w .0 .left) (subst (HasPath (a .args .table .now)) (sym k) (h .path))),
+      linked-skip _ _ _ _ _ (l .loop .inv .3) (λ d h. clash _ (subst (HasPath (a .args .table .now)) (sym k) (h .path)) (sym (c .before .has-path .ensures) ∙ w .0 .left)),
     ))
     (c .if1 .came)
 

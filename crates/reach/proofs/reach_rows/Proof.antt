@@ -5,6 +5,8 @@ use native.Mathlib.Omega.{arith}
 use borrow.Author.Needs.{needs}
 use borrow.Author.Count.{below-more}
 use lib.ListN.{getD}
+use Rattle.kinds.proofs.Codes.{value-body}
+use Rattle.kinds.specs.Kinds.{valueCode}
 use Rattle.cells.specs.Table.{kind}
 use Rattle.reach.proofs.Visits.{Going, going-start, going-room, going-more, begun-more, rows-none, rows-all}
 use Rattle.reach.proofs.reach_rows.Statement.{statement}
@@ -12,7 +14,7 @@ use Rattle.reach.proofs.reach_rows.Tie as tie
 
 abbrev Inv-loop : tie.InvT-loop
 Inv-loop table n j chains state₀ square₀ stack₀ v₀ state square stack v =
-    (1 ≤ v) × (v ≤ n + 1) × Going table n j state₀ square₀ stack₀ state square stack × ((u : ℕ) → u < v → 1 ≤ u → kind table u ≡ 2 → getD state u 0 ≡ 0 → ⊥)
+    (1 ≤ v) × (v ≤ n + 1) × Going table n j state₀ square₀ stack₀ state square stack × ((u : ℕ) → u < v → 1 ≤ u → kind table u ≡ valueCode → getD state u 0 ≡ 0 → ⊥)
 
 abbrev μ-loop : tie.MeasureT-loop
 μ-loop table n j chains state₀ square₀ stack₀ v₀ state square stack v = n + 1 - v
@@ -30,7 +32,7 @@ visit-requires : tie.Need-visit-requires Inv-loop μ-loop
 visit-requires c κs =
     let p = c .before .before .before .before .before .before .before .before .before .before .before .pre in
     let g = c .before .before .before .before .before .before .loop .inv .2 in
-    (p .0, (p .1 .0, (p .1 .1 .0, (going-room _ _ (p .0) _ _ _ _ _ _ _ g (p .1 .1 .1 .0), (g .rows, inl (sym (c .before .before .before .before .kind-of .ensures) ∙ c .before .before .before .if1 .taken))))))
+    (p .0, (p .1 .0, (p .1 .1 .0, (going-room _ _ (p .0) _ _ _ _ _ _ _ g (p .1 .1 .1 .0), (g .rows, rw (sym (c .before .before .before .before .kind-of .ensures) ∙ c .before .before .before .if1 .taken) value-body)))))
 
 add-v : tie.Need-add-v Inv-loop μ-loop
 add-v c = search needs
@@ -55,7 +57,7 @@ loop-again c =
       omega arith,
       omega arith,
       l .loop .inv .2,
-      below-more (λ (u : ℕ). 1 ≤ u → kind (a .args .table .now) u ≡ 2 → getD (l .loop .state) u 0 ≡ 0 → ⊥) (l .loop .v) (l .loop .inv .3) (λ i e. absurd (w .0 .left (c .before .kind-of .ensures ∙ e))),
+      below-more (λ (u : ℕ). 1 ≤ u → kind (a .args .table .now) u ≡ valueCode → getD (l .loop .state) u 0 ≡ 0 → ⊥) (l .loop .v) (l .loop .inv .3) (λ i e. absurd (w .0 .left (c .before .kind-of .ensures ∙ e))),
     ))
     (c .if1 .came)
 

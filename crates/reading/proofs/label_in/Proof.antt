@@ -1,5 +1,4 @@
 -- By the test.
-use mathlib.Core.Path.{_∙_, sym}
 use mir.Facts.{toZ-ofZ}
 use borrow.Author.Needs.{needs}
 use Rattle.reading.proofs.Named.{label-inside, label-outside}
@@ -10,10 +9,16 @@ nat-of-requires : tie.Need-nat-of-requires
 nat-of-requires c κs = search needs
 
 returns : tie.Need-returns
-returns c = label-inside (c .before .before .args .n) (c .before .before .args .label) (c .before .nat-of .result) (rw (toZ-ofZ (c .before .before .fits .label)) at (c .before .nat-of .ensures)) (c .if1 .taken)
+returns c =
+    let asked = c .before in
+    let entry = asked .before in
+    label-inside (entry .args .n) (entry .args .label) _ (rw (toZ-ofZ (entry .fits .label)) at (asked .nat-of .ensures)) (c .if1 .taken)
 
 returns-2 : tie.Need-returns-2
-returns-2 c = label-outside (c .before .before .args .n) (c .before .before .args .label) (c .before .nat-of .result) (rw (toZ-ofZ (c .before .before .fits .label)) at (c .before .nat-of .ensures)) (c .if1 .left)
+returns-2 c =
+    let asked = c .before in
+    let entry = asked .before in
+    label-outside (entry .args .n) (entry .args .label) _ (rw (toZ-ofZ (entry .fits .label)) at (asked .nat-of .ensures)) (c .if1 .left)
 
 pub label-in-spec : {M : Type 1} → statement M
 label-in-spec = tie.close (tie.spec nat-of-requires returns returns-2)

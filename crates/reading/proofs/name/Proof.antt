@@ -1,11 +1,8 @@
 -- The part of the text from its start to its end.
-use mathlib.Core.Path.{_≡_, ap}
-use Prim.Native.Nat.{ℕ, _+_}
 use borrow.Author.Needs.{needs}
 use mir.Facts.{toZ-ofZ}
 use lib.ListN.{length}
-use Rattle.reading.specs.Name.{nameBegin}
-use Rattle.reading.proofs.Named.{part-is}
+use Rattle.reading.proofs.Named.{part-handed}
 use Rattle.reading.proofs.name.Statement.{statement}
 use Rattle.reading.proofs.name.Tie as tie
 
@@ -29,11 +26,10 @@ same-length c = search needs
 
 returns : tie.Need-returns
 returns c =
-    let a = c .before .before .before .before .before .before .args in
-    let e = c .before .before .before .name-part .ensures in
-    let f = toZ-ofZ (c .before .before .before .before .before .before .fits .label) in
-    let start : c .before .before .before .name-part .result .start ≡ nameBegin (a .text .now) (length (a .table .now)) (a .label) = rw f at (e .0) in
-    (part-is (a .text .now) (length (a .table .now)) (a .label) (c .before .before .before .name-part .result .start) (c .before .before .before .name-part .result .length) start (rw f at (e .1 .0)), (ap (λ (k : ℕ). (a .text .ptr .0, k + a .text .ptr .1)) start, e .1 .1 .1))
+    let parted = c .before .before in
+    let entry = parted .before .before .before in
+    part-handed (entry .args .text .now) (length (entry .args .table .now)) (entry .args .label) _ _ (entry .args .text .ptr)
+    (rw (toZ-ofZ (entry .fits .label)) at (parted .name-part .ensures))
 
 pub name-spec : {M : Type 1} → statement M
 name-spec =

@@ -1,5 +1,5 @@
 -- Two cells of the label in the table that Read leaves.
-use mathlib.Core.Path.{_∙_, sym}
+use mathlib.Core.Path.{refl}
 use mir.Facts.{toZ-ofZ}
 use lib.ListN.{length}
 use borrow.Author.Needs.{needs}
@@ -30,16 +30,23 @@ same-length c = search needs
 
 returns : tie.Need-returns
 returns c =
-    let p = part-answered (c .before .before .before .before .before .before .before .before .before .before .before .before .args .text .now) (length (c .before .before .before .before .before .before .before .before .before .before .before .before .args .table .now)) (c .before .before .before .before .before .before .before .before .before .before .before .before .args .label) (c .before .before .before .before .before .before .n .given .0 .0) (c .before .before .before .before .label-in .result) (c .before .before .cell-at .result) (c .cell-at2 .result) (c .before .before .before .before .before .before .before .before .before .read .last .1 .0) (sym (c .before .before .before .before .before .before .n .given .1) ∙ c .before .before .before .before .before .before .before .before .before .read .ensures .0) (c .before .before .before .before .before .before .before .before .before .read .ensures .1) (rw (toZ-ofZ (c .before .before .before .before .before .before .before .before .before .before .before .before .fits .label)) at (c .before .before .before .before .label-in .ensures)) (c .before .before .cell-at .ensures) (c .cell-at2 .ensures) in
-    (p .0, (p .1, (p .2, c .before .before .before .before .before .before .before .before .before .read .ensures .1)))
+    let start = c .before .before in
+    let label = start .before .before in
+    let told = label .before .before in
+    let done = told .before .before .before in
+    let entry = done .before .before .before in
+    let leaves = done .read .ensures in
+    part-answered (entry .args .text .now) (length (entry .args .table .now)) (entry .args .label) _ _ _ _ (rw (told .n .given .1) at leaves)
+    (rw (toZ-ofZ (entry .fits .label)) at (label .label-in .ensures)) (start .cell-at .ensures) (c .cell-at2 .ensures)
 
 same-length-2 : tie.Need-same-length-2
 same-length-2 c = search needs
 
 returns-2 : tie.Need-returns-2
 returns-2 c =
-    let p = part-refused (c .before .before .before .before .before .before .args .text .now) (length (c .before .before .before .before .before .before .args .table .now)) (c .before .before .before .before .before .before .args .label) (c .enum-told .given .0 .0) (c .enum-told .given .0 .1 .0) (sym (c .enum-told .given .1) ∙ c .before .before .before .read .ensures .0) in
-    (p .0, (p .1, (p .2, c .before .before .before .read .ensures .1)))
+    let done = c .before .before .before in
+    let entry = done .before .before .before in
+    part-refused (entry .args .text .now) (length (entry .args .table .now)) (entry .args .label) _ _ _ _ (rw (c .enum-told .given .1) at (done .read .ensures)) refl refl
 
 pub name-part-spec : {M : Type 1} → statement M
 name-part-spec =

@@ -17,7 +17,13 @@ clear-from-requires : tie.Need-clear-from-requires
 clear-from-requires c κs = search needs
 
 resolve-requires : tie.Need-resolve-requires
-resolve-requires c κs = lined-left (c .before .before .before .before .before .before .before .before .before .before .args .text .now) (c .before .before .before .before .before .before .before .before .before .before .args .n) (c .before .before .before .before .before .before .before .before .before .before .args .table .now) (c .before .before .before .before .before .before .before .read-lines .last .1 .1 .0) (c .before .before .before .before .before .before .before .read-lines .result) (c .before .before .before .before .before .before .before .before .before .before .pre .1) (c .before .before .before .before .before .before .before .before .before .before .pre .2) (c .before .before .before .before .before .before .before .read-lines .ensures .0) (c .before .before .clear-from .last .0) (c .before .before .before .before .before .before .before .before .before .before .pre .0) (c .before .before .before .before .enum-told .given .1) (c .before .before .before .before .before .before .before .read-lines .ensures .1) (c .before .before .clear-from .ensures)
+resolve-requires c κs =
+    let cleared = c .before .before in
+    let told = cleared .before .before in
+    let lined = told .before .before .before in
+    let entry = lined .before .before .before in
+    lined-left _ _ (entry .args .table .now) _ _ (entry .pre .0 .count) (entry .pre .1) (lined .read-lines .ensures .0) _
+    (entry .pre .0 .head) (told .enum-told .given .1) (lined .read-lines .ensures .1) (cleared .clear-from .ensures)
 
 enum-known-row : tie.Need-enum-known-row
 enum-known-row c = search needs
@@ -26,13 +32,25 @@ same-length : tie.Need-same-length
 same-length c = search needs
 
 returns : tie.Need-returns
-returns c = sheet-resolved (c .before .before .before .before .before .before .before .before .before .before .before .before .args .text .now) (c .before .before .before .before .before .before .before .before .before .before .before .before .args .n) (c .before .before .before .before .before .before .before .before .before .before .before .before .args .table .now) (c .before .before .before .before .before .before .before .before .before .read-lines .last .1 .1 .0) (c .before .before .before .before .before .before .before .before .before .read-lines .result) (c .before .before .before .before .before .before .before .before .before .before .before .before .pre .1) (c .before .before .before .before .before .before .before .before .before .before .before .before .pre .2) (c .before .before .before .before .before .before .before .before .before .read-lines .ensures .0) (c .before .before .before .before .clear-from .last .0) (c .before .resolve .last .1 .0) (c .before .resolve .result) (c .before .before .before .before .before .before .enum-told .given .1) (c .before .before .before .before .before .before .before .before .before .read-lines .ensures .1) (c .before .before .before .before .clear-from .ensures) (c .before .resolve .ensures .0) (c .before .resolve .ensures .1)
+returns c =
+    let resolved = c .before in
+    let cleared = resolved .before .before .before in
+    let told = cleared .before .before in
+    let lined = told .before .before .before in
+    let entry = lined .before .before .before in
+    sheet-resolved _ _ (entry .args .table .now) _ _ (entry .pre .0 .count) (entry .pre .1) (lined .read-lines .ensures .0) _ _ _
+    (told .enum-told .given .1) (lined .read-lines .ensures .1) (cleared .clear-from .ensures) (resolved .resolve .ensures)
 
 same-length-2 : tie.Need-same-length-2
 same-length-2 c = search needs
 
 returns-2 : tie.Need-returns-2
-returns-2 c = sheet-refused (c .before .before .before .before .before .before .before .args .text .now) (c .before .before .before .before .before .before .before .args .n) (c .before .before .before .before .before .before .before .args .table .now) (c .before .before .before .before .read-lines .last .1 .1 .0) (c .before .before .before .before .read-lines .result) (c .before .before .before .before .before .before .before .pre .1) (c .before .before .before .before .before .before .before .pre .2) (c .before .before .before .before .read-lines .ensures .0) (c .before .row .given .0 .0) (c .before .row .given .0 .1 .0) (c .before .before .before .before .read-lines .last .1 .1 .0) (c .before .row .given .1)
+returns-2 c =
+    let told = c .before in
+    let lined = told .before .before .before in
+    let entry = lined .before .before .before in
+    sheet-refused _ _ (entry .args .table .now) (lined .read-lines .last .1 .1 .0) _ (entry .pre .0 .count) (entry .pre .1)
+    (lined .read-lines .ensures .0) _ _ _ (told .row .given .1)
 
 pub read-sheet-spec : {M : Type 1} → statement M
 read-sheet-spec =

@@ -1,7 +1,7 @@
 -- Row 10 by the owner cell.
-use mathlib.Core.Path.{sym}
-use Rattle.tree.proofs.Labels.{argument-fine, argument-wrong}
-use borrow.Author.Tests.{ne-eqb}
+use mathlib.Core.Path.{_∙_, sym}
+use native.Mathlib.Omega.{arith}
+use Rattle.tree.proofs.Labels.{argument-none, argument-fine, argument-wrong}
 use borrow.Author.Needs.{needs}
 use Rattle.tree.proofs.argument_bad.Statement.{statement}
 use Rattle.tree.proofs.argument_bad.Tie as tie
@@ -9,22 +9,44 @@ use Rattle.tree.proofs.argument_bad.Tie as tie
 cell-at-requires : tie.Need-cell-at-requires
 cell-at-requires c κs = search needs
 
+place-of-requires : tie.Need-place-of-requires
+place-of-requires c κs = search needs
+
+returns : tie.Need-returns
+returns c = rw (← c .before .before .cell-at .ensures) (sym (argument-none (c .before .before .cell-at .result) _ (sym (c .before .place-of .ensures) ∙ c .if1 .taken)))
+
 cell-at-requires-2 : tie.Need-cell-at-requires-2
 cell-at-requires-2 c κs = search needs
 
 cell-at-requires-3 : tie.Need-cell-at-requires-3
 cell-at-requires-3 c κs = search needs
 
-returns : tie.Need-returns
-returns c = rw (← c .before .before .before .before .cell-at .ensures, ← c .before .before .cell-at2 .ensures, ← c .before .cell-at3 .ensures) (sym (argument-wrong (c .before .before .before .before .cell-at .result) (c .before .cell-at3 .result) (c .before .before .before .if1 .taken) (c .if2 .taken)))
+takes-requires : tie.Need-takes-requires
+takes-requires c κs = search needs
 
 returns-2 : tie.Need-returns-2
-returns-2 c = rw (← c .before .before .before .before .cell-at .ensures, ← c .before .before .cell-at2 .ensures, ← c .before .cell-at3 .ensures) (sym (argument-fine (c .before .before .before .before .cell-at .result) (c .before .cell-at3 .result) (c .before .before .before .if1 .taken) (c .if2 .left)))
+returns-2 c =
+    let k = c .before .before .before .before .before .before .cell-at in
+    let d = c .before .before .cell-at3 in
+    rw (← k .ensures, ← c .before .before .before .cell-at2 .ensures, ← d .ensures)
+    (sym (argument-wrong (k .result) (d .result) (omega (arith, c .if2 .taken, c .before .takes .ensures, c .before .before .before .before .before .place-of .ensures))))
 
 returns-3 : tie.Need-returns-3
-returns-3 c = rw (← c .before .cell-at .ensures, ne-eqb (c .before .cell-at .result) 5 (c .if1 .left))
+returns-3 c =
+    let k = c .before .before .before .before .before .before .cell-at in
+    let d = c .before .before .cell-at3 in
+    rw (← k .ensures, ← c .before .before .before .cell-at2 .ensures, ← d .ensures)
+    (sym (argument-fine (k .result) (d .result) (omega (arith, c .if2 .left, c .before .takes .ensures, c .before .before .before .before .before .place-of .ensures))))
 
 pub argument-bad-spec : {M : Type 1} → statement M
 argument-bad-spec =
     tie.close
-    (tie.spec cell-at-requires cell-at-requires-2 cell-at-requires-3 returns returns-2 returns-3)
+    (tie.spec
+    cell-at-requires
+    place-of-requires
+    returns
+    cell-at-requires-2
+    cell-at-requires-3
+    takes-requires
+    returns-2
+    returns-3)

@@ -13,7 +13,7 @@ enum-told-2 : tie.Need-enum-told-2
 enum-told-2 c = search needs
 
 uses-bad-requires : tie.Need-uses-bad-requires
-uses-bad-requires c κs = c .before .before .pre .high (c .before .before .args .label)
+uses-bad-requires c κs = search needs
 
 enum-told-3 : tie.Need-enum-told-3
 enum-told-3 c = search needs

@@ -1,4 +1,4 @@
--- The kinds of the fields are those of the row that the code names.
+-- The forms of the fields are those of the row that the code names.
 use Rattle.tree.proofs.Labels.{node-is}
 use borrow.Author.Needs.{needs}
 use Rattle.tree.proofs.node_at.Statement.{statement}
@@ -7,11 +7,11 @@ use Rattle.tree.proofs.node_at.Tie as tie
 cell-at-requires : tie.Need-cell-at-requires
 cell-at-requires c κs = search needs
 
-kind-row-requires : tie.Need-kind-row-requires
-kind-row-requires c κs = search needs
+is-definition-requires : tie.Need-is-definition-requires
+is-definition-requires c κs = search needs
 
-is-group-requires : tie.Need-is-group-requires
-is-group-requires c κs = search needs
+fields-of-requires : tie.Need-fields-of-requires
+fields-of-requires c κs = rw (c .before .cell-at .ensures) (c .before .before .pre)
 
 part-at-requires : tie.Need-part-at-requires
 part-at-requires c κs = search needs
@@ -25,15 +25,18 @@ part-at-requires-3 c κs = search needs
 returns : tie.Need-returns
 returns c =
     let s = c .before .before .before .before .before .before in
-    node-is (s .args .table .now) (s .args .label) (c .before .before .before .before .before .cell-at .result) (c .before .before .before .before .kind-row .result) (c .before .before .before .before .before .cell-at .ensures) (c .before .before .before .before .kind-row .ensures) (c .before .before .before .is-group .result) (c .before .before .part-at .result) (c .before .part-at2 .result) (c .part-at3 .result) (c .before .before .before .is-group .ensures) (c .before .before .part-at .ensures) (c .before .part-at2 .ensures) (c .part-at3 .ensures)
+    let code = c .before .before .before .before .before .cell-at in
+    let fields = c .before .before .before .fields-of in
+    let definition = c .before .before .before .before .is-definition in
+    node-is (s .args .table .now) (s .args .label) (code .result) (fields .result) (code .ensures) (fields .ensures) (definition .result) (c .before .before .part-at .result) (c .before .part-at2 .result) (c .part-at3 .result) (definition .ensures) (c .before .before .part-at .ensures) (c .before .part-at2 .ensures) (c .part-at3 .ensures)
 
 pub node-at-spec : {M : Type 1} → statement M
 node-at-spec =
     tie.close
     (tie.spec
     cell-at-requires
-    kind-row-requires
-    is-group-requires
+    is-definition-requires
+    fields-of-requires
     part-at-requires
     part-at-requires-2
     part-at-requires-3

@@ -2,17 +2,18 @@
 use mathlib.Core.Path.{_∙_, sym, refl}
 use Rattle.tree.specs.Steps.{partFits}
 use Rattle.tree.proofs.Labels.{parts-right}
+use borrow.Author.Needs.{needs}
 use Rattle.tree.proofs.parts_right.Statement.{statement}
 use Rattle.tree.proofs.parts_right.Tie as tie
 
 part-right-requires : tie.Need-part-right-requires
-part-right-requires c κs = c .pre .0 .high (c .args .node .a)
+part-right-requires c κs = search needs
 
 part-right-requires-2 : tie.Need-part-right-requires-2
-part-right-requires-2 c κs = c .before .before .pre .0 .high (c .before .before .args .node .b)
+part-right-requires-2 c κs = search needs
 
 part-right-requires-3 : tie.Need-part-right-requires-3
-part-right-requires-3 c κs = c .before .before .before .before .pre .0 .high (c .before .before .before .before .args .node .c)
+part-right-requires-3 c κs = search needs
 
 returns : tie.Need-returns
 returns c =

@@ -1,0 +1,2 @@
+-- Exports holds what each exported function leaves.
+pub mod Exports

@@ -1,0 +1,148 @@
+-- The laws of `sameName`: an equivalence; the same length; the same hash. Nothing but this file opens `sameName` or `comparedByte`: where
+-- another comparison takes their place, its definitions change, and the first laws here.
+use mathlib.Core.Path.{_≡_, refl, ap, sym, _∙_}
+use mathlib.Core.Bool.{Bool, true, false, _&&_}
+use mathlib.Core.List.{List, [], _∷_}
+use Prim.Native.Nat.{ℕ, suc, _+_, _-_, _*_, _%_, _≤_, _<_}
+use native.Mathlib.Omega.{arith}
+use lib.Dec.{eqb}
+use lib.ListN.{length, getD}
+use lib.Seq.{slice}
+use borrow.Author.Tests.{eq-eqb, ne-eqb}
+use Rattle.text.specs.Bytes.{same}
+use Rattle.text.proofs.Slices.{slice-at, slice-none}
+use Rattle.text.proofs.Bytes.{true-false, same-eq}
+use Rattle.paths.specs.Names.{sameName}
+use Rattle.paths.specs.Buckets.{comparedByte, compared, hashes, hashFrom, hashOf}
+
+-- ---- names are compared by `comparedByte` of each byte
+
+pub byte-is : (x : ℕ) → x ≡ comparedByte x
+unfolding comparedByte
+byte-is x = refl
+
+all-are : (w : List ℕ) → compared w ≡ w
+unfolding comparedByte
+all-are [] = refl
+all-are (x ∷ w) = ap (λ (l : List ℕ). x ∷ l) (all-are w)
+
+same-is : (x y : List ℕ) → sameName x y ≡ same (compared x) (compared y)
+unfolding sameName
+same-is x y = rw (all-are x, all-are y)
+
+-- ---- an equivalence
+
+itself : (w : List ℕ) → same w w ≡ true
+itself [] = refl
+itself (x ∷ w) = rw (eq-eqb x x refl) (itself w)
+
+module _ (x y : List ℕ) where
+  to-equal : sameName x y ≡ true → compared x ≡ compared y
+  to-equal e = same-eq (compared x) (compared y) (sym (same-is x y) ∙ e)
+
+  from-equal : compared x ≡ compared y → sameName x y ≡ true
+  from-equal e = same-is x y ∙ rw e (itself (compared y))
+
+pub same-self : (w : List ℕ) → sameName w w ≡ true
+same-self w = from-equal w w refl
+
+pub same-sym : (x y : List ℕ) → sameName x y ≡ true → sameName y x ≡ true
+same-sym x y e = from-equal y x (sym (to-equal x y e))
+
+pub same-trans : (x y z : List ℕ) → sameName x y ≡ true → sameName y z ≡ true → sameName x z ≡ true
+same-trans x y z e f = from-equal x z (to-equal x y e ∙ to-equal y z f)
+
+-- ---- the same length, the same hash
+
+size-is : (w : List ℕ) → length (compared w) ≡ length w
+size-is [] = refl
+size-is (x ∷ w) = ap suc (size-is w)
+
+module _ (x y : List ℕ) where
+  pub same-size : sameName x y ≡ true → length x ≡ length y
+  same-size e = sym (size-is x) ∙ ap length (to-equal x y e) ∙ size-is y
+
+  pub other-size : (length x ≡ length y → ⊥) → sameName x y ≡ false
+  other-size f = go (sameName x y) refl
+    where
+      go : (b : Bool) → sameName x y ≡ b → b ≡ false
+      go true e = absurd (f (same-size e))
+      go false e = refl
+
+  pub same-hash : sameName x y ≡ true → hashOf x ≡ hashOf y
+  unfolding hashOf
+  same-hash e = ap (hashFrom 0) (to-equal x y e)
+
+-- ---- a hash is below 2 ^ 32
+
+small-from : (w : List ℕ) (h : ℕ) → h < hashes → hashFrom h w < hashes
+small-from [] h l = l
+small-from (x ∷ w) h l = small-from w ((h + x) * 2654435769 % hashes) (omega arith)
+
+pub hash-small : (w : List ℕ) → hashOf w < hashes
+unfolding hashOf
+hash-small w = small-from (compared w) 0 (omega arith)
+
+-- ---- the loop of a hash: at byte i, what is left hashed on gives the hash of the name
+
+pub record Hashing (s : List ℕ) (from to hash i : ℕ) : Type 0 where
+  pub low : from ≤ i
+  pub high : i ≤ to
+  pub small : hash < hashes
+  pub rest : hashFrom hash (compared (slice i to s)) ≡ hashOf (slice from to s)
+
+pub hash-start : (s : List ℕ) (from to : ℕ) → from ≤ to → Hashing s from to 0 from
+unfolding hashOf
+hash-start s from to h = record { low = omega arith; high = h; small = omega arith; rest = refl }
+
+module _ {s : List ℕ} {from to hash i : ℕ} (h : Hashing s from to hash i) where
+  pub hash-turn : i < to → to ≤ length s → {b : ℕ} → b ≡ comparedByte (getD s i 0) → Hashing s from to ((hash + b) * 2654435769 % hashes) (i + 1)
+  hash-turn l k {b} e =
+      record { low = omega (arith, h .low); high = omega arith; small = omega arith; rest = rw e (sym step ∙ h .rest) }
+    where
+      step : hashFrom hash (compared (slice i to s)) ≡ hashFrom ((hash + comparedByte (getD s i 0)) * 2654435769 % hashes) (compared (slice (i + 1) to s))
+      step = rw (slice-at s i to l k)
+
+  pub hash-done : to ≤ i → hash ≡ hashOf (slice from to s)
+  hash-done l = sym (rw (slice-none s i to (omega (arith, h .high)))) ∙ h .rest
+
+-- ---- the loop of a comparison: at byte i, what is left of two parts of one size is the same exactly if the whole is
+
+same-front : (x y : ℕ) (v w : List ℕ) → sameName (x ∷ v) (y ∷ w) ≡ (eqb (comparedByte x) (comparedByte y) && sameName v w)
+same-front x y v w = same-is (x ∷ v) (y ∷ w) ∙ ap (λ (b : Bool). eqb (comparedByte x) (comparedByte y) && b) (sym (same-is v w))
+
+pub record Comparing (s : List ℕ) (a b size i : ℕ) : Type 0 where
+  pub first : a + size ≤ length s
+  pub second : b + size ≤ length s
+  pub upto : i ≤ size
+  pub rest : sameName (slice (a + i) (a + size) s) (slice (b + i) (b + size) s) ≡ sameName (slice a (a + size) s) (slice b (b + size) s)
+
+pub compare-start : (s : List ℕ) (a b size : ℕ) → a + size ≤ length s → b + size ≤ length s → Comparing s a b size 0
+compare-start s a b size h k =
+    let p : a + 0 ≡ a = omega arith in
+    let q : b + 0 ≡ b = omega arith in
+    record { first = h; second = k; upto = omega arith; rest = rw (p, q) }
+
+module _ {s : List ℕ} {a b size i : ℕ} (h : Comparing s a b size i) where
+  module _ (l : i < size) {x y : ℕ} (ex : x ≡ comparedByte (getD s (a + i) 0)) (ey : y ≡ comparedByte (getD s (b + i) 0)) where
+    at-byte : (eqb x y && sameName (slice (a + (i + 1)) (a + size) s) (slice (b + (i + 1)) (b + size) s)) ≡ sameName (slice a (a + size) s) (slice b (b + size) s)
+    at-byte =
+        let p : a + (i + 1) ≡ a + i + 1 = omega arith in
+        let q : b + (i + 1) ≡ b + i + 1 = omega arith in
+        rw (ex, ey, p, q)
+        (sym (same-front (getD s (a + i) 0) (getD s (b + i) 0) (slice (a + i + 1) (a + size) s) (slice (b + i + 1) (b + size) s))
+        ∙ rw (← (slice-at s (a + i) (a + size) (omega arith) (h .first)), ← (slice-at s (b + i) (b + size) (omega arith) (h .second))) (h .rest))
+
+    pub compare-turn : x ≡ y → Comparing s a b size (i + 1)
+    compare-turn e = record { first = h .first; second = h .second; upto = omega arith; rest = rw (eq-eqb x y e) at at-byte }
+
+    pub compare-miss : (x ≡ y → ⊥) → false ≡ sameName (slice a (a + size) s) (slice b (b + size) s)
+    compare-miss e = rw (ne-eqb x y e) at at-byte
+
+  pub compare-done : size ≤ i → true ≡ sameName (slice a (a + size) s) (slice b (b + size) s)
+  compare-done l =
+      let m = h .upto in
+      let x = slice-none s (a + i) (a + size) (omega arith) in
+      let y = slice-none s (b + i) (b + size) (omega arith) in
+      let e : sameName (slice (a + i) (a + size) s) (slice (b + i) (b + size) s) ≡ true = rw (x, y) (same-self []) in
+      sym e ∙ h .rest

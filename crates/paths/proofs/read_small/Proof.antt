@@ -1,0 +1,36 @@
+use Rattle.paths.proofs.Chains.{fresh-zeros}
+use borrow.Author.Needs.{needs}
+use Rattle.paths.proofs.read_small.Statement.{statement}
+use Rattle.paths.proofs.read_small.Tie as tie
+
+slice-aggregate-read-with : tie.Need-slice-aggregate-read-with
+slice-aggregate-read-with c = search needs
+
+slice-aggregate-read-with-2 : tie.Need-slice-aggregate-read-with-2
+slice-aggregate-read-with-2 c = search needs
+
+slice-aggregate-read-with-3 : tie.Need-slice-aggregate-read-with-3
+slice-aggregate-read-with-3 c = search needs
+
+read-with-requires : tie.Need-read-with-requires
+read-with-requires c κs =
+    let p = c .before .before .before .before .before .pre in
+    let a = c .before .before .before .before .before .args in
+    (p .0, fresh-zeros (a .n) 128 (p .1))
+
+same-length : tie.Need-same-length
+same-length c = search needs
+
+returns : tie.Need-returns
+returns c = search needs
+
+pub read-small-spec : {M : Type 1} → statement M
+read-small-spec =
+    tie.close
+    (tie.spec
+    slice-aggregate-read-with
+    slice-aggregate-read-with-2
+    slice-aggregate-read-with-3
+    read-with-requires
+    same-length
+    returns)

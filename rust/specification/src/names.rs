@@ -175,7 +175,8 @@ impl Scope for Names<'_> {
     }
 }
 
-/// The names of import lines that are not among those used, each with its line.
+/// The names of import lines that are not among those used, each with its line; of a
+/// line that brings nothing in, its module.
 pub fn unused(lines: &[Use], used: &HashSet<String>) -> Vec<(usize, String)> {
     let mut unused = vec![];
     for line in lines {
@@ -183,6 +184,9 @@ pub fn unused(lines: &[Use], used: &HashSet<String>) -> Vec<(usize, String)> {
             Brings::Names(names) => names.iter().map(|(_, name)| name.clone()).collect(),
             Brings::Module(name) => vec![name.clone()],
         };
+        if names.is_empty() {
+            unused.push((line.line, line.module.join(".")));
+        }
         let is_unused = |name: &String| !used.contains(key(name));
         let names = names.into_iter().filter(is_unused);
         unused.extend(names.map(|name| (line.line, name)));

@@ -15,7 +15,7 @@ use Rattle.cells.proofs.Clearing.{clear-all}
 use Rattle.refusals.specs.Rows.{cycleRow}
 use Rattle.refusals.specs.declared.Verdict.{Verdict}
 use Rattle.refusals.specs.declared.Verdict.the-variants.{Fine, Refused}
-use Rattle.order.specs.Order.{Whole, firstCycle, someStuck, Answer, cycle, whole, mixed, plan}
+use Rattle.order.specs.Order.{firstCycle, someStuck, Answer, cycle, whole, mixed, plan}
 use Rattle.order.specs.Demand as demand
 use Rattle.order.specs.Following.{labelsOf}
 use Rattle.order.specs.Rows.{cycleBad}

@@ -11,19 +11,6 @@ ghost use Rattle.cells.specs.Table.{cell};
 
 // ---- names for what cells hold
 
-// Kind codes of document 01's table of kinds: a Group, a value, a function, the argument P, a read, a call.
-pub const GROUP: usize = 1;
-
-pub const VALUE: usize = 2;
-
-pub const FUNCTION: usize = 3;
-
-pub const ARGUMENT: usize = 5;
-
-pub const READ: usize = 6;
-
-pub const CALL: usize = 7;
-
 // The eight cells of a label's row: kind code, byte start and length of the name field, a, b, c, owner, target.
 pub const KIND: usize = 0;
 

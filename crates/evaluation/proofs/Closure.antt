@@ -7,7 +7,7 @@ use mathlib.Core.Logic.{_⊎_, inl, inr}
 use Prim.Native.Nat.{ℕ, zero, suc, _≤_, _<_}
 use native.Mathlib.Omega.{arith}
 use lib.IntN.{ℤ, natAbs}
-use Rattle.kinds.specs.Kinds.{valueCode, numberCode, hasPath, hasBody, operandA, operandB, operandC, wantedBy, takes, clauseOf}
+use Rattle.kinds.specs.Kinds.{valueCode, numberCode, operandA, operandB, operandC, takes, clauseOf}
 use Rattle.kinds.proofs.Tests.{clash}
 use Rattle.kinds.proofs.Laws.{kind-low, definition-kind, body-definition, path-body}
 use Rattle.kinds.proofs.Clauses.{usesOf, expression-uses, path-uses, a-uses, b-uses, c-uses, number-code, read-value, call-takes, call-some}

@@ -8,7 +8,7 @@ use Prim.Native.Nat.{ℕ, _+_, _*_, _≤_, _<_}
 use native.Mathlib.Omega.{arith}
 use lib.IntN.{ℤ, natAbs}
 use lib.ListN.{length}
-use Rattle.kinds.specs.Kinds.{valueCode, numberCode, operandA, clauseOf}
+use Rattle.kinds.specs.Kinds.{valueCode, operandA, clauseOf}
 use Rattle.kinds.proofs.Tests.{clash}
 use Rattle.kinds.proofs.Codes.{value-body}
 use Rattle.kinds.proofs.Clauses.{usesOf, a-uses}

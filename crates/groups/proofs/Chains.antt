@@ -2,7 +2,7 @@
 use mathlib.Core.Path.{_≡_, refl, sym, ap, _∙_, subst}
 use mathlib.Core.Logic.{_⊎_, inl, inr}
 use mathlib.Core.List.{List, [], _∷_, _++_, append-assoc, append-nil}
-use mathlib.Core.Bool.{Bool, true, false, cond, _&&_, _||_}
+use mathlib.Core.Bool.{Bool, true, false, cond}
 use Prim.Native.Nat.{ℕ, zero, suc, _+_, _-_, _*_, _≤_, _<_}
 use native.Mathlib.Omega.{arith}
 use native.Mathlib.Numerals.{add-one}
@@ -10,15 +10,13 @@ use native.Mathlib.Decide.{ℕ-discrete, decLt}
 use lib.Dec.{eqb}
 use lib.IntN.{ℤ}
 use lib.ListN.{length, getD, set, take, drop, length-set, length-append, drop-of-length-le, take-append-drop}
-use lib.Seq.{getD-set-same, getD-set-other, take-suc-set, length-take-le, drop-cons, getD-take}
+use lib.Seq.{getD-set-same, getD-set-other, take-suc-set, length-take-le, drop-cons}
 use borrow.Author.Tests.{eq-eqb, ne-eqb}
-use Rattle.kinds.specs.Kinds.{groupCode, valueCode, functionCode}
-use Rattle.cells.specs.Table.{kind, owner, isDefinition}
-use Rattle.cells.specs.Accepted.{Accepted}
+use Rattle.cells.specs.Table.{owner, isDefinition}
 use Rattle.order.specs.Lists.{count, _∈_, upFrom, filter}
-use Rattle.order.specs.Order.{isG, isV, labels, isMember, members}
-use Rattle.order.proofs.Tests.{so-or-not, and-right}
-use Rattle.order.proofs.Lists.{in-here, in-there, in-right, in-filter, count-below, count-here, count-append, count-filter-le, upFrom-once, filter-le, length-upFrom}
+use Rattle.order.specs.Order.{labels, isMember}
+use Rattle.order.proofs.Tests.{so-or-not}
+use Rattle.order.proofs.Lists.{in-here, in-there, in-right, in-filter, count-below, count-here, count-append, filter-le, length-upFrom}
 use Rattle.placing.specs.Placing.{Rising}
 use Rattle.reach.specs.Chains.{Empty}
 use Rattle.groups.specs.Members.{Chain, Chained, Gathered, Relinked}

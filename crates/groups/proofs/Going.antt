@@ -1,13 +1,12 @@
 -- The turns of `order_groups`.
 use mathlib.Core.Path.{_≡_, refl, sym, ap, _∙_, subst}
-use mathlib.Core.Logic.{_⊎_, inl, inr}
 use mathlib.Core.List.{List, [], _∷_}
 use mathlib.Core.Bool.{Bool, true, false, _&&_}
-use Prim.Native.Nat.{ℕ, _+_, _*_, _≤_, _<_}
+use Prim.Native.Nat.{ℕ, _+_, _≤_, _<_}
 use native.Mathlib.Omega.{arith}
 use native.Mathlib.Decide.{ℕ-discrete, decLt}
 use lib.IntN.{ℤ}
-use lib.ListN.{length, getD}
+use lib.ListN.{getD}
 use Rattle.cells.specs.Table.{owner}
 use Rattle.cells.specs.Accepted.{Accepted}
 use Rattle.order.specs.Lists.{_∈_}
@@ -17,7 +16,7 @@ use Rattle.order.proofs.Tests.{clash, and-intro}
 use Rattle.order.proofs.Lists.{in-here, any-intro, any-refute, count-below, count-above}
 use Rattle.order.proofs.Placing.{placed-sub}
 use Rattle.order.proofs.Tables.{in-labels, def-label, member-of, owner-group, owner-below}
-use Rattle.groups.specs.Members.{Chain, Chained, Ordered, Relinked, GroupOrders}
+use Rattle.groups.specs.Members.{Chain, Chained, Relinked, GroupOrders}
 use Rattle.groups.proofs.Chains.{chain-same, chain-empty}
 
 -- the Groups below g are in order and not stuck, and the chains of the others go upward

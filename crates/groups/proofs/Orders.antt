@@ -2,28 +2,26 @@
 use mathlib.Core.Path.{_≡_, refl, sym, ap, _∙_, subst}
 use mathlib.Core.Logic.{_⊎_, inl, inr, _↔_}
 use mathlib.Core.List.{List, [], _∷_, _++_}
-use mathlib.Core.Bool.{Bool, true, false, not, _&&_, _||_}
+use mathlib.Core.Bool.{Bool, true, false, not, _&&_}
 use mathlib.Core.Option.{Option, none, some}
-use Prim.Native.Nat.{ℕ, zero, suc, _+_, _-_, _*_, _/_, _≤_, _<_}
+use Prim.Native.Nat.{ℕ, zero, suc, _+_, _-_, _*_, _≤_, _<_}
 use native.Mathlib.Omega.{arith}
-use native.Mathlib.Decide.{ℕ-discrete}
-use lib.Dec.{eqb}
 use lib.IntN.{ℤ}
 use lib.ListN.{length, getD, take}
 use lib.Seq.{length-take-le}
-use borrow.Author.Tests.{eq-eqb, ne-eqb, eqb-true}
-use Rattle.kinds.specs.Kinds.{groupCode, valueCode, givesValues}
+use borrow.Author.Tests.{eq-eqb, ne-eqb}
+use Rattle.kinds.specs.Kinds.{groupCode, givesValues}
 use Rattle.kinds.proofs.Plans.{group-gives, value-gives, gives-cases}
-use Rattle.cells.specs.Table.{kind, owner, isDefinition}
+use Rattle.cells.specs.Table.{kind, isDefinition}
 use Rattle.cells.specs.Accepted.{Accepted}
-use Rattle.order.specs.Lists.{one, count, _∈_, mem, any, first, filter}
-use Rattle.order.specs.Placing.{waits, next, place, rounds, placed, stuck}
+use Rattle.order.specs.Lists.{one, count, _∈_, mem, any, first}
+use Rattle.order.specs.Placing.{waits, next, rounds, placed}
 use Rattle.order.specs.Order.{isG, isV, labels, isMember, members, values, reaches, needs, ordered, groupStuck, mixedPlan, place16, NoCycle}
 use Rattle.order.proofs.Tests.{clash, so-or-not, not-so}
 use Rattle.order.proofs.Lists.{in-here, in-there, zero-or-in, length-mono, length-upFrom}
 use Rattle.order.proofs.Placing.{placed-sub, placed-all}
-use Rattle.order.proofs.Tables.{v-kind, kind-v, kind-g, g-kind, v-not-g, v-def, def-label, member-of, members-once, value-of, in-labels, reaches-exact}
-use Rattle.order.proofs.Needs.{holds, holds-intro, holds-v, holds-in, needs-intro, needs-elim, only-itself}
+use Rattle.order.proofs.Tables.{v-kind, v-not-g, v-def, def-label, member-of, members-once, value-of, in-labels, reaches-exact}
+use Rattle.order.proofs.Needs.{holds, holds-intro, holds-v, needs-intro, needs-elim, only-itself}
 use Rattle.order.proofs.Planned.{place16-exactly}
 use Rattle.marks.specs.Marks.{mark, Added}
 use Rattle.placing.specs.Placing.{needed, Fits, Placed}

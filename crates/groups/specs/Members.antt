@@ -9,7 +9,7 @@ use lib.IntN.{ℤ}
 use lib.ListN.{length, getD, take}
 use Rattle.cells.specs.Table.{isDefinition}
 use Rattle.order.specs.Lists.{_∈_}
-use Rattle.order.specs.Order.{isG, members, ordered, groupStuck, someStuck}
+use Rattle.order.specs.Order.{members, ordered, groupStuck, someStuck}
 use Rattle.marks.specs.Marks.{mark}
 use Rattle.needs.specs.Needs.{Holder}
 use Rattle.placing.specs.Placing.{Rising}

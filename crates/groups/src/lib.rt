@@ -1,6 +1,5 @@
 // The members of every Group in order, by the one rule of placing, which serves the mixed list too.
 
-ghost use mathlib.Core.Path.{_≡_};
 ghost use Prim.Native.Nat.{ℕ, _+_, _*_, _≤_, _<_};
 ghost use lib.ListN.{length, getD, take};
 ghost use Rattle.cells.specs.Accepted.{Accepted};

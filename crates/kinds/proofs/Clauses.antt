@@ -1,5 +1,5 @@
 -- The clauses of evaluation: what each goes by, and what the table says of a kind by its clause.
-use mathlib.Core.Path.{_≡_, refl, sym, subst, _∙_}
+use mathlib.Core.Path.{_≡_, refl, subst, _∙_}
 use mathlib.Core.Bool.{Bool, true, false, _&&_}
 use mathlib.Core.List.{[], _∷_}
 use Prim.Native.Nat.{ℕ, _≤_}
@@ -9,7 +9,7 @@ use borrow.Author.Tests.{eqb-true, leb-true}
 use lib.Dec.{leb, eqb}
 use Rattle.kinds.specs.declared.Clause.{Clause}
 use Rattle.kinds.specs.declared.Clause.the-variants as clause
-use Rattle.kinds.specs.Kinds.{Kind, kinds, kindAt, isOperand, isDefinition, isExpression, hasPath, operandA, operandB, operandC, wantedBy, clauseOf, placeIn, takes, valueCode, numberCode}
+use Rattle.kinds.specs.Kinds.{Kind, kinds, kindAt, isOperand, isExpression, hasPath, operandA, operandB, operandC, wantedBy, clauseOf, placeIn, takes, valueCode, numberCode}
 use Rattle.kinds.proofs.Clause as tags
 use Rattle.kinds.proofs.Tests.{and-left, and-right}
 use Rattle.kinds.proofs.Rows.{each, by-rows}

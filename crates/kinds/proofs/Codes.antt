@@ -175,7 +175,3 @@ number-expression = refl
 
 pub number-operand : isOperand (fieldsAt numberCode .a) ≡ false
 number-operand = ap isOperand number-form
-
-pub number-clause : clauseOf numberCode ≡ clause.Number
-unfolding clauseOf kindAt kinds
-number-clause = refl

@@ -8,7 +8,7 @@ use native.Mathlib.Omega.{arith}
 use lib.Dec.{eqb, ltb}
 use lib.IntN.{ℤ}
 use lib.ListN.{length, getD, drop, take, length-append, length-drop, drop-of-length-le}
-use lib.Seq.{slice, sets, sets-eq, take-at, drop-at, drop-append-add, drop-drop}
+use lib.Seq.{sets, sets-eq, take-at, drop-append-add, drop-drop}
 use borrow.Author.Tests.{ltb-true, ltb-false}
 use Rattle.refusals.specs.Refusal.{firstBad}
 use Rattle.refusals.specs.declared.Verdict.the-variants.{Fine, Refused}
@@ -19,11 +19,10 @@ use Rattle.text.specs.Scans.{rest, fieldsFrom}
 use Rattle.text.proofs.Slices.{whole}
 use Rattle.text.proofs.Cuts.{pieces, place-zero, piece-is, pieces-next, place-next}
 use Rattle.text.proofs.Fields.{line-inside, line-next}
-use Rattle.lines.specs.Lines.{line, firstLine, labels, headBad, lineBad, lineCheck, linesBad, rootRow, lineRow, rowOf, rows}
+use Rattle.lines.specs.Lines.{line, firstLine, labels, lineBad, lineCheck, linesBad, rootRow, lineRow, rowOf, rows}
 use Rattle.lines.specs.Steps.{lineFrom, rowAt, rootAt, rowFor, cellsOf, decide, lineRead, stepOf, written, linesWritten}
 use Rattle.lines.specs.declared.Row.{Row}
-use Rattle.lines.specs.declared.Line.{Line}
-use Rattle.lines.specs.declared.Line.the-variants.{Passes, Fails}
+use Rattle.lines.specs.declared.Line.the-variants.{Passes}
 use Rattle.lines.specs.declared.Next.the-variants.{At, Stop}
 use Rattle.lines.proofs.Heads.{Headed}
 

@@ -1,31 +1,29 @@
 -- One line, case by case: its cells by the places of its fields, and the row that refuses it.
-use mathlib.Core.Path.{_≡_, refl, ap, sym, _∙_}
+use mathlib.Core.Path.{_≡_, refl, ap, _∙_}
 use mathlib.Core.Bool.{Bool, true, false, cond, _&&_}
-use mathlib.Core.List.{List, [], _∷_}
-use Prim.Native.Nat.{ℕ, zero, suc, _+_, _-_, _≤_, _<_}
+use mathlib.Core.List.{List, []}
+use Prim.Native.Nat.{ℕ, _+_, _-_, _≤_}
 use native.Mathlib.Omega.{arith}
-use lib.Dec.{eqb, leb, leb·zero}
+use lib.Dec.{eqb}
 use lib.IntN.{ℤ, pos}
-use lib.ListN.{length, getD}
+use lib.ListN.{length}
 use lib.Seq.{slice, length-slice}
-use borrow.Author.Tests.{eq-eqb, ne-eqb, eqb-true}
+use borrow.Author.Tests.{eq-eqb, ne-eqb}
 use Rattle.text.specs.Bytes.{same}
-use Rattle.text.specs.Pieces.{cut, place, firstOf, fieldsAre}
-use Rattle.text.specs.Scans.{rest, fieldsFrom}
-use Rattle.text.proofs.Bytes.{same-eq, and-false}
+use Rattle.text.specs.Pieces.{firstOf, fieldsAre}
+use Rattle.text.specs.Scans.{fieldsFrom}
+use Rattle.text.proofs.Bytes.{and-false}
 use Rattle.lines.proofs.Splits.{full}
 use Rattle.kinds.specs.declared.Fields.{Fields}
 use Rattle.kinds.specs.Kinds.{groupCode, fieldsAt}
-use Rattle.lines.specs.Fields.{dash, fieldOf, isRight, held, kindCode}
+use Rattle.lines.specs.Fields.{fieldOf, isRight, held, kindCode}
 use Rattle.lines.specs.Lines.{rootLine, lineBad, formsRight, field}
-use Rattle.lines.specs.Steps.{lineFrom, LineEndsAt, FiveAt, operandsOf, operandsAt, rowBy, rowAt, rootAt, rootRead, rowRead, decide, lineRead}
+use Rattle.lines.specs.Steps.{lineFrom, FiveAt, operandsOf, operandsAt, rowBy, rowAt, rootAt, rootRead, rowRead, decide, lineRead}
 use Rattle.lines.specs.declared.Ends.{Ends}
 use Rattle.lines.specs.declared.Row.{Row}
 use Rattle.lines.specs.declared.Field.{Field}
 use Rattle.lines.specs.declared.Field.the-variants.{Holds, Wrong}
-use Rattle.lines.specs.declared.Operands.{Operands}
 use Rattle.lines.specs.declared.Operands.the-variants as operands
-use Rattle.lines.specs.declared.Line.{Line}
 use Rattle.lines.specs.declared.Line.the-variants.{Passes, Fails}
 
 -- ---- what the operands' fields hold

@@ -1,10 +1,10 @@
 -- The five fields of a line, found one after the other.
 use mathlib.Core.Path.{_≡_, refl, ap, sym, _∙_}
-use mathlib.Core.Bool.{Bool, true, false}
-use mathlib.Core.List.{List, [], _∷_}
-use Prim.Native.Nat.{ℕ, zero, suc, _+_, _-_, _≤_, _<_}
+use mathlib.Core.Bool.{true, false}
+use mathlib.Core.List.{List, _∷_}
+use Prim.Native.Nat.{ℕ, suc, _+_, _≤_, _<_}
 use native.Mathlib.Omega.{arith}
-use lib.ListN.{length, getD}
+use lib.ListN.{length}
 use lib.Seq.{slice}
 use Rattle.text.specs.Bytes.{all, isAllowed, endsLines}
 use Rattle.text.specs.Pieces.{cut, fieldsAre}
@@ -12,7 +12,7 @@ use Rattle.text.specs.Scans.{fieldEnd, rest, fieldsFrom}
 use Rattle.text.proofs.Slices.{slice-at}
 use Rattle.text.proofs.Fields.{Spaced, Last, space-end, space-none, last-end, last-none}
 use Rattle.lines.specs.declared.Ends.{Ends}
-use Rattle.lines.specs.Steps.{LineEndsAt, FiveAt}
+use Rattle.lines.specs.Steps.{FiveAt}
 
 -- k fields of the line from `from` on are still to be found, from `at` on
 pub record Left (s : List ℕ) (from k at : ℕ) : Type 0 where

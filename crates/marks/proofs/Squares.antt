@@ -1,8 +1,8 @@
 -- Laws of marks in a square: what stores of words do to them.
-use mathlib.Core.Path.{_≡_, refl, sym, ap, _∙_, subst}
+use mathlib.Core.Path.{_≡_, refl, sym, ap, _∙_}
 use mathlib.Core.Logic.{_⊎_, inl, inr}
-use mathlib.Core.List.{List, [], _∷_, _++_}
-use mathlib.Core.Bool.{Bool, true, false, _&&_, _||_}
+use mathlib.Core.List.{List, [], _++_}
+use mathlib.Core.Bool.{true, false, _&&_, _||_}
 use Prim.Native.Nat.{ℕ, suc, _+_, _-_, _*_, _/_, _%_, _^_, _≤_, _<_}
 use native.Mathlib.Omega.{arith}
 use native.Mathlib.Nat.{mul-le-mul-right, suc-mul, pow-le-pow-right, mod-eq-of-lt}
@@ -10,14 +10,14 @@ use native.Mathlib.Decide.{ℕ-discrete, decLt}
 use lib.Bits.{bitAnd, bitOr, bitXor}
 use lib.Count.{trailingZeros}
 use lib.Dec.{ltb}
-use lib.ListN.{length, getD, set, take}
+use lib.ListN.{length, getD, set}
 use lib.Seq.{getD-set-same, getD-set-other}
 use borrow.Author.Count.{below-more}
 use borrow.Author.Tests.{lt-ltb, le-ltb}
 use Rattle.order.specs.Lists.{one, count}
-use Rattle.order.proofs.Tests.{clash, so-or-not, or-cases, or-left, or-right}
+use Rattle.order.proofs.Tests.{clash, or-cases, or-left, or-right}
 use Rattle.order.proofs.Lists.{count-append}
-use Rattle.marks.specs.Marks.{bit, mark, InSquare, Added, Dropped, places, Common, First}
+use Rattle.marks.specs.Marks.{bit, mark, InSquare, Added, Dropped, places, First}
 use Rattle.marks.proofs.Bits.{bit-or, bit-and, bit-none, put-own, put-other, drop-own, drop-other, lowest-is, lowest-below, count-low, count-high, count-place}
 
 -- the code's `1 << k`

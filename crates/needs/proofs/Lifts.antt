@@ -1,8 +1,8 @@
 -- Rows added to those of their Groups, and what the square then says.
 use mathlib.Core.Path.{_≡_, refl, sym, ap, _∙_, subst}
-use mathlib.Core.Logic.{_⊎_, inl, inr, _↔_}
+use mathlib.Core.Logic.{_⊎_, inl, inr}
 use mathlib.Core.List.{List}
-use mathlib.Core.Bool.{Bool, true, false}
+use mathlib.Core.Bool.{true, false}
 use Prim.Native.Nat.{ℕ, zero, suc, _+_, _-_, _*_, _≤_, _<_}
 use native.Mathlib.Omega.{arith}
 use native.Mathlib.Decide.{ℕ-discrete}
@@ -11,16 +11,16 @@ use Rattle.kinds.specs.Kinds.{groupCode, valueCode}
 use Rattle.kinds.proofs.Codes.{group-definition, value-definition}
 use Rattle.cells.specs.Table.{kind, isDefinition, owner}
 use Rattle.cells.specs.Accepted.{Accepted, HasBody}
-use Rattle.order.specs.Order.{isV, up, Within, needs, reaches}
-use Rattle.order.proofs.Tests.{clash, so-or-not, not-so}
+use Rattle.order.specs.Order.{up, Within, needs, reaches}
+use Rattle.order.proofs.Tests.{clash, so-or-not}
 use Rattle.order.proofs.Tables.{kind-label, kind-v, v-kind, reaches-exact}
 use Rattle.order.proofs.Tree.{within-owner}
 use Rattle.order.proofs.Needs.{holds, holds-intro, holds-v, holds-in, needs-intro, needs-elim}
 use Rattle.marks.specs.Marks.{mark, Added, Dropped}
 use Rattle.marks.proofs.Squares.{mark-in}
-use Rattle.reach.specs.Links.{Links, Around, Touches}
+use Rattle.reach.specs.Links.{Around, Touches}
 use Rattle.reach.specs.Rows.{width, AllRows}
-use Rattle.reach.proofs.Links.{body-group, links-body, around-label, back-exact}
+use Rattle.reach.proofs.Links.{body-group, links-body, back-exact}
 use Rattle.needs.specs.Needs.{Holder, Wanted, Lifting, Cut, NeedRows}
 
 module _ (t : List ℤ) (n : ℕ) (ok : Accepted t n) where

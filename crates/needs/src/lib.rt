@@ -1,8 +1,7 @@
 // What the members of Groups need, made in place from the rows of what reaches each value: rows are added to those of their Groups, and
 // nothing needs itself.
 
-ghost use mathlib.Core.Path.{_≡_};
-ghost use Prim.Native.Nat.{ℕ, _+_, _*_, _≤_, _<_};
+ghost use Prim.Native.Nat.{_+_, _*_, _≤_};
 ghost use lib.ListN.{length};
 ghost use Rattle.cells.specs.Accepted.{Accepted};
 ghost use Rattle.reach.specs.Rows.{width, AllRows};

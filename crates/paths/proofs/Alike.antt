@@ -9,12 +9,11 @@ use lib.ListN.{length, drop}
 use Rattle.cells.specs.Table.{kind, nameStart, nameLength, owner, withColumn, isDefinition, hasPath}
 use Rattle.cells.specs.Cells.{intAt}
 use Rattle.cells.proofs.Columns.{column-keeps, column-other}
-use Rattle.order.specs.Order.{}
 use Rattle.text.specs.Pieces.{firstOf}
 use Rattle.paths.specs.Names.{nameOf, isNamed, member}
 use Rattle.refusals.proofs.FirstBad.{first-same as same-found}
 use Rattle.paths.specs.Paths.{settled, headFrom, below, descended, namesOf, headOf, targetOf, headCell, targetBy, targetCell, duplicateBad, pathHeadBad, laterBad, targetBad, pathsBad}
-use Rattle.paths.specs.Buckets.{Rows, startOf, Allotted, bucketAt, inBucket, lastBelow, LinkedBelow, Linked}
+use Rattle.paths.specs.Buckets.{Rows, Allotted, bucketAt, inBucket, lastBelow, LinkedBelow, Linked}
 use Rattle.paths.specs.Leads.{NamesApart}
 use Rattle.paths.proofs.FirstLabel.{first-same}
 use Rattle.paths.proofs.LastBelow.{last-same}

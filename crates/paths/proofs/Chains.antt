@@ -1,6 +1,6 @@
 -- The chain of a bucket: how a definition is linked, and what a walk along it finds. It meets members of one Group alone.
 use mathlib.Core.Path.{_≡_, refl, ap, sym, _∙_}
-use mathlib.Core.Bool.{Bool, true, false, cond, not, _&&_}
+use mathlib.Core.Bool.{Bool, true, false, cond}
 use mathlib.Core.List.{List}
 use mathlib.Core.Logic.{⊎-elim}
 use Prim.Native.Nat.{ℕ, zero, suc, _+_, _-_, _*_, _≤_, _<_}
@@ -14,13 +14,12 @@ use lib.Seq.{slice, getD-set-same, getD-set-other}
 use borrow.Author.Tests.{eq-eqb, eqb-true, eqb-false, ltb-true, ltb-false}
 use Rattle.cells.specs.Table.{nameStart, nameLength, owner, isDefinition}
 use Rattle.cells.proofs.Scratch.{zero-at}
-use Rattle.order.specs.Order.{}
 use Rattle.text.proofs.Bytes.{true-false, and-left, and-right}
 use Rattle.paths.specs.Names.{nameOf, sameName, isNamed, member}
 use Rattle.paths.specs.Buckets.{Rows, hashes, hashOf, startOf, Stretch, Allotted, bucketOf, bucketAt, inBucket, lastBelow, LinkedBelow, Linked, Fresh, firstIn, Walkable, walkBy, walk}
 use Rattle.paths.proofs.SameName.{same-hash, hash-small}
 use Rattle.paths.proofs.LastBelow.{last-hit, last-miss, last-one, last-small, last-passes, none-last, last-skip}
-use Rattle.paths.proofs.Members.{Named, named-parts, member-named, member-last}
+use Rattle.paths.proofs.Members.{named-parts, member-named, member-last}
 
 -- ---- buckets
 

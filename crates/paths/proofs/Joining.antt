@@ -9,7 +9,6 @@ use lib.IntN.{ℤ}
 use lib.ListN.{length}
 use Rattle.cells.specs.Table.{kind, target, withColumn, hasPath}
 use Rattle.cells.proofs.Columns.{column-own, column-same, column-over, column-length}
-use Rattle.order.specs.Order.{}
 use Rattle.refusals.specs.Refusal.{firstBad}
 use Rattle.refusals.proofs.FirstBad.{first-same}
 use Rattle.paths.specs.Paths.{targetOf, headCell, targetCell, wanted, laterBad, targetBad, wrongTarget, laterRows}

@@ -10,7 +10,6 @@ use lib.ListN.{drop}
 use borrow.Author.Tests.{eq-eqb, ne-eqb, eqb-true, eqb-false, ltb-true, ltb-false, not-false}
 use Rattle.kinds.specs.Kinds.{groupCode}
 use Rattle.cells.specs.Table.{kind, owner, isDefinition, hasPath}
-use Rattle.order.specs.Order.{isMember}
 use Rattle.refusals.specs.Rows.{duplicateRow, headRow, laterRow, targetRow}
 use Rattle.refusals.specs.Refusal.{firstBad}
 use Rattle.refusals.specs.declared.Verdict.the-variants.{Fine}
@@ -18,7 +17,7 @@ use Rattle.refusals.proofs.OrElse.{both-fine}
 use Rattle.refusals.proofs.FirstBad.{first-none, none-first}
 use Rattle.text.specs.Pieces.{firstOf}
 use Rattle.text.proofs.Bytes.{true-false}
-use Rattle.paths.specs.Names.{nameOf, sameName, firstLabel, isNamed, member}
+use Rattle.paths.specs.Names.{nameOf, firstLabel, isNamed, member}
 use Rattle.cells.specs.Lists.{orIfZero}
 use Rattle.paths.specs.Paths.{settled, headFrom, descended, namesOf, headOf, targetOf, wanted, duplicateBad, pathHeadBad, laterBad, targetBad, laterRows, headRows, pathsBad}
 use Rattle.paths.specs.Leads.{IsMember, Heads, here, outward, Descends, ended, inward, HeadSettles, Leads, NamesApart, PathsKept}
@@ -215,15 +214,6 @@ module _ (s : List ℕ) (t : List ℤ) (n : ℕ) where
 
       head-some : (x h : ℕ) → x ≤ n → HeadSettles s t n x h → eqb (headOf s t n x) 0 ≡ false
       head-some x h k p = rw (heads-head x h k p) (above h (heads-low (firstOf (namesOf s t x)) p))
-
-      -- row 13 refuses exactly where no Group outward has the head: this, and the law after it
-      pub heads-kept : (x h : ℕ) → x ≤ n → HeadSettles s t n x h → pathHeadBad s t n x ≡ 0
-      unfolding pathHeadBad
-      heads-kept x h k p = keeps-quiet (hasPath t x) (eqb (headOf s t n x) 0) headRow (λ e. head-some x h k p)
-
-  pub kept-heads : (x : ℕ) → hasPath t x ≡ true → pathHeadBad s t n x ≡ 0 → (h : ℕ) × HeadSettles s t n x h
-  unfolding pathHeadBad
-  kept-heads x p e = (headOf s t n x, head-heads x (headOf s t n x) refl (eqb-false (headOf s t n x) 0 (quiet (hasPath t x) (eqb (headOf s t n x) 0) headRow (omega arith) e p)))
 
   -- ---- rows 12 to 15
 

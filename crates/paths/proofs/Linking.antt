@@ -5,8 +5,6 @@ use Prim.Native.Nat.{ℕ, _+_, _≤_, _<_}
 use native.Mathlib.Omega.{arith}
 use lib.IntN.{ℤ}
 use lib.ListN.{length}
-use Rattle.refusals.specs.Refusal.{firstBad}
-use Rattle.refusals.specs.declared.Verdict.the-variants.{Fine}
 use Rattle.paths.specs.Paths.{duplicateBad}
 use Rattle.paths.specs.Buckets.{LinkedBelow, Linked}
 use Rattle.paths.proofs.Passes.{Pass, pass-start, pass-turn, pass-done}

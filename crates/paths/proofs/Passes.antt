@@ -10,7 +10,6 @@ use lib.ListN.{length, set, drop}
 use Rattle.cells.specs.Cells.{natOf}
 use Rattle.cells.specs.Table.{owner, target, withColumn, hasPath}
 use Rattle.cells.proofs.Columns.{column-keeps, column-length}
-use Rattle.order.specs.Order.{}
 use Rattle.refusals.specs.Rows.{headRow, laterRow}
 use Rattle.refusals.specs.Refusal.{firstBad}
 use Rattle.refusals.specs.declared.Verdict.the-variants.{Fine, Refused}

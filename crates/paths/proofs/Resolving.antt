@@ -1,6 +1,6 @@
 -- A path, name by name, and the rows at one label.
 use mathlib.Core.Path.{_≡_, refl, ap, sym, _∙_}
-use mathlib.Core.Bool.{Bool, true, false, cond, not, _&&_, _||_}
+use mathlib.Core.Bool.{Bool, true, false, cond, not, _&&_}
 use mathlib.Core.List.{List, [], _∷_}
 use Prim.Native.Nat.{ℕ, zero, suc, _+_, _-_, _≤_, _<_}
 use native.Mathlib.Omega.{arith}
@@ -12,7 +12,6 @@ use borrow.Author.Tests.{eq-eqb, ne-eqb, eqb-true, ltb-true, ltb-false, lt-ltb, 
 use Rattle.kinds.specs.Kinds.{wantedBy, groupCode}
 use Rattle.kinds.specs.Kinds as kinds
 use Rattle.cells.specs.Table.{kind, nameStart, nameLength, owner, target, isDefinition, hasPath}
-use Rattle.order.specs.Order.{}
 use Rattle.text.specs.Pieces.{cut}
 use Rattle.text.specs.Scans.{runEnd, run}
 use Rattle.text.proofs.Bytes.{run-le, run-fails}

@@ -3,7 +3,7 @@
 use mathlib.Core.Path.{_≡_, refl, ap, sym, _∙_}
 use mathlib.Core.Bool.{Bool, true, false, _&&_}
 use mathlib.Core.List.{List, [], _∷_}
-use Prim.Native.Nat.{ℕ, suc, _+_, _-_, _*_, _%_, _≤_, _<_}
+use Prim.Native.Nat.{ℕ, suc, _+_, _*_, _%_, _≤_, _<_}
 use native.Mathlib.Omega.{arith}
 use lib.Dec.{eqb}
 use lib.ListN.{length, getD}
@@ -11,7 +11,7 @@ use lib.Seq.{slice}
 use borrow.Author.Tests.{eq-eqb, ne-eqb}
 use Rattle.text.specs.Bytes.{same}
 use Rattle.text.proofs.Slices.{slice-at, slice-none}
-use Rattle.text.proofs.Bytes.{true-false, same-eq}
+use Rattle.text.proofs.Bytes.{same-eq}
 use Rattle.paths.specs.Names.{sameName}
 use Rattle.paths.specs.Buckets.{comparedByte, compared, hashes, hashFrom, hashOf}
 

@@ -9,7 +9,6 @@ use lib.IntN.{ℤ, pos}
 use lib.ListN.{length, getD, set}
 use Rattle.cells.specs.Cells.{intAt}
 use Rattle.cells.specs.Table.{kind, nameStart, nameLength, owner, isDefinition}
-use Rattle.order.specs.Order.{}
 use Rattle.paths.specs.Names.{nameOf, sameName}
 use Rattle.paths.specs.Leads.{NamesApart}
 

@@ -7,7 +7,6 @@ use lib.IntN.{ℤ}
 use lib.ListN.{drop}
 use Rattle.kinds.specs.Kinds.{groupCode}
 use Rattle.cells.specs.Table.{kind, owner, isDefinition, hasPath}
-use Rattle.order.specs.Order.{}
 use Rattle.text.specs.Pieces.{firstOf}
 use Rattle.paths.specs.Names.{nameOf, sameName}
 use Rattle.paths.specs.Paths.{namesOf, wanted}

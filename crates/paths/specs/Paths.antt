@@ -8,7 +8,6 @@ use lib.ListN.{drop}
 use Rattle.kinds.specs.Kinds.{groupCode, wantedBy}
 use Rattle.cells.specs.Lists.{orIfZero}
 use Rattle.cells.specs.Table.{kind, owner, target, isDefinition, hasPath}
-use Rattle.order.specs.Order.{}
 use Rattle.refusals.specs.Rows.{duplicateRow, headRow, laterRow, targetRow}
 use Rattle.refusals.specs.Refusal.{firstBad, orElse}
 use Rattle.refusals.specs.declared.Verdict.{Verdict}

@@ -2,14 +2,13 @@
 // Each Group has buckets of its own: a lookup in a Group walks those of its members whose name has the bucket of the name looked for.
 
 ghost use mathlib.Core.Path.{_≡_};
-ghost use mathlib.Core.Bool.{true, cond, _&&_};
+ghost use mathlib.Core.Bool.{true, _&&_};
 ghost use Prim.Native.Nat.{ℕ, _+_, _-_, _*_, _≤_, _<_};
 ghost use lib.Dec.{eqb};
 ghost use lib.IntN.{pos};
 ghost use lib.ListN.{length, getD, set, drop};
 ghost use lib.Seq.{slice};
 ghost use Rattle.cells.specs.Table.{owner, target, withColumn, isDefinition, hasPath};
-ghost use Rattle.order.specs.Order.{};
 ghost use Rattle.refusals.specs.Refusal.{firstBad};
 ghost use Rattle.text.specs.Pieces.{cut};
 ghost use Rattle.text.specs.Scans.{runEnd};

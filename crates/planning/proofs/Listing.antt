@@ -4,28 +4,25 @@ use mathlib.Core.Logic.{_⊎_, inl, inr}
 use mathlib.Core.List.{List, [], _∷_, _++_, append-assoc, append-nil, map}
 use mathlib.Core.Bool.{Bool, true, false}
 use mathlib.Core.Option.{Option, none, some}
-use Prim.Native.Nat.{ℕ, zero, suc, _+_, _-_, _*_, _≤_, _<_}
+use Prim.Native.Nat.{ℕ, zero, suc, _+_, _-_, _≤_, _<_}
 use native.Mathlib.Omega.{arith}
 use native.Mathlib.Numerals.{add-one}
-use lib.Dec.{eqb}
 use lib.IntN.{ℤ, pos}
-use lib.ListN.{length, getD, set, take, drop, length-append, length-take}
-use lib.Seq.{take-suc, take-suc-set, drop-set-lt, drop-drop, length-take-le, take-all}
-use mir.Syntax.{w64}
-use mir.Val.{toZ}
-use borrow.Author.Tests.{eq-eqb, ne-eqb}
+use lib.ListN.{length, getD, set, take, drop, length-append}
+use lib.Seq.{take-suc, take-suc-set, drop-set-lt, drop-drop}
+use borrow.Author.Tests.{ne-eqb}
 use Rattle.kinds.specs.Kinds.{groupCode, valueCode}
-use Rattle.cells.specs.Table.{kind, owner}
+use Rattle.cells.specs.Table.{kind}
 use Rattle.cells.specs.Accepted.{Accepted}
 use Rattle.order.specs.Lists.{_∈_, joined}
-use Rattle.order.specs.Placing.{next, rounds, placed}
+use Rattle.order.specs.Placing.{next, rounds}
 use Rattle.order.specs.Order.{isG, isV, isMember, members, needs, ordered, listed, groupPlan, wholePlan}
-use Rattle.order.proofs.Tests.{so-or-not, not-so, clash}
+use Rattle.order.proofs.Tests.{so-or-not}
 use Rattle.order.proofs.Lists.{in-here, in-there, in-right}
 use Rattle.order.proofs.Placing.{placed-sub}
 use Rattle.order.proofs.Tables.{kind-g, kind-v, g-def, def-label, member-of, owner-below, top-group}
 use Rattle.order.proofs.Listed.{listed-group}
-use Rattle.groups.specs.Members.{Chain, Ordered}
+use Rattle.groups.specs.Members.{Chain}
 use Rattle.planning.specs.Listing.{listOf, Put}
 use Rattle.groups.proofs.Chains.{labels-few, steps, steps-are}
 

@@ -5,13 +5,13 @@ use Prim.Native.Nat.{ℕ, zero, suc, _+_, _-_, _*_, _≤_, _<_}
 use native.Mathlib.Nat.{suc-add}
 use native.Mathlib.Omega.{arith}
 use lib.IntN.{ℤ}
-use lib.ListN.{length, take, drop}
+use lib.ListN.{take, drop}
 use lib.Seq.{slice, take-nil}
 use borrow.Author.Tests.{le-leb, lt-leb}
 use Rattle.cells.specs.Cells.{natOf}
 use Rattle.cells.specs.Table.{cell}
 use Rattle.refusals.specs.declared.Verdict.{Verdict}
-use Rattle.refusals.specs.declared.Verdict.the-variants.{Fine, Refused}
+use Rattle.refusals.specs.declared.Verdict.the-variants.{Fine}
 use Rattle.refusals.specs.declared.Reply.the-variants as reply
 use Rattle.lines.specs.Lines.{labels}
 use Rattle.reading.specs.Read.{sheetTable, readBad, readReply, readTable, tableOf, ReadLeaves}

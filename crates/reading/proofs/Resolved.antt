@@ -1,6 +1,6 @@
 -- From the table that rows 1 to 7 leave to what rows 8 to 11 and rows 12 to 15 ask.
 use mathlib.Core.Path.{_≡_, refl, ap, sym, _∙_}
-use mathlib.Core.Logic.{_⊎_, ⊎-elim}
+use mathlib.Core.Logic.{⊎-elim}
 use mathlib.Core.Bool.{Bool, true, false}
 use mathlib.Core.List.{List}
 use Prim.Native.Nat.{ℕ, zero, suc, _+_, _-_, _*_, _≤_, _<_}
@@ -8,7 +8,6 @@ use native.Mathlib.Omega.{arith}
 use native.Mathlib.Nat.{eq-or-lt-of-le}
 use lib.IntN.{ℤ, pos}
 use lib.ListN.{length}
-use borrow.Author.Tests.{ne-eqb}
 use Rattle.kinds.specs.Kinds.{groupCode, isOperand}
 use Rattle.kinds.specs.Kinds as kinds
 use Rattle.kinds.proofs.Laws.{kind-low, definition-kind}

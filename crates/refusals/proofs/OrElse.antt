@@ -13,9 +13,6 @@ both-fine (Refused r p) w e = let z : _≡_ {A = ℕ} 0 1 = cc in absurd (omega 
 pub refused-first : (v w : Verdict) (r p : ℕ) → v ≡ Refused r p → Refused r p ≡ orElse v w
 refused-first v w r p e = rw e
 
-pub fine-then : (v w : Verdict) → v ≡ Fine → w ≡ orElse v w
-fine-then v w e = rw e
-
 -- a pass found v, which is u by its definition, and the next one, if it was asked, r, which is w
 pub or-next : (v u r w : Verdict) → v ≡ u → v ≡ Fine → r ≡ w → r ≡ orElse u w
 or-next v u r w e f g = rw (sym e ∙ f) g

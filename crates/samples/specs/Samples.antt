@@ -5,7 +5,7 @@ use Prim.Native.Nat.{ℕ}
 use Prim.Native.String.{String}
 use lib.IntN.{ℤ, pos, negℤ}
 use Rattle.refusals.specs.declared.Reply.the-variants.{Answered, Refused}
-use Rattle.samples.specs.Sample.{group, value, function, reads, calls, Line, Outcome, refusal, whole, mixed, Sample}
+use Rattle.samples.specs.Sample.{group, value, function, reads, calls, Line, refusal, whole, mixed, Sample}
 
 abbrev line : ℕ → String → ℕ → ℤ → ℕ → Line
 line label name state number steps = record { label = label; name = name; state = state; number = number; steps = steps }

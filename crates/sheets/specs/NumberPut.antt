@@ -1,11 +1,10 @@
 -- A sheet, a text and a table with another number in one N line.
 use mathlib.Core.Path.{_≡_}
-use mathlib.Core.List.{List, [], _∷_}
-use Prim.Native.Nat.{ℕ, zero, suc, _+_, _-_, _*_, _≤_}
-use lib.IntN.{ℤ, natAbs}
+use mathlib.Core.List.{List}
+use Prim.Native.Nat.{ℕ, zero, suc, _+_, _-_, _*_}
+use lib.IntN.{ℤ}
 use lib.ListN.{getD, set}
-use Rattle.cells.specs.Table.{kind, nameStart, withColumn}
-use Rattle.numbers.specs.Range.{limit}
+use Rattle.cells.specs.Table.{nameStart, withColumn}
 use Rattle.lines.specs.Lines.{labels}
 use Rattle.order.specs.Order.{plan}
 use Rattle.reading.specs.Read.{sheetTable}

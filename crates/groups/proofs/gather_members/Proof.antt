@@ -1,20 +1,13 @@
-use mathlib.Core.Path.{_≡_, refl, sym, ap, _∙_, subst}
-use mathlib.Core.Logic.{_⊎_, inl, inr, ⊎-elim, _↔_}
-use mathlib.Core.List.{List, _++_}
-use mathlib.Core.Bool.{true, false}
-use Prim.Native.Nat.{ℕ, _+_, _-_, _*_, _/_, _≤_, _<_}
+use mathlib.Core.Path.{_≡_, refl, _∙_}
+use Prim.Native.Nat.{_-_, _≤_, _<_}
 use native.Mathlib.Omega.{arith}
 use borrow.Author.Needs.{needs}
-use lib.ListN.{length, getD, take, drop, set, length-set}
-use Rattle.cells.specs.Table.{kind, owner}
-use Rattle.order.specs.Lists.{count, _∈_, filter, upFrom}
+use lib.ListN.{length, length-set}
 use Rattle.order.specs.Order.{isMember, members}
 use Rattle.order.proofs.Tables.{member-of, def-label}
 use Rattle.groups.proofs.Chains.{labels-few, Walk, walk-start, walk-room, walk-in, walk-step, walk-end}
 use Rattle.groups.proofs.gather_members.Statement.{statement}
 use Rattle.groups.proofs.gather_members.Tie as tie
-use Rattle.groups.proofs.gather_members.Reads as reads
-use Rattle.groups.proofs.gather_members.Lts as lts
 
 abbrev Inv-loop : tie.InvT-loop
 Inv-loop table n next group items₀ m₀ p₀ items m p = (length items ≡ length items₀) × Walk n next (members table n group) items p m

@@ -1,14 +1,13 @@
-use mathlib.Core.Path.{_≡_, refl, sym, ap, _∙_, subst}
-use mathlib.Core.Logic.{_⊎_, inl, inr, ⊎-elim, _↔_}
-use mathlib.Core.List.{List, _++_}
-use mathlib.Core.Bool.{true, false}
-use Prim.Native.Nat.{ℕ, _+_, _-_, _*_, _/_, _≤_, _<_}
+use mathlib.Core.Path.{_≡_, refl, sym, ap, _∙_}
+use mathlib.Core.Logic.{⊎-elim}
+use mathlib.Core.List.{_++_}
+use Prim.Native.Nat.{_+_, _-_, _≤_}
 use native.Mathlib.Omega.{arith}
 use borrow.Author.Needs.{needs}
-use lib.ListN.{length, getD, take, drop, set, length-set}
+use lib.ListN.{length, take, length-set}
 use Rattle.kinds.specs.Kinds.{valueCode}
-use Rattle.cells.specs.Table.{kind, owner}
-use Rattle.order.specs.Lists.{count, _∈_, filter, upFrom}
+use Rattle.cells.specs.Table.{kind}
+use Rattle.order.specs.Lists.{filter, upFrom}
 use lib.Seq.{length-take-le}
 use lib.ListN.{length-append}
 use borrow.Author.Tests.{eq-eqb, ne-eqb}
@@ -16,8 +15,6 @@ use Rattle.order.specs.Order.{isV, labels}
 use Rattle.groups.proofs.Chains.{labels-few, take-label, skip-label, first-label, no-more}
 use Rattle.groups.proofs.gather_values.Statement.{statement}
 use Rattle.groups.proofs.gather_values.Tie as tie
-use Rattle.groups.proofs.gather_values.Reads as reads
-use Rattle.groups.proofs.gather_values.Lts as lts
 
 abbrev Inv-loop : tie.InvT-loop
 Inv-loop table n items₀ m₀ l₀ items m l =

@@ -1,18 +1,12 @@
-use mathlib.Core.Path.{_≡_, refl, sym, ap, _∙_, subst}
-use mathlib.Core.Logic.{_⊎_, inl, inr, ⊎-elim, _↔_}
-use mathlib.Core.List.{List, _++_}
-use mathlib.Core.Bool.{true, false}
-use Prim.Native.Nat.{ℕ, _+_, _-_, _*_, _/_, _≤_, _<_}
+use mathlib.Core.Path.{_≡_, refl, sym, _∙_}
+use mathlib.Core.Logic.{⊎-elim}
+use Prim.Native.Nat.{_≤_}
 use native.Mathlib.Omega.{arith}
 use borrow.Author.Needs.{needs}
-use lib.ListN.{length, getD, take, drop, set, length-set}
-use Rattle.cells.specs.Table.{kind, owner}
-use Rattle.order.specs.Lists.{count, _∈_, filter, upFrom}
+use lib.ListN.{length, set, length-set}
 use Rattle.groups.proofs.Chains.{Linked, linked-none, linked-skip, linked-push, linked-all}
 use Rattle.groups.proofs.link_members.Statement.{statement}
 use Rattle.groups.proofs.link_members.Tie as tie
-use Rattle.groups.proofs.link_members.Reads as reads
-use Rattle.groups.proofs.link_members.Lts as lts
 
 abbrev Inv-loop : tie.InvT-loop
 Inv-loop table n next₀ l₀ next l = (length next ≡ length next₀) × (l ≤ n) × Linked table n l next

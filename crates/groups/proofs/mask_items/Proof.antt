@@ -1,14 +1,14 @@
-use mathlib.Core.Path.{_≡_, refl, sym, ap, _∙_, subst}
-use mathlib.Core.Logic.{_⊎_, inl, inr, ⊎-elim, _↔_}
-use mathlib.Core.List.{List, _++_}
-use mathlib.Core.Bool.{true, false}
-use Prim.Native.Nat.{ℕ, _+_, _-_, _*_, _/_, _≤_, _<_}
+use mathlib.Core.Path.{_≡_, refl, sym, _∙_, subst}
+use mathlib.Core.Logic.{⊎-elim, _↔_}
+use mathlib.Core.List.{List}
+use mathlib.Core.Bool.{true}
+use Prim.Native.Nat.{ℕ, _+_, _-_, _/_, _≤_}
 use native.Mathlib.Omega.{arith}
 use borrow.Author.Needs.{needs}
-use lib.ListN.{length, getD, take, drop, set, length-set}
+use lib.ListN.{length, take}
 use Rattle.kinds.proofs.Plans.{gives-cases}
-use Rattle.cells.specs.Table.{kind, owner}
-use Rattle.order.specs.Lists.{count, _∈_, filter, upFrom}
+use Rattle.cells.specs.Table.{kind}
+use Rattle.order.specs.Lists.{_∈_}
 use lib.Seq.{take-all}
 use Rattle.marks.specs.Marks.{mark}
 use Rattle.order.proofs.Tests.{clash}
@@ -17,8 +17,6 @@ use Rattle.placing.proofs.Lists.{in-at}
 use Rattle.groups.proofs.Orders.{no-holder, item-label, mask-put, mask-skip}
 use Rattle.groups.proofs.mask_items.Statement.{statement}
 use Rattle.groups.proofs.mask_items.Tie as tie
-use Rattle.groups.proofs.mask_items.Reads as reads
-use Rattle.groups.proofs.mask_items.Lts as lts
 
 abbrev Inv-loop : tie.InvT-loop
 Inv-loop table n items mask₀ w i₀ mask i = (length mask ≡ length mask₀) × (i ≤ length items) × ((p : ℕ) → (mark mask w 0 p ≡ true) ↔ ((p ∈ take i items) × Holder table p))

@@ -1,22 +1,13 @@
-use mathlib.Core.Path.{_≡_, refl, sym, ap, _∙_, subst}
-use mathlib.Core.Logic.{⊎-elim}
+use mathlib.Core.Path.{refl, subst}
 use mathlib.Core.List.{List}
-use mathlib.Core.Bool.{true, false}
-use Prim.Native.Nat.{ℕ, _+_, _-_, _*_, _/_, _≤_, _<_}
+use Prim.Native.Nat.{ℕ, _<_}
 use native.Mathlib.Omega.{arith}
 use borrow.Author.Needs.{needs}
-use lib.ListN.{length, getD, take, length-take}
-use Rattle.order.specs.Lists.{_∈_}
-use lib.ListN.{drop}
+use lib.ListN.{length}
 use Rattle.groups.specs.Members.{Relinked}
 use Rattle.groups.proofs.Orders.{member-items, order-is, order-short, order-stuck, order-free, order-labels, order-once}
 use Rattle.groups.proofs.order_group.Statement.{statement}
 use Rattle.groups.proofs.order_group.Tie as tie
-use Rattle.groups.proofs.order_group.Reads as reads
-use Rattle.groups.proofs.order_group.Lts as lts
-use Rattle.groups.proofs.gather_members.Reads as gather-members-reads
-use Rattle.groups.proofs.place_items.Reads as place-items-reads
-use Rattle.groups.proofs.relink.Reads as relink-reads
 
 -- what was placed
 module _ (c : tie.After-place-items) where

@@ -1,6 +1,6 @@
 use mathlib.Core.Path.{_≡_, refl, _∙_, subst}
 use mathlib.Core.Logic.{⊎-elim}
-use Prim.Native.Nat.{ℕ, _+_, _-_, _*_, _≤_, _<_}
+use Prim.Native.Nat.{_+_, _-_, _≤_}
 use native.Mathlib.Omega.{arith}
 use borrow.Author.Needs.{needs}
 use lib.ListN.{length}
@@ -9,9 +9,6 @@ use Rattle.groups.proofs.Orders.{scratch-as}
 use Rattle.groups.proofs.Going.{Going, going-start, going-skip, going-turn, going-stuck, going-end}
 use Rattle.groups.proofs.order_groups.Statement.{statement}
 use Rattle.groups.proofs.order_groups.Tie as tie
-use Rattle.groups.proofs.order_groups.Reads as reads
-use Rattle.groups.proofs.order_groups.Lts as lts
-use Rattle.groups.proofs.order_group.Reads as order-group-reads
 
 abbrev Inv-loop : tie.InvT-loop
 Inv-loop table n square next₀ items₀ mask₀ unmet₀ ready₀ list₀ order₀ g₀ next items mask unmet ready list order g =

@@ -1,18 +1,7 @@
-use mathlib.Core.Path.{_≡_, refl, sym, ap, _∙_, subst}
-use mathlib.Core.Logic.{⊎-elim}
-use mathlib.Core.List.{List}
-use mathlib.Core.Bool.{true, false}
-use Prim.Native.Nat.{ℕ, _+_, _-_, _*_, _/_, _≤_, _<_}
 use native.Mathlib.Omega.{arith}
-use borrow.Author.Needs.{needs}
-use lib.ListN.{length, getD, take, length-take}
-use Rattle.order.specs.Lists.{_∈_}
 use Rattle.groups.proofs.Orders.{fits, items-few, placed-needs}
 use Rattle.groups.proofs.place_items.Statement.{statement}
 use Rattle.groups.proofs.place_items.Tie as tie
-use Rattle.groups.proofs.place_items.Reads as reads
-use Rattle.groups.proofs.place_items.Lts as lts
-use Rattle.groups.proofs.mask_items.Reads as mask-items-reads
 
 mask-items-requires : tie.Need-mask-items-requires
 mask-items-requires c κs = let p = c .before .before .before .before .before .before .before .before .pre in (p .0, (p .1 .0, p .1 .1 .1 .masks))

@@ -1,20 +1,14 @@
-use mathlib.Core.Path.{_≡_, refl, sym, ap, _∙_, subst}
-use mathlib.Core.Logic.{_⊎_, inl, inr, ⊎-elim, _↔_}
-use mathlib.Core.List.{List, _++_}
-use mathlib.Core.Bool.{true, false}
-use Prim.Native.Nat.{ℕ, _+_, _-_, _*_, _/_, _≤_, _<_}
+use mathlib.Core.Path.{_≡_, refl, sym, _∙_, subst}
+use Prim.Native.Nat.{ℕ, _+_, _-_, _≤_, _<_}
 use native.Mathlib.Omega.{arith}
 use borrow.Author.Needs.{needs}
-use lib.ListN.{length, getD, take, drop, set, length-set}
-use Rattle.cells.specs.Table.{kind, owner}
-use Rattle.order.specs.Lists.{count, _∈_, filter, upFrom}
+use lib.ListN.{length, take, set, length-set}
+use Rattle.order.specs.Lists.{_∈_}
 use lib.Seq.{length-take-le, getD-take}
 use Rattle.placing.proofs.Lists.{in-take}
 use Rattle.groups.proofs.Chains.{Relinking, relinking-none, relinking-turn, relinked}
 use Rattle.groups.proofs.relink.Statement.{statement}
 use Rattle.groups.proofs.relink.Tie as tie
-use Rattle.groups.proofs.relink.Reads as reads
-use Rattle.groups.proofs.relink.Lts as lts
 
 abbrev Inv-loop : tie.InvT-loop
 Inv-loop n next₀ group order r head₀ i₀ next head i = (length next ≡ length next₀) × (i ≤ r) × Relinking n next₀ (take r order) next head i

@@ -1,18 +1,13 @@
-use mathlib.Core.Path.{_≡_, refl, sym, ap, _∙_, subst}
-use mathlib.Core.Logic.{_⊎_, inl, inr, ⊎-elim, _↔_}
-use mathlib.Core.Bool.{true, false}
-use Prim.Native.Nat.{ℕ, _+_, _-_, _*_, _≤_, _<_}
+use mathlib.Core.Path.{_≡_, refl, _∙_}
+use Prim.Native.Nat.{ℕ, _-_, _≤_, _<_}
 use native.Mathlib.Omega.{arith}
-use native.Mathlib.Nat.{le-antisymm}
 use borrow.Author.Needs.{needs}
-use lib.ListN.{length, getD, take, set, length-set}
+use lib.ListN.{length, getD, set, length-set}
 use lib.Seq.{getD-set-same, getD-set-other}
 use borrow.Author.Count.{below-more}
 use Rattle.marks.proofs.Squares.{marks-clear}
 use Rattle.marks.proofs.clear_marks.Statement.{statement}
 use Rattle.marks.proofs.clear_marks.Tie as tie
-use Rattle.marks.proofs.clear_marks.Reads as reads
-use Rattle.marks.proofs.clear_marks.Lts as lts
 
 abbrev Inv-loop : tie.InvT-loop
 Inv-loop s₀ w j₀ s j = (length s ≡ length s₀) × (j ≤ w) × ((i : ℕ) → i < j → getD s i 0 ≡ 0)

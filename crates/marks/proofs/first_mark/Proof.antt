@@ -1,6 +1,6 @@
 use mathlib.Core.Path.{_≡_}
 use mathlib.Core.Bool.{false}
-use Prim.Native.Nat.{ℕ, _+_, _-_, _*_, _<_, _≤_}
+use Prim.Native.Nat.{ℕ, _-_, _*_, _<_, _≤_}
 use native.Mathlib.Omega.{arith}
 use borrow.Author.Needs.{needs}
 use lib.Count.{trailing-le}
@@ -9,8 +9,6 @@ use Rattle.marks.specs.Marks.{mark}
 use Rattle.marks.proofs.Squares.{first-turn, first-found}
 use Rattle.marks.proofs.first_mark.Statement.{statement}
 use Rattle.marks.proofs.first_mark.Tie as tie
-use Rattle.marks.proofs.first_mark.Reads as reads
-use Rattle.marks.proofs.first_mark.Lts as lts
 
 abbrev Inv-loop : tie.InvT-loop
 Inv-loop s w j₀ j = (j ≤ w) × ((q : ℕ) → q < 64 * j → mark s w 0 q ≡ false)

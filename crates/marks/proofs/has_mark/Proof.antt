@@ -6,8 +6,6 @@ use Rattle.marks.proofs.Bits.{bit-shift}
 use borrow.Author.Needs.{needs}
 use Rattle.marks.proofs.has_mark.Statement.{statement}
 use Rattle.marks.proofs.has_mark.Tie as tie
-use Rattle.marks.proofs.has_mark.Reads as reads
-use Rattle.marks.proofs.has_mark.Lts as lts
 
 mul-result : tie.Need-mul-result
 mul-result c = search needs

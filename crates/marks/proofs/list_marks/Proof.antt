@@ -1,6 +1,6 @@
-use mathlib.Core.Path.{_≡_, refl, sym, ap, _∙_}
+use mathlib.Core.Path.{_≡_, refl, ap, _∙_}
 use mathlib.Core.Bool.{_&&_}
-use Prim.Native.Nat.{ℕ, _+_, _-_, _*_, _≤_}
+use Prim.Native.Nat.{ℕ, _-_, _*_, _≤_}
 use native.Mathlib.Omega.{arith}
 use native.Mathlib.Nat.{le-antisymm}
 use borrow.Author.Needs.{needs}
@@ -11,9 +11,6 @@ use Rattle.marks.specs.Marks.{mark}
 use Rattle.marks.proofs.Squares.{listing-none, listing-turn, listing-end}
 use Rattle.marks.proofs.list_marks.Statement.{statement}
 use Rattle.marks.proofs.list_marks.Tie as tie
-use Rattle.marks.proofs.list_marks.Reads as reads
-use Rattle.marks.proofs.list_marks.Lts as lts
-use Rattle.marks.proofs.list_word.Reads as list-word-reads
 
 abbrev Inv-loop : tie.InvT-loop
 Inv-loop s w p mask list₀ a m₀ j₀ list m j =

@@ -1,8 +1,7 @@
 use mathlib.Core.Path.{_≡_, refl, sym, ap, _∙_}
 use mathlib.Core.List.{List, [], _∷_, _++_, append-assoc, append-nil}
-use Prim.Native.Nat.{ℕ, suc, _+_, _-_, _<_, _≤_, _^_}
+use Prim.Native.Nat.{ℕ, suc, _+_, _-_, _<_, _^_}
 use native.Mathlib.Omega.{arith}
-use borrow.Author.Needs.{needs}
 use lib.Bits.{bitAnd, and-le-l, and-le-r}
 use lib.Count.{trailingZeros, trailing-le}
 use lib.ListN.{length, take, set, length-set}
@@ -12,8 +11,6 @@ use Rattle.marks.specs.Marks.{places}
 use Rattle.marks.proofs.Bits.{places-step, places-le, places-none}
 use Rattle.marks.proofs.list_word.Statement.{statement}
 use Rattle.marks.proofs.list_word.Tie as tie
-use Rattle.marks.proofs.list_word.Reads as reads
-use Rattle.marks.proofs.list_word.Lts as lts
 
 abbrev Inv-loop : tie.InvT-loop
 Inv-loop word base list₀ at x₀ m₀ list x m =

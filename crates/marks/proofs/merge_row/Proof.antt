@@ -6,8 +6,6 @@ use lib.ListN.{length, length-set}
 use Rattle.marks.proofs.Squares.{Merging, merging-none, merging-turn, merging-end}
 use Rattle.marks.proofs.merge_row.Statement.{statement}
 use Rattle.marks.proofs.merge_row.Tie as tie
-use Rattle.marks.proofs.merge_row.Reads as reads
-use Rattle.marks.proofs.merge_row.Lts as lts
 
 abbrev Inv-loop : tie.InvT-loop
 Inv-loop s₀ w from into a b j₀ s j = (length s ≡ length s₀) × (j ≤ w) × Merging s₀ s w from into j

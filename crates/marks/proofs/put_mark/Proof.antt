@@ -4,8 +4,6 @@ use Rattle.marks.proofs.Squares.{shift-one, put-added}
 use borrow.Author.Needs.{needs}
 use Rattle.marks.proofs.put_mark.Statement.{statement}
 use Rattle.marks.proofs.put_mark.Tie as tie
-use Rattle.marks.proofs.put_mark.Reads as reads
-use Rattle.marks.proofs.put_mark.Lts as lts
 
 mul-i : tie.Need-mul-i
 mul-i c = search needs

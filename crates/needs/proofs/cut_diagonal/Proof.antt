@@ -1,19 +1,14 @@
-use mathlib.Core.Path.{_≡_, refl, sym, ap, _∙_, subst}
-use mathlib.Core.Logic.{_⊎_, inl, inr, ⊎-elim}
+use mathlib.Core.Path.{_≡_, refl, sym, _∙_, subst}
+use mathlib.Core.Logic.{⊎-elim}
 use Prim.Native.Nat.{ℕ, _+_, _-_, _*_, _/_, _≤_, _<_}
 use native.Mathlib.Omega.{arith}
-use native.Mathlib.Decide.{ℕ-discrete}
 use borrow.Author.Needs.{needs}
 use lib.ListN.{length}
-use Rattle.cells.specs.Table.{kind, owner}
 use Rattle.reach.proofs.Reading.{row-room}
-use Rattle.needs.specs.Needs.{Holder, Lifting, Cut}
-use Rattle.reach.specs.Rows.{width}
+use Rattle.needs.specs.Needs.{Cut}
 use Rattle.needs.proofs.Lifts.{cut-none, cut-skip, cut-turn}
 use Rattle.needs.proofs.cut_diagonal.Statement.{statement}
 use Rattle.needs.proofs.cut_diagonal.Tie as tie
-use Rattle.needs.proofs.cut_diagonal.Reads as reads
-use Rattle.needs.proofs.cut_diagonal.Lts as lts
 
 abbrev Inv-loop : tie.InvT-loop
 Inv-loop n square₀ w p₀ square p = (length square ≡ length square₀) × (1 ≤ p) × (p ≤ n + 1) × Cut n p square₀ square

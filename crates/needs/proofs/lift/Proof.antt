@@ -1,22 +1,20 @@
-use mathlib.Core.Path.{_≡_, refl, sym, ap, _∙_, subst}
+use mathlib.Core.Path.{_≡_, refl, sym, _∙_, subst}
 use mathlib.Core.Logic.{_⊎_, inl, inr, ⊎-elim}
-use Prim.Native.Nat.{ℕ, _+_, _-_, _*_, _/_, _≤_, _<_}
+use Prim.Native.Nat.{ℕ, _+_, _*_, _≤_}
 use native.Mathlib.Omega.{arith}
 use borrow.Author.Needs.{needs}
 use lib.ListN.{length}
 use mathlib.Core.Bool.{false}
 use Rattle.kinds.specs.Kinds.{groupCode, valueCode, givesValues}
 use Rattle.kinds.proofs.Plans.{group-gives, value-gives, gives-cases}
-use Rattle.cells.specs.Table.{kind, owner}
+use Rattle.cells.specs.Table.{kind}
 use Rattle.order.proofs.Tests.{clash}
 use Rattle.reach.proofs.Reading.{row-room}
-use Rattle.needs.specs.Needs.{Holder, Lifting, Cut}
+use Rattle.needs.specs.Needs.{Lifting}
 use Rattle.reach.specs.Rows.{width}
 use Rattle.needs.proofs.Lifts.{lifting-start, lifting-skip, lifting-turn}
 use Rattle.needs.proofs.lift.Statement.{statement}
 use Rattle.needs.proofs.lift.Tie as tie
-use Rattle.needs.proofs.lift.Reads as reads
-use Rattle.needs.proofs.lift.Lts as lts
 
 abbrev Inv-loop : tie.InvT-loop
 Inv-loop table n square₀ k₀ square k = (length square ≡ length square₀) × (1 ≤ k) × (k ≤ n) × Lifting table n k square

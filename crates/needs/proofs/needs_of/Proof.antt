@@ -2,10 +2,6 @@ use borrow.Author.Needs.{needs}
 use Rattle.needs.proofs.Lifts.{rows-need}
 use Rattle.needs.proofs.needs_of.Statement.{statement}
 use Rattle.needs.proofs.needs_of.Tie as tie
-use Rattle.needs.proofs.needs_of.Reads as reads
-use Rattle.needs.proofs.needs_of.Lts as lts
-use Rattle.needs.proofs.cut_diagonal.Reads as cut-diagonal-reads
-use Rattle.needs.proofs.lift.Reads as lift-reads
 
 lift-requires : tie.Need-lift-requires
 lift-requires c κs = search needs

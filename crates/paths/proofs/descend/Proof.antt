@@ -1,6 +1,5 @@
 -- What is left of the path leads where the whole does.
 use mathlib.Core.Path.{_≡_, _∙_, sym}
-use mathlib.Core.List.{[]}
 use Prim.Native.Nat.{_+_, _-_, _≤_}
 use lib.ListN.{drop}
 use lib.Seq.{slice}

@@ -1,6 +1,6 @@
 -- A line with a path, and what its target must be.
 use mathlib.Core.Path.{_∙_, sym, ap}
-use Rattle.kinds.specs.Kinds.{hasPath, wantedBy}
+use Rattle.kinds.specs.Kinds.{hasPath}
 use Rattle.cells.specs.Table.{kind}
 use Rattle.paths.proofs.Resolving.{target-wrong, target-right, target-none}
 use borrow.Author.Needs.{needs}

@@ -1,23 +1,15 @@
-use mathlib.Core.Path.{_≡_, refl, sym, ap, _∙_, subst}
-use mathlib.Core.Logic.{_⊎_, inl, inr, ⊎-elim, _↔_}
-use mathlib.Core.List.{List, _++_}
-use mathlib.Core.Bool.{true, false}
-use Prim.Native.Nat.{ℕ, _+_, _-_, _*_, _/_, _≤_, _<_}
+use mathlib.Core.Path.{_≡_, refl, ap, _∙_, subst}
+use Prim.Native.Nat.{ℕ, _-_, _≤_, _<_}
 use native.Mathlib.Omega.{arith}
 use borrow.Author.Needs.{needs}
-use lib.ListN.{length, getD, take, drop, set, length-set}
-use Rattle.cells.specs.Table.{kind, owner}
-use Rattle.order.specs.Lists.{count, _∈_, filter, upFrom}
+use lib.ListN.{length, take, length-set}
 use lib.IntN.{pos}
-use lib.Seq.{take-all}
 use mir.Syntax.{w64}
 use mir.Facts.{toZ-pos}
 use Rattle.planning.specs.Listing.{Put}
 use Rattle.planning.proofs.Listing.{put-none, put-label}
 use Rattle.planning.proofs.put_all.Statement.{statement}
 use Rattle.planning.proofs.put_all.Tie as tie
-use Rattle.planning.proofs.put_all.Reads as reads
-use Rattle.planning.proofs.put_all.Lts as lts
 
 abbrev Inv-loop : tie.InvT-loop
 Inv-loop order r plan₀ i₀ plan i = (length plan ≡ length plan₀) × (i ≤ r) × Put (take i order) 0 plan₀ plan i

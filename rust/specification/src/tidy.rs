@@ -42,7 +42,7 @@ fn thinned(line: &str, names: &[&str]) -> String {
             .trim()
             .to_string()
     };
-    let is_kept = |item: &&str| !names.contains(&&called(item)[..]);
+    let is_kept = |item: &&str| !item.is_empty() && !names.contains(&&called(item)[..]);
     let items: Vec<&str> = items.split(',').map(str::trim).filter(is_kept).collect();
     match items.is_empty() {
         true => String::new(),
@@ -56,8 +56,8 @@ mod tests {
 
     #[test]
     fn what_is_not_used_goes() {
-        let text = "use a.{x, y as z, w}\nuse b as c\nghost use d.{e};\nx w\n";
-        let unused = [(1, "z"), (2, "c"), (3, "e")];
+        let text = "use a.{x, y as z, w}\nuse b as c\nghost use d.{e};\nuse f.g.{}\nx w\n";
+        let unused = [(1, "z"), (2, "c"), (3, "e"), (4, "f.g")];
         assert_eq!(without(text, &unused), "use a.{x, w}\nx w\n");
     }
 }

@@ -10,7 +10,8 @@ use lib.IntN.{ℤ}
 use lib.ListN.{length, getD, take}
 use lib.Seq.{length-take-le}
 use borrow.Author.Tests.{eq-eqb, ne-eqb}
-use Rattle.kinds.specs.Kinds.{groupCode, givesValues}
+use Rattle.kinds.specs.Kinds.{groupCode}
+use Rattle.kinds.specs.Plans.{givesValues}
 use Rattle.kinds.proofs.Plans.{group-gives, value-gives, gives-cases}
 use Rattle.cells.specs.Table.{kind, isDefinition}
 use Rattle.cells.specs.Accepted.{Accepted}

@@ -6,7 +6,8 @@ use mathlib.Core.List.{[], _∷_}
 use Prim.Native.Nat.{ℕ}
 use borrow.Author.Tests.{eqb-true}
 use lib.Dec.{eqb}
-use Rattle.kinds.specs.Kinds.{groupCode, valueCode, numberCode, Kind, kinds, kindAt, isDefinition, operandA, takes, clauseOf, givesValues}
+use Rattle.kinds.specs.Kinds.{groupCode, valueCode, numberCode, Kind, kinds, kindAt, isDefinition, operandA, takes, clauseOf}
+use Rattle.kinds.specs.Plans.{givesValues}
 use Rattle.kinds.proofs.Rows.{by-rule}
 use Rattle.kinds.proofs.Laws.{defines}
 use Rattle.kinds.proofs.Clauses.{a-uses}

@@ -153,10 +153,6 @@ wantedBy c = kindAt c .wanted
 unfoldable pub takes : ℕ → ℕ
 takes c = kindAt c .takes
 
--- what has values in a plan: "F gives nothing", since its body is given an argument
-unfoldable pub givesValues : ℕ → Bool
-givesValues c = isDefinition c && eqb (takes c) 0
-
 abbrev pub placeIn : Clause → ℕ
 placeIn clause.None = 0
 placeIn clause.Number = 0

@@ -2,7 +2,8 @@
 
 ghost use mathlib.Core.Path.{_≡_};
 ghost use mathlib.Core.Bool.{true};
-ghost use Rattle.kinds.specs.Kinds.{fieldsAt, codeOf, isKind, isDefinition, isExpression, hasPath, clauseOf, wantedBy, takes, placeOf, givesValues};
+ghost use Rattle.kinds.specs.Kinds.{fieldsAt, codeOf, isKind, isDefinition, isExpression, hasPath, clauseOf, wantedBy, takes, placeOf};
+ghost use Rattle.kinds.specs.Plans.{givesValues};
 
 // ---- what a row holds
 

@@ -19,7 +19,8 @@ use Rattle.text.proofs.Slices.{take-slice, drop-slice}
 use Rattle.text.proofs.Cuts.{cut-more, cut-last}
 use Rattle.paths.specs.Names.{nameOf, isNamed, member}
 use Rattle.cells.specs.Lists.{orIfZero}
-use Rattle.paths.specs.Paths.{settled, headFrom, descended, namesOf, headOf, headCell, targetBy, duplicateBad, wrongTarget}
+use Rattle.paths.specs.Paths.{settled, headFrom, descended, namesOf, headOf, duplicateBad}
+use Rattle.paths.specs.Steps.{headCell, targetBy, wrongTarget}
 use Rattle.paths.specs.Buckets.{notDot, lastBelow}
 use Rattle.refusals.specs.Rows.{duplicateRow}
 use Rattle.paths.proofs.FirstLabel.{first-high}

@@ -7,7 +7,7 @@ use lib.IntN.{ℤ}
 use lib.ListN.{drop}
 use Rattle.kinds.specs.Kinds.{groupCode, wantedBy}
 use Rattle.cells.specs.Lists.{orIfZero}
-use Rattle.cells.specs.Table.{kind, owner, target, isDefinition, hasPath}
+use Rattle.cells.specs.Table.{kind, owner, isDefinition, hasPath}
 use Rattle.refusals.specs.Rows.{duplicateRow, headRow, laterRow, targetRow}
 use Rattle.refusals.specs.Refusal.{firstBad, orElse}
 use Rattle.refusals.specs.declared.Verdict.{Verdict}
@@ -75,15 +75,3 @@ pathsBad s t n = orElse (firstBad (duplicateBad s t) 1 n) (headRows s t n)
 -- the cell target: of an R or C where its path ends, of any other line 0
 abbrev pub targetCell : List ℕ → List ℤ → ℕ → ℕ → ℕ
 targetCell s t n x = cond (hasPath t x) (targetOf s t n x) 0
-
--- the same for the head, which the cell holds between rows 13 and 14
-abbrev pub headCell : List ℕ → List ℤ → ℕ → ℕ → ℕ
-headCell s t n x = cond (hasPath t x) (headOf s t n x) 0
-
--- the target from a head
-abbrev pub targetBy : List ℕ → List ℤ → ℕ → ℕ → ℕ → ℕ
-targetBy s t n x head = cond (hasPath t x) (descended s t n head (drop 1 (namesOf s t x))) 0
-
--- row 15 by the target that the cell holds
-abbrev pub wrongTarget : List ℤ → ℕ → ℕ
-wrongTarget t x = cond (hasPath t x && not (eqb (kind t (target t x)) (wanted (kind t x)))) targetRow 0

@@ -16,7 +16,8 @@ ghost use Rattle.paths.specs.Names.{nameOf, sameName, isNamed};
 ghost use Rattle.paths.specs.Buckets.{notDot, Placed, Rows, comparedByte, hashOf, hashes};
 ghost use Rattle.paths.specs.Buckets.{startOf, Stretch, Allotted, countedAt, sumTo, Counted, bucketOf};
 ghost use Rattle.paths.specs.Buckets.{lastBelow, LinkedBelow, Linked, Fresh, firstIn, Walkable, walk};
-ghost use Rattle.paths.specs.Paths.{headFrom, descended, headCell, targetBy, targetCell, duplicateBad, pathHeadBad, laterBad, wrongTarget, laterRows, headRows, pathsBad};
+ghost use Rattle.paths.specs.Paths.{headFrom, descended, targetCell, duplicateBad, pathHeadBad, laterBad, laterRows, headRows, pathsBad};
+ghost use Rattle.paths.specs.Steps.{headCell, targetBy, wrongTarget};
 use refusals::Verdict;
 
 // A hash is below 2^32. The factor, odd and near 2^32 divided by the golden ratio, spreads names that differ in one byte over its high bits.

@@ -5,7 +5,8 @@ use native.Mathlib.Omega.{arith}
 use borrow.Author.Needs.{needs}
 use lib.ListN.{length}
 use mathlib.Core.Bool.{false}
-use Rattle.kinds.specs.Kinds.{groupCode, valueCode, givesValues}
+use Rattle.kinds.specs.Kinds.{groupCode, valueCode}
+use Rattle.kinds.specs.Plans.{givesValues}
 use Rattle.kinds.proofs.Plans.{group-gives, value-gives, gives-cases}
 use Rattle.cells.specs.Table.{kind}
 use Rattle.order.proofs.Tests.{clash}

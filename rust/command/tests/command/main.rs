@@ -3,7 +3,6 @@
 mod checks;
 mod helps;
 mod json;
-mod language;
 mod pages;
 mod pictures;
 mod random;

@@ -1,69 +1,192 @@
-//! What the pages show of the command is what it prints.
+//! The pages that people read: every sheet in them is a file, and every command
+//! in them is run and writes what the page says.
+//!
+//! A block that begins with ```` ```sheet NAME ```` or ```` ```formulas NAME ```` is a
+//! file of that name; in a block that begins with ```` ```console ```` a line after
+//! `$ ` is a command, and the lines below it are all that it writes; a block
+//! that begins with ```` ```c FILE ```` or ```` ```rust FILE ```` is that file of the
+//! repository. All blocks of a page share a folder in which `lindypo`, `run`
+//! and the folders that commands speak of stand.
 
+use std::fs;
+use std::os::unix::fs::{symlink, PermissionsExt};
+use std::path::{Path, PathBuf};
 use std::process::Command;
 
-use crate::{read_text, top};
+use crate::{read_text, sheets, top};
 
-const PAGES: [&str; 2] = ["README.md", "docs/FORMULAS.md"];
+/// The folders of the repository that commands speak of.
+const FOLDERS: [&str; 4] = ["sheets", "include", "examples", "target"];
 
-/// What a line begins with that is a command of ours, and what it stands for.
-const COMMANDS: [(&str, &str); 2] = [("$ ./lindypo ", "lindypo "), ("$ ./run ", "lindypo run ")];
-
-/// A command, and what a page shows of its output.
-type Shown<'a> = (String, Vec<&'a str>);
-
-/// The commands of ours in the blocks of a page.
-fn commands(page: &str) -> Vec<Shown<'_>> {
-    let mut shown: Vec<Shown> = vec![];
-    let (mut is_block, mut is_ours) = (false, false);
-    for line in page.lines() {
-        let command = COMMANDS.iter().find_map(|(start, word)| {
-            let words = line.strip_prefix(start)?;
-            Some(format!("{word}{words}"))
-        });
-        if line.starts_with("```") {
-            (is_block, is_ours) = (!is_block, false);
-        } else if line.starts_with("$ ") {
-            is_ours = is_block && command.is_some();
-            shown.extend(command.filter(|_| is_ours).map(|command| (command, vec![])));
-        } else if let Some((_, output)) = shown.last_mut().filter(|_| is_ours) {
-            output.push(line);
-        }
-    }
-    shown
+/// A block of a page between two fences, and the line on which it begins.
+#[derive(Debug, PartialEq)]
+struct Block<'a> {
+    line: usize,
+    /// What stands behind the first fence.
+    kind: &'a str,
+    lines: Vec<&'a str>,
 }
 
-fn printed(command: &str) -> String {
-    let program = "lindypo() { \"$LINDYPO\" \"$@\"; }";
-    let output = Command::new("bash")
-        .args(["-c", &format!("{program}; {command}")])
-        .env("LINDYPO", env!("CARGO_BIN_EXE_lindypo"))
-        .current_dir(top())
-        .output()
-        .expect("a shell");
-    String::from_utf8_lossy(&output.stdout).into_owned()
-}
-
-#[test]
-fn pages_show_what_is_printed() {
-    for page in PAGES {
-        let text = read_text(page);
-        let shown = commands(&text);
-        assert!(!shown.is_empty(), "{page}");
-        for (command, wanted) in shown {
-            let printed = printed(&command);
-            let printed: Vec<&str> = printed.lines().collect();
-            assert_eq!(printed, wanted, "{page}: {command}");
-        }
+impl Block<'_> {
+    fn text(&self) -> String {
+        self.lines.iter().flat_map(|line| [line, "\n"]).collect()
     }
 }
 
+fn blocks(page: &str) -> Vec<Block<'_>> {
+    let (mut blocks, mut open): (Vec<Block>, Option<Block>) = (vec![], None);
+    for (line, text) in (1..).zip(page.lines()) {
+        match (text.strip_prefix("```"), &mut open) {
+            (Some(_), Some(_)) => blocks.extend(open.take()),
+            (Some(kind), None) => {
+                let lines = vec![];
+                open = Some(Block { line, kind, lines });
+            }
+            (None, Some(block)) => block.lines.push(text),
+            (None, None) => (),
+        }
+    }
+    assert!(open.is_none(), "a block that does not end");
+    blocks
+}
+
+/// A new folder for the blocks of a page; gone in the end.
+struct Folder(PathBuf);
+
+impl Folder {
+    fn new(name: &str) -> Self {
+        let folder = PathBuf::from(env!("CARGO_TARGET_TMPDIR")).join(name);
+        let _ = fs::remove_dir_all(&folder);
+        fs::create_dir_all(&folder).expect("a new folder");
+        for name in FOLDERS {
+            symlink(top().join(name), folder.join(name)).expect("a link");
+        }
+        for (name, words) in [("lindypo", ""), ("run", " run")] {
+            let program = env!("CARGO_BIN_EXE_lindypo");
+            let script = format!("#!/bin/sh\nexec '{program}'{words} \"$@\"\n");
+            let path = folder.join(name);
+            fs::write(&path, script).expect("a script");
+            fs::set_permissions(&path, fs::Permissions::from_mode(0o755)).expect("its mode");
+        }
+        Folder(folder)
+    }
+
+    /// What a command writes to its output and its error output.
+    fn run(&self, command: &str) -> String {
+        let shell = Command::new("bash")
+            .args(["-c", &format!("{{ {command}\n}} 2>&1 </dev/null")])
+            .current_dir(&self.0)
+            .env("PATH", path_with(&self.0))
+            .output()
+            .expect("a shell");
+        String::from_utf8_lossy(&shell.stdout).into_owned()
+    }
+}
+
+impl Drop for Folder {
+    fn drop(&mut self) {
+        let _ = fs::remove_dir_all(&self.0);
+    }
+}
+
+fn path_with(folder: &Path) -> String {
+    let path = std::env::var("PATH").unwrap_or_default();
+    format!("{}:{path}", folder.display())
+}
+
+/// Runs the commands of a block, each with the lines that it must write; says
+/// how many.
+fn replay(folder: &Folder, page: &str, block: &Block) -> usize {
+    let mut commands = 0;
+    let mut lines = (block.line + 1..).zip(&block.lines).peekable();
+    while let Some((number, line)) = lines.next() {
+        let command = line.strip_prefix("$ ");
+        let command = command.unwrap_or_else(|| panic!("{page}:{number}: no command"));
+        let mut wanted = String::new();
+        while let Some((_, line)) = lines.next_if(|(_, line)| !line.starts_with("$ ")) {
+            wanted += line;
+            wanted.push('\n');
+        }
+        let given = folder.run(command);
+        assert_eq!(given, wanted, "{page}:{number}: {command}");
+        commands += 1;
+    }
+    commands
+}
+
+/// Writes the files of a page and runs its commands, at least so many.
+#[track_caller]
+fn is_true(page: &str, least: usize) {
+    let text = read_text(page);
+    let folder = Folder::new(&page.replace('/', "-"));
+    let mut commands = 0;
+    for block in blocks(&text) {
+        match block.kind.split_whitespace().collect::<Vec<_>>()[..] {
+            ["sheet" | "formulas", name] => {
+                fs::write(folder.0.join(name), block.text()).expect("a file");
+            }
+            ["console"] => commands += replay(&folder, page, &block),
+            ["c" | "rust", file] => {
+                assert_eq!(block.text(), read_text(file), "{page}:{}", block.line);
+            }
+            _ => (),
+        }
+    }
+    assert!(commands >= least, "{page}: {commands} commands");
+}
+
 #[test]
-fn commands_of_a_page() {
-    let page = "$ ./run no\n```\n$ ./run a\nb\n$ cc x\ny\n```\n```\n$ ./lindypo check\n```\nz\n";
-    let wanted = [
-        ("lindypo run a".to_string(), vec!["b"]),
-        ("lindypo check".to_string(), vec![]),
-    ];
-    assert_eq!(commands(page), wanted);
+fn the_front_page() {
+    is_true("README.md", 2);
+}
+
+#[test]
+fn the_language() {
+    is_true("docs/LANGUAGE.md", 50);
+}
+
+#[test]
+fn the_bindings() {
+    is_true("docs/BINDINGS.md", 2);
+}
+
+#[test]
+fn blocks_of_a_page() {
+    let page = "a\n```sheet x\nb\n```\n$ c\n```\n$ d\ne\n```\n";
+    let block = |line, kind, lines: &[&'static str]| Block {
+        line,
+        kind,
+        lines: lines.to_vec(),
+    };
+    let wanted = [block(2, "sheet x", &["b"]), block(6, "", &["$ d", "e"])];
+    assert_eq!(blocks(page), wanted);
+}
+
+/// The refusals that have a heading in a page, by the number that it begins
+/// with.
+fn refusals_with_a_heading(page: &str) -> Vec<u32> {
+    let headings = page.lines().filter_map(|line| line.strip_prefix("### "));
+    let words = headings.flat_map(|heading| {
+        let (numbers, _) = heading.split_once(':').unwrap_or_default();
+        numbers.split(" and ").collect::<Vec<_>>()
+    });
+    words.filter_map(|word| word.parse().ok()).collect()
+}
+
+#[test]
+fn every_refusal_is_in_the_language() {
+    let numbers = refusals_with_a_heading(&read_text("docs/LANGUAGE.md"));
+    assert_eq!(numbers, (1..=18).collect::<Vec<_>>());
+}
+
+#[test]
+fn every_sheet_is_in_the_list() {
+    let list = read_text("sheets/README.md");
+    let rows: Vec<&str> = list.lines().filter(|line| line.starts_with('|')).collect();
+    for sheet in sheets() {
+        let name = sheet.file_stem().expect("a name").to_string_lossy();
+        let row = format!("| {name} |");
+        let count = rows.iter().filter(|line| line.starts_with(&row)).count();
+        assert_eq!(count, 1, "sheets/README.md: rows of {name}");
+    }
 }

@@ -182,11 +182,80 @@ fn every_refusal_is_in_the_language() {
 #[test]
 fn every_sheet_is_in_the_list() {
     let list = read_text("sheets/README.md");
-    let rows: Vec<&str> = list.lines().filter(|line| line.starts_with('|')).collect();
+    let rows: Vec<Vec<&str>> = list
+        .lines()
+        .map(|line| line.split(" | ").collect())
+        .collect();
     for sheet in sheets() {
         let name = sheet.file_stem().expect("a name").to_string_lossy();
-        let row = format!("| {name} |");
-        let count = rows.iter().filter(|line| line.starts_with(&row)).count();
-        assert_eq!(count, 1, "sheets/README.md: rows of {name}");
+        let first = format!("| {name}");
+        let rows: Vec<_> = rows.iter().filter(|row| row[0] == first).collect();
+        assert_eq!(rows.len(), 1, "sheets/README.md: rows of {name}");
+        if name.starts_with("refusal") {
+            let print = read_text(sheet.with_extension("print"));
+            assert_eq!(print, format!("refusal place\n{}\n", rows[0][1]), "{name}");
+        }
     }
+}
+
+/// The pages: those at the top, in `docs` and in `sheets`.
+fn pages() -> Vec<PathBuf> {
+    let files = ["", "docs", "sheets"].into_iter().flat_map(|folder| {
+        let files = fs::read_dir(top().join(folder)).expect("a folder");
+        files.map(move |file| Path::new(folder).join(file.expect("a file").file_name()))
+    });
+    let is_page = |file: &PathBuf| file.extension().is_some_and(|end| end == "md");
+    files.filter(is_page).collect()
+}
+
+/// The anchors of a page's headings: small letters and digits, a hyphen for each
+/// space.
+fn anchors(page: &str) -> Vec<String> {
+    let headings = page.lines().filter(|line| line.starts_with('#'));
+    let anchor = |heading: &str| {
+        let words = heading.trim_start_matches('#').trim().to_lowercase();
+        let is_kept = |c: &char| c.is_alphanumeric() || "-_ ".contains(*c);
+        words.replace(' ', "-").chars().filter(is_kept).collect()
+    };
+    headings.map(anchor).collect()
+}
+
+/// What the links of a page lead to, but for those that leave the repository.
+fn links(page: &str) -> Vec<&str> {
+    let ends = page.split("](").skip(1);
+    let links = ends.filter_map(|rest| Some(rest.split_once(')')?.0));
+    links.filter(|link| !link.contains("://")).collect()
+}
+
+/// Whether a link in a page leads to a file, and to a heading of it.
+fn leads(page: &Path, link: &str) -> bool {
+    let (file, anchor) = link.split_once('#').unwrap_or((link, ""));
+    let target = match (file, page.parent()) {
+        ("", _) => page.to_path_buf(),
+        (file, folder) => folder.unwrap_or(Path::new("")).join(file),
+    };
+    let has_anchor = || anchors(&read_text(&target)).contains(&anchor.to_string());
+    top().join(&target).exists() && (anchor.is_empty() || has_anchor())
+}
+
+#[test]
+fn links_lead_somewhere() {
+    let pages = pages();
+    assert!(pages.len() > 10, "{pages:?}");
+    for page in pages {
+        for link in links(&read_text(&page)) {
+            assert!(leads(&page, link), "{}: {link}", page.display());
+        }
+    }
+}
+
+#[test]
+fn a_link_that_leads_nowhere() {
+    let page = Path::new("docs/LANGUAGE.md");
+    assert!(leads(page, "../README.md#two-commands") && leads(page, "#paths"));
+    assert!(
+        !leads(page, "README.md") && !leads(page, "#path") && !leads(page, "../README.md#path")
+    );
+    assert_eq!(links("a [b](c) ![d](e#f) [g](https://h)"), ["c", "e#f"]);
+    assert_eq!(anchors("# A b\ntext\n## 1: the c"), ["a-b", "1-the-c"]);
 }

@@ -5,7 +5,7 @@
 //! file of that name; in a block that begins with ```` ```console ```` a line after
 //! `$ ` is a command, and the lines below it are all that it writes; a block
 //! that begins with ```` ```c FILE ```` or ```` ```rust FILE ```` is that file of the
-//! repository. All blocks of a page share a folder in which `lindypo`, `run`
+//! repository, and one that begins with ```` ```part FILE ```` is a part of it. All blocks of a page share a folder in which `lindypo`, `run`
 //! and the folders that commands speak of stand.
 
 use std::fs;
@@ -129,6 +129,10 @@ fn is_true(page: &str, least: usize) {
             ["c" | "rust", file] => {
                 assert_eq!(block.text(), read_text(file), "{page}:{}", block.line);
             }
+            ["part", file] => {
+                let is_part = read_text(file).contains(&block.text());
+                assert!(is_part, "{page}:{}: no part of {file}", block.line);
+            }
             _ => (),
         }
     }
@@ -148,6 +152,11 @@ fn the_language() {
 #[test]
 fn the_bindings() {
     is_true("docs/BINDINGS.md", 2);
+}
+
+#[test]
+fn how_to_change_it() {
+    is_true("CONTRIBUTING.md", 0);
 }
 
 #[test]

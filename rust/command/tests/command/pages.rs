@@ -8,12 +8,17 @@
 //! repository, and one that begins with ```` ```part FILE ```` is a part of it. All blocks of a page share a folder in which `lindypo`, `run`
 //! and the folders that commands speak of stand.
 
+use std::env;
 use std::fs;
 use std::os::unix::fs::{symlink, PermissionsExt};
 use std::path::{Path, PathBuf};
 use std::process::Command;
 
 use crate::{read_text, sheets, top};
+
+/// Where this is set, the tests write into the pages what their commands give,
+/// for somebody to read and commit.
+const REWRITE: &str = "LINDYPO_REWRITE_PAGES";
 
 /// The folders of the repository that commands speak of.
 const FOLDERS: [&str; 4] = ["sheets", "include", "examples", "target"];
@@ -90,42 +95,67 @@ impl Drop for Folder {
 }
 
 fn path_with(folder: &Path) -> String {
-    let path = std::env::var("PATH").unwrap_or_default();
+    let path = env::var("PATH").unwrap_or_default();
     format!("{}:{path}", folder.display())
 }
 
-/// Runs the commands of a block, each with the lines that it must write; says
-/// how many.
-fn replay(folder: &Folder, page: &str, block: &Block) -> usize {
-    let mut commands = 0;
-    let mut lines = (block.line + 1..).zip(&block.lines).peekable();
-    while let Some((number, line)) = lines.next() {
-        let command = line.strip_prefix("$ ");
-        let command = command.unwrap_or_else(|| panic!("{page}:{number}: no command"));
-        let mut wanted = String::new();
-        while let Some((_, line)) = lines.next_if(|(_, line)| !line.starts_with("$ ")) {
-            wanted += line;
-            wanted.push('\n');
-        }
-        let given = folder.run(command);
-        assert_eq!(given, wanted, "{page}:{number}: {command}");
-        commands += 1;
-    }
-    commands
+/// A command of a page, by its line, what it must write and what it writes.
+struct Ran<'a> {
+    line: usize,
+    command: &'a str,
+    wanted: Vec<&'a str>,
+    given: String,
 }
 
-/// Writes the files of a page and runs its commands, at least so many.
+/// Runs the commands of a block.
+fn run<'a>(folder: &Folder, page: &str, block: &Block<'a>) -> Vec<Ran<'a>> {
+    let mut ran = vec![];
+    let mut lines = (block.line + 1..).zip(&block.lines).peekable();
+    while let Some((line, text)) = lines.next() {
+        let command = text.strip_prefix("$ ");
+        let command = command.unwrap_or_else(|| panic!("{page}:{line}: no command"));
+        let mut wanted = vec![];
+        while let Some((_, text)) = lines.next_if(|(_, text)| !text.starts_with("$ ")) {
+            wanted.push(*text);
+        }
+        let given = folder.run(command);
+        ran.push(Ran {
+            line,
+            command,
+            wanted,
+            given,
+        });
+    }
+    ran
+}
+
+/// The page with what its commands write.
+fn rewritten(page: &str, ran: &[Ran]) -> String {
+    let mut lines: Vec<&str> = page.lines().collect();
+    for Ran {
+        line,
+        wanted,
+        given,
+        ..
+    } in ran.iter().rev()
+    {
+        lines.splice(*line..line + wanted.len(), given.lines());
+    }
+    lines.iter().flat_map(|line| [line, "\n"]).collect()
+}
+
+/// Writes the files of a page, runs its commands, at least so many, and compares.
 #[track_caller]
 fn is_true(page: &str, least: usize) {
     let text = read_text(page);
     let folder = Folder::new(&page.replace('/', "-"));
-    let mut commands = 0;
+    let mut ran = vec![];
     for block in blocks(&text) {
         match block.kind.split_whitespace().collect::<Vec<_>>()[..] {
             ["sheet" | "formulas", name] => {
                 fs::write(folder.0.join(name), block.text()).expect("a file");
             }
-            ["console"] => commands += replay(&folder, page, &block),
+            ["console"] => ran.extend(run(&folder, page, &block)),
             ["c" | "rust", file] => {
                 assert_eq!(block.text(), read_text(file), "{page}:{}", block.line);
             }
@@ -136,7 +166,17 @@ fn is_true(page: &str, least: usize) {
             _ => (),
         }
     }
-    assert!(commands >= least, "{page}: {commands} commands");
+    assert!(ran.len() >= least, "{page}: {} commands", ran.len());
+    if env::var_os(REWRITE).is_some() {
+        fs::write(top().join(page), rewritten(&text, &ran)).expect("a page");
+        return;
+    }
+    for ran in &ran {
+        let (line, command) = (ran.line, ran.command);
+        let given: Vec<&str> = ran.given.lines().collect();
+        let hint = format!("{REWRITE}=1 writes into the pages what commands give");
+        assert_eq!(given, ran.wanted, "{page}:{line}: {command}\n{hint}");
+    }
 }
 
 #[test]
@@ -169,6 +209,20 @@ fn blocks_of_a_page() {
     };
     let wanted = [block(2, "sheet x", &["b"]), block(6, "", &["$ d", "e"])];
     assert_eq!(blocks(page), wanted);
+}
+
+#[test]
+fn a_page_rewritten() {
+    let page = "```console\n$ a\nb\n$ c\n```\nd\n";
+    let ran = |line, command, wanted: &[&'static str], given: &str| Ran {
+        line,
+        command,
+        wanted: wanted.to_vec(),
+        given: given.to_string(),
+    };
+    let ran = [ran(2, "a", &["b"], "x\ny\n"), ran(4, "c", &[], "z\n")];
+    let wanted = "```console\n$ a\nx\ny\n$ c\nz\n```\nd\n";
+    assert_eq!(rewritten(page, &ran), wanted);
 }
 
 /// The refusals that have a heading in a page, by the number that it begins

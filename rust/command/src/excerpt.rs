@@ -1,6 +1,6 @@
 //! A refusal with the line of the text that it is about, the field marked.
 
-use lindypo::{Mark, Refusal};
+use lindypo::{Help, Mark, Refusal};
 
 use crate::output::Paint;
 use crate::rules;
@@ -13,44 +13,93 @@ const BEFORE: usize = 32;
 /// What stands for the rest of a line.
 const CUT: &str = "...";
 
-/// Why a text is refused, in words; `file` is what to call it.
+/// Why a text is refused, in words, with all places of it that this has to do
+/// with, and how to mend it; `file` is what to call the text.
 pub fn refused(text: &[u8], file: &str, refusal: &Refusal, paint: Paint) -> String {
     let (number, sentence) = (refusal.number(), refusal.sentence());
-    let margin = " ".repeat(refusal.line().unwrap_or(1).to_string().len());
-    let place = match refusal.mark() {
-        Some(mark) => excerpt(text, file, mark, &margin, paint),
-        None => format!("{margin}--> {file}{}\n", position(refusal)),
-    };
     let heading = paint.bad(&format!("refusal {number}"));
-    let rule = rules::of(number).rule;
-    format!("{heading}: {sentence}\n{place}{margin} = rule: {rule}\n")
+    let spots = spots(refusal);
+    let last = spots.iter().map(|spot| spot.mark.line).max().unwrap_or(1);
+    let margin = " ".repeat(last.to_string().len());
+    let place = place(file, refusal);
+    let excerpt = excerpt(text, &spots, &margin, paint);
+    let hints = refusal.help().iter().filter(|help| help.mark.is_none());
+    let hints = hints.map(|help| note(&margin, "help", &help.sentence, paint));
+    let hints: String = hints.collect();
+    let rule = note(&margin, "rule", rules::of(number).rule, paint);
+    format!("{heading}: {sentence}\n{margin}--> {place}\n{excerpt}{hints}{rule}")
 }
 
-/// Where an order is wrong.
-fn position(refusal: &Refusal) -> String {
-    match refusal {
-        Refusal::Listed(fault) | Refusal::Early(fault) => {
-            format!(", position {} of the order", fault.place)
+fn note(margin: &str, word: &str, sentence: &str, paint: Paint) -> String {
+    format!("{margin} = {}: {sentence}\n", paint.strong(word))
+}
+
+/// Where to look: in the file, or in the order.
+fn place(file: &str, refusal: &Refusal) -> String {
+    match (refusal, refusal.mark()) {
+        (Refusal::Listed(fault) | Refusal::Early(fault), _) => {
+            format!("{file}, position {} of the order", fault.place)
         }
-        _ => String::new(),
+        (_, Some(Mark { line, column, .. })) => {
+            let label = line.checked_sub(2).map(|above| above + 1);
+            let label = label.map_or(String::new(), |label| format!(" (label {label})"));
+            format!("{file}:{line}:{column}{label}")
+        }
+        _ => file.to_string(),
     }
 }
 
-/// The place in the file, and the line with the mark beneath.
-fn excerpt(text: &[u8], file: &str, mark: Mark, margin: &str, paint: Paint) -> String {
-    let Mark { line, column, .. } = mark;
-    let label = match line {
-        1 => String::new(),
-        _ => format!(" (label {})", line - 1),
-    };
-    let (shown, carets) = marked(line_of(text, line), mark);
-    let carets = paint.bad(&carets);
-    format!(
-        "{margin}--> {file}:{line}:{column}{label}\n\
-         {margin} |\n\
-         {line} | {shown}\n\
-         {margin} | {carets}\n"
-    )
+/// A part of the text that is marked, and what is said of it there.
+struct Spot<'a> {
+    mark: Mark,
+    /// Whether this is the place to mend, and no other that has to do with it.
+    is_place: bool,
+    words: &'a str,
+}
+
+/// All parts of the text that a refusal speaks of, from the top.
+fn spots(refusal: &Refusal) -> Vec<Spot<'_>> {
+    let place = refusal.mark().map(|mark| Spot {
+        mark,
+        is_place: true,
+        words: "",
+    });
+    let others = refusal.help().iter().filter_map(other_spot);
+    let mut spots: Vec<Spot> = others.chain(place).collect();
+    spots.sort_by_key(|spot| (spot.mark.line, spot.mark.column));
+    spots
+}
+
+fn other_spot(help: &Help) -> Option<Spot<'_>> {
+    Some(Spot {
+        mark: help.mark?,
+        is_place: false,
+        words: &help.sentence,
+    })
+}
+
+/// The lines of the text with their marks beneath.
+fn excerpt(text: &[u8], spots: &[Spot], margin: &str, paint: Paint) -> String {
+    let (mut excerpt, mut above) = (String::new(), None);
+    if !spots.is_empty() {
+        excerpt += &format!("{margin} |\n");
+    }
+    for spot in spots {
+        let line = spot.mark.line;
+        let (shown, spaces, width) = marked(line_of(text, line), spot.mark);
+        let shown = format!("{line:>width$} | {shown}\n", width = margin.len());
+        // a line stands once above all its marks, but where it is cut for each
+        if above.as_ref() != Some(&shown) {
+            excerpt += &shown;
+        }
+        above = Some(shown);
+        let signs = match spot.is_place {
+            true => paint.bad(&"^".repeat(width)),
+            false => format!("{} {}", "-".repeat(width), spot.words),
+        };
+        excerpt += &format!("{margin} | {}{signs}\n", " ".repeat(spaces));
+    }
+    excerpt
 }
 
 /// A line of the text, from 1.
@@ -59,8 +108,9 @@ fn line_of(text: &[u8], line: usize) -> &[u8] {
     lines.nth(line - 1).unwrap_or(b"")
 }
 
-/// The part of a line around the mark as it is shown, and the carets beneath.
-fn marked(line: &[u8], mark: Mark) -> (String, String) {
+/// The part of a line around the mark as it is shown, how far the mark is from
+/// its start, and how wide it is.
+fn marked(line: &[u8], mark: Mark) -> (String, usize, usize) {
     let start = mark.column - 1;
     let end = start + mark.width;
     let (first, last) = window(line.len(), start);
@@ -68,13 +118,13 @@ fn marked(line: &[u8], mark: Mark) -> (String, String) {
     let before = shown(&line[first..start.min(last)]);
     let within = shown(&line[start.min(last)..end.min(last)]);
     let after = shown(&line[end.min(last)..last]);
-    // a mark beyond the end of the line still has a caret
-    let carets = "^".repeat(within.chars().count().max(1));
-    let margin = " ".repeat(left.len() + before.chars().count());
-    let beyond = if end > last { right } else { "" };
+    let beyond = if end > last { right.len() } else { 0 };
+    // a mark beyond the end of the line still has a sign
+    let width = within.chars().count().max(1) + beyond;
     (
         format!("{left}{before}{within}{after}{right}"),
-        format!("{margin}{carets}{beyond}"),
+        left.len() + before.chars().count(),
+        width,
     )
 }
 
@@ -108,7 +158,8 @@ mod tests {
 
     #[track_caller]
     fn shows(line: &[u8], mark: Mark, wanted: [&str; 2]) {
-        let (line, carets) = marked(line, mark);
+        let (line, spaces, width) = marked(line, mark);
+        let carets = " ".repeat(spaces) + &"^".repeat(width);
         assert_eq!([line.as_str(), carets.as_str()], wanted);
     }
 
@@ -149,7 +200,7 @@ mod tests {
     #[test]
     fn a_long_mark_is_cut_with_its_line() {
         let line = b"a".repeat(200);
-        let (shown, carets) = ("a".repeat(96) + "...", "^".repeat(96) + "...");
+        let (shown, carets) = ("a".repeat(96) + "...", "^".repeat(99));
         shows(&line, mark(1, 200), [&shown, &carets]);
     }
 

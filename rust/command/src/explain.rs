@@ -63,8 +63,11 @@ outermost Group      1       1-3                 Group
 refusal 14: the Group `right` has no member `prism`
  --> sheets/refusal-14-later-name-not-found.sheet:7:9 (label 6)
   |
+4 | V prism 1 5 -
+  |   ----- `prism` is in the outermost Group: write `prism`
 7 | R right.prism - - -
   |         ^^^^^
+  = help: the Group `right` has no members
   = rule: each later name of a path is a member of the Group that the names before it lead to
 ",
         },

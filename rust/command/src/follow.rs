@@ -45,8 +45,12 @@ position  label  name          number  steps  state     formula
             words: "follow --order 4,5,2 sheets/01-example.sheet",
             print: "\
 refusal 18: `right.prism` reaches `right.sphere`, which is not listed earlier
- --> sheets/01-example.sheet, position 1 of the order
-  = rule: an order lists a value after all that it reaches
+  --> sheets/01-example.sheet, position 1 of the order
+   |
+12 | R sphere - - -
+   |   ------ `right.prism` reads `right.sphere`
+   = help: put `right.sphere` (label 5), now at position 2, before position 1
+   = rule: an order lists a value after all that it reaches
 ",
         },
     ],

@@ -3,11 +3,11 @@
 
 use std::ffi::OsString;
 
-use lindypo::{Refusal, Run, Sheet};
+use lindypo::{Help, Mark, Refusal, Run, Sheet};
 
 use crate::excerpt;
 use crate::input::{self, Source};
-use crate::json::Object;
+use crate::json::{Json, Object};
 use crate::options::Call;
 use crate::output::{Output, Paint};
 use crate::rules;
@@ -49,7 +49,7 @@ pub type Asked<'a> = Result<Box<dyn Answer + 'a>, Stop>;
 pub type Ask<'f> = &'f dyn for<'a> Fn(&'a Text) -> Asked<'a>;
 
 /// The JSON of every sheet.
-pub const FIELDS: [Field; 11] = [
+pub const FIELDS: [Field; 16] = [
     (
         "file",
         "the file as the command line names it, - for standard input",
@@ -63,7 +63,7 @@ pub const FIELDS: [Field; 11] = [
     ("refusal.number", "the number of the refusal, 1 to 18"),
     (
         "refusal.place",
-        "a label; 0 for the whole text (1 to 3); a position in the order (17, 18)",
+        "a label, 0 for the text as a whole, a position in the order (17, 18)",
     ),
     ("refusal.line", "the line to look at, from 1"),
     (
@@ -72,6 +72,14 @@ pub const FIELDS: [Field; 11] = [
     ),
     ("refusal.width", "how many columns"),
     ("refusal.sentence", "what is wrong"),
+    (
+        "refusal.help",
+        "how to mend it, and other places that it has to do with:",
+    ),
+    ("refusal.help.sentence", "a hint, or what is at that place"),
+    ("refusal.help.line", "the place, as above"),
+    ("refusal.help.column", ""),
+    ("refusal.help.width", ""),
     ("refusal.rule", "the rule that it breaks"),
 ];
 
@@ -164,15 +172,28 @@ impl Answer for Refused<'_> {
 }
 
 pub fn refusal_object(refusal: &Refusal) -> Object {
-    let mark = refusal.mark();
     Object::new()
         .with("number", refusal.number())
         .with("place", refusal.place())
+        .and(mark_object(refusal.mark()))
+        .with("sentence", refusal.sentence())
+        .with(
+            "help",
+            refusal.help().iter().map(help_object).collect::<Json>(),
+        )
+        .with("rule", rules::of(refusal.number()).rule)
+}
+
+fn help_object(help: &Help) -> Object {
+    mark_object(help.mark).with("sentence", help.sentence.as_str())
+}
+
+/// Nothing where no part of the text is marked.
+fn mark_object(mark: Option<Mark>) -> Object {
+    Object::new()
         .with_some("line", mark.map(|mark| mark.line))
         .with_some("column", mark.map(|mark| mark.column))
         .with_some("width", mark.map(|mark| mark.width))
-        .with("sentence", refusal.sentence())
-        .with("rule", rules::of(refusal.number()).rule)
 }
 
 /// A sheet, read and run.

@@ -28,7 +28,7 @@ pub const NAME_FIELDS: [Field; 4] = [
 pub const OUTCOME_FIELDS: [Field; 4] = [
     (
         "values.state",
-        "1 a number, 2 out of range, 3 a zero divisor, 4 out of steps, 5 too deep",
+        "1 a number, 2 out of range, 3 a zero divisor, 4 no steps left, 5 too deep",
     ),
     ("values.number", "the number, in state 1"),
     (

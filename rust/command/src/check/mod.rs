@@ -8,7 +8,7 @@ mod report;
 mod summary;
 mod verdict;
 
-use crate::options::Call;
+use crate::options::{Call, Opt};
 use crate::output::Output;
 use crate::sheets;
 use crate::status::Status;
@@ -30,7 +30,11 @@ is wrong; a value without a number is a line FILE:LINE:COLUMN: value NAME: why. 
 A folder stands for its files that end in .sheet; its other files are named as not taken, and a
 folder without a sheet is an error.
 ",
-    options: &[],
+    options: &[Opt {
+        name: ALL,
+        value: None,
+        meaning: "a line for every fault of a refused sheet, not for the first alone",
+    }],
     examples: &[Example {
         words:
             "check sheets/01-example.sheet sheets/06-endless-calls.sheet sheets/09-used-twice.sheet",
@@ -54,11 +58,15 @@ steps                              139
     call,
 };
 
+const ALL: &str = "--all";
+
 fn call(call: &Call, out: &mut Output) -> Result<Status, String> {
     let items = files::items(&call.operands, call.has_input)?;
     let mut progress = Progress::new(items.len());
     let mut report = Report::new(call.wants_json());
-    cores::in_sequence(&items, Verdict::of, |item, verdict| {
+    let all = call.is_set(ALL);
+    let judge = |item: &Item| Verdict::of(item, all);
+    cores::in_sequence(&items, judge, |item, verdict| {
         report.add(item, &verdict, out);
         progress.advance();
     });

@@ -14,7 +14,11 @@ use crate::values;
 use crate::words::Field;
 
 /// The JSON of a checked file, and of the summary, which is the last line.
-pub const FIELDS: [Field; 21] = [
+pub const FIELDS: [Field; 22] = [
+    (
+        "faults",
+        "with --all: every fault of the sheet, with the fields of a refusal",
+    ),
     ("order", "whole or mixed"),
     ("count", "how many values the sheet has"),
     ("failed", "its values without a number:"),
@@ -120,7 +124,13 @@ fn lines(file: &str, verdict: &Verdict, paint: Paint) -> String {
                 .map(|failed| failed_line(file, failed, paint))
                 .collect()
         }
-        Verdict::Refused(refusal) => refusal_line(file, refusal, paint),
+        Verdict::Refused(refusal, faults) => {
+            let faults = faults.as_deref().unwrap_or(std::slice::from_ref(refusal));
+            let faults = faults.iter();
+            faults
+                .map(|fault| refusal_line(file, fault, paint))
+                .collect()
+        }
         Verdict::Skipped(reason) => format!("{file}: not taken: {reason}\n"),
         Verdict::Unreadable(_) => String::new(),
     }
@@ -151,7 +161,12 @@ fn object(source: &Source, verdict: &Verdict) -> Object {
                 "failed",
                 figures.failed.iter().map(failed_object).collect::<Json>(),
             ),
-        Verdict::Refused(refusal) => object.with("refusal", sheets::refusal_object(refusal)),
+        Verdict::Refused(refusal, faults) => {
+            let all = |faults: &Vec<_>| faults.iter().map(sheets::refusal_object).collect::<Json>();
+            object
+                .with("refusal", sheets::refusal_object(refusal))
+                .with_some("faults", faults.as_ref().map(all))
+        }
         Verdict::Skipped(reason) => object.with("skipped", *reason),
         Verdict::Unreadable(reason) => object.with("error", reason.as_str()),
     }

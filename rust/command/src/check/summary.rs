@@ -34,7 +34,7 @@ impl Summary {
     pub fn add(&mut self, file: &str, verdict: &Verdict) {
         match verdict {
             Verdict::Answered(figures) => self.add_figures(figures),
-            Verdict::Refused(refusal) => {
+            Verdict::Refused(refusal, _) => {
                 let refused = &mut self.refused[refusal.number() as usize - 1];
                 refused.count += 1;
                 refused.example.get_or_insert(file.to_string());

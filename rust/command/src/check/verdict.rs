@@ -10,7 +10,9 @@ use crate::values::{self, Value};
 #[derive(Debug, Clone, PartialEq, Eq)]
 pub enum Verdict {
     Answered(Figures),
-    Refused(Refusal),
+    /// The refusal; where they are asked for, all faults, of which it is the
+    /// first.
+    Refused(Refusal, Option<Vec<Refusal>>),
     /// Why the file cannot be read.
     Unreadable(String),
     /// Why the file is not taken.
@@ -38,10 +40,11 @@ pub struct Failed {
 }
 
 impl Verdict {
-    pub fn of(item: &Item) -> Self {
+    /// `all` asks for every fault.
+    pub fn of(item: &Item, all: bool) -> Self {
         match item {
             Item::Checked(source) => match source.read() {
-                Ok(text) => Verdict::of_text(&text),
+                Ok(text) => Verdict::of_text(&text, all),
                 Err(reason) => Verdict::Unreadable(reason),
             },
             Item::Skipped(_, reason) => Verdict::Skipped(reason),
@@ -49,20 +52,20 @@ impl Verdict {
         }
     }
 
-    pub fn of_text(text: &[u8]) -> Self {
+    pub fn of_text(text: &[u8], all: bool) -> Self {
         match sheets::ran(text) {
             Ok((sheet, run)) => {
                 let values = values::of_run(&sheet, &run);
                 Verdict::Answered(Figures::new(&sheet, run.plan.order, values))
             }
-            Err(refusal) => Verdict::Refused(refusal),
+            Err(refusal) => Verdict::Refused(refusal, all.then(|| lindypo::faults(text))),
         }
     }
 
     pub fn status(&self) -> Status {
         match self {
             Verdict::Answered(figures) if figures.failed.is_empty() => Status::Answered,
-            Verdict::Answered(_) | Verdict::Refused(_) => Status::Failed,
+            Verdict::Answered(_) | Verdict::Refused(..) => Status::Failed,
             Verdict::Unreadable(_) => Status::Unreadable,
             Verdict::Skipped(_) => Status::Answered,
         }

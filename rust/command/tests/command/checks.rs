@@ -29,11 +29,11 @@ fn the_sheets_come_to_their_prints() {
     let mut summary = Summary::default();
     let mut wanted = [0; 5];
     for sheet in sheets() {
-        let verdict = Verdict::of_text(&read(&sheet));
+        let verdict = Verdict::of_text(&read(&sheet), false);
         let (states, refusal) = printed(&sheet);
         match &verdict {
             Verdict::Answered(figures) => assert_eq!((figures.states, None), (states, refusal)),
-            Verdict::Refused(found) => assert_eq!(Some(found.number()), refusal),
+            Verdict::Refused(found, _) => assert_eq!(Some(found.number()), refusal),
             _ => panic!("{}", sheet.display()),
         }
         summary.add("x", &verdict);
@@ -64,7 +64,7 @@ fn a_folder_stands_for_its_sheets() {
 #[test]
 fn failed_values_have_a_place() {
     let text: PathBuf = "sheets/06-endless-calls.sheet".into();
-    let Verdict::Answered(figures) = Verdict::of_text(&read(text)) else {
+    let Verdict::Answered(figures) = Verdict::of_text(&read(text), false) else {
         panic!("an answer");
     };
     let [failed] = &figures.failed[..] else {

@@ -102,7 +102,7 @@ fn random_refusals() {
                 words.starts_with("refusal ") && words.ends_with('\n'),
                 "{words}"
             );
-            let is_seen = |letter: char| letter == '\n' || (' '..='~').contains(&letter);
+            let is_seen = |letter: char| letter == '\n' || !letter.is_control();
             assert!(words.chars().all(is_seen), "seed {seed}: {words:?}");
             refused += 1;
         }

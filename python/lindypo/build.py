@@ -294,7 +294,7 @@ def _wrong_form(expression):
     """What is wrong with a number or path."""
     kind, content = expression._kind, expression._content
     if kind is Kind.NUMBER and abs(content) > NUMBER_MOST:
-        written = f"`{content}`" if abs(content) < 2**63 else "what is beyond 64 bits"
+        written = f"`{content}`" if -(2**63) <= content < 2**63 else "what is beyond 64 bits"
         return (
             f"{written} is not a whole number: -{NUMBER_MOST} to {NUMBER_MOST}, "
             "with no leading zero, plus sign or `-0`"

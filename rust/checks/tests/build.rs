@@ -95,7 +95,7 @@ fn names_and_paths() {
 
 #[test]
 fn numbers() {
-    let form = "a number: -1000000000 to 1000000000, with no leading zero, plus sign or `-0`";
+    let form = "a whole number: -1000000000 to 1000000000, with no leading zero, plus sign or `-0`";
     for number in [1_000_000_001, -1_000_000_001, i64::MIN, i64::MAX] {
         says(
             &value("v", number),
@@ -138,7 +138,8 @@ fn lines_and_bytes() {
     says(
         &group,
         3,
-        "the sheet would have 1025 lines; at most 1024 are allowed",
+        "the sheet would have 1025 lines, one for the outermost Group, 512 for definitions \
+         and 512 for expressions; at most 1024 are allowed",
     );
     let path = ["abcdefghijklmnop"; 8].join(".");
     let mut group = Group::new();
@@ -158,21 +159,23 @@ fn lines_and_bytes() {
 /// Nothing is too large to be built, copied, judged and dropped.
 #[test]
 fn large_trees() {
-    let lines = |group: &Group| group.clone().text().expect_err("a mistake").to_string();
-    let words =
-        |count: usize| format!("the sheet would have {count} lines; at most 1024 are allowed");
-    assert_eq!(lines(&value("v", deeper(500_000))), words(1_000_001));
+    let lines = |group: &Group| {
+        let words = group.clone().text().expect_err("a mistake").to_string();
+        let count = words.split(' ').nth(4).map(str::to_string);
+        count.expect("how many lines the sheet would have")
+    };
+    assert_eq!(lines(&value("v", deeper(500_000))), "1000001");
     let nested = (0..500_000).fold(Group::new(), |inner, _| {
         let mut outer = Group::new();
         outer.group("g", inner);
         outer
     });
-    assert_eq!(lines(&nested), words(500_001));
+    assert_eq!(lines(&nested), "500001");
     let mut flat = Group::new();
     for _ in 0..500_000 {
         flat.function("f", argument());
     }
-    assert_eq!(lines(&flat), words(1_000_001));
+    assert_eq!(lines(&flat), "1000001");
 }
 
 /// Random trees with at most one fault, which is of a known row.

@@ -26,10 +26,7 @@ fn places(faults: &[Refusal]) -> Vec<(u64, u64)> {
 fn is_proper(text: &[u8], faults: &[Refusal]) {
     assert_eq!(faults.first(), verdict(text).as_ref());
     for fault in faults {
-        let helps = fault.help().iter().filter_map(|help| help.mark);
-        for mark in fault.mark().into_iter().chain(helps) {
-            is_in_text(text, mark, fault);
-        }
+        is_in_text(text, fault);
     }
     // refusals 5 to 7 are one pass
     let stage = |fault: &Refusal| match fault.number() {

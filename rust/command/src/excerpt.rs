@@ -1,5 +1,7 @@
 //! A refusal with the line of the text that it is about, the field marked.
 
+use std::str::Utf8Chunk;
+
 use lindypo::{Help, Mark, Refusal};
 
 use crate::output::Paint;
@@ -18,16 +20,32 @@ const CUT: &str = "...";
 pub fn refused(text: &[u8], file: &str, refusal: &Refusal, paint: Paint) -> String {
     let (number, sentence) = (refusal.number(), refusal.sentence());
     let heading = paint.bad(&format!("refusal {number}"));
-    let spots = spots(refusal);
+    let place = place(file, refusal);
+    let (mark, help, rule) = (refusal.mark(), refusal.help(), rules::of(number).rule);
+    let (margin, places) = places(text, mark, help, Some(rule), paint);
+    format!("{heading}: {sentence}\n{margin}--> {place}\n{places}")
+}
+
+/// As much room as the numbers of the lines take; these lines with all that is
+/// to be seen in them, the hints and the rule.
+pub fn places(
+    text: &[u8],
+    mark: Option<Mark>,
+    help: &[Help],
+    rule: Option<&str>,
+    paint: Paint,
+) -> (String, String) {
+    let spots = spots(mark, help);
     let last = spots.iter().map(|spot| spot.mark.line).max().unwrap_or(1);
     let margin = " ".repeat(last.to_string().len());
-    let place = place(file, refusal);
-    let excerpt = excerpt(text, &spots, &margin, paint);
-    let hints = refusal.help().iter().filter(|help| help.mark.is_none());
-    let hints = hints.map(|help| note(&margin, "help", &help.sentence, paint));
-    let hints: String = hints.collect();
-    let rule = note(&margin, "rule", rules::of(number).rule, paint);
-    format!("{heading}: {sentence}\n{margin}--> {place}\n{excerpt}{hints}{rule}")
+    let mut places = excerpt(text, &spots, &margin, paint);
+    for help in help.iter().filter(|help| help.mark.is_none()) {
+        places += &note(&margin, "help", &help.sentence, paint);
+    }
+    if let Some(rule) = rule {
+        places += &note(&margin, "rule", rule, paint);
+    }
+    (margin, places)
 }
 
 fn note(margin: &str, word: &str, sentence: &str, paint: Paint) -> String {
@@ -57,14 +75,14 @@ struct Spot<'a> {
     words: &'a str,
 }
 
-/// All parts of the text that a refusal speaks of, from the top.
-fn spots(refusal: &Refusal) -> Vec<Spot<'_>> {
-    let place = refusal.mark().map(|mark| Spot {
+/// The place to mend and all others, from the top.
+fn spots(mark: Option<Mark>, help: &[Help]) -> Vec<Spot<'_>> {
+    let place = mark.map(|mark| Spot {
         mark,
         is_place: true,
         words: "",
     });
-    let others = refusal.help().iter().filter_map(other_spot);
+    let others = help.iter().filter_map(other_spot);
     let mut spots: Vec<Spot> = others.chain(place).collect();
     spots.sort_by_key(|spot| (spot.mark.line, spot.mark.column));
     spots
@@ -135,13 +153,28 @@ fn window(length: usize, start: usize) -> (usize, usize) {
     (first, length.min(first + SHOWN))
 }
 
-/// Bytes as they are, those that cannot be seen as numbers: `<9>`.
+/// Letters as they are, bytes that cannot be seen as numbers: `<9>`.
 fn shown(bytes: &[u8]) -> String {
-    let show = |&byte: &u8| match byte {
-        32..=126 => char::from(byte).to_string(),
-        _ => format!("<{byte}>"),
+    let letter = |letter: char| match is_seen(letter) {
+        true => letter.to_string(),
+        false => numbers(letter.encode_utf8(&mut [0; 4]).as_bytes()),
     };
-    bytes.iter().map(show).collect()
+    let chunk = |chunk: Utf8Chunk| {
+        let letters: String = chunk.valid().chars().map(letter).collect();
+        letters + &numbers(chunk.invalid())
+    };
+    bytes.utf8_chunks().map(chunk).collect()
+}
+
+/// All but what would move the text: controls, marks that turn or join letters,
+/// spaces other than the plain one.
+fn is_seen(letter: char) -> bool {
+    let is_escaped = letter.escape_debug().count() > 1 && !letter.is_ascii_graphic();
+    letter == ' ' || !letter.is_whitespace() && !is_escaped
+}
+
+fn numbers(bytes: &[u8]) -> String {
+    bytes.iter().map(|byte| format!("<{byte}>")).collect()
 }
 
 #[cfg(test)]
@@ -182,6 +215,18 @@ mod tests {
     fn bytes_that_cannot_be_seen_are_numbers() {
         shows(b"V\tx\xc3 1", mark(2, 1), ["V<9>x<195> 1", " ^^^"]);
         shows(b"V\tx\xc3 1", mark(4, 1), ["V<9>x<195> 1", "     ^^^^^"]);
+        let turned = "V \u{202e}x";
+        shows(
+            turned.as_bytes(),
+            mark(6, 1),
+            ["V <226><128><174>x", "                 ^"],
+        );
+    }
+
+    #[test]
+    fn letters_outside_ascii_are_shown() {
+        shows("V café 1".as_bytes(), mark(6, 2), ["V café 1", "     ^"]);
+        shows("V a\"'\\ 1".as_bytes(), mark(1, 1), ["V a\"'\\ 1", "^"]);
     }
 
     #[test]

@@ -4,12 +4,13 @@ use std::ffi::OsStr;
 
 use lindypo::{Refusal, Run, Sheet};
 
+use crate::document::{self, Document, Maker};
 use crate::input::Source;
 use crate::json::Object;
 use crate::options::{Call, Opt};
 use crate::outline;
-use crate::output::{self, Output, Paint};
-use crate::sheets::{self, Answer, Asked, Stop, Text};
+use crate::output::{Output, Paint};
+use crate::sheets::{self, Answer, Asked, Text};
 use crate::status::Status;
 use crate::svg;
 use crate::tree::Node;
@@ -37,11 +38,7 @@ has them whole.
             value: Some("PICTURE"),
             meaning: "a picture of one sheet in the file PICTURE; - is standard output",
         },
-        Opt {
-            name: FORCE,
-            value: None,
-            meaning: "write over PICTURE where it is there already",
-        },
+        document::FORCED,
     ],
     examples: &[
         Example {
@@ -78,14 +75,12 @@ refusal 14: the Group `right` has no member `prism`
 
 const LIST: &str = "--list";
 const SVG: &str = "--svg";
-const FORCE: &str = "--force";
 
 fn call(call: &Call, out: &mut Output) -> Result<Status, String> {
-    let (is_list, force) = (call.is_set(LIST), call.is_set(FORCE));
+    let is_list = call.is_set(LIST);
     match call.value(SVG) {
-        Some(_) if call.operands.len() > 1 => Err(format!("{SVG} draws one sheet")),
         Some(_) if is_list || call.wants_json() => Err(format!("{SVG} draws, and writes no words")),
-        Some(file) => sheets::each(&call.operands, call, out, &|text| draw(text, file, force)),
+        Some(file) => draw(file, call, out),
         None => sheets::each(&call.operands, call, out, &|text| ask(text, is_list)),
     }
 }
@@ -141,35 +136,20 @@ pub fn picture(text: &[u8], caption: &str) -> Result<(String, Status), Refusal> 
     Ok((svg, values::status(&values::of_run(&sheet, &run))))
 }
 
-/// Draws a sheet into a file, or says the picture itself.
-fn draw<'a>(text: &'a Text, file: &OsStr, force: bool) -> Asked<'a> {
-    let (svg, status) = picture(&text.bytes, &text.source.file_name())?;
-    let svg = match Source::of(file) {
-        Source::Input => svg,
-        Source::File(path) => {
-            output::write_file(&path, svg.as_bytes(), force).map_err(Stop::Wrong)?;
-            String::new()
-        }
+/// Draws the one sheet that the words name into a file.
+fn draw(file: &OsStr, call: &Call, out: &mut Output) -> Result<Status, String> {
+    let make = |text: &[u8], source: &Source| {
+        let drawn = picture(text, &source.file_name());
+        let (svg, status) = drawn.map_err(|refusal| document::refused(text, source, &refusal))?;
+        Ok(Document {
+            text: svg.into_bytes(),
+            status,
+            fields: Object::new(),
+        })
     };
-    Ok(Box::new(Drawn { svg, status }))
-}
-
-/// What is left to print of a picture.
-struct Drawn {
-    svg: String,
-    status: Status,
-}
-
-impl Answer for Drawn {
-    fn status(&self) -> Status {
-        self.status
-    }
-
-    fn text(&self, _: Paint) -> String {
-        self.svg.clone()
-    }
-
-    fn fields(&self) -> Object {
-        Object::new()
-    }
+    let maker = Maker {
+        read: Source::read,
+        make: &make,
+    };
+    document::one_to(file, call, out, maker)
 }

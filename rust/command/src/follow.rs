@@ -7,6 +7,7 @@ use lindypo::{Label, Refusal, Sheet};
 
 use crate::input::{self, Source};
 use crate::json::Object;
+use crate::labels;
 use crate::options::{Call, Opt};
 use crate::output::{Output, Paint};
 use crate::sheets::{self, Answer, Asked, Text};
@@ -103,21 +104,13 @@ fn ask<'a>(text: &'a Text, list: &[String]) -> Asked<'a> {
     // 0 is no label: the library then refuses the list at this position
     let labels = list
         .iter()
-        .map(|entry| label_of(&sheet, entry).unwrap_or(0));
+        .map(|entry| labels::of(&sheet, entry).unwrap_or(0));
     let labels: Vec<Label> = labels.collect();
     let results = sheet
         .follow(&labels)
         .map_err(|refusal| named(refusal, list, &labels))?;
     let values = values::listed(&sheet, &labels, &results);
     Ok(Box::new(Followed { sheet, values }))
-}
-
-/// A label as it stands, or that of a full name.
-fn label_of(sheet: &Sheet, entry: &str) -> Option<Label> {
-    match entry.bytes().all(|byte| byte.is_ascii_digit()) {
-        true => entry.parse().ok(),
-        false => sheet.find(entry),
-    }
 }
 
 /// The refusal of a list; an entry that names nothing is said as it was given.

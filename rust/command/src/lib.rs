@@ -8,26 +8,31 @@
 #![forbid(unsafe_code)]
 
 pub mod check;
+mod document;
 mod excerpt;
 pub mod explain;
 mod follow;
 mod formulas;
+pub mod help;
 pub mod input;
 pub mod json;
+mod labels;
 mod numerals;
 pub mod options;
 mod outline;
 pub mod output;
 mod plan;
-mod print;
 mod rules;
 mod run;
 pub mod sheets;
+mod show;
 pub mod status;
 mod svg;
 mod table;
 mod tree;
 mod values;
+mod why;
 pub mod words;
+mod write;
 
 pub use tree::{Node, Span};

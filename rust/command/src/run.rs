@@ -1,11 +1,10 @@
 //! `lindypo run`: the print of document 01's program.
 
-use lindypo::{Order, Refusal};
+use lindypo::{raw, Order, Refusal};
 
 use crate::json::Object;
 use crate::options::Call;
 use crate::output::{Output, Paint};
-use crate::print;
 use crate::sheets::{self, Answer, Asked, Refused, Text};
 use crate::status::Status;
 use crate::values::{self, Value};
@@ -85,7 +84,7 @@ impl Answer for Printed<'_> {
     }
 
     fn text(&self, _: Paint) -> String {
-        print::print(&self.text.bytes)
+        print(&self.text.bytes)
     }
 
     fn fields(&self) -> Object {
@@ -94,4 +93,12 @@ impl Answer for Printed<'_> {
             Err(refusal) => Refused::new(self.text, refusal).fields(),
         }
     }
+}
+
+/// The print as the library gives it, which is ASCII.
+fn print(text: &[u8]) -> String {
+    let mut print = vec![0; raw::PRINT_MOST];
+    let printed = raw::print(text, &mut print);
+    print.truncate(printed.length as usize);
+    String::from_utf8_lossy(&print).into_owned()
 }

@@ -128,7 +128,7 @@ fn say(text: &Text, answer: &dyn Answer, call: &Call, out: &mut Output) -> Statu
 }
 
 /// An error for whoever reads JSON; a message on standard error in any case.
-fn wrong(source: &Source, error: &str, message: &str, call: &Call, out: &mut Output) -> Status {
+pub fn wrong(source: &Source, error: &str, message: &str, call: &Call, out: &mut Output) -> Status {
     if call.wants_json() {
         let object = object(source, Status::Unreadable).with("error", error);
         out.print(&format!("{object}\n"));
@@ -184,12 +184,12 @@ pub fn refusal_object(refusal: &Refusal) -> Object {
         .with("rule", rules::of(refusal.number()).rule)
 }
 
-fn help_object(help: &Help) -> Object {
+pub fn help_object(help: &Help) -> Object {
     mark_object(help.mark).with("sentence", help.sentence.as_str())
 }
 
 /// Nothing where no part of the text is marked.
-fn mark_object(mark: Option<Mark>) -> Object {
+pub fn mark_object(mark: Option<Mark>) -> Object {
     Object::new()
         .with_some("line", mark.map(|mark| mark.line))
         .with_some("column", mark.map(|mark| mark.column))

@@ -65,7 +65,8 @@ pub fn status(values: &[Value]) -> Status {
 
 /// "3 of 4 values have a number".
 pub fn headline(numbers: u64, count: u64) -> String {
-    let verb = if count == 1 { "has" } else { "have" };
+    let is_one = numbers == 1 || count == 1;
+    let verb = if is_one { "has" } else { "have" };
     let values = counted(count, "value");
     match count {
         0 => values,
@@ -131,15 +132,19 @@ pub fn name_object(label: Label, name: &str) -> Object {
 
 /// The fields of an outcome.
 pub fn outcome_object(outcome: Outcome) -> Object {
-    let failure = match outcome.state {
+    state_object(outcome.state).with("steps", outcome.steps)
+}
+
+/// The fields of a state.
+pub fn state_object(state: State) -> Object {
+    let failure = match state {
         State::Number(_) => None,
         failure => Some(failure.to_string()),
     };
     Object::new()
-        .with("state", outcome.state.code())
-        .with_some("number", outcome.state.number())
+        .with("state", state.code())
+        .with_some("number", state.number())
         .with_some("failure", failure)
-        .with("steps", outcome.steps)
 }
 
 pub fn json(values: &[Value]) -> Json {

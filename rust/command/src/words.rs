@@ -1,4 +1,4 @@
-//! The words of the command: one table, and what `--help` says of each.
+//! The words of the command: one table.
 //!
 //! A word is a module with a `WORD`, which stands in the table below. What it
 //! says of a sheet is an `Answer`, in text and in JSON; `sheets::each` does what
@@ -7,19 +7,23 @@
 use std::ffi::OsString;
 use std::path::Path;
 
+use crate::help;
 use crate::input;
-use crate::options::{Call, Opt, COMMON};
+use crate::options::{Call, Opt};
 use crate::output::{Output, NAME};
-use crate::status::{self, Status};
-use crate::{check, explain, follow, plan, run};
+use crate::status::Status;
+use crate::{check, explain, follow, plan, run, show, why, write};
 
 /// The words, as `lindypo --help` lists them.
-pub const WORDS: [&Word; 5] = [
+pub const WORDS: &[&Word] = &[
     &run::WORD,
     &plan::WORD,
     &follow::WORD,
     &explain::WORD,
+    &why::WORD,
     &check::WORD,
+    &show::WORD,
+    &write::WORD,
 ];
 
 pub struct Word {
@@ -56,7 +60,7 @@ pub fn call(words: impl IntoIterator<Item = OsString>, has_input: bool) -> Statu
     let mut words = words.into_iter();
     let first = words.next().unwrap_or_default();
     let status = match first.to_str() {
-        Some("-h" | "--help" | "help") => help(words.next(), &mut out),
+        Some("-h" | "--help" | "help") => say_help(words.next(), &mut out),
         Some("-V" | "--version") => {
             out.print(&format!("{NAME} {}\n", env!("CARGO_PKG_VERSION")));
             Ok(Status::Answered)
@@ -74,7 +78,7 @@ pub fn call(words: impl IntoIterator<Item = OsString>, has_input: bool) -> Statu
 }
 
 fn word_of(name: &OsString) -> Option<&'static Word> {
-    WORDS.into_iter().find(|word| name == word.name)
+    WORDS.iter().copied().find(|word| name == word.name)
 }
 
 fn do_word(
@@ -89,7 +93,7 @@ fn do_word(
     };
     let call = Call::parse(words, word.options, has_input).map_err(more)?;
     if call.is_set("--help") {
-        out.print(&help_of(word));
+        out.print(&help::of(word));
         return Ok(Status::Answered);
     }
     (word.call)(&call, out).map_err(more)
@@ -113,72 +117,11 @@ fn no_word(first: &OsString) -> String {
 }
 
 /// Help on a word, or on all.
-fn help(name: Option<OsString>, out: &mut Output) -> Result<Status, String> {
+fn say_help(name: Option<OsString>, out: &mut Output) -> Result<Status, String> {
     let text = match name {
-        None => usage(),
-        Some(name) => help_of(word_of(&name).ok_or_else(|| no_word(&name))?),
+        None => help::usage(),
+        Some(name) => help::of(word_of(&name).ok_or_else(|| no_word(&name))?),
     };
     out.print(&text);
     Ok(Status::Answered)
-}
-
-/// `lindypo --help`.
-pub fn usage() -> String {
-    let lines = WORDS.map(|word| (word.name.to_string(), word.summary));
-    format!(
-        "use: {NAME} WORD [OPTION...] [FILE...]\n\n\
-         Order sheets of a lens laboratory: read, planned and evaluated by proved code.\n\n\
-         {}\n\
-         `{NAME} WORD --help` explains a word; every word has --json. `{NAME} --version` prints\n\
-         the version. FILE - is standard input, and so is none.\n\n{}",
-        columns(&lines),
-        status::MEANINGS
-    )
-}
-
-/// `lindypo WORD --help`.
-pub fn help_of(word: &Word) -> String {
-    let options: Vec<&Opt> = word.options.iter().chain(&COMMON).collect();
-    let uses = options
-        .iter()
-        .map(|option| format!("[{}]", option_use(option)));
-    let uses: Vec<String> = uses.collect();
-    let meanings: Vec<_> = options
-        .iter()
-        .map(|option| (option_use(option), option.meaning))
-        .collect();
-    let examples: String = word.examples.iter().map(example).collect();
-    let fields = word.fields.concat().into_iter();
-    let fields: Vec<_> = fields
-        .map(|(name, what)| (name.to_string(), what))
-        .collect();
-    format!(
-        "use: {NAME} {} {} {}\n\n{}\n{}\n{examples}\
-         JSON; a field that does not apply is left out:\n{}\n{}",
-        word.name,
-        uses.join(" "),
-        word.operands,
-        word.about,
-        columns(&meanings),
-        columns(&fields),
-        status::MEANINGS
-    )
-}
-
-fn option_use(option: &Opt) -> String {
-    match option.value {
-        Some(value) => format!("{} {value}", option.name),
-        None => option.name.to_string(),
-    }
-}
-
-fn example(example: &Example) -> String {
-    format!("$ {NAME} {}\n{}\n", example.words, example.print)
-}
-
-/// Lines of a name and its meaning, the meanings beneath each other.
-fn columns(lines: &[(String, &str)]) -> String {
-    let width = lines.iter().map(|(name, _)| name.len()).max().unwrap_or(0);
-    let line = |(name, meaning): &(String, &str)| format!("  {name:width$}  {meaning}\n");
-    lines.iter().map(line).collect()
 }

@@ -1,6 +1,6 @@
-//! What a refusal says, row by row: the very words, with line and column.
+//! What a refusal says, number by number: the very words, with line and column.
 
-use lindypo::{Label, Refusal, Sheet};
+use lindypo::{Help, Label, Refusal, Sheet};
 
 /// A sheet of these lines after line one.
 fn sheet(lines: &str) -> Vec<u8> {
@@ -23,8 +23,20 @@ fn says(lines: &str, words: &str) {
     text_says(&sheet(lines), words);
 }
 
+/// The hints of a refusal, each after the line that it is about, if that is
+/// another.
+#[track_caller]
+fn helps(refusal: &Refusal, wanted: &[&str]) {
+    let help = |help: &Help| match help.mark {
+        Some(mark) => format!("line {}: {}", mark.line, help.sentence),
+        None => help.sentence.clone(),
+    };
+    let helps: Vec<String> = refusal.help().iter().map(help).collect();
+    assert_eq!(helps, wanted);
+}
+
 #[test]
-fn row_1_length_and_end() {
+fn refusal_1_length_and_end() {
     text_says(b"", "refusal 1: the text is empty");
     text_says(
         &b"x".repeat(65_537),
@@ -37,7 +49,7 @@ fn row_1_length_and_end() {
 }
 
 #[test]
-fn row_1_bytes() {
+fn refusal_1_bytes() {
     let allowed = "is not allowed; lines end with byte 10, all others are 32 to 126";
     text_says(
         b"kind name a b c\r\nG - 0 - -\r\n",
@@ -59,7 +71,7 @@ fn row_1_bytes() {
 
 /// The mark is on the rest of the line, from where it differs.
 #[test]
-fn row_2() {
+fn refusal_2() {
     for (first, column) in [
         ("", 1),
         ("Kind name a b c", 1),
@@ -75,19 +87,28 @@ fn row_2() {
 }
 
 #[test]
-fn row_3() {
+fn refusal_3() {
     text_says(
         b"kind name a b c\n",
         "refusal 3: there is no line after line one; label 1 has to be `G - 0 - -`",
     );
-    says(
-        &"\n".repeat(1_024),
-        "refusal 3: there are 1025 lines after line one; at most 1024 are allowed",
+    let many = "refusal 3: there are 1025 lines after line one; at most 1024 are allowed";
+    let empty = format!("G - 0 - -{}", "\n".repeat(1_024));
+    says(&empty, many);
+    helps(
+        &refusal(&sheet(&empty)),
+        &["1024 of them are empty: leave those out"],
+    );
+    let full = ["G - 0 - -"; 1_025].join("\n");
+    says(&full, many);
+    helps(
+        &refusal(&sheet(&full)),
+        &["leave out what the order does not need, or send it as two sheets"],
     );
 }
 
 #[test]
-fn row_5_number_of_fields() {
+fn refusal_5_number_of_fields() {
     let five = "it has to have five: kind, name, a, b, c";
     for (line, column, count) in [
         ("G", 2, "one field"),
@@ -102,7 +123,7 @@ fn row_5_number_of_fields() {
 
 /// The space too many is marked.
 #[test]
-fn row_5_empty_fields() {
+fn refusal_5_empty_fields() {
     says(
         "",
         "refusal 5, line 2, column 1: \
@@ -126,7 +147,7 @@ fn row_5_empty_fields() {
 }
 
 #[test]
-fn row_6() {
+fn refusal_6() {
     let kinds = "the kinds are G V F N P R C A S M D I";
     for kind in ["X", "v", "-", "GG"] {
         let words = format!("refusal 6, line 3, column 1: `{kind}` is no kind; {kinds}");
@@ -138,7 +159,7 @@ fn row_6() {
 }
 
 #[test]
-fn row_7_label_1() {
+fn refusal_7_label_1() {
     for (line, column) in [
         ("V - 0 - -", 1),
         ("G x 0 - -", 3),
@@ -152,7 +173,7 @@ fn row_7_label_1() {
 }
 
 #[test]
-fn row_7_forms() {
+fn refusal_7_forms() {
     let name = "a name: 1 to 16 letters or digits, a letter first";
     let path =
         "a path: 1 to 8 names joined by dots, each of 1 to 16 letters or digits, a letter first";
@@ -187,7 +208,7 @@ fn row_7_forms() {
 }
 
 #[test]
-fn row_8_groups() {
+fn refusal_8_groups() {
     let group = "it has to lead to a Group with a smaller label than";
     for (lines, label, found) in [
         (
@@ -205,7 +226,7 @@ fn row_8_groups() {
 }
 
 #[test]
-fn row_8_bodies_and_operands() {
+fn refusal_8_bodies_and_operands() {
     let expression = "it has to lead to an expression with a larger label than";
     for (lines, place, found) in [
         (
@@ -227,7 +248,7 @@ fn row_8_bodies_and_operands() {
 }
 
 #[test]
-fn row_9() {
+fn refusal_9() {
     let value = "G - 0 - -\nV x 1 3 -";
     says(
         &format!("{value}\nN - 1 - -\nN - 2 - -"),
@@ -254,7 +275,7 @@ fn row_9() {
 }
 
 #[test]
-fn row_10() {
+fn refusal_10() {
     says(
         "G - 0 - -\nG right 1 - -\nV x 2 4 -\nS - 5 6 -\nN - 1 - -\nP - - - -",
         "refusal 10, line 7, column 1: \
@@ -263,7 +284,7 @@ fn row_10() {
 }
 
 #[test]
-fn row_11() {
+fn refusal_11() {
     let calls: String = (4..36)
         .map(|label| format!("C f {} - -\n", label + 1))
         .collect();
@@ -276,7 +297,7 @@ fn row_11() {
 }
 
 #[test]
-fn row_12() {
+fn refusal_12() {
     says(
         "G - 0 - -\nV x 1 3 -\nN - 1 - -\nF x 1 5 -\nP - - - -",
         "refusal 12, line 5, column 3: the outermost Group has a member `x` already: label 2",
@@ -288,7 +309,7 @@ fn row_12() {
 }
 
 #[test]
-fn row_13() {
+fn refusal_13() {
     says(
         "G - 0 - -\nV x 1 3 -\nR y - - -",
         "refusal 13, line 4, column 3: the outermost Group has no member `y`",
@@ -302,7 +323,7 @@ fn row_13() {
 
 /// The name that is not found is marked, not the whole path.
 #[test]
-fn row_14() {
+fn refusal_14() {
     says(
         "G - 0 - -\nG g 1 - -\nV x 1 4 -\nR g.x - - -",
         "refusal 14, line 5, column 5: the Group `g` has no member `x`",
@@ -324,7 +345,7 @@ fn row_14() {
 }
 
 #[test]
-fn row_15() {
+fn refusal_15() {
     says(
         "G - 0 - -\nF f 1 3 -\nR f - - -",
         "refusal 15, line 4, column 3: \
@@ -343,7 +364,7 @@ fn row_15() {
 }
 
 #[test]
-fn row_16() {
+fn refusal_16() {
     says(
         "G - 0 - -\nV x 1 3 -\nR x - - -",
         "refusal 16, line 3, column 3: the value `x` reaches itself: x -> x",
@@ -353,7 +374,7 @@ fn row_16() {
          F f 1 9 -\nR x - - -",
         "refusal 16, line 3, column 3: the value `x` reaches itself: x -> g.y -> f -> x",
     );
-    // The middle of a long way is left out.
+    // The middle of a long way is left out of the sentence; every step is shown.
     let value = |at: usize| format!("V v{at} 1 {} -\nR v{} - - -\n", 2 * at + 3, (at + 1) % 10);
     let values: String = (0..10).map(value).collect();
     says(
@@ -361,6 +382,13 @@ fn row_16() {
         "refusal 16, line 3, column 3: the value `v0` reaches itself: \
          v0 -> v1 -> v2 -> v3 -> ... -> v7 -> v8 -> v9 -> v0",
     );
+    let text = sheet(&format!("G - 0 - -\n{}", values.trim_end()));
+    let lines = refusal(&text)
+        .help()
+        .iter()
+        .filter_map(|help| help.mark)
+        .count();
+    assert_eq!(lines, 10);
 }
 
 /// A value 2 that calls a function 3, which reads a value 5 of the Group 4, and
@@ -369,65 +397,92 @@ const ORDERED: &str = "G - 0 - -\nV total 1 6 -\nF half 1 8 -\nG right 1 - -\nV 
                        C half 7 - -\nN - 8 - -\nD - 9 10 -\nR right.sphere - - -\nP - - - -\n\
                        N - -325 - -\nV copy 1 13 -\nR right.sphere - - -";
 
-/// What Follow says of an order.
+/// What Follow says of an order, and how to mend it.
 #[track_caller]
-fn order_says(order: &[Label], words: &str) {
+fn order_says(order: &[Label], words: &str, wanted: &[&str]) {
     let text = sheet(ORDERED);
     let sheet = Sheet::read(&text).expect("a sheet that reads");
     let refusal = sheet.follow(order).expect_err("a refusal");
     assert_eq!(refusal.to_string(), words);
+    helps(&refusal, wanted);
 }
 
 #[test]
-fn row_17() {
+fn refusal_17_no_value() {
+    let values = "an order lists the values: 2, 5 and 12";
     order_says(
         &[5, 2, 3, 12],
         "refusal 17, position 3 of the order: label 3 is a function (F), not a value",
+        &["line 4: label 3 is here", values],
     );
     order_says(
         &[10],
         "refusal 17, position 1 of the order: label 10 is an argument (P), not a value",
+        &["line 11: label 10 is here", values],
     );
     order_says(
         &[5, 0],
         "refusal 17, position 2 of the order: there is no label 0",
+        &[values],
     );
+    let largest = Label::MAX;
     order_says(
-        &[99],
-        "refusal 17, position 1 of the order: there is no label 99",
-    );
-    order_says(
-        &[Label::MAX],
-        &format!(
-            "refusal 17, position 1 of the order: there is no label {}",
-            Label::MAX
-        ),
-    );
-    order_says(
-        &[5, 2, 5, 12],
-        "refusal 17, position 3 of the order: `right.sphere` is listed already, at position 1",
-    );
-    order_says(
-        &[5, 2],
-        "refusal 17, position 3 of the order: the value `copy` (label 12) is not listed",
-    );
-    order_says(
-        &[],
-        "refusal 17, position 1 of the order: the value `total` (label 2) is not listed",
+        &[largest],
+        &format!("refusal 17, position 1 of the order: there is no label {largest}"),
+        &[values],
     );
 }
 
 #[test]
-fn row_18() {
+fn refusal_17_twice_or_missing() {
+    order_says(
+        &[5, 2, 5, 12],
+        "refusal 17, position 3 of the order: `right.sphere` is listed already, at position 1",
+        &["leave out one of the two"],
+    );
+    order_says(
+        &[5, 2],
+        "refusal 17, position 3 of the order: the value `copy` (label 12) is not listed",
+        &[
+            "line 13: label 12 is here",
+            "put it after every value that it reaches",
+        ],
+    );
+    order_says(
+        &[],
+        "refusal 17, position 1 of the order: the value `total` (label 2) is not listed",
+        &[
+            "line 3: label 2 is here",
+            "3 values are not listed: 2, 5 and 12",
+        ],
+    );
+    let text = sheet("G - 0 - -");
+    let none = Sheet::read(&text).expect("a sheet that reads");
+    let refusal = none.follow(&[1]).expect_err("a refusal");
+    let empty = "the sheet has no values: its order is empty";
+    helps(&refusal, &["line 2: label 1 is here", empty]);
+}
+
+#[test]
+fn refusal_18() {
     order_says(
         &[12, 5, 2],
         "refusal 18, position 1 of the order: \
          `copy` reaches `right.sphere`, which is not listed earlier",
+        &[
+            "line 14: `copy` reads `right.sphere`",
+            "put `right.sphere` (label 5), now at position 2, before position 1",
+        ],
     );
     order_says(
         &[2, 5, 12],
         "refusal 18, position 1 of the order: \
          `total` reaches `right.sphere`, which is not listed earlier: \
          total -> half -> right.sphere",
+        &[
+            "line 7: `total` calls `half`",
+            "line 10: `half` reads `right.sphere`",
+            "put `right.sphere` (label 5), now at position 2, before position 1",
+        ],
     );
 }

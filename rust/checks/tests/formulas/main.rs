@@ -1,6 +1,7 @@
 //! Formulas as text: shown, written, wrong, and both ways on random sheets.
 
 mod mistakes;
+mod page;
 mod random;
 mod shown;
 mod written;

@@ -32,7 +32,7 @@ fn bytes_and_characters() {
 #[test]
 fn numbers() {
     let form =
-        "is not a number: -1000000000 to 1000000000, with no leading zero, plus sign or `-0`";
+        "is not a whole number: -1000000000 to 1000000000, with no leading zero, plus sign or `-0`";
     for number in ["007", "-0", "00", "1000000001", "-1000000001", "-05"] {
         formula_says(number, 5, &format!("`{number}` {form}"));
     }
@@ -146,7 +146,18 @@ fn what_is_open() {
 #[test]
 fn definitions() {
     let wanted = "a definition has to begin here, with its name, not";
-    says("= 5", &format!("line 1, column 1: {wanted} `=`"));
+    let none = "its name is missing, or the formula before it ends with a sign too many \
+                and took the name in";
+    let none = |symbol| format!("no definition begins before this `{symbol}`: {none}");
+    says("= 5", &format!("line 1, column 1: {}", none('=')));
+    says(
+        "a = 1 +\nb = 5",
+        &format!("line 2, column 3: {}", none('=')),
+    );
+    says(
+        "a = 1 -\nb {\n}",
+        &format!("line 2, column 3: {}", none('{')),
+    );
     formula_says("1 2", 7, &format!("{wanted} `2`"));
     formula_says("a (1) (2)", 11, &format!("{wanted} `(`"));
     formula_says(
@@ -170,6 +181,12 @@ fn definitions() {
         "f(x) 1",
         &format!("line 1, column 6: `=` has to stand here, not `1`; {form}"),
     );
+}
+
+#[test]
+fn a_sheet() {
+    let sentence = "line 1, column 1: this is the first line of a sheet, not of formulas";
+    says("kind name a b c\nG - 0 - -\n", sentence);
 }
 
 #[test]
@@ -215,7 +232,7 @@ fn rows() {
     );
     says(
         "g { a = 1\nb = 2\na = 3 }",
-        "line 3, column 1: the Group `g` has a member `a` already, at line 1",
+        "line 3, column 1: the Group `g` has a member `a` already: line 1",
     );
     says(
         "a = 1 +\n b",
@@ -223,7 +240,7 @@ fn rows() {
     );
     says(
         "a = b.c\nb = 1",
-        "line 1, column 5: the value `b` is no Group, so it has no member `c`",
+        "line 1, column 7: the value `b` is no Group, so it has no member `c`",
     );
     says(
         "a = 1 + b(2)\nb = 1",
@@ -233,6 +250,53 @@ fn rows() {
         "a = b\nb = a",
         "line 1, column 1: the value `a` reaches itself: a -> b -> a",
     );
+}
+
+/// Hints speak of lines of the formulas, and show formulas.
+#[test]
+fn hints() {
+    for (formulas, hints) in [
+        (
+            "# one\nright { sphere = 1 }\nprism = rigth.sphere",
+            &[
+                "2:1:5 is `right` (line 2) meant?",
+                "the outermost Group has `right` and `prism`",
+            ][..],
+        ),
+        (
+            "a = 1\n  b = 2\na = 3",
+            &[
+                "1:1:1 `a` is here first",
+                "give one of them another name, or another Group",
+            ],
+        ),
+        (
+            "f(x) = x\na = f",
+            &["1:1:1 the function `f` is here", "call it: `f(...)`"],
+        ),
+        (
+            "g { f = 1 }\na = g.f(2)",
+            &["1:5:1 the value `g.f` is here", "read it: `g.f`"],
+        ),
+        (
+            "a = 1 + `b`\nb = a",
+            &[
+                "1:9:3 `a` reads `b`",
+                "2:5:1 `b` reads `a`",
+                "no value may reach itself: change one of these lines",
+            ],
+        ),
+    ] {
+        let mistake = formula::write(formulas.as_bytes()).expect_err("a mistake");
+        let said = mistake.help.iter().map(|help| {
+            let Some(mark) = help.mark else {
+                return help.sentence.clone();
+            };
+            let (line, column, width) = (mark.line, mark.column, mark.width);
+            format!("{line}:{column}:{width} {}", help.sentence)
+        });
+        assert_eq!(said.collect::<Vec<String>>(), hints, "{formulas}");
+    }
 }
 
 #[test]

@@ -361,11 +361,11 @@ fn any_bytes() {
                 sheets += 1;
             }
             Err(mistake) => {
-                let mark = mistake.mark;
-                assert!(
-                    mark.is_some_and(|mark| is_in_text(&text, mark)),
-                    "{seed}: {mistake:?}"
-                );
+                let hints = mistake.help.iter().filter_map(|help| help.mark);
+                let mut marks: Vec<Mark> = hints.collect();
+                marks.push(mistake.mark.expect("a place"));
+                let are_there = marks.iter().all(|&mark| is_in_text(&text, mark));
+                assert!(are_there, "{seed}: {mistake:?}");
                 wrong += u64::from(mistake.row.is_none());
                 refused += u64::from(mistake.row.is_some());
             }

@@ -142,7 +142,7 @@ impl Lines {
     }
 
     fn add(&mut self, name: &str, count: u64, words: &str) {
-        let line = format!("{name:<24}{:>14}  {words}", grouped(count));
+        let line = format!("{name:<26}{:>12}  {words}", grouped(count));
         self.text += line.trim_end();
         self.text.push('\n');
     }

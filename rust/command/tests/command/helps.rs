@@ -1,6 +1,7 @@
 //! What `--help` says is so.
 
-use command::words::{self, Word, WORDS};
+use command::help;
+use command::words::{Word, WORDS};
 
 use crate::{output, stdout};
 
@@ -35,7 +36,7 @@ fn the_version_is_the_crates() {
 fn every_word_has_help() {
     for word in WORDS {
         let help = said(&[word.name, "--help"]);
-        assert_eq!(help, words::help_of(word));
+        assert_eq!(help, help::of(word));
         assert_eq!(help, said(&["help", word.name]));
         assert_eq!(help, said(&[word.name, "nosuch", "-h"]));
         for option in word.options {
@@ -51,12 +52,10 @@ fn every_word_has_help() {
 /// Nothing is too wide for a terminal.
 #[test]
 fn lines_are_short() {
-    let helps = WORDS.map(words::help_of);
-    for line in helps
-        .iter()
-        .chain([&words::usage()])
-        .flat_map(|text| text.lines())
-    {
+    let helps = WORDS.iter().map(|word| help::of(word));
+    let helps: String = helps.chain([help::usage()]).collect();
+    for line in helps.lines() {
+        assert!(!line.ends_with(' '), "{line}");
         assert!(line.chars().count() <= 100, "{line}");
     }
 }

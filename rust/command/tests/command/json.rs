@@ -8,7 +8,7 @@ use crate::{output, sheets, stdout};
 
 /// A reader of one line of JSON that collects the names of its fields, those in
 /// an object in a field with its name and a dot before their own.
-struct Reader<'a> {
+pub struct Reader<'a> {
     rest: &'a [u8],
     within: Vec<String>,
     names: BTreeSet<String>,
@@ -16,7 +16,7 @@ struct Reader<'a> {
 
 impl Reader<'_> {
     /// The names of the fields of a line; it has to be an object.
-    fn names(line: &str) -> BTreeSet<String> {
+    pub fn names(line: &str) -> BTreeSet<String> {
         let mut reader = Reader {
             rest: line.as_bytes(),
             within: vec![],
@@ -102,33 +102,64 @@ impl Reader<'_> {
     }
 }
 
-/// What to call a word with, so that every field comes up.
-fn calls(word: &Word) -> Vec<Vec<String>> {
-    let sheets: Vec<String> = sheets()
-        .iter()
-        .map(|sheet| sheet.display().to_string())
+/// A sheet whose values fail in several ways.
+const FAILURES: &str = "rust/command/tests/sheets/failures.sheet";
+
+/// What to call a word with, so that every field comes up; `*` is every sample
+/// sheet, one with failures and one that is not there.
+fn calls(word: &Word) -> &'static [&'static str] {
+    match word.name {
+        "follow" => &["--order 5,4,2 *", "--order endless *"],
+        "check" => &["sheets *", "--all *"],
+        "why" => &[
+            "no.sheet x",
+            "sheets/09-used-twice.sheet total",
+            "sheets/01-example.sheet right.prism",
+            "sheets/03-mixed.sheet right",
+            "sheets/04b-even-of-1.sheet answer",
+            "sheets/05b-even-of-64.sheet answer",
+            "rust/command/tests/sheets/failures.sheet right.centre",
+            "rust/command/tests/sheets/failures.sheet rim",
+        ],
+        "show" => &[
+            "no.sheet",
+            "sheets/01-example.sheet",
+            "sheets/refusal-12-same-name.sheet",
+        ],
+        "write" => &[
+            "no.formulas",
+            "examples/order.formulas",
+            "rust/command/tests/formulas/refused.formulas",
+            "sheets/01-example.sheet",
+        ],
+        _ => &["*"],
+    }
+}
+
+/// The words of a call.
+fn spelled(word: &Word, call: &str) -> Vec<String> {
+    let sheets = sheets()
+        .into_iter()
+        .map(|sheet| sheet.display().to_string());
+    let sheets: Vec<String> = sheets
+        .chain([FAILURES, "no \"such\" sheet\n"].map(str::to_string))
         .collect();
-    let own: &[&[&str]] = match word.name {
-        "follow" => &[&["--order", "5,4,2"], &["--order", "endless"]],
-        "check" => &[&["sheets"], &["--all"]],
-        _ => &[&[]],
-    };
-    let call = |own: &&[&str]| {
-        let words = [&[word.name, "--json", "no \"such\" sheet\n"], *own].concat();
-        [
-            words.iter().map(|word| word.to_string()).collect(),
-            sheets.clone(),
-        ]
-        .concat()
-    };
-    own.iter().map(call).collect()
+    let mut words = vec![word.name.to_string(), "--json".to_string()];
+    for part in call.split(' ') {
+        match part {
+            "*" => words.extend(sheets.clone()),
+            part => words.push(part.to_string()),
+        }
+    }
+    words
 }
 
 #[test]
 fn every_field_is_said() {
     for word in WORDS {
         let mut names = BTreeSet::new();
-        for words in calls(word) {
+        for call in calls(word) {
+            let words = spelled(word, call);
             let words: Vec<&str> = words.iter().map(String::as_str).collect();
             let said = stdout(&output(&words));
             names.extend(said.lines().flat_map(Reader::names));

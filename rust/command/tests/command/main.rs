@@ -5,6 +5,7 @@ mod helps;
 mod json;
 mod pages;
 mod pictures;
+mod random;
 mod transcripts;
 mod trees;
 

@@ -4,7 +4,7 @@ use std::process::Command;
 
 use crate::{read_text, top};
 
-const PAGES: [&str; 1] = ["README.md"];
+const PAGES: [&str; 2] = ["README.md", "docs/FORMULAS.md"];
 
 /// What a line begins with that is a command of ours, and what it stands for.
 const COMMANDS: [(&str, &str); 2] = [("$ ./lindypo ", "lindypo "), ("$ ./run ", "lindypo run ")];

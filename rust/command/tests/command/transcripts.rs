@@ -43,6 +43,16 @@ fn sheets_in_json() {
 }
 
 #[test]
+fn values_and_why() {
+    is_replayed("why.txt");
+}
+
+#[test]
 fn wrong_words_files_and_outputs() {
     is_replayed("wrong.txt");
+}
+
+#[test]
+fn sheets_shown_and_formulas_written() {
+    is_replayed("formulas.txt");
 }

@@ -11,8 +11,29 @@ pub struct Group {
     /// Each Group followed by all under it. Of more than a sheet can have none
     /// is kept.
     definitions: Vec<Definition>,
-    /// How many lines they take.
-    lines: usize,
+    size: Size,
+}
+
+/// How many lines definitions and their expressions take.
+#[derive(Debug, Clone, Copy, Default, PartialEq, Eq, Hash)]
+pub(crate) struct Size {
+    pub definitions: usize,
+    pub expressions: usize,
+}
+
+impl Size {
+    /// All lines of a sheet, that of label 1 too.
+    pub fn lines(self) -> usize {
+        let lines = self.definitions.saturating_add(self.expressions);
+        lines.saturating_add(1)
+    }
+
+    fn and(self, other: Size) -> Size {
+        Size {
+            definitions: self.definitions.saturating_add(other.definitions),
+            expressions: self.expressions.saturating_add(other.expressions),
+        }
+    }
 }
 
 #[derive(Debug, Clone, PartialEq, Eq, Hash)]
@@ -70,7 +91,7 @@ impl Group {
             definition.depth += 1;
             definition
         });
-        self.extend(members.lines, deeper)
+        self.extend(members.size, deeper)
     }
 
     /// The text of the sheet whose outermost Group this is, else the first
@@ -96,7 +117,7 @@ impl Group {
     /// );
     /// ```
     pub fn text(&self) -> Result<Vec<u8>, Mistake> {
-        check::lines(self.lines)?;
+        check::lines(self.size)?;
         check::definitions(&self.definitions)?;
         let text = lines::text(&self.definitions);
         check::bytes(&text)?;
@@ -132,19 +153,22 @@ impl Group {
     }
 
     pub(crate) fn add(&mut self, depth: usize, name: String, content: Content) -> &mut Self {
-        let lines = 1 + content.body().map_or(0, Expression::lines);
+        let size = Size {
+            definitions: 1,
+            expressions: content.body().map_or(0, Expression::lines),
+        };
         let definition = Definition {
             depth,
             name,
             content,
         };
-        self.extend(lines, [definition])
+        self.extend(size, [definition])
     }
 
-    fn extend(&mut self, lines: usize, more: impl IntoIterator<Item = Definition>) -> &mut Self {
-        self.lines = self.lines.saturating_add(lines);
+    fn extend(&mut self, size: Size, more: impl IntoIterator<Item = Definition>) -> &mut Self {
+        self.size = self.size.and(size);
         self.definitions.extend(more);
-        if self.lines > MOST_LINES {
+        if self.size.lines() > MOST_LINES {
             self.definitions.clear();
         }
         self

@@ -3,7 +3,7 @@
 use super::{Content, Definition, Expression, Node};
 use crate::{Kind, Label};
 
-const FIRST_LINE: &str = "kind name a b c\n";
+pub(crate) const FIRST_LINE: &str = "kind name a b c\n";
 const OUTERMOST: Label = 1;
 const MISSING: &str = "-";
 

@@ -4,7 +4,7 @@ use std::collections::HashMap;
 use std::str;
 
 use super::files;
-use super::letters;
+use super::letters::{self, TAKE_OUT};
 use super::rows::{self, FIELDS};
 use super::words;
 use super::Finding;
@@ -51,8 +51,8 @@ pub fn all(text: &[u8]) -> Vec<Finding> {
             found.extend(unended(text));
         }
     }
-    if let Some(first) = found.first_mut() {
-        first.add_help(files::kind_of(text));
+    if let (Some(first), Some(kind)) = (found.first_mut(), files::kind_of(text)) {
+        first.help_only(kind);
     }
     found
 }
@@ -68,10 +68,11 @@ fn too_long(text: &[u8]) -> Option<Finding> {
     (text.len() > MOST_BYTES).then(|| Finding::new(sentence).help(help))
 }
 
-/// The last line without a line end; of a text that is too long it may not be
-/// the last.
+/// The last line without a line end. Of a text that is too long it may not be
+/// the last, and one whose lines end otherwise has other line ends.
 fn unended(text: &[u8]) -> Option<Finding> {
-    if text.ends_with(b"\n") || text.len() > MOST_BYTES {
+    let is_macintosh = !text.contains(&b'\n') && text.contains(&b'\r');
+    if text.ends_with(b"\n") || text.len() > MOST_BYTES || is_macintosh {
         return None;
     }
     let line = text.iter().filter(|&&byte| byte == b'\n').count() + 1;
@@ -215,26 +216,23 @@ fn windows(text: &[u8], sort: &Sort) -> Finding {
 }
 
 fn of_byte(text: &[u8], byte: u8, first: Mark) -> Finding {
-    let has_ends = text.contains(&b'\n');
     let (name, help) = match byte {
         b'\t' => (
             " (a tab)",
-            Some("one space stands between fields: write a space for each tab".to_string()),
+            "one space stands between fields: write a space for each tab".to_string(),
         ),
-        b'\r' if !has_ends => (
+        b'\r' if !text.contains(&b'\n') => (
             " (a carriage return)",
-            Some(
-                "save the file with Unix line ends (LF), not those of an old Macintosh".to_string(),
-            ),
+            "save the file with Unix line ends (LF), not those of an old Macintosh".to_string(),
         ),
-        b'\r' => (" (a carriage return)", None),
+        b'\r' => (" (a carriage return)", TAKE_OUT.to_string()),
         128.. => (" (not ASCII)", letters::of_windows(byte)),
-        _ => ("", None),
+        _ => ("", TAKE_OUT.to_string()),
     };
     let sentence = format!(
         "byte {byte}{name} is not allowed; lines end with byte 10, all others are 32 to 126"
     );
-    Finding::at(first, sentence).may_help(help)
+    Finding::at(first, sentence).help(help)
 }
 
 /// How often it stands, where that is more than once.

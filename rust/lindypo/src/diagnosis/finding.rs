@@ -45,6 +45,12 @@ impl Finding {
         self.help.extend(help);
     }
 
+    /// With this hint in place of all others.
+    pub fn help_only(&mut self, sentence: String) {
+        self.help.clear();
+        self.add_help(Some(sentence));
+    }
+
     pub fn has_help(&self) -> bool {
         !self.help.is_empty()
     }

@@ -99,7 +99,10 @@ fn label_instead(rows: &Rows, label: Label, at: usize) -> Option<String> {
     if forms::is_path(field) {
         return named_instead(rows, field, is_group);
     }
-    let number: i64 = field.parse().ok()?;
+    let Ok(number) = field.parse::<i64>() else {
+        let is_decimal = numbers::is_decimal(field);
+        return is_decimal.then(|| "a label is the number of a line, and whole".to_string());
+    };
     match number {
         0 if is_group => Some("the outermost Group is label 1: write `1`".to_string()),
         0 => Some("labels count from 1, the first line after line one".to_string()),
@@ -156,6 +159,7 @@ fn name_instead(rows: &Rows, field: &str) -> Option<String> {
             Some(format!("letters and digits alone: is `{plain}` meant?"))
         }
         length if length > forms::NAME_LETTERS => Some(format!("this one has {length} letters")),
+        1.. => Some("a name begins with a letter".to_string()),
         _ => None,
     }
 }

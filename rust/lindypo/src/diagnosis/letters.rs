@@ -1,5 +1,11 @@
 //! Letters outside ASCII: what they are, and what to write in their place.
 
+pub const TAKE_OUT: &str = "take it out";
+
+/// The letters of bytes 128 to 159 in Windows-1252, a space for none; the bytes
+/// after these are as in Latin-1.
+const WINDOWS: &str = "€ ‚ƒ„…†‡ˆ‰Š‹Œ Ž  ‘’“”•–—˜™š›œ žŸ";
+
 /// Letters that look like one of ASCII, and that one.
 const ALIKE: [(&str, &str); 8] = [
     (
@@ -45,15 +51,15 @@ pub fn shown(letter: char) -> String {
     let number = u32::from(letter);
     match letter {
         '\u{a0}' => "a no-break space (U+00A0)".to_string(),
-        _ if is_unseen(letter) => format!("the letter U+{number:04X}, which cannot be seen,"),
+        _ if is_unseen(letter) => format!("a letter that cannot be seen (U+{number:04X})"),
         _ => format!("`{letter}` (U+{number:04X})"),
     }
 }
 
+/// Spaces, and what Rust escapes where it shows a text: controls, marks that
+/// turn or join letters, letters of no script.
 fn is_unseen(letter: char) -> bool {
-    let is_like_nothing =
-        |(letters, plain): &(&str, &str)| plain.trim().is_empty() && letters.contains(letter);
-    letter.is_control() || letter.is_whitespace() || ALIKE.iter().any(is_like_nothing)
+    letter.is_whitespace() || letter.escape_debug().count() > 1
 }
 
 /// What to write in its place, where that can be said.
@@ -64,7 +70,7 @@ pub fn instead(letter: char) -> Option<String> {
             .map(|row| row.1)
     };
     let alike = of(&ALIKE).map(|plain| match plain {
-        "" => "take it out".to_string(),
+        "" => TAKE_OUT.to_string(),
         " " => "write a plain space (byte 32)".to_string(),
         _ => format!("write `{plain}` (byte {})", plain.as_bytes()[0]),
     });
@@ -76,9 +82,58 @@ pub fn instead(letter: char) -> Option<String> {
     alike.or_else(plain).or_else(other)
 }
 
-/// What a byte is in a file that Windows saved as its own letters.
-pub fn of_windows(byte: u8) -> Option<String> {
-    let letter = char::from(byte);
-    let is_same = byte > 160;
-    is_same.then(|| format!("in Windows-1252 and Latin-1 it is {}", shown(letter)))
+/// What a byte is in a file that Windows saved as its own letters, and what to
+/// write.
+pub fn of_windows(byte: u8) -> String {
+    let own = byte
+        .checked_sub(128)
+        .and_then(|at| WINDOWS.chars().nth(at.into()));
+    let letter = own.unwrap_or(char::from(byte));
+    match (letter, instead(letter)) {
+        (' ', _) => TAKE_OUT.to_string(),
+        (_, Some(instead)) => format!("in Windows-1252 it is {}; {instead}", shown(letter)),
+        (_, None) => format!("in Windows-1252 it is {}", shown(letter)),
+    }
+}
+
+#[cfg(test)]
+mod tests {
+    use super::*;
+
+    #[test]
+    fn letters_that_cannot_be_seen() {
+        for letter in [
+            '\u{200b}', '\u{feff}', '\u{202e}', '\u{2028}', '\u{85}', '\u{301}',
+        ] {
+            assert!(is_unseen(letter), "{letter:?}");
+        }
+        assert!(!['é', '−', '–', '×', 'α', '字'].into_iter().any(is_unseen));
+    }
+
+    #[test]
+    fn bytes_of_windows() {
+        assert_eq!(WINDOWS.chars().count(), 32);
+        for (byte, said) in [
+            (128, "in Windows-1252 it is `€` (U+20AC)"),
+            (129, TAKE_OUT),
+            (
+                146,
+                "in Windows-1252 it is `’` (U+2019); write `'` (byte 39)",
+            ),
+            (
+                150,
+                "in Windows-1252 it is `–` (U+2013); write `-` (byte 45)",
+            ),
+            (
+                160,
+                "in Windows-1252 it is a no-break space (U+00A0); write a plain space (byte 32)",
+            ),
+            (
+                233,
+                "in Windows-1252 it is `é` (U+00E9); write it without its accent: `e`",
+            ),
+        ] {
+            assert_eq!(of_windows(byte), said);
+        }
+    }
 }

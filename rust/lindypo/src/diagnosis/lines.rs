@@ -44,16 +44,19 @@ pub fn fields(rows: &Rows, label: Label) -> Finding {
     }
     let rewritten = rewrite::line(&line, rows.count());
     let help = match (rewritten, rewrite::name_in_two(&line)) {
-        (_, Some(name)) => Some(format!("a name has no spaces: is `{name}` meant?")),
-        (Some(line), None) => Some(format!("write `{line}`")),
+        (_, Some(name)) => format!("a name has no spaces: is `{name}` meant?"),
+        (Some(line), None) => format!("write `{line}`"),
         (None, None) => template(rows, label),
     };
-    alike(found.may_help(help), rows, label)
+    alike(found.help(help), rows, label)
 }
 
-fn template(rows: &Rows, label: Label) -> Option<String> {
-    let (kind, template) = rows.kind(label).map(|kind| (kind, words::template(kind)))?;
-    Some(format!("a {kind} is written {template}"))
+/// How a line of this kind is written, or one of any.
+fn template(rows: &Rows, label: Label) -> String {
+    match rows.kind(label) {
+        Some(kind) => format!("a {kind} is written {}", words::template(kind)),
+        None => "a line begins with its kind; `-` stands for a missing field".to_string(),
+    }
 }
 
 /// What to do with a line that is none.

@@ -38,13 +38,17 @@ fn is_digits(field: &str) -> bool {
     !field.is_empty() && field.bytes().all(|byte| byte.is_ascii_digit())
 }
 
+/// Whether digits have a point or comma.
+pub fn is_decimal(field: &str) -> bool {
+    let parts = split_sign(field).1.split_once(['.', ',']);
+    parts.is_some_and(|(whole, part)| is_digits(part) && (whole.is_empty() || is_digits(whole)))
+}
+
 /// A number with a point or comma.
 fn decimal(sign: &str, digits: &str) -> Option<String> {
-    let (whole, part) = digits.split_once(['.', ','])?;
-    let is_decimal = is_digits(part) && (whole.is_empty() || is_digits(whole));
-    if !is_decimal {
-        return None;
-    }
+    let (whole, part) = digits
+        .split_once(['.', ','])
+        .filter(|_| is_decimal(digits))?;
     let hundredths = read(&format!("{sign}{whole}{part:0<2}")).filter(|_| part.len() <= 2);
     Some(match hundredths {
         Some(number) => format!("numbers are whole: in hundredths it is `{number}`"),

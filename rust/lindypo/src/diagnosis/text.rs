@@ -67,16 +67,15 @@ fn slip(line: &str) -> Option<String> {
     if words::is_comment(line) {
         return Some("a sheet has no comments: leave the line out".into());
     }
-    let is_names = |line: &str| {
-        let names: Vec<&str> = line.split_whitespace().collect();
-        names.join(" ").to_lowercase() == FIELDS.join(" ")
-    };
+    let squeezed = |line: &str| line.split_whitespace().collect::<Vec<_>>().join(" ");
+    let is_names = |line: &str| squeezed(line).to_lowercase() == FIELDS.join(" ");
     if is_names(line) {
-        let is_small = line == line.to_lowercase();
-        let small = if is_small { "" } else { "in small letters, " };
-        return Some(format!(
-            "write it {small}with one space between names and none before or after"
-        ));
+        let is_spaced = squeezed(line) == line;
+        return Some(match squeezed(line) == FIELDS.join(" ") {
+            true => "write one space between names, and none before or after".into(),
+            false if is_spaced => "write it in small letters".into(),
+            false => "write it in small letters, with one space between names".into(),
+        });
     }
     let separator = line.chars().find(|letter| ",;|:".contains(*letter))?;
     let spaced = line.replace(separator, " ");
@@ -88,7 +87,7 @@ fn slip(line: &str) -> Option<String> {
 fn differing_name(line: &str) -> String {
     let names: Vec<&str> = line.split(' ').collect();
     let differs = |&at: &usize| names.get(at) != FIELDS.get(at);
-    let at = (0..).find(differs).unwrap_or(0);
+    let at = (0..=FIELDS.len()).find(differs).unwrap_or(0);
     match (names.get(at), FIELDS.get(at)) {
         (Some(name), Some(wanted)) => {
             format!("{} stands where `{wanted}` has to", words::quoted(name))

@@ -3,7 +3,7 @@
 use std::error::Error;
 use std::fmt;
 
-use crate::Mark;
+use crate::{Help, Mark};
 
 /// Why a text of formulas gives no sheet.
 #[derive(Debug, Clone, PartialEq, Eq, Hash)]
@@ -15,6 +15,8 @@ pub struct Mistake {
     pub mark: Option<Mark>,
     /// What is wrong, in words.
     pub sentence: String,
+    /// How to mend it, and other places of the text that it has to do with.
+    pub help: Vec<Help>,
 }
 
 impl Mistake {
@@ -24,6 +26,7 @@ impl Mistake {
             row: None,
             mark: Some(mark),
             sentence: sentence.into(),
+            help: vec![],
         }
     }
 }

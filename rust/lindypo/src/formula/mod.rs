@@ -5,13 +5,13 @@ mod mistake;
 mod names;
 mod parse;
 mod print;
+mod refused;
 mod signs;
 mod tokens;
 
 use crate::build::{Expression, Group};
-use crate::{Kind, Label, Refusal, Sheet};
+use crate::{Kind, Label, Sheet};
 pub use mistake::Mistake;
-use parse::Marks;
 
 /// The formula of a value or function, or of an expression by itself; `None`
 /// where the label is a Group's or no line's.
@@ -117,27 +117,9 @@ pub fn write(text: &[u8]) -> Result<Vec<u8>, Mistake> {
         row: Some(mistake.row),
         mark: marks.of_place(mistake.place),
         sentence: mistake.to_string(),
+        help: vec![],
     })?;
     let plan = Sheet::read(&sheet).and_then(|sheet| sheet.plan());
-    plan.map_err(|refusal| refused(&marks, &refusal))?;
+    plan.map_err(|refusal| refused::mistake(&sheet, &marks, &refusal))?;
     Ok(sheet)
-}
-
-/// A refusal of the sheet, where its label stands in the formulas.
-fn refused(marks: &Marks, refusal: &Refusal) -> Mistake {
-    Mistake {
-        row: Some(refusal.number()),
-        mark: marks.of_label(refusal.place() as Label),
-        sentence: by_line(marks, refusal.sentence()),
-    }
-}
-
-/// A sentence that names a label at its end says its line here: who writes
-/// formulas sees no labels.
-fn by_line(marks: &Marks, sentence: &str) -> String {
-    let found = sentence.rsplit_once(": label ").and_then(|(words, label)| {
-        let mark = marks.of_label(label.parse().ok()?)?;
-        Some(format!("{words}, at line {}", mark.line))
-    });
-    found.unwrap_or_else(|| sentence.to_string())
 }

@@ -3,7 +3,7 @@
 use super::expression::{take_line, Formula};
 use super::tokens::{is_word, Names, Token, Tokens};
 use super::Mistake;
-use crate::build::{Content, Expression, Group, Place, MOST_LINES};
+use crate::build::{Content, Expression, Group, Place, FIRST_LINE, MOST_LINES};
 use crate::diagnosis::forms::Form;
 use crate::{Label, Mark};
 
@@ -33,6 +33,15 @@ impl Marks {
 
 /// The definitions of a text, and where they stand.
 pub fn parse(text: &[u8]) -> Result<(Group, Marks), Mistake> {
+    if text.starts_with(FIRST_LINE.as_bytes()) {
+        let mark = Mark {
+            line: 1,
+            column: 1,
+            width: FIRST_LINE.trim_end().len(),
+        };
+        let sentence = "this is the first line of a sheet, not of formulas";
+        return Err(Mistake::at(mark, sentence));
+    }
     let mut parser = Parser {
         tokens: Tokens::new(text),
         left: MOST_LINES - 1,
@@ -64,12 +73,7 @@ impl<'text> Parser<'text> {
             Token::End => return self.end(),
             Token::Symbol('}') => return Err(Mistake::at(mark, "this `}` closes no Group")),
             Token::Word(word) => return Err(Mistake::at(mark, is_word(word))),
-            token => {
-                let token = token.quoted();
-                let sentence =
-                    format!("a definition has to begin here, with its name, not {token}");
-                return Err(Mistake::at(mark, sentence));
-            }
+            token => return Err(Mistake::at(mark, no_beginning(&token))),
         }
         Ok(true)
     }
@@ -157,6 +161,19 @@ impl<'text> Parser<'text> {
     fn add(&mut self, name: &str, marks: (Mark, Vec<Mark>), content: Content) {
         self.group.add(self.open.len(), name.to_string(), content);
         self.marks.definitions.push(marks);
+    }
+}
+
+fn no_beginning(token: &Token) -> String {
+    match token {
+        Token::Symbol(symbol @ ('=' | '{')) => format!(
+            "no definition begins before this `{symbol}`: its name is missing, or the formula \
+             before it ends with a sign too many and took the name in"
+        ),
+        token => {
+            let token = token.quoted();
+            format!("a definition has to begin here, with its name, not {token}")
+        }
     }
 }
 

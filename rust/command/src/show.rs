@@ -1,0 +1,59 @@
+//! `lindypo show`: a sheet as formulas.
+
+use lindypo::{formula, Sheet};
+
+use crate::document::{self, Document, Made, Maker};
+use crate::input::Source;
+use crate::json::Object;
+use crate::options::Call;
+use crate::output::Output;
+use crate::sheets;
+use crate::status::Status;
+use crate::words::{Example, Field, Word};
+
+pub const WORD: Word = Word {
+    name: "show",
+    summary: "shows a sheet as formulas",
+    operands: "[FILE]",
+    about: "\
+Shows what a sheet defines as formulas: values, functions and Groups, the members of each Group in
+the sequence of their labels. docs/FORMULAS.md has the grammar. `lindypo write` makes a sheet of
+them again, the same but for its labels. A refused sheet is explained on standard error.
+",
+    options: &document::OPTIONS,
+    examples: &[Example {
+        words: "show sheets/04b-even-of-1.sheet",
+        print: "\
+first {
+    even(x) = if x then second.odd(x - 1) else 1
+}
+second {
+    odd(x) = if x then first.even(x - 1) else 0
+}
+answer = first.even(1)
+",
+    }],
+    fields: &[&sheets::FIELDS, &FIELDS],
+    call,
+};
+
+const FIELDS: [Field; 1] = [("formulas", "all formulas, as text")];
+
+fn call(call: &Call, out: &mut Output) -> Result<Status, String> {
+    let maker = Maker {
+        read: Source::read,
+        make: &make,
+    };
+    document::one(call, out, maker)
+}
+
+fn make(text: &[u8], source: &Source) -> Made {
+    let read = Sheet::read(text);
+    let sheet = read.map_err(|refusal| document::refused(text, source, &refusal))?;
+    let formulas = formula::show(&sheet);
+    Ok(Document {
+        fields: Object::new().with("formulas", formulas.as_str()),
+        text: formulas.into_bytes(),
+        status: Status::Answered,
+    })
+}

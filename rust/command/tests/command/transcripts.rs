@@ -48,6 +48,16 @@ fn values_and_why() {
 }
 
 #[test]
+fn pictures_of_sheets() {
+    is_replayed("pictures.txt");
+}
+
+#[test]
+fn slips_to_print() {
+    is_replayed("slips.txt");
+}
+
+#[test]
 fn wrong_words_files_and_outputs() {
     is_replayed("wrong.txt");
 }

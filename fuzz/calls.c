@@ -1,5 +1,6 @@
-/* Makes all five calls on what a fuzzer's input stands for, and ends the process
- * where a reply or a cell is not the one that the reference gives.
+/* Makes all five calls and the print on what a fuzzer's input stands for, and
+ * ends the process where a reply, a cell or a byte is not the one that the
+ * reference gives.
  *
  * The library itself, as it is shipped, is called twice: lent parts at the end
  * and at the start of their rooms, with different old contents, in a thread
@@ -33,6 +34,7 @@ typedef struct {
     __typeof__(lindypo_plan) *plan;
     __typeof__(lindypo_run) *run;
     __typeof__(lindypo_follow) *follow;
+    __typeof__(lindypo_print) *print;
 } library;
 
 __typeof__(lindypo_read) twin_read;
@@ -40,10 +42,12 @@ __typeof__(lindypo_name) twin_name;
 __typeof__(lindypo_plan) twin_plan;
 __typeof__(lindypo_run) twin_run;
 __typeof__(lindypo_follow) twin_follow;
+__typeof__(lindypo_print) twin_print;
 
-static const library shipped = {"library", lindypo_read, lindypo_name,
-                                lindypo_plan, lindypo_run, lindypo_follow};
-static const library twin = {"twin", twin_read, twin_name, twin_plan, twin_run, twin_follow};
+static const library shipped = {"library", lindypo_read, lindypo_name, lindypo_plan,
+                                lindypo_run, lindypo_follow, lindypo_print};
+static const library twin = {"twin", twin_read, twin_name, twin_plan,
+                             twin_run, twin_follow, twin_print};
 
 static const char *const call_names[CALLS] = {"Read", "Plan", "Run", "Follow"};
 static const char *const buffer_names[BUFFERS] = {"table", "plan", "results"};
@@ -61,9 +65,10 @@ typedef struct {
     const uint8_t *text;
     const int64_t *order;
     int64_t *cells[BUFFERS];
+    uint8_t *out;
 } turn;
 
-static room text_room, order_room, rooms[BUFFERS];
+static room text_room, order_room, rooms[BUFFERS], print_room;
 static oracle *reference;
 static uint8_t *stack;
 static const execution *at_hand;
@@ -71,9 +76,10 @@ static sem_t begin, end;
 
 static void print_input(const execution *execution)
 {
-    fprintf(stderr, "lengths: table %zu, plan %zu, results %zu; label %" PRId64 "\norder:",
+    fprintf(stderr, "lengths: table %zu, plan %zu, results %zu, print %zu; label %" PRId64
+            "\norder:",
             execution->lengths[TABLE], execution->lengths[PLANNED],
-            execution->lengths[RESULTS], execution->label);
+            execution->lengths[RESULTS], execution->print_length, execution->label);
     for (size_t at = 0; at < execution->order_length; at++)
         fprintf(stderr, " %" PRId64, execution->order[at]);
     fprintf(stderr, "\ntext, %zu bytes:\n", execution->text_length);
@@ -176,8 +182,41 @@ static void try_name(const turn *turn)
     compare(turn, "Name", TABLE, execution->wanted[READ].cells[TABLE]);
 }
 
-/* All five calls; each cell is at first `rubbish`, plus `step` for each before
- * it. */
+/* The byte at which the print is not the one wanted; the length where it is. */
+static size_t differing_byte(const uint8_t *given, const uint8_t *wanted, size_t length)
+{
+    size_t at = 0;
+    while (at < length && given[at] == wanted[at])
+        at++;
+    return at;
+}
+
+static void try_print(const turn *turn)
+{
+    const execution *execution = turn->execution;
+    const lindypo_printed *wanted = &execution->printed;
+    size_t length = execution->print_length;
+    for (size_t at = 0; at < length; at++)
+        turn->out[at] = (uint8_t)(turn->rubbish + turn->step * at);
+    set_canaries(&print_room, turn->side, length);
+    lindypo_printed given =
+        turn->library->print(turn->text, execution->text_length, turn->out, length);
+    if (memcmp(&given, wanted, sizeof given) != 0)
+        differ(turn, "print",
+               "answered %" PRIu64 " %" PRIu64 " %" PRIu64
+               ", wanted %" PRIu64 " %" PRIu64 " %" PRIu64,
+               given.refusal, given.place, given.length,
+               wanted->refusal, wanted->place, wanted->length);
+    size_t at = differing_byte(turn->out, execution->print, length);
+    if (at < length)
+        differ(turn, "print", "byte %zu is %u, wanted %u", at, turn->out[at],
+               execution->print[at]);
+    if (!canaries_stand(&print_room, turn->side, length))
+        differ(turn, "print", "bytes beside it were written");
+}
+
+/* All five calls and the print; each cell is at first `rubbish`, plus `step` for
+ * each before it. */
 static void take_turn(const library *library, enum side side, uint64_t rubbish, uint64_t step)
 {
     const execution *execution = at_hand;
@@ -189,9 +228,11 @@ static void take_turn(const library *library, enum side side, uint64_t rubbish, 
     for (enum buffer buffer = TABLE; buffer < BUFFERS; buffer++)
         turn.cells[buffer] =
             lend(&rooms[buffer], side, execution->lengths[buffer] * sizeof(int64_t));
+    turn.out = lend(&print_room, side, execution->print_length);
     for (enum call call = READ; call < CALLS; call++)
         try_call(&turn, call);
     try_name(&turn);
+    try_print(&turn);
 }
 
 static void await(sem_t *event)
@@ -246,6 +287,7 @@ int LLVMFuzzerInitialize(int *count, char ***words)
     order_room = make_room(READ_ONLY);
     for (enum buffer buffer = TABLE; buffer < BUFFERS; buffer++)
         rooms[buffer] = make_room(WRITABLE);
+    print_room = make_room(WRITABLE);
     reference = oracle_new();
     start_worker();
     atexit(report);

@@ -6,7 +6,7 @@
 #include "lindypo.h"
 
 /* How many bytes of an input are settings; the text comes after them. */
-#define SETTINGS 48
+#define SETTINGS 51
 
 /* The calls that reply, in the sequence of `wanted`. */
 enum call { READ, PLAN, RUN, FOLLOW, CALLS };
@@ -33,6 +33,10 @@ typedef struct {
     int64_t label;
     wanted wanted[CALLS];
     lindypo_part name;
+    /* The bytes lent for the print, what it answers and leaves in them. */
+    size_t print_length;
+    lindypo_printed printed;
+    const uint8_t *print;
 } execution;
 
 oracle *oracle_new(void);

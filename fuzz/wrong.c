@@ -6,7 +6,7 @@
 
 #include "lindypo.h"
 
-#define FAULTS 14
+#define FAULTS 18
 
 static const char *const words[FAULTS + 1] = {
     "",
@@ -24,6 +24,10 @@ static const char *const words[FAULTS + 1] = {
     "Follow reads the cell after the order list",
     "Follow finds a missing value one place early",
     "Follow takes more than 2 MiB of stack where it answers",
+    "The print answers the length of what it wrote",
+    "The print leaves the last byte as it was where it is shorter",
+    "The print writes the byte after its buffer where there is no room",
+    "The print answers the place for the refusal",
 };
 
 static int fault;
@@ -43,6 +47,7 @@ __typeof__(lindypo_name) __real_lindypo_name, __wrap_lindypo_name;
 __typeof__(lindypo_plan) __real_lindypo_plan, __wrap_lindypo_plan;
 __typeof__(lindypo_run) __real_lindypo_run, __wrap_lindypo_run;
 __typeof__(lindypo_follow) __real_lindypo_follow, __wrap_lindypo_follow;
+__typeof__(lindypo_print) __real_lindypo_print, __wrap_lindypo_print;
 
 lindypo_reply __wrap_lindypo_read(const uint8_t *text, size_t text_length,
                                   int64_t *table, size_t table_length)
@@ -116,4 +121,21 @@ lindypo_reply __wrap_lindypo_follow(const uint8_t *text, size_t text_length,
     if (fault == 14 && reply.refusal == 0)
         *(volatile uint8_t *)alloca(2 << 20) = 0;
     return reply;
+}
+
+lindypo_printed __wrap_lindypo_print(const uint8_t *text, size_t text_length,
+                                     uint8_t *out, size_t out_length)
+{
+    uint8_t last = out_length > 0 ? out[out_length - 1] : 0;
+    lindypo_printed printed = __real_lindypo_print(text, text_length, out, out_length);
+    int is_short = printed.length > out_length;
+    if (fault == 15 && is_short)
+        printed.length = out_length;
+    if (fault == 16 && printed.length < out_length)
+        out[out_length - 1] = last;
+    if (fault == 17 && is_short)
+        out[out_length] = 0;
+    if (fault == 18)
+        printed.refusal = printed.place;
+    return printed;
 }

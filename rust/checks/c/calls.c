@@ -73,6 +73,23 @@ static void follow_both_ways(size_t count)
     follow("follow it from the end", reversed, count);
 }
 
+/* The print in a buffer of so many bytes: what it answers, how many zeros are
+ * behind it, and the print as far as it goes. */
+static void print_in(size_t room)
+{
+    static uint8_t out[LINDYPO_PRINT_MOST];
+    memset(out, -1, sizeof out);
+    lindypo_printed printed = lindypo_print(text, length, out, room);
+    size_t shown = printed.length < room ? printed.length : room;
+    size_t end = shown;
+    while (end < room && out[end] == 0)
+        end++;
+    printf("print in %zu bytes: refusal %" PRIu64 ", place %" PRIu64 ", length %" PRIu64
+           ", %zu zeros\n%.*s\n",
+           room, printed.refusal, printed.place, printed.length, end - shown, (int)shown,
+           (const char *)out);
+}
+
 int main(int count, char **words)
 {
     if (count != 3) {
@@ -88,5 +105,7 @@ int main(int count, char **words)
     fclose(file);
     read_and_name(strtoll(words[2], NULL, 10));
     follow_both_ways(plan_and_run());
+    print_in(LINDYPO_PRINT_MOST);
+    print_in(5);
     return 0;
 }

@@ -1,9 +1,9 @@
 //! What the library is lent, with what is not its own on both sides.
 
+use std::fmt::Display;
+
 /// How many bytes or cells stand on each side.
 const MARGIN: usize = 8;
-
-const CANARY: i64 = 0x0123_4567_89AB_CDEF;
 
 /// What may stand around a text and around an order list. A reader that goes
 /// past an end of the text meets a line end, or more of a field; past an end of
@@ -28,20 +28,33 @@ impl<T: Copy> LentPart<T> {
     }
 }
 
-/// Cells to write to, between cells that must stay as they are.
-pub struct LentCells {
-    cells: Vec<i64>,
-    rubbish: i64,
+/// What a buffer is made of, and what stands beside it.
+pub trait Cell: Copy + PartialEq + Display {
+    const CANARY: Self;
 }
 
-impl LentCells {
-    pub fn new(length: usize, rubbish: i64) -> Self {
-        let cells = vec![CANARY; length + 2 * MARGIN];
+impl Cell for i64 {
+    const CANARY: i64 = 0x0123_4567_89AB_CDEF;
+}
+
+impl Cell for u8 {
+    const CANARY: u8 = 0xA5;
+}
+
+/// Cells to write to, or bytes, between others that must stay as they are.
+pub struct LentCells<T> {
+    cells: Vec<T>,
+    rubbish: T,
+}
+
+impl<T: Cell> LentCells<T> {
+    pub fn new(length: usize, rubbish: T) -> Self {
+        let cells = vec![T::CANARY; length + 2 * MARGIN];
         LentCells { cells, rubbish }
     }
 
     /// The cells to lend, full of rubbish again.
-    pub fn lend(&mut self) -> &mut [i64] {
+    pub fn lend(&mut self) -> &mut [T] {
         let end = self.cells.len() - MARGIN;
         let part = &mut self.cells[MARGIN..end];
         part.fill(self.rubbish);
@@ -50,7 +63,7 @@ impl LentCells {
 
     /// Whether the cells are these and every canary is as it was; else the
     /// difference in words.
-    pub fn compare(&self, wanted: &[i64]) -> Result<(), String> {
+    pub fn compare(&self, wanted: &[T]) -> Result<(), String> {
         let (before, rest) = self.cells.split_at(MARGIN);
         let (part, after) = rest.split_at(rest.len() - MARGIN);
         if part != wanted {
@@ -58,7 +71,7 @@ impl LentCells {
             let at = (0..wanted.len()).find(differs).unwrap_or(0);
             return Err(format!("cell {at} is {}, wanted {}", part[at], wanted[at]));
         }
-        if before.iter().chain(after).any(|&cell| cell != CANARY) {
+        if before.iter().chain(after).any(|&cell| cell != T::CANARY) {
             return Err("cells beside it were written".to_string());
         }
         Ok(())

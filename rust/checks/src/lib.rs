@@ -2,7 +2,8 @@
 //!
 //! A trial lends both the same text, order list and lengths of buffers, full of
 //! rubbish beforehand, and compares the replies and every cell: for Read, Plan,
-//! Run and Follow, then for Name with each of many labels. What the library is
+//! Run and Follow, for Name with each of many labels, and for the print, in a
+//! buffer that may be too short for it. What the library is
 //! lent stands between canaries: cells that must stay as they are, and bytes
 //! around the text and cells around the list that would change the reply if
 //! they were read.
@@ -18,7 +19,7 @@ use std::thread;
 
 pub use calls::Call;
 pub use tally::Tally;
-pub use trial::{Outcome, Trial, Wanted, WantedName};
+pub use trial::{Outcome, Trial, Wanted, WantedName, WantedPrint};
 
 /// The random trial with this seed; a difference says how to run it again.
 pub fn check_seed(seed: u64) -> Result<Outcome, String> {

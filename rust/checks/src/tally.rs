@@ -12,8 +12,8 @@ const ENOUGH: u64 = 5_000;
 
 const STATES: [&str; 5] = ["number", "range", "zero divisor", "spent", "deep"];
 
-/// How the calls replied, what Plan and Run came to, and how many labels Name
-/// was asked for and gave a part to.
+/// How the calls replied, what Plan and Run came to, how many labels Name was
+/// asked for and gave a part to, and how many prints there was room for.
 #[derive(Debug, Default, Clone, PartialEq, Eq)]
 pub struct Tally {
     trials: u64,
@@ -25,6 +25,8 @@ pub struct Tally {
     states: [u64; 5],
     asked: u64,
     named: u64,
+    /// Prints that were whole.
+    printed: u64,
 }
 
 impl Tally {
@@ -38,6 +40,7 @@ impl Tally {
         add_all(&mut self.states, &outcome.states);
         self.asked += outcome.asked;
         self.named += outcome.named;
+        self.printed += u64::from(outcome.is_print_whole);
     }
 
     pub fn merge(&mut self, other: &Tally) {
@@ -50,17 +53,21 @@ impl Tally {
         add_all(&mut self.states, &other.states);
         self.asked += other.asked;
         self.named += other.named;
+        self.printed += other.printed;
     }
 
     /// Whether every call answered and refused by each of its rows, plans were
-    /// whole and mixed, values came to every state, and Name gave parts, empty
-    /// ones too; a short run need not have met all of them.
+    /// whole and mixed, values came to every state, Name gave parts, empty ones
+    /// too, and prints had room and had not; a short run need not have met all of
+    /// them.
     pub fn is_complete(&self) -> bool {
         let mut calls = Call::ALL.into_iter().zip(&self.replies);
         let replies = calls.all(|(call, counts)| !counts[..=call.last_row()].contains(&0));
         let orders = self.whole > 0 && self.mixed > 0;
         let names = self.named > 0 && self.named < self.asked;
-        self.trials < ENOUGH || (replies && orders && names && !self.states.contains(&0))
+        let prints = self.printed > 0 && self.printed < self.trials;
+        let states = !self.states.contains(&0);
+        self.trials < ENOUGH || (replies && orders && names && prints && states)
     }
 
     pub fn total(&self) -> u64 {
@@ -96,6 +103,8 @@ impl fmt::Display for Tally {
         let count = |(name, count): (&str, u64)| format!("{count} {name}");
         let states: Vec<String> = STATES.into_iter().zip(self.states).map(count).collect();
         writeln!(f, "values: {}", states.join(", "))?;
+        let cut = self.trials - self.printed;
+        writeln!(f, "prints: {} whole, {cut} cut short", self.printed)?;
         write!(f, "names: {} of {} asked for", self.named, self.asked)
     }
 }

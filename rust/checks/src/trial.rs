@@ -1,7 +1,7 @@
 //! One trial of all the calls.
 
 use generator::Case;
-use lindypo::raw::{Part, Reply};
+use lindypo::raw::{Part, Printed, Reply};
 
 use crate::calls::{Call, Lent};
 use crate::lent::{LentCells, LentPart, SURROUNDINGS};
@@ -13,8 +13,8 @@ const ALL_LABELS: usize = 40;
 const BUFFERS: [&str; 3] = ["table", "plan", "results"];
 
 /// What is lent: the text, a list for Follow, the lengths of the buffers, what
-/// they are full of beforehand, and a label for Name besides those of every
-/// trial.
+/// they are full of beforehand, a label for Name besides those of every trial,
+/// and how many bytes the print has room for.
 #[derive(Debug, Clone, Copy)]
 pub struct Trial<'a> {
     pub text: &'a [u8],
@@ -24,6 +24,7 @@ pub struct Trial<'a> {
     pub results: usize,
     pub rubbish: i64,
     pub label: i64,
+    pub print: usize,
 }
 
 /// What a trial came to.
@@ -38,11 +39,13 @@ pub struct Outcome {
     /// How many labels Name was asked for, and how many of them have a name.
     pub asked: u64,
     pub named: u64,
+    /// Whether there was room for the whole print.
+    pub is_print_whole: bool,
 }
 
 impl Outcome {
-    /// What the calls and these names come to by the reference.
-    pub fn new(wanted: &[Wanted; 4], names: &[WantedName]) -> Self {
+    /// What the calls, these names and the print come to by the reference.
+    pub fn new(wanted: &[Wanted; 4], names: &[WantedName], print: &WantedPrint) -> Self {
         let [read, plan, run, follow] = wanted.each_ref().map(|wanted| wanted.reply);
         let is_named = |wanted: &&WantedName| wanted.part.length > 0;
         Outcome {
@@ -53,6 +56,7 @@ impl Outcome {
             states: states(&wanted[2].buffers[2], run),
             asked: names.len() as u64,
             named: names.iter().filter(is_named).count() as u64,
+            is_print_whole: print.printed.length <= print.out.len() as u64,
         }
     }
 
@@ -75,6 +79,12 @@ pub struct WantedName {
     pub part: Part,
 }
 
+/// What the print has to answer and to leave in its buffer.
+pub struct WantedPrint {
+    pub printed: Printed,
+    pub out: Vec<u8>,
+}
+
 impl<'a> Trial<'a> {
     /// A trial with buffers one cell longer than need be.
     pub fn new(text: &'a [u8], order: &'a [i64]) -> Self {
@@ -87,6 +97,7 @@ impl<'a> Trial<'a> {
             results: 3 * lines + 1,
             rubbish: -77,
             label: 2,
+            print: reference::print(text).len() + 1,
         }
     }
 
@@ -100,6 +111,7 @@ impl<'a> Trial<'a> {
             results: case.results,
             rubbish: case.rubbish,
             label: case.label,
+            print: case.print,
         }
     }
 
@@ -109,12 +121,14 @@ impl<'a> Trial<'a> {
         let wanted = self.wanted();
         let lines = generator::line_count(self.text);
         let names = self.names(&wanted[0], labels(wanted[0].reply, lines, self.label))?;
+        let print = self.wanted_print();
         for (turn, surrounding) in SURROUNDINGS.into_iter().enumerate() {
             // Name under one surrounding and the other in turn.
             let names = names.iter().skip(turn).step_by(SURROUNDINGS.len());
             self.compare(&wanted, names, surrounding)?;
+            self.compare_print(&print, surrounding.0)?;
         }
-        Ok(Outcome::new(&wanted, &names))
+        Ok(Outcome::new(&wanted, &names, &print))
     }
 
     /// What the reference wants of each call, in the sequence of `Call::ALL`.
@@ -153,6 +167,33 @@ impl<'a> Trial<'a> {
             reply,
             buffers,
         }
+    }
+
+    /// What the reference's print answers and leaves.
+    pub fn wanted_print(&self) -> WantedPrint {
+        let mut out = vec![self.rubbish as u8; self.print];
+        let reference::Printed { refusal, length } = reference::print_into(self.text, &mut out);
+        let (refusal, place) = refusal.map_or((0, 0), |refusal| (refusal.number, refusal.place));
+        let length = length as u64;
+        let printed = Printed {
+            refusal,
+            place,
+            length,
+        };
+        WantedPrint { printed, out }
+    }
+
+    /// The library's print of the text between such bytes.
+    fn compare_print(&self, wanted: &WantedPrint, surrounding: u8) -> Result<(), String> {
+        let WantedPrint { printed, out } = wanted;
+        let text = LentPart::new(self.text, surrounding);
+        let mut bytes = LentCells::new(self.print, self.rubbish as u8);
+        let given = lindypo::raw::print(text.part(), bytes.lend());
+        if given != *printed {
+            return Err(format!("the print answered {given:?}, wanted {printed:?}"));
+        }
+        let with_place = |difference| format!("bytes after the print: {difference}");
+        bytes.compare(out).map_err(with_place)
     }
 
     /// What the reference's Name gives for each of these labels.
@@ -197,7 +238,7 @@ fn compare_call(
     wanted: &Wanted,
     text: &[u8],
     order: &[i64],
-    cells: &mut [LentCells; 3],
+    cells: &mut [LentCells<i64>; 3],
 ) -> Result<(), String> {
     let Wanted {
         call,
@@ -225,7 +266,7 @@ fn compare_call(
 fn compare_name(
     wanted: &WantedName,
     text: &[u8],
-    table: &mut LentCells,
+    table: &mut LentCells<i64>,
     wanted_table: &[i64],
 ) -> Result<(), String> {
     let WantedName { label, part } = wanted;

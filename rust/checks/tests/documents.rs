@@ -67,10 +67,15 @@ fn check_line(line: &str) -> Vec<String> {
     wrong
 }
 
-/// `crate/edit`, where the crate has must-fail edits.
+/// `crate/edit`, where the crate has must-fail edits; a file of the folder
+/// `sheets` is none of the crate of that name.
 fn check_edits(line: &str) -> Vec<String> {
     let edit = |(name, _): &(&str, &str)| {
         let (of, edit) = name.split_once('/')?;
+        let is_name = |c: char| c.is_ascii_alphanumeric() || c == '_';
+        if edit.is_empty() || !edit.chars().all(is_name) {
+            return None;
+        }
         let folder = root().join("crates").join(of).join("must-fail");
         let is_edit = folder.is_dir() && !folder.join(format!("{edit}.edit")).exists();
         is_edit.then(|| format!("there is no edit {name}"))

@@ -6,7 +6,7 @@ mod common;
 use common::is_in_text;
 use generator::rows::{self, Row};
 use generator::Rng;
-use lindypo::{faults, Refusal, Sheet};
+use lindypo::{faults, Kind, Refusal, Sheet};
 
 const CASES: u64 = 4_000;
 
@@ -74,6 +74,43 @@ fn sheets_with_many_faults() {
     assert!(most > 10, "{most} faults at most");
 }
 
+/// Pieces of other encodings, and of none.
+const PIECES: [&[u8]; 8] = [
+    "é".as_bytes(),
+    "−".as_bytes(),
+    "\u{202e}".as_bytes(),
+    b"\xef\xbb\xbf",
+    b"\xff\xfe",
+    b"\xc3",
+    b"\r\n",
+    b"\0\0",
+];
+
+/// Sheets with any bytes put in anywhere, and texts of nothing else.
+#[test]
+fn any_bytes() {
+    let is_clean = |byte: &u8| *byte == b'\n' || (32..=126).contains(byte);
+    for seed in 0..CASES / 2 {
+        let rng = &mut Rng::new(seed);
+        let mut text = match rng.below(4) {
+            0 => (0..rng.below(200)).map(|_| rng.below(256) as u8).collect(),
+            _ => generator::sheet_within(rng, 30),
+        };
+        for _ in 0..rng.range(1, 6) {
+            let at = rng.below(text.len() + 1);
+            let piece = *rng.pick(&PIECES);
+            text.splice(at..at, piece.iter().copied());
+        }
+        let faults = faults(&text);
+        is_proper(&text, &faults);
+        let is_bytes = faults.first().is_some_and(|fault| fault.number() == 1);
+        assert_eq!(
+            is_bytes,
+            !text.iter().all(is_clean) || !text.ends_with(b"\n")
+        );
+    }
+}
+
 /// A field that has not its form, whatever the kind.
 const MISFITS: [&str; 7] = ["?", "1.5", "01", "a..b", "a_b", "99999", "--"];
 
@@ -100,27 +137,60 @@ fn good_rows(rng: &mut Rng) -> Vec<Row> {
     }
 }
 
-/// In a sheet that runs, nothing is found but at the lines that are broken.
+/// Spoils what a line leads to, where that is one line's fault alone: a link
+/// upward, a name of nobody, an argument in a value. Answers its label.
+fn spoil_link(rng: &mut Rng, rows: &mut [Row]) -> Option<u64> {
+    let at = rng.range(0, rows.len() - 1);
+    let owner_is_value = |rows: &[Row]| {
+        let text = rows::join(rows);
+        let sheet = Sheet::read(&text).ok()?;
+        let owner = sheet.line(at + 1)?.owner?;
+        Some(sheet.line(owner)?.kind == Kind::Value)
+    };
+    match (rows[at][0][0], rng.below(2)) {
+        (b'A' | b'S' | b'M' | b'D' | b'I', field) => rows[at][2 + field] = b"1".to_vec(),
+        (b'V' | b'F', _) => rows[at][3] = b"1".to_vec(),
+        (b'R' | b'C', 0) => rows[at][1] = b"nosuch".to_vec(),
+        (b'R' | b'N', _) if owner_is_value(rows)? => {
+            rows[at] = ["P", "-", "-", "-", "-"].map(|field| field.as_bytes().to_vec());
+        }
+        _ => return None,
+    }
+    Some(at as u64 + 1)
+}
+
+/// In a sheet that runs, breaks lines and spoils a link, as is asked.
+fn only_there(seed: u64, most_broken: usize, is_spoilt: bool) {
+    let rng = &mut Rng::new(seed);
+    let mut rows = good_rows(rng);
+    let mut meant: Vec<u64> = vec![];
+    if is_spoilt {
+        meant.extend(spoil_link(rng, &mut rows));
+    }
+    for _ in 0..rng.range(0, most_broken) {
+        let at = rng.below(rows.len());
+        break_line(rng, &mut rows[at]);
+        meant.push(at as u64 + 1);
+    }
+    let text = rows::join(&rows);
+    let faults = faults(&text);
+    is_proper(&text, &faults);
+    let is_meant = |fault: &Refusal| fault.number() == 1 || meant.contains(&fault.place());
+    let (found, shown) = (places(&faults), String::from_utf8_lossy(&text));
+    assert!(
+        faults.iter().all(is_meant),
+        "seed {seed}: broken {meant:?}, found {found:?}\n{shown}"
+    );
+}
+
+/// Nothing is found but at the lines that are broken.
 #[test]
 fn broken_lines_alone() {
-    for seed in 0..CASES {
-        let rng = &mut Rng::new(seed);
-        let mut rows = good_rows(rng);
-        let mut broken = vec![];
-        for _ in 0..rng.range(1, 3) {
-            let at = rng.below(rows.len());
-            break_line(rng, &mut rows[at]);
-            broken.push(at as u64 + 1);
-        }
-        let text = rows::join(&rows);
-        let faults = faults(&text);
-        is_proper(&text, &faults);
-        let is_meant = |fault: &Refusal| fault.number() == 1 || broken.contains(&fault.place());
-        let shown = String::from_utf8_lossy(&text);
-        assert!(
-            faults.iter().all(is_meant),
-            "seed {seed}: broken {broken:?}, found {:?}\n{shown}",
-            places(&faults)
-        );
-    }
+    (0..CASES).for_each(|seed| only_there(seed, 3, false));
+}
+
+/// Nothing is found but at the line that leads astray, and at those broken.
+#[test]
+fn links_astray_alone() {
+    (0..CASES).for_each(|seed| only_there(seed, 2, true));
 }

@@ -21,7 +21,7 @@ pub const WORD: Word = Word {
 Says in words what `lindypo run` says in numbers. A refused sheet is shown with the place to mend
 marked. One that runs is shown as the tree of its Groups: members stand in the order in which the
 plan evaluates them, functions and Groups without values after them. Long formulas are cut; --json
-has them whole.
+has them whole. `lindypo why` says where the failure of a value began.
 
 A picture has a card for each value and function, in boxes for the Groups, and an arrow for each
 mention; where the pointer rests, it says more. With more than 60 cards, Groups are folded into one

@@ -37,6 +37,7 @@ pub fn write(path: &Path, bytes: &[u8], over: Over) -> Result<(), String> {
 /// A new file. One that cannot be written whole is taken away again.
 fn add(path: &Path, bytes: &[u8], taken: &str) -> Result<(), String> {
     let wrong = |error: io::Error| match error.kind() {
+        ErrorKind::AlreadyExists if path.is_dir() => reason(&ErrorKind::IsADirectory.into()),
         ErrorKind::AlreadyExists => taken.to_string(),
         _ => reason(&error),
     };
@@ -60,7 +61,7 @@ fn like(path: &Path, bytes: &[u8], sort: Sort) -> Result<(), String> {
     match fs::metadata(path) {
         Err(error) if error.kind() == ErrorKind::NotFound => add(path, bytes, &taken),
         Err(error) => Err(reason(&error)),
-        Ok(there) if there.is_dir() => Err("is a folder".to_string()),
+        Ok(there) if there.is_dir() => Err(reason(&ErrorKind::IsADirectory.into())),
         // reading from a pipe would wait, and a device is no file to replace
         Ok(there) if !there.is_file() => Err("is no plain file; - is standard output".to_string()),
         Ok(there) if there.permissions().readonly() => {

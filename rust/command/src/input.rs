@@ -9,7 +9,7 @@ use crate::numerals::grouped;
 
 /// One byte more than a sheet may have: of a longer one no more is read, which
 /// is enough to refuse it.
-const MOST_BYTES: u64 = 65_537;
+const ENOUGH_BYTES: u64 = lindypo::MOST_BYTES as u64 + 1;
 
 /// What stands for standard input on the command line.
 const INPUT: &str = "-";
@@ -59,10 +59,11 @@ impl Source {
 
     /// The text of a sheet, else why it cannot be read.
     pub fn read(&self) -> Result<Vec<u8>, String> {
-        self.bytes(MOST_BYTES).map_err(|error| match error.kind() {
-            ErrorKind::IsADirectory => "is a folder; `lindypo check` takes folders".to_string(),
-            _ => reason(&error),
-        })
+        self.bytes(ENOUGH_BYTES)
+            .map_err(|error| match error.kind() {
+                ErrorKind::IsADirectory => "is a folder; `lindypo check` takes folders".to_string(),
+                _ => reason(&error),
+            })
     }
 
     /// All of a file that has at most so many bytes.

@@ -17,6 +17,17 @@ pub struct Value {
     pub outcome: Outcome,
 }
 
+/// What the numbers of the states mean.
+pub const STATES: &str = "1 a number, 2 out of range, 3 a zero divisor, 4 out of steps, 5 too deep";
+
+/// Every state in which a value has no number, by its number from 2.
+pub const FAILURES: [State; 4] = [
+    State::OutOfRange,
+    State::ZeroDivisor,
+    State::OutOfSteps,
+    State::TooDeep,
+];
+
 /// The JSON of a plan, of a value, and of one that has been evaluated.
 pub const ORDER_FIELDS: [Field; 1] = [("order", "whole or mixed")];
 pub const NAME_FIELDS: [Field; 4] = [
@@ -26,10 +37,7 @@ pub const NAME_FIELDS: [Field; 4] = [
     ("values.line", "the line that it stands in, from 1"),
 ];
 pub const OUTCOME_FIELDS: [Field; 4] = [
-    (
-        "values.state",
-        "1 a number, 2 out of range, 3 a zero divisor, 4 no steps left, 5 too deep",
-    ),
+    ("values.state", STATES),
     ("values.number", "the number, in state 1"),
     (
         "values.failure",

@@ -2,9 +2,9 @@
 
 use std::slice;
 
-use checks::{Outcome, Tally, Trial, Wanted};
+use checks::{Outcome, Tally, Trial, Wanted, WantedPrint};
 use generator::{Case, Rng};
-use lindypo::raw::{Part, Reply};
+use lindypo::raw::{Part, Printed, Reply};
 
 /// The input at hand, and what all inputs came to.
 #[derive(Default)]
@@ -19,6 +19,7 @@ struct Held {
     case: Case,
     wanted: [Wanted; 4],
     name: Part,
+    print: WantedPrint,
 }
 
 /// What one call replies and leaves in table, plan and results.
@@ -42,11 +43,20 @@ pub struct Execution {
     /// Read, Plan, Run, Follow.
     wanted: [WantedCells; 4],
     name: Part,
+    /// The bytes lent for the print, what it answers and leaves in them.
+    print_length: usize,
+    printed: Printed,
+    print: *const u8,
 }
 
 impl Execution {
     fn new(held: &Held) -> Self {
-        let Held { case, wanted, name } = held;
+        let Held {
+            case,
+            wanted,
+            name,
+            print,
+        } = held;
         Execution {
             text: case.text.as_ptr(),
             text_length: case.text.len(),
@@ -60,6 +70,9 @@ impl Execution {
                 cells: wanted.buffers.each_ref().map(|cells| cells.as_ptr()),
             }),
             name: *name,
+            print_length: case.print,
+            printed: print.printed,
+            print: print.out.as_ptr(),
         }
     }
 }
@@ -72,9 +85,14 @@ impl Oracle {
         let wanted = trial.wanted();
         let names = trial.names(&wanted[0], vec![case.label]);
         let names = names.unwrap_or_else(|difference| panic!("{difference}"));
-        self.tally.add(Outcome::new(&wanted, &names));
-        let name = names[0].part;
-        let held = self.held.insert(Held { case, wanted, name });
+        let print = trial.wanted_print();
+        self.tally.add(Outcome::new(&wanted, &names, &print));
+        let held = self.held.insert(Held {
+            name: names[0].part,
+            case,
+            wanted,
+            print,
+        });
         self.execution.insert(Execution::new(held))
     }
 }

@@ -2,7 +2,7 @@
 
 use generator::{line_count, planned, Case, Rng};
 
-use crate::settings::{Settings, MOST_CELLS};
+use crate::settings::{Settings, MOST_CELLS, MOST_PRINT};
 
 /// Longer than a sheet may be, so that longer ones are met too.
 const MOST_BYTES: usize = 66_000;
@@ -24,6 +24,7 @@ pub fn decode(input: &[u8]) -> Case {
         rubbish: settings.seed as i64,
         label: label(&settings, lines),
         order: order(&settings, text),
+        print: print(&settings, text),
         text: text.to_vec(),
     }
 }
@@ -37,6 +38,13 @@ fn length(way: u8, amount: usize, needed: usize) -> usize {
         30 => needed.saturating_sub(1),
         _ => amount,
     }
+}
+
+/// Most often as many bytes as the print has.
+fn print(settings: &Settings, text: &[u8]) -> usize {
+    let needed = reference::print(text).len();
+    let amount = usize::from(settings.print_amount);
+    length(settings.print_way, amount, needed).min(MOST_PRINT)
 }
 
 /// Most often a label of a line, the one before or the one after them. Label 1
@@ -123,6 +131,7 @@ mod tests {
         assert_eq!(case.text, SHEET);
         assert_eq!([case.table, case.plan, case.results], [40, 5, 15]);
         assert_eq!((case.order, case.label), (vec![4, 2], 2));
+        assert_eq!(case.print, reference::print(SHEET).len());
     }
 
     #[test]
@@ -140,6 +149,16 @@ mod tests {
             ..settings
         });
         assert_eq!([case.table, case.plan, case.results], [0; 3]);
+    }
+
+    #[test]
+    fn a_print_that_has_no_room() {
+        let settings = Settings {
+            print_way: 31,
+            print_amount: 7,
+            ..Settings::default()
+        };
+        assert_eq!(decoded(settings).print, 7);
     }
 
     #[test]

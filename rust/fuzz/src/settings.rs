@@ -6,6 +6,9 @@ use generator::Rng;
 /// some more.
 pub const MOST_CELLS: usize = 8 * 1_024 + 64;
 
+/// No buffer for the print is longer, in bytes: more than any print has.
+pub const MOST_PRINT: usize = 49_188 + 64;
+
 /// Zeros, which a sheet without settings has, stand for buffers of exactly the
 /// cells needed, Follow down the plan, and Name of label 2.
 #[derive(Debug, Default, Clone, Copy, PartialEq, Eq)]
@@ -25,10 +28,13 @@ pub struct Settings {
     pub seed: u64,
     /// A list, one byte for a label.
     pub list: [u8; 16],
+    /// How the length of the buffer for the print comes from the bytes needed.
+    pub print_way: u8,
+    pub print_amount: u16,
 }
 
 impl Settings {
-    pub const BYTES: usize = 48;
+    pub const BYTES: usize = 51;
 
     /// The settings of an input and its text; what is missing is 0.
     pub fn split(input: &[u8]) -> (Self, &[u8]) {
@@ -52,6 +58,8 @@ impl Settings {
             word: i64::from_le_bytes(eight(16)),
             seed: u64::from_le_bytes(eight(24)),
             list: std::array::from_fn(|byte| bytes[32 + byte]),
+            print_way: bytes[48],
+            print_amount: pair(49),
         }
     }
 
@@ -69,6 +77,8 @@ impl Settings {
             &self.word.to_le_bytes(),
             &self.seed.to_le_bytes(),
             &self.list,
+            &[self.print_way],
+            &self.print_amount.to_le_bytes(),
         ]
         .concat()
     }
@@ -87,7 +97,7 @@ impl Settings {
         let buffer = rng.below(3);
         let small = rng.below(64) as i64;
         let edges = [small, small, small, -small, -1, i64::MIN, i64::MAX];
-        match rng.below(10) {
+        match rng.below(12) {
             0 => self.order = rng.below(8) as u8,
             1 => self.fault = rng.below(8) as u8,
             2 => self.at = small as u16,
@@ -97,6 +107,8 @@ impl Settings {
             6 => self.word = *rng.pick(&edges),
             7 => self.seed = rng.word(),
             8 => self.label = rng.below(8) as u8,
+            9 => self.print_way = rng.below(32) as u8,
+            10 => self.print_amount = rng.below(MOST_PRINT + 1) as u16,
             _ => self.list[rng.below(16)] = small as u8,
         }
     }

@@ -2,6 +2,9 @@
 
 use crate::rng::Rng;
 
+/// No print has more bytes.
+const MOST_PRINT: usize = 36 + 48 * 1_024;
+
 /// A length for a buffer that needs this many cells: most often enough.
 pub fn buffer_length(rng: &mut Rng, cells: usize) -> usize {
     match rng.below(100) {
@@ -11,6 +14,21 @@ pub fn buffer_length(rng: &mut Rng, cells: usize) -> usize {
         4..=9 => cells + 1,
         10..=19 => cells + rng.below(64),
         _ => cells,
+    }
+}
+
+/// A length in bytes for the print of a text: none, a part of it, one byte less
+/// and more than it needs, the most that any needs.
+pub fn print_length(rng: &mut Rng, text: &[u8]) -> usize {
+    let whole = reference::print(text).len();
+    match rng.below(10) {
+        0 => 0,
+        1 => whole - 1,
+        2..=4 => rng.below(whole),
+        5 => whole + 1,
+        6 => whole + rng.below(64),
+        7 => MOST_PRINT,
+        _ => whole,
     }
 }
 

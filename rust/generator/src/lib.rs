@@ -18,7 +18,7 @@ mod shapes;
 
 pub use damage::{damage, damaged};
 pub use everyday::everyday;
-pub use lent::{buffer_length, order, planned, proper_order};
+pub use lent::{buffer_length, order, planned, print_length, proper_order};
 pub use random::{sheet, sheet_within};
 pub use rng::Rng;
 pub use shapes::{
@@ -40,6 +40,8 @@ pub struct Case {
     pub label: i64,
     /// A list for Follow.
     pub order: Vec<i64>,
+    /// Bytes to lend for the print.
+    pub print: usize,
 }
 
 /// The trial with this seed.
@@ -54,6 +56,7 @@ pub fn case(seed: u64) -> Case {
         rubbish: *rng.pick(&[0, 1, -1, i64::MIN, i64::MAX, 77]),
         label: lent::label(rng, lines),
         order: order(rng, &text),
+        print: print_length(rng, &text),
         text,
     }
 }

@@ -45,6 +45,9 @@
 //! );
 //! ```
 //!
+//! Sheets are made by programs with [`build`], and written and shown as formulas
+//! with [`formula`].
+//!
 //! What is proved is what the static library gives: whether a sheet is refused,
 //! by which number and at which place; every cell of the table, of the plan and
 //! of the results. The types here carry that and add words. The library's own
@@ -62,6 +65,7 @@ mod sheet;
 pub mod why;
 
 pub use answer::{Order, Outcome, Plan, Results, Run, State};
+pub use diagnosis::bytes::MOST_BYTES;
 pub use faults::faults;
 pub use line::{Kind, Line};
 pub use refusal::{Fault, Help, Mark, Refusal};

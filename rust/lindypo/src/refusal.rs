@@ -147,10 +147,12 @@ impl Refusal {
     /// How to mend it, and other places of the text that it has to do with.
     ///
     /// ```
-    /// let text = b"kind name a b c\nG - 0 - -\nV size 1 4 -\nV twice 1 5 -\nN - 1.5 - -\nR Size - - -\n";
+    /// let text = b"kind name a b c\nG - 0 - -\nV size 1 4 -\nV x 1 5 -\nN - 7 - -\nR sise - - -\n";
     /// let refusal = lindypo::Sheet::read(text).unwrap_err();
-    /// assert_eq!(refusal.number(), 7);
-    /// assert_eq!(refusal.help()[0].sentence, "numbers are whole: in hundredths it is `150`");
+    /// let near = &refusal.help()[0];
+    /// assert_eq!(near.sentence, "is `size` (line 3) meant?");
+    /// assert_eq!(near.mark.map(|mark| (mark.line, mark.column, mark.width)), Some((3, 3, 4)));
+    /// assert_eq!(refusal.help()[1].sentence, "the outermost Group has `size` and `x`");
     /// ```
     pub fn help(&self) -> &[Help] {
         &self.fault().help

@@ -24,7 +24,7 @@ mod tree;
 use evaluate::Outcome;
 use sheet::{Label, Sheet};
 
-pub use print::print;
+pub use print::{print, print_into, Printed};
 
 /// A refusal: its number and its place in the paper's table.
 #[derive(Debug, Clone, Copy, PartialEq, Eq)]

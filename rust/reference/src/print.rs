@@ -5,16 +5,38 @@ use std::io::Write;
 use crate::evaluate::evaluate;
 use crate::{plan_sheet, Lent, Order, Planned, Refusal};
 
-/// The program's standard output for this standard input. The program lends
-/// itself buffers that are long enough, so there is no row 4.
+/// What a print comes to: the refusal that it prints, if it is one, and how many
+/// bytes the whole of it has.
+#[derive(Debug, Clone, Copy, PartialEq, Eq)]
+pub struct Printed {
+    pub refusal: Option<Refusal>,
+    pub length: usize,
+}
+
+/// The program's standard output for this standard input.
 pub fn print(text: &[u8]) -> Vec<u8> {
+    whole_print(text).0
+}
+
+/// As much of it as `out` has room for, then zeros.
+pub fn print_into(text: &[u8], out: &mut [u8]) -> Printed {
+    let (print, refusal) = whole_print(text);
+    let length = print.len();
+    let room = length.min(out.len());
+    out[..room].copy_from_slice(&print[..room]);
+    out[room..].fill(0);
+    Printed { refusal, length }
+}
+
+/// The program lends itself buffers that are long enough, so there is no row 4.
+fn whole_print(text: &[u8]) -> (Vec<u8>, Option<Refusal>) {
     let mut out = Vec::new();
-    let written = match plan_sheet(text, &Lent::default()) {
-        Ok(planned) => print_values(&planned, &mut out),
-        Err(refusal) => print_refusal(refusal, &mut out),
+    let (written, refusal) = match plan_sheet(text, &Lent::default()) {
+        Ok(planned) => (print_values(&planned, &mut out), None),
+        Err(refusal) => (print_refusal(refusal, &mut out), Some(refusal)),
     };
     written.expect("writing to a Vec does not fail");
-    out
+    (out, refusal)
 }
 
 /// "One line of column names, then one line per value in plan order."

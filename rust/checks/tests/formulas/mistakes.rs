@@ -23,7 +23,12 @@ fn bytes_and_characters() {
     let nothing = "means nothing in a formula; names are letters and digits, \
                    the signs are + - * / ( ) { } =";
     formula_says("a_b", 6, &format!("`_` {nothing}"));
-    formula_says("1;", 6, &format!("`;` {nothing}"));
+    formula_says("1 % 2", 7, &format!("`%` {nothing}"));
+    formula_says("1;", 6, "nothing stands between definitions");
+    let test = "means nothing in a formula: a test is a number, and holds where it is not 0";
+    formula_says("if a > 1 then 2 else 3", 10, &format!("`>` {test}"));
+    let dot = "a dot stands between two names, with no space: `right.prism`";
+    formula_says("right .prism", 11, dot);
     let ascii = "may stand in a comment, after `#`, and nowhere else: formulas are printable ASCII";
     formula_says("3 \u{d7} 4", 7, &format!("byte 195 {ascii}"));
     formula_says("3 \0", 7, &format!("byte 0 {ascii}"));
@@ -110,6 +115,10 @@ fn what_is_open() {
         "`)` is missing: the call at line 1, column 5 is not closed",
     );
     formula_says("1 + 2)", 10, "this `)` closes nothing");
+}
+
+#[test]
+fn choices_that_are_open() {
     formula_says(
         "if 1",
         9,
@@ -136,6 +145,10 @@ fn what_is_open() {
         11,
         "`)` is missing: the `(` at line 1, column 8 is not closed",
     );
+}
+
+#[test]
+fn groups() {
     says(
         "a {\n  b {\n  }\n",
         "line 1, column 1: this Group is not closed: `}` is missing",
@@ -204,9 +217,9 @@ fn arguments() {
 }
 
 /// Rows that the sheet itself would be refused by, at their places in the
-/// formulas.
+/// formulas: here 7 and 11.
 #[test]
-fn rows() {
+fn forms_and_levels() {
     let name = "a name: 1 to 16 letters or digits, a letter first";
     says(
         "right {\n  abcdefghijklmnopq = 1 }",
@@ -230,6 +243,11 @@ fn rows() {
         5 + 5 * 31,
         "the value `v`: an expression is at level 33; at most 32 levels are allowed",
     );
+}
+
+/// Rows 12 to 16.
+#[test]
+fn names_and_paths_of_the_sheet() {
     says(
         "g { a = 1\nb = 2\na = 3 }",
         "line 3, column 1: the Group `g` has a member `a` already: line 1",
@@ -252,41 +270,45 @@ fn rows() {
     );
 }
 
+/// Formulas and what is hinted at, with line, column and width where it has a
+/// place.
+const HINTS: [(&str, &[&str]); 5] = [
+    (
+        "# one\nright { sphere = 1 }\nprism = rigth.sphere",
+        &[
+            "2:1:5 is `right` (line 2) meant?",
+            "the outermost Group has `right` and `prism`",
+        ],
+    ),
+    (
+        "a = 1\n  b = 2\na = 3",
+        &[
+            "1:1:1 `a` is here first",
+            "give one of them another name, or another Group",
+        ],
+    ),
+    (
+        "f(x) = x\na = f",
+        &["1:1:1 the function `f` is here", "call it: `f(...)`"],
+    ),
+    (
+        "g { f = 1 }\na = g.f(2)",
+        &["1:5:1 the value `g.f` is here", "read it: `g.f`"],
+    ),
+    (
+        "a = 1 + `b`\nb = a",
+        &[
+            "1:9:3 `a` reads `b`",
+            "2:5:1 `b` reads `a`",
+            "no value may reach itself: change one of these lines",
+        ],
+    ),
+];
+
 /// Hints speak of lines of the formulas, and show formulas.
 #[test]
 fn hints() {
-    for (formulas, hints) in [
-        (
-            "# one\nright { sphere = 1 }\nprism = rigth.sphere",
-            &[
-                "2:1:5 is `right` (line 2) meant?",
-                "the outermost Group has `right` and `prism`",
-            ][..],
-        ),
-        (
-            "a = 1\n  b = 2\na = 3",
-            &[
-                "1:1:1 `a` is here first",
-                "give one of them another name, or another Group",
-            ],
-        ),
-        (
-            "f(x) = x\na = f",
-            &["1:1:1 the function `f` is here", "call it: `f(...)`"],
-        ),
-        (
-            "g { f = 1 }\na = g.f(2)",
-            &["1:5:1 the value `g.f` is here", "read it: `g.f`"],
-        ),
-        (
-            "a = 1 + `b`\nb = a",
-            &[
-                "1:9:3 `a` reads `b`",
-                "2:5:1 `b` reads `a`",
-                "no value may reach itself: change one of these lines",
-            ],
-        ),
-    ] {
+    for (formulas, hints) in HINTS {
         let mistake = formula::write(formulas.as_bytes()).expect_err("a mistake");
         let said = mistake.help.iter().map(|help| {
             let Some(mark) = help.mark else {

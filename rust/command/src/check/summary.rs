@@ -1,12 +1,12 @@
 //! What many sheets come to.
 
-use lindypo::{Order, State};
+use lindypo::Order;
 
-use super::verdict::{Figures, Verdict};
+use super::verdict::{Figures, States, Verdict};
 use crate::json::Object;
 use crate::numerals::{counted, grouped};
 use crate::rules::{self, RULES};
-use crate::values;
+use crate::values::{self, FAILURES};
 
 #[derive(Debug, Default, Clone, PartialEq, Eq)]
 pub struct Summary {
@@ -14,8 +14,8 @@ pub struct Summary {
     pub mixed: u64,
     /// By refusal: how many sheets, and the first file among them.
     pub refused: [Refused; RULES.len()],
-    /// Values in each state, 1 to 5, and the steps of all.
-    pub states: [u64; 5],
+    /// Values in each state, and the steps of all.
+    pub states: States,
     pub steps: u64,
     /// Files, and why they cannot be read.
     pub unreadable: Vec<(String, String)>,
@@ -89,7 +89,7 @@ impl Summary {
             }
         }
         lines.add("values", self.values(), "");
-        for (state, count) in states().into_iter().zip(self.states) {
+        for (state, count) in states().zip(self.states) {
             lines.add_some(&format!("  {state}"), count);
         }
         lines.add("steps", self.steps, "");
@@ -116,16 +116,10 @@ impl Summary {
     }
 }
 
-/// The states in words, 1 to 5.
-fn states() -> [String; 5] {
-    let failures = [
-        State::OutOfRange,
-        State::ZeroDivisor,
-        State::OutOfSteps,
-        State::TooDeep,
-    ];
-    let [range, zero, steps, deep] = failures.map(|state| state.to_string());
-    ["a number".to_string(), range, zero, steps, deep]
+/// The states in words.
+fn states() -> impl Iterator<Item = String> {
+    let failures = FAILURES.into_iter().map(|state| state.to_string());
+    std::iter::once("a number".to_string()).chain(failures)
 }
 
 /// Lines of a name, a count and words.

@@ -5,7 +5,7 @@ use lindypo::{Label, Order, Outcome, Refusal, Sheet};
 use super::files::Item;
 use crate::sheets;
 use crate::status::Status;
-use crate::values::{self, Value};
+use crate::values::{self, Value, FAILURES};
 
 #[derive(Debug, Clone, PartialEq, Eq)]
 pub enum Verdict {
@@ -19,12 +19,16 @@ pub enum Verdict {
     Skipped(&'static str),
 }
 
+/// A count for each state, by its number from 1: a number first, then the
+/// failures.
+pub type States = [u64; 1 + FAILURES.len()];
+
 /// What the values of a sheet come to.
 #[derive(Debug, Clone, PartialEq, Eq)]
 pub struct Figures {
     pub order: Order,
-    /// How many values have each state, 1 to 5.
-    pub states: [u64; 5],
+    /// How many values have each state, by its number from 1.
+    pub states: States,
     pub steps: u64,
     /// The values without a number, in the order of the plan.
     pub failed: Vec<Failed>,
@@ -74,7 +78,7 @@ impl Verdict {
 
 impl Figures {
     fn new(sheet: &Sheet, order: Order, values: Vec<Value>) -> Self {
-        let (mut states, mut steps, mut failed) = ([0; 5], 0, vec![]);
+        let (mut states, mut steps, mut failed) = (States::default(), 0, vec![]);
         for value in values {
             states[value.outcome.state.code() as usize - 1] += 1;
             steps += u64::from(value.outcome.steps);

@@ -5,10 +5,8 @@ use lindypo::{formula, Label, Sheet};
 
 use super::text;
 use crate::json::{Json, Object};
-use crate::values;
+use crate::values::{self, STATES};
 use crate::words::Field;
-
-const STATES: &str = "1 a number, 2 out of range, 3 a zero divisor, 4 out of steps, 5 too deep";
 
 pub const FIELDS: [Field; 42] = [
     ("label", "the value's label"),

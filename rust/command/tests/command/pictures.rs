@@ -122,8 +122,8 @@ impl<'a> Drawn<'a> {
         for line in sheet.lines().filter(|line| line.kind.is_definition()) {
             let is_meant = focus.is_none_or(|focus| focus.contains(&line.label));
             let groups = drawn.groups(line.label);
-            let outermost = groups.into_iter().filter(|group| folded.contains(group));
-            let card = outermost.last().unwrap_or(line.label);
+            let mut folded_around = groups.into_iter().filter(|group| folded.contains(group));
+            let card = folded_around.next_back().unwrap_or(line.label);
             let is_card = folded.contains(&card) || line.kind != Kind::Group;
             drawn.cards[line.label] = (is_meant && is_card).then_some(card);
         }

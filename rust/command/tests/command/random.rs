@@ -4,7 +4,7 @@ use std::fs;
 use std::path::{Path, PathBuf};
 
 use generator::Rng;
-use lindypo::Sheet;
+use lindypo::{formula, Sheet};
 
 use crate::json::Reader;
 use crate::{output, stdout};
@@ -119,5 +119,32 @@ fn every_word_speaks() {
                 .all(|letter| letter == '\n' || !letter.is_control()),
             "{words:?}"
         );
+    }
+}
+
+/// A call's status, where nothing that it says moves a terminal's cursor.
+fn status(words: &[&str]) -> Option<i32> {
+    let output = output(words);
+    let said = [&output.stdout[..], &output.stderr].concat();
+    let is_quiet = |&byte: &u8| byte == b'\n' || !byte.is_ascii_control();
+    assert!(said.iter().all(is_quiet), "{words:?}");
+    output.status.code()
+}
+
+/// A sheet that reads is shown in a file of its own; that or else the text that
+/// is no sheet is written where it gives one.
+#[test]
+fn sheets_shown_and_formulas_written() {
+    let folder = Folder::new("lindypo-formulas");
+    for (path, text) in files(&folder.0).into_iter().take(CASES as usize / 4) {
+        let file = format!("{path}.formulas");
+        let reads = Sheet::read(&text).is_ok();
+        let shown = status(&["show", "-o", &file, &path]);
+        assert_eq!(shown, Some(i32::from(!reads)), "{path}");
+        assert_eq!(Path::new(&file).exists(), reads, "{path}");
+        let formulas = fs::read(&file).unwrap_or(text);
+        let written = status(&["write", if reads { &file } else { &path }]);
+        let is_wrong = formula::write(&formulas).is_err();
+        assert_eq!(written, Some(i32::from(is_wrong)), "{path}");
     }
 }

@@ -48,6 +48,11 @@ fn values_and_why() {
 }
 
 #[test]
+fn every_word_on_bad_input() {
+    is_replayed("every.txt");
+}
+
+#[test]
 fn pictures_of_sheets() {
     is_replayed("pictures.txt");
 }

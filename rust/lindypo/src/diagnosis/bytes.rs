@@ -47,7 +47,8 @@ pub fn all(text: &[u8]) -> Vec<Finding> {
     match files::wide(text) {
         Some(wide) => found.push(wide),
         None => {
-            found.extend(strays(text));
+            // of a longer text no more is looked at
+            found.extend(strays(&text[..text.len().min(MOST_BYTES)]));
             found.extend(unended(text));
         }
     }

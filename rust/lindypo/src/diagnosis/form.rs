@@ -123,7 +123,7 @@ fn label_instead(rows: &Rows, label: Label, at: usize) -> Option<String> {
 fn named_instead(rows: &Rows, path: &str, is_group: bool) -> Option<String> {
     let is_meant = |&label: &Label| {
         let is_kind = (rows.kind(label) == Some(Kind::Group)) == is_group;
-        rows.is_definition(label) && is_kind && ends_with(&rows.full_name(label), path)
+        rows.is_definition(label) && is_kind && words::ends_with(&rows.full_name(label), path)
     };
     let label = rows.labels().find(is_meant)?;
     let title = rows.title(label);
@@ -136,20 +136,15 @@ fn named_instead(rows: &Rows, path: &str, is_group: bool) -> Option<String> {
     })
 }
 
-/// Whether a full name is this path, or ends with it after a dot.
-fn ends_with(full_name: &str, path: &str) -> bool {
-    let before = full_name.strip_suffix(path);
-    before.is_some_and(|before| before.is_empty() || before.ends_with('.'))
-}
-
 fn name_instead(rows: &Rows, field: &str) -> Option<String> {
     if let Some((group, name)) = field.rsplit_once('.') {
         let is_meant = |&label: &Label| {
-            rows.kind(label) == Some(Kind::Group) && ends_with(&rows.full_name(label), group)
+            rows.kind(label) == Some(Kind::Group) && words::ends_with(&rows.full_name(label), group)
         };
         let label = rows.labels().skip(1).find(is_meant)?;
         return Some(format!(
-            "a definition has one name: write `{name}`, and in field a {label}, the label of `{group}`"
+            "a definition has one name: write `{name}`, \
+             and in field a {label}, the label of `{group}`"
         ));
     }
     let is_part = |letter: &char| letter.is_ascii_alphanumeric();

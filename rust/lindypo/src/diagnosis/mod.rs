@@ -12,6 +12,7 @@ pub(crate) mod form;
 pub(crate) mod forms;
 mod letters;
 pub(crate) mod lines;
+pub(crate) mod named;
 pub(crate) mod near;
 mod numbers;
 pub(crate) mod order;
@@ -51,10 +52,10 @@ fn of_line(rows: &Rows, number: u64, label: Label) -> Finding {
         9 => tree::uses(rows, label),
         10 => tree::argument(rows, label),
         11 => tree::level(rows, label),
-        12 => paths::name(rows, label),
-        13 => paths::head(rows, label),
-        14 => paths::member(rows, label),
-        _ => paths::wrong_target(rows, label),
+        12 => named::name(rows, label),
+        13 => named::head(rows, label),
+        14 => named::member(rows, label),
+        _ => named::wrong_target(rows, label),
     }
 }
 

@@ -6,38 +6,50 @@ const SHORT: usize = 3;
 
 /// The nearest of the names to this one; the first where several are as near.
 /// `None` where none is near.
-pub fn nearest<T>(name: &str, names: impl IntoIterator<Item = (T, String)>) -> Option<T> {
-    let near = |(item, other): (T, String)| Some((slips(name, &other)?, item));
+pub fn nearest<T, N: AsRef<str>>(name: &str, names: impl IntoIterator<Item = (T, N)>) -> Option<T> {
+    let near = |(item, other): (T, N)| Some((slips(name, other.as_ref())?, item));
     let near = names.into_iter().filter_map(near);
     near.min_by_key(|(slips, _)| *slips).map(|(_, item)| item)
 }
 
 /// How many slips lie between two names, where they are few.
 fn slips(a: &str, b: &str) -> Option<usize> {
-    let [a, b] = [a, b].map(str::to_ascii_lowercase);
-    let most = a.len().max(b.len()) / 3;
-    let is_short = a.len().min(b.len()) >= SHORT && (a.starts_with(&b) || b.starts_with(&a));
-    let slips = distance(a.as_bytes(), b.as_bytes());
-    (slips <= most || is_short).then_some(slips)
+    let [a, b] = [a, b].map(str::as_bytes);
+    let (least, most) = (a.len().min(b.len()), a.len().max(b.len()) / 3);
+    let is_short = least >= SHORT && a[..least].eq_ignore_ascii_case(&b[..least]);
+    // each letter more is a slip
+    let is_near = a.len().abs_diff(b.len()) <= most;
+    match is_short {
+        true => Some(a.len().abs_diff(b.len())),
+        false if is_near => distance(a, b, most),
+        false => None,
+    }
 }
 
 /// The least number of letters put in, left out or changed, and of neighbours
-/// swapped, that leads from one name to the other.
-fn distance(a: &[u8], b: &[u8]) -> usize {
-    let mut before = vec![];
+/// swapped, that leads from one name to the other, where it is not above `most`.
+fn distance(a: &[u8], b: &[u8], most: usize) -> Option<usize> {
+    let is_same = |a: u8, b: u8| a.eq_ignore_ascii_case(&b);
+    let mut before = vec![0; b.len() + 1];
     let mut last: Vec<usize> = (0..=b.len()).collect();
+    let mut row = before.clone();
     for (i, &letter) in (1..).zip(a) {
-        let mut row = vec![i];
+        row[0] = i;
         for (j, &other) in (1..).zip(b) {
-            let changed = last[j - 1] + usize::from(letter != other);
+            let changed = last[j - 1] + usize::from(!is_same(letter, other));
             let moved = (last[j] + 1).min(row[j - 1] + 1);
-            let is_swap = i > 1 && j > 1 && letter == b[j - 2] && a[i - 2] == other;
+            let is_swap = i > 1 && j > 1 && is_same(letter, b[j - 2]) && is_same(a[i - 2], other);
             let swapped = if is_swap { before[j - 2] + 1 } else { changed };
-            row.push(changed.min(moved).min(swapped));
+            row[j] = changed.min(moved).min(swapped);
         }
-        before = std::mem::replace(&mut last, row);
+        // the row before the last is written over next
+        std::mem::swap(&mut before, &mut last);
+        std::mem::swap(&mut last, &mut row);
+        if last.iter().chain(&before).all(|&slips| slips > most) {
+            return None;
+        }
     }
-    last[b.len()]
+    Some(last[b.len()]).filter(|&slips| slips <= most)
 }
 
 #[cfg(test)]
@@ -63,9 +75,9 @@ mod tests {
 
     #[test]
     fn the_nearest_is_found() {
-        let names = ["left", "sphere", "sphere2"].map(|name| (name, name.to_string()));
-        assert_eq!(nearest("Sphere2", names.clone()), Some("sphere2"));
-        assert_eq!(nearest("spere", names.clone()), Some("sphere"));
+        let names = ["left", "sphere", "sphere2"].map(|name| (name, name));
+        assert_eq!(nearest("Sphere2", names), Some("sphere2"));
+        assert_eq!(nearest("spere", names), Some("sphere"));
         assert_eq!(nearest("bridge", names), None);
     }
 }

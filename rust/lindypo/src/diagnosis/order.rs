@@ -36,7 +36,7 @@ pub fn mentions(rows: &Rows) -> Mentions {
 /// Refusal 16.
 pub fn cycle(rows: &Rows, mentions: &Mentions, label: Label) -> Finding {
     let round = way(mentions, label, |found| found == label);
-    let name = rows.full_name(label);
+    let name = rows.shown_name(label);
     let names = way_named(rows, label, &round);
     let sentence = format!("the value `{name}` reaches itself: {names}");
     let found = Finding::at(rows.mark(label, NAME), sentence);
@@ -51,7 +51,7 @@ pub fn listed(rows: &Rows, order: &[Label], position: usize) -> Finding {
     match rows.kind(label) {
         Some(Kind::Value) => {
             let first = 1 + order.iter().position(|&other| other == label).unwrap_or(0);
-            let name = rows.full_name(label);
+            let name = rows.shown_name(label);
             let sentence = format!("`{name}` is listed already, at position {first}");
             Finding::new(sentence).help("leave out one of the two")
         }
@@ -84,7 +84,7 @@ fn missing(rows: &Rows, order: &[Label]) -> Finding {
         |&label: &Label| rows.kind(label) == Some(Kind::Value) && !order.contains(&label);
     let missing: Vec<Label> = rows.labels().filter(is_missing).collect();
     let first = missing.first().copied().unwrap_or(0);
-    let name = rows.full_name(first);
+    let name = rows.shown_name(first);
     let found = Finding::new(format!("the value `{name}` (label {first}) is not listed"))
         .see(rows.mark(first, NAME), format!("label {first} is here"));
     match missing.len() {
@@ -102,7 +102,7 @@ pub fn early(rows: &Rows, mentions: &Mentions, order: &[Label], position: usize)
     let is_late = |found: Label| rows.kind(found) == Some(Kind::Value) && !before.contains(&found);
     let way = way(mentions, label, is_late);
     let late = way.last().map_or(0, |mention| mention.target);
-    let (name, late_name) = (rows.full_name(label), rows.full_name(late));
+    let (name, late_name) = (rows.shown_name(label), rows.shown_name(late));
     let mut sentence = format!("`{name}` reaches `{late_name}`, which is not listed earlier");
     if way.len() > 1 {
         sentence += &format!(": {}", way_named(rows, label, &way));
@@ -119,7 +119,7 @@ pub fn early(rows: &Rows, mentions: &Mentions, order: &[Label], position: usize)
 /// The names along a way, its start first.
 fn way_named(rows: &Rows, from: Label, way: &[Mention]) -> String {
     let labels = std::iter::once(from).chain(way.iter().map(|mention| mention.target));
-    let names: Vec<String> = labels.map(|label| rows.full_name(label)).collect();
+    let names: Vec<String> = labels.map(|label| rows.shown_name(label)).collect();
     words::way(&names)
 }
 
@@ -131,7 +131,7 @@ fn steps(found: Finding, rows: &Rows, from: Label, way: &[Mention]) -> Finding {
             Some(Kind::Read) => "reads",
             _ => "calls",
         };
-        let [source, target] = [source, mention.target].map(|label| rows.full_name(label));
+        let [source, target] = [source, mention.target].map(|label| rows.shown_name(label));
         let mark = rows.mark(mention.line, NAME);
         found.see(mark, format!("`{source}` {verb} `{target}`"))
     })

@@ -1,5 +1,6 @@
 //! The lines of a text as their fields, before there is a table.
 
+use super::words;
 use crate::{Kind, Label, Mark};
 
 /// The fields of a line.
@@ -203,11 +204,16 @@ impl<'text> Rows<'text> {
         names.join(".")
     }
 
+    /// The full name as a sentence has it.
+    pub fn shown_name(&self, label: Label) -> String {
+        words::shortened(&self.full_name(label))
+    }
+
     /// A definition with its name: "the value `right.prism`".
     pub fn title(&self, label: Label) -> String {
         match self.kind(label) {
             _ if label == 1 => "the outermost Group".to_string(),
-            Some(kind) => format!("the {kind} `{}`", self.full_name(label)),
+            Some(kind) => format!("the {kind} `{}`", self.shown_name(label)),
             None => format!("label {label}"),
         }
     }

@@ -120,14 +120,14 @@ fn mended(rows: &Rows, label: Label, field: usize) -> Option<String> {
     })
 }
 
-/// The path by which a line can name a definition.
+/// The path by which a line can name a definition, or what stands for it.
 fn path_here(rows: &Rows, label: Label, definition: Label) -> String {
     let owner = match rows.is_definition(label) {
         true => label,
         false => rows.owner(label),
     };
     let path = paths::path_to(rows, rows.link(owner, A), definition);
-    path.unwrap_or_else(|| rows.full_name(definition))
+    path.unwrap_or_else(|| "PATH".to_string())
 }
 
 /// Refusal 9.

@@ -23,6 +23,18 @@ pub fn quoted(field: &str) -> String {
     }
 }
 
+/// A full name as a sentence has it; the middle of a long one is left out.
+pub fn shortened(name: &str) -> String {
+    let letters: Vec<char> = name.chars().collect();
+    match letters.len().checked_sub(QUOTED) {
+        Some(end) if end > QUOTED => {
+            let [start, end] = [&letters[..QUOTED], &letters[end..]].map(String::from_iter);
+            format!("{start}...{end}")
+        }
+        _ => name.to_string(),
+    }
+}
+
 /// A kind in words, with its letter: "a value (V)".
 pub fn of_kind(kind: Kind) -> String {
     let article = match kind {
@@ -98,4 +110,24 @@ pub fn is_comment(word: &str) -> bool {
 /// Whether a line, cut into fields, is the column names.
 pub fn is_first_line(fields: &[&str]) -> bool {
     fields == FIELDS
+}
+
+/// Whether a full name is this path, or ends with it after a dot.
+pub fn ends_with(full_name: &str, path: &str) -> bool {
+    let before = full_name.strip_suffix(path);
+    before.is_some_and(|before| before.is_empty() || before.ends_with('.'))
+}
+
+#[cfg(test)]
+mod tests {
+    use super::*;
+
+    #[test]
+    fn long_words_are_cut() {
+        let long = "é".repeat(81);
+        let part = "é".repeat(40);
+        assert_eq!(quoted(&long), format!("`{part}...`"));
+        assert_eq!(shortened(&long), format!("{part}...{part}"));
+        assert_eq!(shortened(&long[2..]), long[2..]);
+    }
 }

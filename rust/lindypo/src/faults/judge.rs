@@ -5,7 +5,7 @@ use std::collections::HashSet;
 use super::loose;
 use super::ways;
 use crate::diagnosis::rows::{Rows, A, FIELDS};
-use crate::diagnosis::{bytes, form, lines, paths, rows, tree, Finding};
+use crate::diagnosis::{bytes, form, lines, named, rows, tree, Finding};
 use crate::{Kind, Label, Refusal};
 
 /// What is known of a sheet. A line that refusals 1 and 5 to 7 are about is
@@ -187,7 +187,7 @@ impl<'text> Judge<'text> {
             if !names.insert(named) {
                 self.doubled.insert(named);
                 self.found
-                    .push(paths::name(&self.rows, label).refusal(12, label as u64));
+                    .push(named::name(&self.rows, label).refusal(12, label as u64));
             }
         }
     }

@@ -20,7 +20,7 @@ use judge::Judge;
 /// top, then refusal after refusal from 8 to 16, each upward through the labels.
 ///
 /// ```
-/// let text = b"kind name a b c\nG - 0 - -\nV size 1 4 -\nV twice 1 5 -\nN - 1.5 - -\nR sise - - -\n";
+/// let text = b"kind name a b c\nG - 0 - -\nV size 1 4 -\nV x 1 5 -\nN - 1.5 - -\nR sise - - -\n";
 /// let faults = lindypo::faults(text);
 /// let places: Vec<(u64, u64)> = faults.iter().map(|it| (it.number(), it.place())).collect();
 /// assert_eq!(places, [(7, 4), (13, 5)]);

@@ -2,8 +2,8 @@
 
 use super::judge::Judge;
 use crate::diagnosis::order::{self, Mention, Mentions};
-use crate::diagnosis::paths;
 use crate::diagnosis::rows::A;
+use crate::diagnosis::{named, paths};
 use crate::{Kind, Label};
 
 /// What becomes of a path.
@@ -34,9 +34,9 @@ pub fn judge(judge: &mut Judge) {
     for number in 13..=15 {
         for &(label, _) in ends.iter().filter(|(_, end)| end.number() == number) {
             let finding = match number {
-                13 => paths::head(&judge.rows, label),
-                14 => paths::member(&judge.rows, label),
-                _ => paths::wrong_target(&judge.rows, label),
+                13 => named::head(&judge.rows, label),
+                14 => named::member(&judge.rows, label),
+                _ => named::wrong_target(&judge.rows, label),
             };
             judge.find(number, label, finding);
         }

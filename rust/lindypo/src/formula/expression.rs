@@ -5,7 +5,7 @@ use super::names::{self, Word};
 use super::signs::{self, Strength};
 use super::tokens::{Names, Token, Tokens, BETWEEN_MARKS};
 use super::Mistake;
-use crate::build::Node;
+use crate::build::{Node, MOST_LINES};
 use crate::diagnosis::forms::Form;
 use crate::diagnosis::words::quoted;
 use crate::Mark;
@@ -57,11 +57,11 @@ fn place(mark: &Mark) -> String {
 
 /// A formula as far as it has been read.
 pub struct Formula<'parser, 'text> {
-    pub tokens: &'parser mut Tokens<'text>,
+    tokens: &'parser mut Tokens<'text>,
     /// What the argument is called, in a function.
-    pub argument: Option<&'text str>,
+    argument: Option<&'text str>,
     /// How many more lines the sheet may have.
-    pub left: &'parser mut usize,
+    left: &'parser mut usize,
     operands: Vec<Part>,
     open: Vec<Open>,
 }
@@ -191,8 +191,8 @@ impl<'parser, 'text> Formula<'parser, 'text> {
     /// A node in place of its operands.
     fn put(&mut self, node: Node, mark: Mark) -> Result<(), Mistake> {
         take_line(self.left, mark)?;
-        let operands = self.operands.len() - node.operands();
-        let operands = self.operands.split_off(operands);
+        let first = self.operands.len() - node.operands();
+        let operands = self.operands.split_off(first);
         let mut part = vec![(node, mark)];
         part.extend(operands.into_iter().flatten());
         self.operands.push(part);
@@ -211,12 +211,8 @@ impl<'parser, 'text> Formula<'parser, 'text> {
     /// A path whose first name is the argument's would be taken for it.
     fn names_no_argument(&self, names: &Names, mark: Mark) -> Result<(), Mistake> {
         let head = names.names[0];
-        let is_argument = |argument: &&str| argument.eq_ignore_ascii_case(head);
-        match self
-            .argument
-            .filter(is_argument)
-            .filter(|_| !names.is_marked)
-        {
+        let is_hidden = |argument: &&str| !names.is_marked && argument.eq_ignore_ascii_case(head);
+        match self.argument.filter(is_hidden) {
             Some(argument) => {
                 let marked = names::marked(head);
                 let sentence = format!(
@@ -265,13 +261,14 @@ pub fn take_line(left: &mut usize, mark: Mark) -> Result<(), Mistake> {
             *left = fewer;
             Ok(())
         }
-        None => Err(Mistake {
-            row: Some(3),
-            ..Mistake::at(
-                mark,
-                "up to here the sheet has 1024 lines, and no more are allowed",
-            )
-        }),
+        None => {
+            let sentence =
+                format!("up to here the sheet has {MOST_LINES} lines, and no more are allowed");
+            Err(Mistake {
+                row: Some(3),
+                ..Mistake::at(mark, sentence)
+            })
+        }
     }
 }
 

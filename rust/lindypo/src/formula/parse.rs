@@ -5,6 +5,7 @@ use super::tokens::{is_word, Names, Token, Tokens};
 use super::Mistake;
 use crate::build::{Content, Expression, Group, Place, FIRST_LINE, MOST_LINES};
 use crate::diagnosis::forms::Form;
+use crate::diagnosis::words::quoted;
 use crate::{Label, Mark};
 
 /// Where all that a text defines stands in it.
@@ -123,7 +124,7 @@ impl<'text> Parser<'text> {
             }
         };
         if !Form::Name.fits(argument, 0) {
-            let sentence = format!("`{argument}` is not {}", Form::Name.words(0));
+            let sentence = format!("{} is not {}", quoted(argument), Form::Name.words(0));
             return Err(Mistake::at(mark, sentence));
         }
         for symbol in [')', '='] {
@@ -178,9 +179,9 @@ fn no_beginning(token: &Token) -> String {
 }
 
 fn no_definition(name: &str, token: &Token) -> String {
-    let token = token.quoted();
+    let (name, token) = (quoted(name), token.quoted());
     format!(
-        "after the name `{name}` of a definition comes `=`, `(` or `{{`, not {token}; \
-         if `{name}` belongs to the formula before it, a sign is missing between them"
+        "after the name {name} of a definition comes `=`, `(` or `{{`, not {token}; \
+         if {name} belongs to the formula before it, a sign is missing between them"
     )
 }

@@ -199,6 +199,12 @@ impl<'text> Tokens<'text> {
 
     fn no_token(&self, byte: u8) -> Mistake {
         let sentence = match byte {
+            b'.' => "a dot stands between two names, with no space: `right.prism`".to_string(),
+            b';' => "nothing stands between definitions".to_string(),
+            b'<' | b'>' | b'!' | b'&' | b'|' => format!(
+                "`{}` means nothing in a formula: a test is a number, and holds where it is not 0",
+                char::from(byte)
+            ),
             33..=126 => format!(
                 "`{}` means nothing in a formula; names are letters and digits, \
                  the signs are + - * / ( ) {{ }} =",

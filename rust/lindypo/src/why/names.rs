@@ -1,6 +1,6 @@
 //! Which value a name may mean that is none.
 
-use crate::diagnosis::near;
+use crate::diagnosis::{near, words};
 use crate::{Kind, Label, Sheet};
 
 /// The most values that are offered.
@@ -24,12 +24,8 @@ pub fn meant(sheet: &Sheet, name: &str) -> Vec<Label> {
         lines.map(|line| (line.label, sheet.full_name(line.label)))
     };
     let small = name.to_ascii_lowercase();
-    let ends = |full_name: &str| {
-        let full_name = full_name.to_ascii_lowercase();
-        let before = full_name.strip_suffix(&small);
-        before.is_some_and(|before| before.is_empty() || before.ends_with('.'))
-    };
-    let same = values().filter(|(_, full_name)| ends(full_name));
+    let is_same = |full_name: &str| words::ends_with(&full_name.to_ascii_lowercase(), &small);
+    let same = values().filter(|(_, full_name)| is_same(full_name));
     let same: Vec<Label> = same.map(|(label, _)| label).take(OFFERED).collect();
     if !same.is_empty() {
         return same;

@@ -1,4 +1,4 @@
-//! `cargo run --release -p lindypo --example groups -- COUNT`: so many random
+//! `cargo run --release -p checks --example groups -- COUNT`: so many random
 //! Groups for tests of builders in other languages, each a line of JSON.
 //! `members` says what to build: `["value", NAME, BODY]`, `["function", NAME,
 //! BODY]`, `["group", NAME, MEMBERS]`. A body is a number or a list of the name

@@ -4,9 +4,11 @@ mod checks;
 mod helps;
 mod json;
 mod language;
+mod markup;
 mod pages;
 mod pictures;
 mod random;
+mod slips;
 mod transcripts;
 mod trees;
 

@@ -3,7 +3,6 @@
 mod checks;
 mod helps;
 mod json;
-mod language;
 mod markup;
 mod pages;
 mod pictures;

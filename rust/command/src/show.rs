@@ -43,6 +43,7 @@ fn call(call: &Call, out: &mut Output) -> Result<Status, String> {
     let maker = Maker {
         read: Source::read,
         make: &make,
+        sort: None,
     };
     document::one(call, out, maker)
 }

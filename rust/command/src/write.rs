@@ -101,6 +101,7 @@ fn call(call: &Call, out: &mut Output) -> Result<Status, String> {
     let maker = Maker {
         read: |source: &Source| source.read_whole(MOST_BYTES),
         make: &make,
+        sort: None,
     };
     document::one(call, out, maker)
 }
@@ -114,6 +115,7 @@ fn make(text: &[u8], source: &Source) -> Made {
         }),
         Err(mistake) => Err(Failure {
             message: message(text, &source.title(), &mistake),
+            status: Status::Failed,
             fields: Object::new().with("mistake", object(&mistake)),
         }),
     }

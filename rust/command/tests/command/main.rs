@@ -3,9 +3,11 @@
 mod checks;
 mod helps;
 mod json;
+mod markup;
 mod pages;
 mod pictures;
 mod random;
+mod slips;
 mod transcripts;
 mod trees;
 

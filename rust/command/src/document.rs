@@ -102,9 +102,9 @@ pub fn one_to(file: &OsStr, call: &Call, out: &mut Output, maker: Maker) -> Resu
     })
 }
 
-/// Why nothing came of a file.
+/// Why nothing came of a file. One that cannot be read is a message in any case.
 pub fn failed(source: &Source, failure: Failure, call: &Call, out: &mut Output) -> Status {
-    if !call.wants_json() {
+    if !call.wants_json() || failure.status == Status::Unreadable {
         out.complain(&failure.message);
     }
     told(source, failure.status, failure.fields, call, out)

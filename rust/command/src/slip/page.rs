@@ -87,16 +87,17 @@ fn alarm(slip: &Slip) -> String {
 fn running(slip: &Slip) -> String {
     let (name, word, digest) = (escaped(&slip.name), shout(slip), &slip.digest);
     format!(
-        "<tr class=\"running\"><th colspan=\"4\"><div><span><bdi>{name}</bdi> <b>{word}</b></span>\
-         <span>SHA-256 <code>{digest}</code></span></div></th></tr>\n"
+        "<tr class=\"running\"><th colspan=\"2\"><bdi>{name}</bdi> <b>{word}</b></th>\
+         <th colspan=\"2\" class=\"digest\">SHA-256 <code>{digest}</code></th></tr>\n"
     )
 }
 
 const COLUMNS: &str = "<colgroup><col class=\"position\"/><col class=\"name\"/>\
     <col class=\"number\"/><col class=\"formula\"/></colgroup>\n";
 
-const TITLES: &str = "<tr class=\"titles\"><th class=\"position\">position</th>\
-    <th>name</th><th class=\"number\">number</th><th class=\"formula\">formula</th></tr>\n";
+const TITLES: &str = "<tr class=\"titles\"><th class=\"position\" scope=\"col\">position</th>\
+    <th scope=\"col\">name</th><th class=\"number\" scope=\"col\">number</th>\
+    <th class=\"formula\" scope=\"col\">formula</th></tr>\n";
 
 /// The values of a load under the name of its Group.
 fn group(slip: &Slip, number: usize, load: &Load) -> String {
@@ -112,8 +113,8 @@ fn group(slip: &Slip, number: usize, load: &Load) -> String {
     };
     format!(
         "<tbody>\n<tr class=\"load\"><td class=\"position\">load {number}</td>\
-         <th colspan=\"3\" scope=\"rowgroup\"><div><span>{name}{turn}</span>\
-         <span>{positions}</span></div></th></tr>\n{rows}</tbody>\n"
+         <th colspan=\"2\" scope=\"rowgroup\">{name}{turn}</th>\
+         <td class=\"positions\">{positions}</td></tr>\n{rows}</tbody>\n"
     )
 }
 

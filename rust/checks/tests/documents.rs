@@ -107,3 +107,32 @@ fn a_wrong_name_is_found() {
     assert!(check_edits("`order/groups_by_label`").is_empty());
     assert_eq!(check_edits("`order/groups_by_name`").len(), 1);
 }
+
+/// The must-fail edits of all crates, as `crate/edit`.
+fn edits() -> Vec<String> {
+    let entries = |folder: &Path| fs::read_dir(folder).into_iter().flatten().flatten();
+    let names = |entry: fs::DirEntry| {
+        let of = entry.file_name().to_string_lossy().into_owned();
+        let edits = entries(&entry.path().join("must-fail"));
+        edits.filter_map(move |edit| {
+            let name = edit.file_name().to_string_lossy().into_owned();
+            let edit = name.strip_suffix(".edit")?;
+            Some(format!("{of}/{edit}"))
+        })
+    };
+    entries(&root().join("crates")).flat_map(names).collect()
+}
+
+/// CONTRACTS.md lists every edit, and each once.
+#[test]
+fn every_edit_is_listed_once() {
+    let page = fs::read_to_string(root().join("docs/CONTRACTS.md")).expect("a page");
+    let rows: Vec<&str> = page.lines().filter(|line| line.starts_with('|')).collect();
+    let edits = edits();
+    assert!(!edits.is_empty(), "edits are found");
+    for edit in edits {
+        let name = format!("`{edit}`");
+        let count: usize = rows.iter().map(|row| row.matches(&name).count()).sum();
+        assert_eq!(count, 1, "{edit} in the tables of docs/CONTRACTS.md");
+    }
+}

@@ -138,8 +138,7 @@ fn lines_and_bytes() {
     says(
         &group,
         3,
-        "the sheet would have 1025 lines, one for the outermost Group, 512 for definitions \
-         and 512 for expressions; at most 1024 are allowed",
+        "the sheet would have 1025 lines; at most 1024 are allowed",
     );
     let path = ["abcdefghijklmnop"; 8].join(".");
     let mut group = Group::new();

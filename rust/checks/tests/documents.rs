@@ -4,11 +4,13 @@
 use std::fs;
 use std::path::{Path, PathBuf};
 
-const DOCUMENTS: [&str; 4] = [
+const DOCUMENTS: [&str; 6] = [
     "docs/RULES.md",
     "docs/CONTRACTS.md",
     "docs/ARCHITECTURE.md",
     "docs/DECISIONS.md",
+    "docs/PROVED.md",
+    "CONTRIBUTING.md",
 ];
 
 fn root() -> PathBuf {

@@ -21,7 +21,7 @@ pub const WORD: Word = Word {
     summary: "writes formulas as a sheet",
     operands: "[FILE]",
     about: "\
-Makes a sheet of a text of formulas; docs/FORMULAS.md has their grammar. Labels are numbered down
+Makes a sheet of a text of formulas; docs/LANGUAGE.md has their grammar. Labels are numbered down
 the text: label 1, then all definitions, each Group followed by its members, then their bodies.
 What is written is a sheet that reads and plans. Where the formulas give none, nothing is written:
 the place to mend is shown on standard error. `lindypo show` gives the formulas of a sheet.

@@ -1,7 +1,6 @@
 //! What of a sheet's rules a program can break: rows 1, 3, 7, 10 and 11. The
 //! others up to row 11 hold however the definitions are made.
 
-use super::group::Size;
 use super::mistake::Place;
 use super::{Content, Definition, Expression, Mistake, Node};
 use crate::diagnosis::forms::Form;
@@ -16,32 +15,21 @@ type Finding = (u64, Option<usize>, String);
 
 /// Row 1.
 pub fn bytes(text: &[u8]) -> Result<(), Mistake> {
-    let count = text.len();
-    within(count, MOST_BYTES, 1, || format!("{count} bytes"))
+    within(text.len(), MOST_BYTES, "bytes", 1)
 }
 
-/// Row 3.
-pub fn lines(size: Size) -> Result<(), Mistake> {
-    let lines = size.lines();
-    within(lines, MOST_LINES, 3, || {
-        let Size {
-            definitions,
-            expressions,
-        } = size;
-        format!(
-            "{lines} lines, one for the outermost Group, {definitions} for definitions \
-             and {expressions} for expressions"
-        )
-    })
+/// Row 3: the lines of all definitions and bodies, and that of label 1.
+pub fn lines(lines: usize) -> Result<(), Mistake> {
+    within(lines.saturating_add(1), MOST_LINES, "lines", 3)
 }
 
-fn within(count: usize, most: usize, row: u64, had: impl Fn() -> String) -> Result<(), Mistake> {
+fn within(count: usize, most: usize, what: &str, row: u64) -> Result<(), Mistake> {
     match count <= most {
         true => Ok(()),
         false => Err(Mistake {
             row,
             definition: None,
-            sentence: format!("the sheet would have {}; at most {most} are allowed", had()),
+            sentence: format!("the sheet would have {count} {what}; at most {most} are allowed"),
             place: Place::Sheet,
         }),
     }

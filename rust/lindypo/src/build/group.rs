@@ -11,29 +11,8 @@ pub struct Group {
     /// Each Group followed by all under it. Of more than a sheet can have none
     /// is kept.
     definitions: Vec<Definition>,
-    size: Size,
-}
-
-/// How many lines definitions and their expressions take.
-#[derive(Debug, Clone, Copy, Default, PartialEq, Eq, Hash)]
-pub(crate) struct Size {
-    pub definitions: usize,
-    pub expressions: usize,
-}
-
-impl Size {
-    /// All lines of a sheet, that of label 1 too.
-    pub fn lines(self) -> usize {
-        let lines = self.definitions.saturating_add(self.expressions);
-        lines.saturating_add(1)
-    }
-
-    fn and(self, other: Size) -> Size {
-        Size {
-            definitions: self.definitions.saturating_add(other.definitions),
-            expressions: self.expressions.saturating_add(other.expressions),
-        }
-    }
+    /// How many lines they take with their bodies.
+    lines: usize,
 }
 
 #[derive(Debug, Clone, PartialEq, Eq, Hash)]
@@ -91,7 +70,7 @@ impl Group {
             definition.depth += 1;
             definition
         });
-        self.extend(members.size, deeper)
+        self.extend(members.lines, deeper)
     }
 
     /// The text of the sheet whose outermost Group this is, else the first
@@ -117,7 +96,7 @@ impl Group {
     /// );
     /// ```
     pub fn text(&self) -> Result<Vec<u8>, Mistake> {
-        check::lines(self.size)?;
+        check::lines(self.lines)?;
         check::definitions(&self.definitions)?;
         let text = lines::text(&self.definitions);
         check::bytes(&text)?;
@@ -153,22 +132,19 @@ impl Group {
     }
 
     pub(crate) fn add(&mut self, depth: usize, name: String, content: Content) -> &mut Self {
-        let size = Size {
-            definitions: 1,
-            expressions: content.body().map_or(0, Expression::lines),
-        };
+        let lines = 1 + content.body().map_or(0, Expression::lines);
         let definition = Definition {
             depth,
             name,
             content,
         };
-        self.extend(size, [definition])
+        self.extend(lines, [definition])
     }
 
-    fn extend(&mut self, size: Size, more: impl IntoIterator<Item = Definition>) -> &mut Self {
-        self.size = self.size.and(size);
+    fn extend(&mut self, lines: usize, more: impl IntoIterator<Item = Definition>) -> &mut Self {
+        self.lines = self.lines.saturating_add(lines);
         self.definitions.extend(more);
-        if self.size.lines() > MOST_LINES {
+        if self.lines > MOST_LINES {
             self.definitions.clear();
         }
         self

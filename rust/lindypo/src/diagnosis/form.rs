@@ -2,7 +2,7 @@
 
 use super::forms::{self, Form};
 use super::rows::{Rows, A, FIELDS, KIND};
-use super::{numbers, rewrite, words, Finding};
+use super::{named, numbers, rewrite, words, Finding};
 use crate::{Kind, Label};
 
 /// What label 1 has to be.
@@ -55,12 +55,7 @@ pub fn form(rows: &Rows, label: Label, at: usize) -> Finding {
         Form::Path => path_instead(field),
         Form::Missing => None,
     };
-    let is_helped = help.is_some();
-    let found = found.may_help(help);
-    match is_helped {
-        true => found,
-        false => found.help(line_instead(rows, label, kind)),
-    }
+    found.help(help.unwrap_or_else(|| line_instead(rows, label, kind)))
 }
 
 /// The line with its fields in their places, another kind, or how a line of
@@ -77,7 +72,7 @@ fn line_instead(rows: &Rows, label: Label, kind: Kind) -> String {
         [] => format!("a {kind} is written {template}"),
         others => format!(
             "a {kind} is written {template}; the fields are those of {}",
-            words::and(others).replace(" and ", " or ")
+            words::or(others)
         ),
     }
 }
@@ -126,14 +121,8 @@ fn named_instead(rows: &Rows, path: &str, is_group: bool) -> Option<String> {
         rows.is_definition(label) && is_kind && words::ends_with(&rows.full_name(label), path)
     };
     let label = rows.labels().find(is_meant)?;
-    let title = rows.title(label);
-    Some(match rows.kind(label)? {
-        Kind::Group => format!("{title} is label {label}: write `{label}`"),
-        Kind::Value => {
-            format!("to read {title}, write the label of a line `R {path} - - -`")
-        }
-        _ => format!("to call {title}, write the label of a line `C {path} ARGUMENT - -`"),
-    })
+    let group = || format!("{} is label {label}: write `{label}`", rows.title(label));
+    named::by_label(rows, label, path).or_else(|| Some(group()))
 }
 
 fn name_instead(rows: &Rows, field: &str) -> Option<String> {

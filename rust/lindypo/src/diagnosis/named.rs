@@ -100,6 +100,20 @@ fn members_of_kind(rows: &Rows, group: Label, kind: Kind, path: &str) -> String 
     }
 }
 
+/// How to use a value or function where the label of an expression is wanted.
+pub fn by_label(rows: &Rows, definition: Label, path: &str) -> Option<String> {
+    let title = rows.title(definition);
+    match rows.kind(definition)? {
+        Kind::Value => Some(format!(
+            "to read {title}, write the label of a line `R {path} - - -`"
+        )),
+        Kind::Function => Some(format!(
+            "to call {title}, write the label of a line `C {path} ARGUMENT - -`"
+        )),
+        _ => None,
+    }
+}
+
 /// The member of these Groups whose name is nearest to a name of the path.
 fn alike(found: Finding, rows: &Rows, label: Label, at: usize, groups: &[Label]) -> Finding {
     let name = names(rows, label)[at];

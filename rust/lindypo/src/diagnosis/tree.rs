@@ -1,9 +1,7 @@
 //! Refusals 8 to 11: who uses whom.
 
-use super::paths;
 use super::rows::{Rows, Use, A, FIELDS, NAME};
-use super::words;
-use super::Finding;
+use super::{named, paths, words, Finding};
 use crate::{Kind, Label};
 
 /// The most users that a sentence names.
@@ -106,16 +104,9 @@ fn mended(rows: &Rows, label: Label, field: usize) -> Option<String> {
         Kind::Group if is_group => "a Group stands above its members: move its line up".to_string(),
         _ if is_group => "write the label of a Group; the outermost Group is `1`".to_string(),
         Kind::Group => "a Group has no number: read a value of it".to_string(),
-        Kind::Value => format!(
-            "to read {}, write the label of a line `R {} - - -`",
-            rows.title(part),
-            path_here(rows, label, part)
-        ),
-        Kind::Function => format!(
-            "to call {}, write the label of a line `C {} ARGUMENT - -`",
-            rows.title(part),
-            path_here(rows, label, part)
-        ),
+        Kind::Value | Kind::Function => {
+            return named::by_label(rows, part, &path_here(rows, label, part));
+        }
         _ => "an expression stands below the line that uses it: move its line down".to_string(),
     })
 }

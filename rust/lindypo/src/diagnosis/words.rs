@@ -67,8 +67,17 @@ pub fn list<T: Display>(items: &[T]) -> String {
 
 /// "2, 3 and 4".
 pub fn and<T: Display>(items: &[T]) -> String {
+    joined(items, "and")
+}
+
+/// "2, 3 or 4".
+pub fn or<T: Display>(items: &[T]) -> String {
+    joined(items, "or")
+}
+
+fn joined<T: Display>(items: &[T], word: &str) -> String {
     match items {
-        [rest @ .., last] if !rest.is_empty() => format!("{} and {last}", list(rest)),
+        [rest @ .., last] if !rest.is_empty() => format!("{} {word} {last}", list(rest)),
         _ => list(items),
     }
 }

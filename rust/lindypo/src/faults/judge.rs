@@ -4,7 +4,7 @@ use std::collections::HashSet;
 
 use super::loose;
 use super::ways;
-use crate::diagnosis::rows::{Rows, A, FIELDS};
+use crate::diagnosis::rows::{Rows, Use, A, FIELDS};
 use crate::diagnosis::{bytes, form, lines, named, rows, tree, Finding};
 use crate::{Kind, Label, Refusal};
 
@@ -92,12 +92,14 @@ impl<'text> Judge<'text> {
     }
 
     /// The lines that something is found in; what they may be is noted first.
+    /// Those that are none stand at the end, and are nothing.
     fn take_out(&mut self) {
         for label in self.rows.labels().filter(|&label| !self.formed[label]) {
-            if loose::may_use(&self.rows, label) {
+            let is_line = !lines::is_no_line(&self.rows, label);
+            if is_line && loose::may_use(&self.rows, label) {
                 self.loose_user = self.loose_user.min(label);
             }
-            self.loose.push(label);
+            self.loose.extend(is_line.then_some(label));
             self.rows.unform(label);
         }
     }
@@ -142,15 +144,14 @@ impl<'text> Judge<'text> {
             };
             if self.rows.is_expression(label) && is_wrong {
                 self.find(9, label, tree::uses(&self.rows, label));
-            } else if let [only] = uses {
-                let is_definition = self.rows.is_definition(only.user);
-                let around = self.owners[only.user];
-                self.owners[label] = if is_definition {
-                    Some(only.user)
+            } else if let [Use { user, .. }] = *uses {
+                let is_body = self.rows.is_definition(user);
+                self.owners[label] = if is_body {
+                    Some(user)
                 } else {
-                    around
+                    self.owners[user]
                 };
-                self.levels[label] = self.levels[only.user] + 1;
+                self.levels[label] = self.levels[user] + 1;
             }
         }
     }
@@ -177,17 +178,13 @@ impl<'text> Judge<'text> {
     /// Refusal 12.
     fn judge_names(&mut self) {
         let mut names = HashSet::new();
-        for label in self
-            .rows
-            .labels()
-            .skip(1)
-            .filter(|&label| self.placed[label])
-        {
+        let is_named = |&label: &Label| label > 1 && self.placed[label];
+        let definitions: Vec<Label> = self.rows.labels().filter(is_named).collect();
+        for label in definitions {
             let named = (self.rows.link(label, A), self.rows.name(label));
             if !names.insert(named) {
                 self.doubled.insert(named);
-                self.found
-                    .push(named::name(&self.rows, label).refusal(12, label as u64));
+                self.find(12, label, named::name(&self.rows, label));
             }
         }
     }

@@ -7,10 +7,13 @@
 //! lent stands between canaries: cells that must stay as they are, and bytes
 //! around the text and cells around the list that would change the reply if
 //! they were read.
+//!
+//! Beside the trials: the picture of the crates.
 
 #![forbid(unsafe_code)]
 
 mod calls;
+mod crates;
 mod lent;
 mod tally;
 mod trial;
@@ -18,6 +21,7 @@ mod trial;
 use std::thread;
 
 pub use calls::Call;
+pub use crates::Crates;
 pub use tally::Tally;
 pub use trial::{Outcome, Trial, Wanted, WantedName, WantedPrint};
 

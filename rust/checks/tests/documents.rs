@@ -4,11 +4,13 @@
 use std::fs;
 use std::path::{Path, PathBuf};
 
-const DOCUMENTS: [&str; 4] = [
+const DOCUMENTS: [&str; 6] = [
     "docs/RULES.md",
     "docs/CONTRACTS.md",
     "docs/ARCHITECTURE.md",
     "docs/DECISIONS.md",
+    "docs/PROVED.md",
+    "CONTRIBUTING.md",
 ];
 
 fn root() -> PathBuf {
@@ -199,4 +201,33 @@ fn a_wrong_name_is_found() {
         check_rows("| a | b |\n|---|---|\n| c |  |\n| d |\n").len(),
         2
     );
+}
+
+/// The must-fail edits of all crates, as `crate/edit`.
+fn edits() -> Vec<String> {
+    let entries = |folder: &Path| fs::read_dir(folder).into_iter().flatten().flatten();
+    let names = |entry: fs::DirEntry| {
+        let of = entry.file_name().to_string_lossy().into_owned();
+        let edits = entries(&entry.path().join("must-fail"));
+        edits.filter_map(move |edit| {
+            let name = edit.file_name().to_string_lossy().into_owned();
+            let edit = name.strip_suffix(".edit")?;
+            Some(format!("{of}/{edit}"))
+        })
+    };
+    entries(&root().join("crates")).flat_map(names).collect()
+}
+
+/// CONTRACTS.md lists every edit, and each once.
+#[test]
+fn every_edit_is_listed_once() {
+    let page = fs::read_to_string(root().join("docs/CONTRACTS.md")).expect("a page");
+    let rows: Vec<&str> = page.lines().filter(|line| line.starts_with('|')).collect();
+    let edits = edits();
+    assert!(!edits.is_empty(), "edits are found");
+    for edit in edits {
+        let name = format!("`{edit}`");
+        let count: usize = rows.iter().map(|row| row.matches(&name).count()).sum();
+        assert_eq!(count, 1, "{edit} in the tables of docs/CONTRACTS.md");
+    }
 }

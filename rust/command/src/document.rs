@@ -7,10 +7,11 @@ use std::ffi::OsStr;
 use lindypo::Refusal;
 
 use crate::excerpt;
+use crate::files::{self, Over, Sort};
 use crate::input::{self, Source};
 use crate::json::Object;
 use crate::options::{Call, Opt};
-use crate::output::{self, Output, Paint};
+use crate::output::{Output, Paint};
 use crate::sheets;
 use crate::status::Status;
 
@@ -18,18 +19,18 @@ const FILE: &str = "-o";
 const FORCE: &str = "--force";
 
 pub const OPTIONS: [Opt; 2] = [
+    FILED,
     Opt {
-        name: FILE,
-        value: Some("FILE"),
-        meaning: "write to the file FILE; - is standard output, and so is none",
+        name: FORCE,
+        value: None,
+        meaning: "write over a file that is there already",
     },
-    FORCED,
 ];
 
-pub const FORCED: Opt = Opt {
-    name: FORCE,
-    value: None,
-    meaning: "write over a file that is there already",
+pub const FILED: Opt = Opt {
+    name: FILE,
+    value: Some("FILE"),
+    meaning: "write to the file FILE; - is standard output, and so is none",
 };
 
 /// What comes of a file.
@@ -43,6 +44,7 @@ pub struct Document {
 /// Why nothing does.
 pub struct Failure {
     pub message: String,
+    pub status: Status,
     pub fields: Object,
 }
 
@@ -53,6 +55,9 @@ pub struct Maker<'f> {
     pub read: fn(&Source) -> Result<Vec<u8>, String>,
     /// From what is read, and from where.
     pub make: &'f dyn Fn(&[u8], &Source) -> Made,
+    /// Of what sort it is, where that can be told by its beginning: a document
+    /// of this sort is written over, and no other file. Else `--force` does it.
+    pub sort: Option<Sort>,
 }
 
 /// A refused sheet makes nothing.
@@ -60,14 +65,19 @@ pub fn refused(text: &[u8], source: &Source, refusal: &Refusal) -> Failure {
     let message = excerpt::refused(text, &source.title(), refusal, Paint::default());
     Failure {
         message: message.trim_end().to_string(),
+        status: Status::Failed,
         fields: Object::new().with("refusal", sheets::refusal_object(refusal)),
     }
 }
 
 /// Makes a text of the one file that the words name; it goes where they say.
 pub fn one(call: &Call, out: &mut Output, maker: Maker) -> Result<Status, String> {
-    let file = call.value(FILE).unwrap_or(OsStr::new("-"));
-    one_to(file, call, out, maker)
+    one_to(file(call), call, out, maker)
+}
+
+/// Where a document goes to; `-` is standard output.
+pub fn file(call: &Call) -> &OsStr {
+    call.value(FILE).unwrap_or(OsStr::new("-"))
 }
 
 /// As `one`, to this file; `-` is standard output.
@@ -84,21 +94,30 @@ pub fn one_to(file: &OsStr, call: &Call, out: &mut Output, maker: Maker) -> Resu
         }
     };
     Ok(match made {
-        Ok(document) => match put(&document.text, file, call, out) {
+        Ok(document) => match put(&document.text, file, maker.sort, call, out) {
             Ok(()) => told(source, document.status, document.fields, call, out),
             Err(message) => sheets::wrong(source, &message, &message, call, out),
         },
-        Err(failure) => {
-            if !call.wants_json() {
-                out.complain(&failure.message);
-            }
-            told(source, Status::Failed, failure.fields, call, out)
-        }
+        Err(failure) => failed(source, failure, call, out),
     })
 }
 
+/// Why nothing came of a file. One that cannot be read is a message in any case.
+pub fn failed(source: &Source, failure: Failure, call: &Call, out: &mut Output) -> Status {
+    if !call.wants_json() || failure.status == Status::Unreadable {
+        out.complain(&failure.message);
+    }
+    told(source, failure.status, failure.fields, call, out)
+}
+
 /// What came of the file, for whoever reads JSON.
-fn told(source: &Source, status: Status, fields: Object, call: &Call, out: &mut Output) -> Status {
+pub fn told(
+    source: &Source,
+    status: Status,
+    fields: Object,
+    call: &Call,
+    out: &mut Output,
+) -> Status {
     if call.wants_json() {
         let object = sheets::object(source, status).and(fields);
         out.print(&format!("{object}\n"));
@@ -107,9 +126,20 @@ fn told(source: &Source, status: Status, fields: Object, call: &Call, out: &mut 
 }
 
 /// Into its file, else on standard output, which JSON has to itself.
-fn put(text: &[u8], file: &OsStr, call: &Call, out: &mut Output) -> Result<(), String> {
+pub fn put(
+    text: &[u8],
+    file: &OsStr,
+    sort: Option<Sort>,
+    call: &Call,
+    out: &mut Output,
+) -> Result<(), String> {
+    let over = match sort {
+        Some(sort) => Over::Like(sort),
+        None if call.is_set(FORCE) => Over::Anything,
+        None => Over::Nothing,
+    };
     match Source::of(file) {
-        Source::File(path) => output::write_file(&path, text, call.is_set(FORCE)),
+        Source::File(path) => files::write(&path, text, over),
         Source::Input if call.wants_json() => Ok(()),
         Source::Input => {
             out.write(text);

@@ -1,18 +1,14 @@
 //! `lindypo explain`: a sheet in words, or as a picture.
 
-use std::ffi::OsStr;
+use lindypo::{Run, Sheet};
 
-use lindypo::{Refusal, Run, Sheet};
-
-use crate::document::{self, Document, Maker};
-use crate::input::Source;
 use crate::json::Object;
 use crate::options::{Call, Opt};
 use crate::outline;
 use crate::output::{Output, Paint};
+use crate::picture;
 use crate::sheets::{self, Answer, Asked, Text};
 use crate::status::Status;
-use crate::svg;
 use crate::tree::Node;
 use crate::values;
 use crate::words::{Example, Word};
@@ -26,6 +22,11 @@ Says in words what `lindypo run` says in numbers. A refused sheet is shown with 
 marked. One that runs is shown as the tree of its Groups: members stand in the order in which the
 plan evaluates them, functions and Groups without values after them. Long formulas are cut; --json
 has them whole. `lindypo why` says where the failure of a value began.
+
+A picture has a card for each value and function, in boxes for the Groups, and an arrow for each
+mention; where the pointer rests, it says more. With more than 60 cards, Groups are folded into one
+card each, the innermost first, as far as it takes. PICTURE is written over only where it is a
+picture that was drawn so.
 ",
     options: &[
         Opt {
@@ -33,12 +34,9 @@ has them whole. `lindypo why` says where the failure of a value began.
             value: None,
             meaning: "a flat list in the order of the plan, with full names, in place of the tree",
         },
-        Opt {
-            name: SVG,
-            value: Some("PICTURE"),
-            meaning: "a picture of one sheet in the file PICTURE; - is standard output",
-        },
-        document::FORCED,
+        picture::SVG,
+        picture::FOCUS,
+        picture::FOLD,
     ],
     examples: &[
         Example {
@@ -74,13 +72,15 @@ refusal 14: the Group `right` has no member `prism`
 };
 
 const LIST: &str = "--list";
-const SVG: &str = "--svg";
-
 fn call(call: &Call, out: &mut Output) -> Result<Status, String> {
     let is_list = call.is_set(LIST);
-    match call.value(SVG) {
-        Some(_) if is_list || call.wants_json() => Err(format!("{SVG} draws, and writes no words")),
-        Some(file) => draw(file, call, out),
+    let [svg, focus, fold] = [picture::SVG, picture::FOCUS, picture::FOLD].map(|opt| opt.name);
+    match call.value(svg) {
+        Some(_) if is_list || call.wants_json() => Err(format!("{svg} draws, and writes no words")),
+        Some(file) => picture::draw(file, call, out),
+        None if call.is_set(focus) || call.is_set(fold) => Err(format!(
+            "{focus} and {fold} are for pictures: {svg} draws one"
+        )),
         None => sheets::each(&call.operands, call, out, &|text| ask(text, is_list)),
     }
 }
@@ -126,30 +126,4 @@ impl Answer for Explained<'_> {
             .with("order", self.run.plan.order.to_string())
             .with("definitions", definitions)
     }
-}
-
-/// The picture of a text that runs, with a caption.
-pub fn picture(text: &[u8], caption: &str) -> Result<(String, Status), Refusal> {
-    let (sheet, run) = sheets::ran(text)?;
-    let outermost = Node::outermost(&sheet, &run);
-    let svg = svg::picture(&sheet, &outermost, run.plan.order, caption);
-    Ok((svg, values::status(&values::of_run(&sheet, &run))))
-}
-
-/// Draws the one sheet that the words name into a file.
-fn draw(file: &OsStr, call: &Call, out: &mut Output) -> Result<Status, String> {
-    let make = |text: &[u8], source: &Source| {
-        let drawn = picture(text, &source.file_name());
-        let (svg, status) = drawn.map_err(|refusal| document::refused(text, source, &refusal))?;
-        Ok(Document {
-            text: svg.into_bytes(),
-            status,
-            fields: Object::new(),
-        })
-    };
-    let maker = Maker {
-        read: Source::read,
-        make: &make,
-    };
-    document::one_to(file, call, out, maker)
 }

@@ -5,6 +5,9 @@ use crate::output::NAME;
 use crate::status;
 use crate::words::{Example, Word, WORDS};
 
+/// The most letters of a line.
+const WIDTH: usize = 100;
+
 /// `lindypo --help`.
 pub fn usage() -> String {
     let lines = WORDS
@@ -27,7 +30,8 @@ pub fn of(word: &Word) -> String {
     let options: Vec<&Opt> = word.options.iter().chain(&COMMON).collect();
     let uses = options
         .iter()
-        .map(|option| format!("[{}] ", option_use(option)));
+        .map(|option| format!("[{}]", option_use(option)));
+    let uses: Vec<String> = uses.chain([word.operands.to_string()]).collect();
     let meanings = options
         .iter()
         .map(|option| (option_use(option), option.meaning));
@@ -37,17 +41,32 @@ pub fn of(word: &Word) -> String {
         .map(|(name, what)| (name.to_string(), what))
         .collect();
     format!(
-        "use: {NAME} {} {}{}\n\n{}\n{}\n{}\
+        "{}\n\n{}\n{}\n{}\
          JSON; a field that does not apply is left out:\n{}\n{}",
-        word.name,
-        uses.collect::<String>(),
-        word.operands,
+        broken(&format!("use: {NAME} {}", word.name), &uses),
         word.about,
         columns(&meanings),
         word.examples.iter().map(example).collect::<String>(),
         columns(&fields),
         status::MEANINGS
     )
+}
+
+/// Words after others, in lines that are not too long.
+fn broken(start: &str, words: &[String]) -> String {
+    let (mut text, mut width) = (start.to_string(), start.len());
+    for word in words {
+        let (between, before) = match width + 1 + word.len() <= WIDTH {
+            true => (" ".to_string(), width + 1),
+            false => (
+                format!("\n{}", " ".repeat(start.len() + 1)),
+                start.len() + 1,
+            ),
+        };
+        text = text + &between + word;
+        width = before + word.len();
+    }
+    text
 }
 
 fn option_use(option: &Opt) -> String {

@@ -6,10 +6,14 @@ use std::ffi::{OsStr, OsString};
 #[derive(Debug, Clone, Copy)]
 pub struct Opt {
     pub name: &'static str,
-    /// What its value is called, where it has one.
+    /// What its value is called, where it has one; `NAME...` may be given more
+    /// than once.
     pub value: Option<&'static str>,
     pub meaning: &'static str,
 }
+
+/// What the name of a value ends in that may be given more than once.
+const MORE: &str = "...";
 
 /// Every word has these.
 pub const COMMON: [Opt; 2] = [
@@ -77,10 +81,12 @@ impl Call {
         let value = match (option.value, attached) {
             (None, None) => OsString::new(),
             (None, Some(_)) => return Err(format!("{name} takes no value")),
-            (Some(_), _) if self.is_set(name) => return Err(format!("{name} is given twice")),
+            (Some(what), _) if self.is_set(name) && !what.ends_with(MORE) => {
+                return Err(format!("{name} is given twice"));
+            }
             (Some(what), attached) => attached
                 .or_else(|| words.next())
-                .ok_or(format!("{name} wants a value: {what}"))?,
+                .ok_or_else(|| format!("{name} wants a value: {}", what.trim_end_matches(MORE)))?,
         };
         self.options.push((option.name, value));
         Ok(())
@@ -92,9 +98,14 @@ impl Call {
 
     /// The value of an option that is set.
     pub fn value(&self, name: &str) -> Option<&OsStr> {
-        let mut options = self.options.iter();
-        let (_, value) = options.find(|(other, _)| *other == name)?;
-        Some(value)
+        self.values(name).next()
+    }
+
+    /// The values of an option that may be given more than once.
+    pub fn values<'a: 'n, 'n>(&'a self, name: &'n str) -> impl Iterator<Item = &'a OsStr> + 'n {
+        let options = self.options.iter();
+        let set = options.filter(move |(other, _)| *other == name);
+        set.map(|(_, value)| value.as_os_str())
     }
 
     pub fn wants_json(&self) -> bool {
@@ -106,7 +117,7 @@ impl Call {
 mod tests {
     use super::*;
 
-    const OPTIONS: [Opt; 2] = [
+    const OPTIONS: [Opt; 3] = [
         Opt {
             name: "--list",
             value: None,
@@ -115,6 +126,11 @@ mod tests {
         Opt {
             name: "--order",
             value: Some("LIST"),
+            meaning: "",
+        },
+        Opt {
+            name: "--fold",
+            value: Some("NAME..."),
             meaning: "",
         },
     ];
@@ -135,6 +151,13 @@ mod tests {
     }
 
     #[test]
+    fn some_options_are_given_more_than_once() {
+        let call = parsed("--fold a x --fold=b").expect("a call");
+        assert!(call.values("--fold").eq(["a", "b"]));
+        assert_eq!(call.values("--order").count(), 0);
+    }
+
+    #[test]
     fn two_dashes_end_the_options() {
         let call = parsed("--list -- --json -- -x").expect("a call");
         assert_eq!(call.operands, ["--json", "--", "-x"]);
@@ -147,6 +170,7 @@ mod tests {
             ("--tree a", "there is no --tree"),
             ("-x", "there is no -x"),
             ("a --order", "--order wants a value: LIST"),
+            ("a --fold", "--fold wants a value: NAME"),
             ("--order 1 --order=2", "--order is given twice"),
             ("--list=1", "--list takes no value"),
         ] {

@@ -101,7 +101,7 @@ fn row(sheet: &Sheet, node: &Node, branch: &str) -> Row {
     ]
 }
 
-fn positions(span: Span) -> String {
+pub fn positions(span: Span) -> String {
     match span.first == span.last {
         true => span.first.to_string(),
         false => format!("{}-{}", span.first, span.last),

@@ -5,9 +5,7 @@
 //! write is a message and a status. Colours are for a terminal alone.
 
 use std::env;
-use std::fs::{self, File, OpenOptions};
 use std::io::{self, BufWriter, ErrorKind, IsTerminal, Stdout, Write};
-use std::path::Path;
 
 use crate::input;
 use crate::status::Status;
@@ -129,33 +127,6 @@ impl Paint {
             true => format!("\x1b[{code}m{words}\x1b[0m"),
             false => words.to_string(),
         }
-    }
-}
-
-/// Writes a file of its own. One that is there already is written over where
-/// `force` says so; one that cannot be written whole is taken away again.
-pub fn write_file(path: &Path, bytes: &[u8], force: bool) -> Result<(), String> {
-    let failed = |error: io::Error| format!("{}: {}", input::shown(path), unwritten(path, &error));
-    if force {
-        return fs::write(path, bytes).map_err(failed);
-    }
-    let mut file = new_file(path).map_err(failed)?;
-    file.write_all(bytes).map_err(|error| {
-        let _ = fs::remove_file(path);
-        failed(error)
-    })
-}
-
-fn new_file(path: &Path) -> io::Result<File> {
-    OpenOptions::new().write(true).create_new(true).open(path)
-}
-
-/// Why a file cannot be written, and what to do about it.
-fn unwritten(path: &Path, error: &io::Error) -> String {
-    match error.kind() {
-        ErrorKind::AlreadyExists if path.is_dir() => input::reason(&ErrorKind::IsADirectory.into()),
-        ErrorKind::AlreadyExists => "is there already; --force writes over it".to_string(),
-        _ => input::reason(error),
     }
 }
 

@@ -17,7 +17,7 @@ pub const WORD: Word = Word {
     operands: "[FILE]",
     about: "\
 Shows what a sheet defines as formulas: values, functions and Groups, the members of each Group in
-the sequence of their labels. docs/FORMULAS.md has the grammar. `lindypo write` makes a sheet of
+the sequence of their labels. docs/LANGUAGE.md has the grammar. `lindypo write` makes a sheet of
 them again, the same but for its labels. A refused sheet is explained on standard error.
 ",
     options: &document::OPTIONS,
@@ -43,6 +43,7 @@ fn call(call: &Call, out: &mut Output) -> Result<Status, String> {
     let maker = Maker {
         read: Source::read,
         make: &make,
+        sort: None,
     };
     document::one(call, out, maker)
 }

@@ -12,7 +12,7 @@ use crate::input;
 use crate::options::{Call, Opt};
 use crate::output::{Output, NAME};
 use crate::status::Status;
-use crate::{check, explain, follow, plan, run, show, why, write};
+use crate::{check, explain, follow, plan, run, show, slip, why, write};
 
 /// The words, as `lindypo --help` lists them.
 pub const WORDS: &[&Word] = &[
@@ -22,6 +22,7 @@ pub const WORDS: &[&Word] = &[
     &explain::WORD,
     &why::WORD,
     &check::WORD,
+    &slip::WORD,
     &show::WORD,
     &write::WORD,
 ];

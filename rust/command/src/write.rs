@@ -21,7 +21,7 @@ pub const WORD: Word = Word {
     summary: "writes formulas as a sheet",
     operands: "[FILE]",
     about: "\
-Makes a sheet of a text of formulas; docs/FORMULAS.md has their grammar. Labels are numbered down
+Makes a sheet of a text of formulas; docs/LANGUAGE.md has their grammar. Labels are numbered down
 the text: label 1, then all definitions, each Group followed by its members, then their bodies.
 What is written is a sheet that reads and plans. Where the formulas give none, nothing is written:
 the place to mend is shown on standard error. `lindypo show` gives the formulas of a sheet.
@@ -101,6 +101,7 @@ fn call(call: &Call, out: &mut Output) -> Result<Status, String> {
     let maker = Maker {
         read: |source: &Source| source.read_whole(MOST_BYTES),
         make: &make,
+        sort: None,
     };
     document::one(call, out, maker)
 }
@@ -114,6 +115,7 @@ fn make(text: &[u8], source: &Source) -> Made {
         }),
         Err(mistake) => Err(Failure {
             message: message(text, &source.title(), &mistake),
+            status: Status::Failed,
             fields: Object::new().with("mistake", object(&mistake)),
         }),
     }

@@ -67,13 +67,15 @@ pub fn cells(line: &str) -> Option<Vec<&str>> {
 /// Whether a row is about a must-fail edit, `crate/edit`: it says which law fails,
 /// and quotes none.
 fn is_about_edit(graph: &Graph, line: &str) -> bool {
-    let first = cells(line).and_then(|cells| cells.first().copied());
-    let names = first.map(quoted).unwrap_or_default();
-    let is_edit = |name: &str| {
-        name.split_once('/')
-            .is_some_and(|(of, _)| graph.is_crate(of))
+    let is_word = |name: &str| {
+        name.chars()
+            .all(|c| c.is_ascii_lowercase() || "_0123456789".contains(c))
     };
-    names.into_iter().any(is_edit)
+    let is_edit = |name: &str| {
+        let parts = name.split_once('/');
+        parts.is_some_and(|(of, edit)| graph.is_crate(of) && is_word(edit))
+    };
+    cells(line).is_some() && quoted(line).into_iter().any(is_edit)
 }
 
 /// A law that a line of a document quotes.

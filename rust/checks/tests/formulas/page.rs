@@ -1,4 +1,4 @@
-//! The examples of docs/FORMULAS.md are so.
+//! The examples of docs/LANGUAGE.md are so.
 
 use std::fs;
 use std::path::Path;
@@ -38,7 +38,7 @@ fn given(formulas: &str, sort: &str) -> String {
 
 #[test]
 fn examples() {
-    let page = Path::new(env!("CARGO_MANIFEST_DIR")).join("../../docs/FORMULAS.md");
+    let page = Path::new(env!("CARGO_MANIFEST_DIR")).join("../../docs/LANGUAGE.md");
     let page = fs::read_to_string(page).expect("the page");
     let blocks = blocks(&page);
     let mut sorts = vec![];

@@ -1,9 +1,10 @@
 //! The arrows of one side.
 
 use super::draw::Drawing;
-use super::elements::{escaped, head, ink, px, together};
+use super::elements::{head, ink, px, together};
 use super::measure::{GUTTER, HEAD, LANE};
-use super::wires::{Meeting, Port, Side, Wires};
+use super::titles;
+use super::wires::{Meeting, Port, Side, Tail, Wires};
 
 /// How round the corners are.
 const ROUND: f64 = 8.0;
@@ -25,28 +26,27 @@ impl Pen<'_> {
     fn trunk(&self, number: usize) -> String {
         let trunk = &self.wires.trunks[number];
         let tip = self.port(trunk.target, number, Meeting::Head);
-        let arrows = trunk
-            .sources
-            .iter()
-            .map(|&source| self.arrow(number, source, tip));
+        let arrows = trunk.tails.iter();
+        let arrows: String = arrows.map(|tail| self.arrow(number, tail, tip)).collect();
         let head = head(tip, self.out() * HEAD);
-        together(&ink(number), "", &(arrows.collect::<String>() + &head))
+        together(&ink(number), &[], &(arrows + &head))
     }
 
     /// From a card out to the lane, along it and back in.
-    fn arrow(&self, number: usize, source: usize, (to, end): (f64, f64)) -> String {
+    fn arrow(&self, number: usize, tail: &Tail, (to, end): (f64, f64)) -> String {
         let trunk = &self.wires.trunks[number];
-        let (from, start) = self.port(source, number, trunk.meeting(source));
+        let (from, start) = self.port(tail.row, number, trunk.meeting(tail.row));
         let (lane, out) = (self.lane(trunk.lane), self.out());
         let round = ROUND.min((end - start).abs() / 2.0);
         let down = round * (end - start).signum();
         let [near, neck] = [lane - out * round, to + out * (HEAD - 1.0)].map(px);
         let [turn, back] = [start + down, end - down].map(px);
         let [from, lane, start, end] = [from, lane, start, end].map(px);
-        let hint = escaped(&self.hint(source, trunk.target));
+        let title = titles::arrow(self.drawing.sheet, &tail.mentions, self.wires.side);
+        let title = titles::element(&title);
         format!(
             "<path class=\"arrow\" d=\"M{from} {start}H{near}Q{lane} {start} {lane} {turn}\
-             V{back}Q{lane} {end} {near} {end}H{neck}\"><title>{hint}</title></path>\n\
+             V{back}Q{lane} {end} {near} {end}H{neck}\">{title}</path>\n\
              <circle class=\"tail\" cx=\"{from}\" cy=\"{start}\" r=\"2.4\"/>\n"
         )
     }
@@ -77,17 +77,5 @@ impl Pen<'_> {
             Side::Left => -1.0,
             Side::Right => 1.0,
         }
-    }
-
-    fn hint(&self, source: usize, target: usize) -> String {
-        let [source, target] = [source, target].map(|row| {
-            let node = self.drawing.cards.list[row].node;
-            format!("{} (label {})", node.title(), node.line.label)
-        });
-        let verb = match self.wires.side {
-            Side::Left => "calls",
-            Side::Right => "reads",
-        };
-        format!("{source} {verb} {target}")
     }
 }

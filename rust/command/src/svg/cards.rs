@@ -1,13 +1,17 @@
-//! The values and functions, top to bottom: each has a row of its own.
+//! The values and functions, top to bottom: each has a row of its own. So has a
+//! folded Group.
 
-use lindypo::Kind;
+use lindypo::{Sheet, State};
 
+use super::titles;
+use super::view::{Counts, View};
 use crate::numerals::counted;
+use crate::outline::positions;
 use crate::tree::Node;
 
-/// A value or function.
+/// A value, a function or a folded Group.
 pub struct Card<'a> {
-    pub node: &'a Node<'a>,
+    pub view: &'a View<'a>,
     /// How many Groups it stands in.
     pub depth: usize,
 }
@@ -18,69 +22,114 @@ pub struct Cards<'a> {
 
 impl<'a> Cards<'a> {
     /// In the sequence of the tree.
-    pub fn new(outermost: &'a Node) -> Self {
+    pub fn new(outermost: &'a View) -> Self {
         let mut list = vec![];
         add(&mut list, outermost, 0);
         Cards { list }
     }
 
-    /// The row of each definition that has one, by label.
+    /// The row of each definition that has one, by label: its own, or that of
+    /// the folded Group that it is in.
     pub fn rows(&self, labels: usize) -> Vec<Option<usize>> {
         let mut rows = vec![None; labels + 1];
         for (row, card) in self.list.iter().enumerate() {
-            rows[card.node.line.label] = Some(row);
+            for label in card.view.labels() {
+                rows[label] = Some(row);
+            }
         }
         rows
     }
 }
 
-fn add<'a>(list: &mut Vec<Card<'a>>, node: &'a Node<'a>, depth: usize) {
-    if node.line.kind != Kind::Group {
-        list.push(Card { node, depth });
+fn add<'a>(list: &mut Vec<Card<'a>>, view: &'a View<'a>, depth: usize) {
+    if view.is_card() {
+        list.push(Card { view, depth });
+        return;
     }
-    for member in &node.members {
+    for member in &view.members {
         add(list, member, depth + 1);
     }
 }
 
-impl Card<'_> {
-    pub fn is_function(&self) -> bool {
-        self.node.line.kind == Kind::Function
+impl<'a> Card<'a> {
+    pub fn node(&self) -> &'a Node<'a> {
+        self.view.node
     }
 
-    /// Whether it is a value without a number.
-    pub fn has_failed(&self) -> bool {
-        let state = self.node.outcome.map(|outcome| outcome.state);
-        state.is_some_and(|state| state.number().is_none())
+    pub fn class(&self) -> &'static str {
+        match self.view.counts() {
+            _ if self.failures() > 0 => "failed",
+            _ if self.view.is_folded => "folded",
+            Counts { values: 0, .. } => "function",
+            _ => "value",
+        }
+    }
+
+    /// How many of its values have no number.
+    pub fn failures(&self) -> usize {
+        failures(self.view)
     }
 
     /// The place in the plan; a function has none, and is marked as one.
     pub fn badge(&self) -> String {
-        match self.node.span {
-            Some(span) => span.first.to_string(),
-            None => "f".to_string(),
+        match self.node().span {
+            Some(span) => positions(span),
+            None if self.view.counts().functions > 0 => "f".to_string(),
+            None => "-".to_string(),
         }
     }
 
     /// The number, or in words why there is none.
     pub fn state(&self) -> String {
-        match self.node.outcome {
-            Some(outcome) => outcome.state.to_string(),
-            None => String::new(),
+        match (self.node().outcome, self.failures()) {
+            (Some(outcome), _) => outcome.state.to_string(),
+            (None, 0) => String::new(),
+            (None, failures) => format!("{failures} without a number"),
         }
     }
 
-    /// The last word of the card.
+    /// The last words of the card.
     pub fn note(&self) -> String {
-        match self.node.outcome {
+        match self.node().outcome {
             Some(outcome) => counted(u64::from(outcome.steps), "step"),
+            None if self.view.is_folded => contents(self.view),
             None => "function".to_string(),
         }
     }
 
-    /// What is said where the pointer rests on it.
-    pub fn hint(&self) -> String {
-        let line = self.node.line;
-        format!("{} {}, label {}", line.kind, self.node.title(), line.label)
+    /// What is said where the pointer rests on it, line by line.
+    pub fn title(&self, sheet: &Sheet) -> Vec<String> {
+        match self.view.is_folded {
+            true => titles::group(sheet, self.view),
+            false => titles::definition(sheet, self.node()),
+        }
+    }
+}
+
+fn failures(view: &View) -> usize {
+    let state = view.node.outcome.map(|outcome| outcome.state);
+    let own = state.is_some_and(|state| !matches!(state, State::Number(_)));
+    let members: usize = view.members.iter().map(failures).sum();
+    usize::from(own) + members
+}
+
+/// "3 of 15 values, 1 function".
+pub fn contents(view: &View) -> String {
+    let (drawn, all) = (view.counts(), view.counts_of_all());
+    let part = |drawn: usize, all: usize, thing: &str| {
+        let of = if drawn < all {
+            format!("{drawn} of ")
+        } else {
+            String::new()
+        };
+        (all > 0).then(|| of + &counted(all as u64, thing))
+    };
+    let parts = [
+        part(drawn.values, all.values, "value"),
+        part(drawn.functions, all.functions, "function"),
+    ];
+    match parts.iter().flatten().next() {
+        None => "no values".to_string(),
+        Some(_) => parts.into_iter().flatten().collect::<Vec<_>>().join(", "),
     }
 }

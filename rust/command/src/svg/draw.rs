@@ -1,21 +1,29 @@
 //! The picture itself: page, Groups and cards.
 
-use lindypo::Order;
+use lindypo::{Label, Order, Sheet};
 
 use super::arrows;
 use super::cards::{Card, Cards};
 use super::elements::{page, rect, together};
 use super::legend::Legend;
-use super::letters::{CAPTION, GROUP, MIXED, NAME, NOTE, POSITION, STATE, SUMMARY};
-use super::measure::{Measures, BADGE, CAPTION_LINE, INSET, MARGIN, MIXED_TAG, PAD, TITLE};
+use super::letters::{CAPTION, GROUP, MIXED, NAME, NOTE, PART, POSITION, STATE, SUMMARY};
+use super::measure::{part, Measures, BADGE, CAPTION_LINE, INSET, MARGIN, MIXED_TAG, PAD, TITLE};
 use super::plates::{Plate, Plates};
+use super::titles;
+use super::view::View;
 use super::wires::Wires;
-use crate::tree::Node;
+
+/// How far a card behind another one stands below it, and in.
+const BELOW: f64 = 4.0;
+const WITHIN: f64 = 5.0;
 
 pub struct Drawing<'a> {
+    pub sheet: &'a Sheet<'a>,
     pub caption: &'a str,
     pub summary: &'a str,
     pub order: Order,
+    /// What the picture is about, where it is not about all.
+    pub focus: Option<Label>,
     pub cards: Cards<'a>,
     pub left: Wires,
     pub right: Wires,
@@ -32,8 +40,8 @@ impl Drawing<'_> {
         let label = format!("{} {}", self.caption, self.summary);
         let mut svg = page(width, height, label.trim());
         svg += &self.heading(outermost);
-        for (node, depth, plate) in &self.plates.groups {
-            svg += &group(node, *depth, *plate);
+        for (view, depth, plate) in &self.plates.groups {
+            svg += &self.group(view, *depth, *plate);
         }
         svg += &arrows::svg(self, &self.left);
         svg += &arrows::svg(self, &self.right);
@@ -54,48 +62,83 @@ impl Drawing<'_> {
         };
         let caption = CAPTION.write(outermost.x + 2.0, y, self.caption);
         let summary = SUMMARY.write(outermost.right() - 2.0, y, self.summary);
-        caption + &together(class, "", &summary)
+        caption + &together(class, &[], &summary)
     }
 
     fn card(&self, card: &Card, plate: Plate) -> String {
-        let class = match card {
-            _ if card.is_function() => "function",
-            _ if card.has_failed() => "failed",
-            _ => "value",
-        };
         let (columns, origin, middle) = (&self.measures, self.measures.origin(), plate.middle());
         let name = plate.x + 2.0 * INSET + columns.badge;
+        let is_focus = |label: Label| card.view.labels().contains(&label);
         let elements = [
-            rect("card", plate, 6.0),
+            match card.view.is_folded {
+                true => stacked("card", plate, 6.0),
+                false => rect("card", plate, 6.0),
+            },
+            match card.view.is_folded && card.node().is_mixed() {
+                true => rect("sign mixed", plate, 6.0),
+                false => String::new(),
+            },
             badge(&card.badge(), plate.x + INSET, middle, columns.badge),
-            NAME.write(name, middle, card.node.title()),
+            NAME.write(name, middle, card.node().title()),
             STATE.write(origin + columns.state, middle, &card.state()),
             NOTE.write(origin + columns.note, middle, &card.note()),
         ];
-        together(class, &card.hint(), &elements.concat())
+        let focus = if self.focus.is_some_and(is_focus) {
+            " focus"
+        } else {
+            ""
+        };
+        let class = format!("{}{focus}", card.class());
+        together(&class, &card.title(self.sheet), &elements.concat())
+    }
+
+    /// A Group's box and title, whether it is drawn in part, and whether it is
+    /// mixed.
+    fn group(&self, view: &View, depth: usize, plate: Plate) -> String {
+        let shade = match depth {
+            0 => "shade0",
+            _ if depth.is_multiple_of(2) => "shade2",
+            _ => "shade1",
+        };
+        let mixed = if view.node.is_mixed() { " mixed" } else { "" };
+        let is_focus = depth > 0 && self.focus == Some(view.label());
+        let focus = if is_focus { " focus" } else { "" };
+        let (x, y) = (plate.x + PAD, plate.y + TITLE / 2.0);
+        let after = x + GROUP.width(view.node.title()) + PAD;
+        let elements = [
+            rect(&format!("group {shade}{mixed}{focus}"), plate, 9.0),
+            GROUP.write(x, y, view.node.title()),
+            part(view).map_or(String::new(), |words| PART.write(after, y, &words)),
+            match view.node.is_mixed() {
+                true => mixed_tag(plate),
+                false => String::new(),
+            },
+        ];
+        together("box", &titles::group(self.sheet, view), &elements.concat())
     }
 }
 
-/// A Group's box and title, and whether it is mixed.
-fn group(node: &Node, depth: usize, plate: Plate) -> String {
-    let shade = match depth {
-        0 => "shade0",
-        _ if depth.is_multiple_of(2) => "shade2",
-        _ => "shade1",
-    };
-    let title = GROUP.write(plate.x + PAD, plate.y + TITLE / 2.0, node.title());
-    if !node.is_mixed() {
-        return rect(&format!("group {shade}"), plate, 9.0) + &title;
-    }
+/// The word beside the title of a Group.
+fn mixed_tag(group: Plate) -> String {
     let tag = Plate {
-        x: plate.right() - PAD - MIXED_TAG,
-        y: plate.y + TITLE / 2.0 - 9.0,
+        x: group.right() - PAD - MIXED_TAG,
+        y: group.y + TITLE / 2.0 - 9.0,
         width: MIXED_TAG,
         height: 18.0,
     };
-    let frame = rect(&format!("group {shade} mixed"), plate, 9.0);
     let word = MIXED.write(tag.x + tag.width / 2.0, tag.middle(), "mixed");
-    frame + &title + &rect("mixed-tag", tag, 9.0) + &word
+    rect("mixed-tag", tag, 9.0) + &word
+}
+
+/// A card with others behind it.
+pub fn stacked(class: &str, plate: Plate, round: f64) -> String {
+    let behind = Plate {
+        x: plate.x + WITHIN,
+        y: plate.y + BELOW,
+        width: plate.width - 2.0 * WITHIN,
+        ..plate
+    };
+    rect("stack", behind, round) + &rect(class, plate, round)
 }
 
 /// A round badge with its left at `x`, and its middle at `y`.

@@ -2,13 +2,15 @@
 
 use super::letters;
 use super::plates::Plate;
+use super::titles;
+use crate::markup::escaped;
 
 /// Colours, and where words stand about their place. Light of its own, so that
 /// it can be read on a dark page too.
 const STYLE: &str = "\
 .page{fill:#ffffff;stroke:#d5dde6}
 .caption,.name,.state{fill:#1b2733}
-.summary,.group-name,.note,.legend{fill:#5c6b7a}
+.summary,.group-name,.note,.legend,.part{fill:#5c6b7a}
 .summary,.state,.note{text-anchor:end}
 .position,.mixed-word{fill:#ffffff;text-anchor:middle}
 .group{stroke:#8ba0b6;stroke-width:1.2}
@@ -21,12 +23,16 @@ const STYLE: &str = "\
 .value .badge{fill:#4a6580}
 .failed .card{fill:#fdeceb;stroke:#b3261e}
 .failed .badge,.failed .state{fill:#b3261e}
+.folded .card,.stack{fill:#dde6f0;stroke:#4a6580}
+.folded .badge{fill:#4a6580}
+.failed .stack{fill:#fdeceb;stroke:#b3261e}
 .function .card{fill:#fff4d6;stroke:#a97908}
 .function .badge{fill:#a97908}
-.card{stroke-width:1.2}
+.card,.stack{stroke-width:1.2}
+.focus .card,.group.focus,.ring{stroke:#1b2733;stroke-width:3}
 .arrow{fill:none;stroke-width:1.7}
 .head,.tail{stroke:none}
-.sign{fill:none}
+.sign,.ring{fill:none}
 ";
 
 /// The colours of arrows, in turn.
@@ -48,6 +54,9 @@ fn style() -> String {
     format!("{}{STYLE}{inks}", letters::style())
 }
 
+/// How every picture begins.
+pub const START: &str = "<svg class=\"lindypo\"";
+
 /// The beginning of a picture, with its background.
 pub fn page(width: f64, height: f64, label: &str) -> String {
     let plate = Plate {
@@ -59,7 +68,7 @@ pub fn page(width: f64, height: f64, label: &str) -> String {
     let (width, height, label, style) = (px(width), px(height), escaped(label), style());
     let page = rect("page", plate, 10.0);
     format!(
-        "<svg xmlns=\"http://www.w3.org/2000/svg\" role=\"img\" \
+        "{START} xmlns=\"http://www.w3.org/2000/svg\" role=\"img\" \
          width=\"{width}\" height=\"{height}\" viewBox=\"0 0 {width} {height}\">\n\
          <title>{label}</title>\n<style>\n{style}</style>\n{page}"
     )
@@ -74,13 +83,10 @@ pub fn rect(class: &str, plate: Plate, round: f64) -> String {
     )
 }
 
-/// Elements that belong together; `hint` is said where the pointer rests.
-pub fn together(class: &str, hint: &str, elements: &str) -> String {
-    let hint = match hint {
-        "" => String::new(),
-        hint => format!("<title>{}</title>\n", escaped(hint)),
-    };
-    format!("<g class=\"{class}\">\n{hint}{elements}</g>\n")
+/// Elements that belong together; the lines are said where the pointer rests.
+pub fn together(class: &str, title: &[String], elements: &str) -> String {
+    let title = titles::element(title);
+    format!("<g class=\"{class}\">{title}\n{elements}</g>\n")
 }
 
 /// The head of an arrow with its tip at a place. A length below 0 points right.
@@ -99,25 +105,6 @@ pub fn px(length: f64) -> String {
     }
 }
 
-/// Text as XML takes it; a character that XML cannot hold is shown as one that
-/// is missing.
-pub fn escaped(text: &str) -> String {
-    let mut written = String::new();
-    for letter in text.chars() {
-        match letter {
-            '&' => written += "&amp;",
-            '<' => written += "&lt;",
-            '>' => written += "&gt;",
-            '"' => written += "&quot;",
-            '\'' => written += "&apos;",
-            '\u{fffe}' | '\u{ffff}' => written.push('\u{fffd}'),
-            _ if letter.is_control() => written.push('\u{fffd}'),
-            _ => written.push(letter),
-        }
-    }
-    written
-}
-
 #[cfg(test)]
 mod tests {
     use super::*;
@@ -128,11 +115,5 @@ mod tests {
             [0.0, 12.0, 12.34, -0.5].map(px),
             ["0", "12", "12.3", "-0.5"]
         );
-    }
-
-    #[test]
-    fn markup_is_escaped() {
-        let written = escaped("a<b>&\"c'\u{1b}");
-        assert_eq!(written, "a&lt;b&gt;&amp;&quot;c&apos;\u{fffd}");
     }
 }

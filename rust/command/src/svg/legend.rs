@@ -1,6 +1,6 @@
 //! What the signs in the picture mean: those that occur in it.
 
-use super::draw::{badge, Drawing};
+use super::draw::{badge, stacked, Drawing};
 use super::elements::{head, ink, px, rect, together};
 use super::letters::LEGEND;
 use super::measure::{BADGE, GAP, HEAD};
@@ -17,6 +17,8 @@ enum Sign {
     Read,
     Call,
     Mixed,
+    Folded,
+    Focus,
 }
 
 impl Sign {
@@ -26,6 +28,8 @@ impl Sign {
             Sign::Read => "reads",
             Sign::Call => "calls",
             Sign::Mixed => "values of others stand between",
+            Sign::Folded => "Group, folded",
+            Sign::Focus => "in focus",
         }
     }
 
@@ -42,10 +46,12 @@ impl Sign {
             height: 14.0,
         };
         match self {
-            Sign::Position => together("value", "", &badge("1", x, y, BADGE)),
+            Sign::Position => together("value", &[], &badge("1", x, y, BADGE)),
             Sign::Read => arrow(x, x + SIGN, y),
             Sign::Call => arrow(x + SIGN, x, y),
             Sign::Mixed => rect("sign mixed", plate, 4.0),
+            Sign::Folded => together("folded", &[], &stacked("card sign", plate, 4.0)),
+            Sign::Focus => rect("ring", plate, 4.0),
         }
     }
 }
@@ -59,7 +65,7 @@ fn arrow(from: f64, to: f64, y: f64) -> String {
         px(y),
         px(to + back)
     );
-    together(&ink(0), "", &(line + &head((to, y), back)))
+    together(&ink(0), &[], &(line + &head((to, y), back)))
 }
 
 pub struct Legend {
@@ -68,17 +74,20 @@ pub struct Legend {
 
 impl Legend {
     pub fn new(drawing: &Drawing) -> Self {
-        let has_values = drawing.cards.list.iter().any(|card| !card.is_function());
-        let is_mixed = drawing
-            .plates
-            .groups
-            .iter()
-            .any(|(node, ..)| node.is_mixed());
+        let cards = || drawing.cards.list.iter();
+        let has_values = cards().any(|card| card.node().span.is_some());
+        let groups = drawing.plates.groups.iter().map(|(view, ..)| view.node);
+        let folded = || cards().filter(|card| card.view.is_folded);
+        let is_mixed = groups
+            .chain(folded().map(|card| card.node()))
+            .any(|node| node.is_mixed());
         let signs = [
             (Sign::Position, has_values),
             (Sign::Read, !drawing.right.trunks.is_empty()),
             (Sign::Call, !drawing.left.trunks.is_empty()),
             (Sign::Mixed, is_mixed),
+            (Sign::Folded, folded().next().is_some()),
+            (Sign::Focus, drawing.focus.is_some()),
         ];
         let occurs = |(sign, occurs): (Sign, bool)| occurs.then_some(sign);
         Legend {

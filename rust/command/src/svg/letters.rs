@@ -1,6 +1,7 @@
 //! Words in the picture: how they are written, and how wide they are.
 
-use super::elements::{escaped, px};
+use super::elements::px;
+use crate::markup::escaped;
 
 /// A manner of writing.
 pub struct Letters {
@@ -28,9 +29,10 @@ pub const STATE: Letters = letters("state", 14.0, true, false);
 pub const NOTE: Letters = letters("note", 11.5, false, false);
 pub const POSITION: Letters = letters("position", 11.5, true, true);
 pub const LEGEND: Letters = letters("legend", 11.5, false, false);
+pub const PART: Letters = letters("part", 11.5, false, false);
 
-const ALL: [Letters; 9] = [
-    CAPTION, SUMMARY, GROUP, MIXED, NAME, STATE, NOTE, POSITION, LEGEND,
+const ALL: [Letters; 10] = [
+    CAPTION, SUMMARY, GROUP, MIXED, NAME, STATE, NOTE, POSITION, LEGEND, PART,
 ];
 
 const MONO: &str = "'DejaVu Sans Mono',Menlo,Consolas,'Liberation Mono',monospace";

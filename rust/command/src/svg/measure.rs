@@ -1,11 +1,9 @@
 //! Sizes, in pixels, and the columns of the cards.
 
-use lindypo::Kind;
-
 use super::cards::{Card, Cards};
-use super::letters::{GROUP, NAME, NOTE, POSITION, STATE};
+use super::letters::{GROUP, NAME, NOTE, PART, POSITION, STATE};
+use super::view::View;
 use super::wires::Wires;
-use crate::tree::Node;
 
 /// Around the picture, and between a Group's border and its members.
 pub const MARGIN: f64 = 18.0;
@@ -47,7 +45,7 @@ pub struct Measures {
 impl Measures {
     /// Boxes of a width that takes all words; the outermost one has at least
     /// `least` of it.
-    pub fn new(outermost: &Node, cards: &Cards, wires: [&Wires; 2], least: f64) -> Self {
+    pub fn new(outermost: &View, cards: &Cards, wires: [&Wires; 2], least: f64) -> Self {
         let [left, right] = wires.map(gutter);
         let widest = |width: &dyn Fn(&Card) -> f64| {
             let widths = cards.list.iter().map(width);
@@ -55,7 +53,7 @@ impl Measures {
         };
         let badge = widest(&|card| POSITION.width(&card.badge()) + 8.0).max(BADGE);
         let start = |card: &Card| inset(card.depth) + 2.0 * INSET + badge;
-        let names = widest(&|card| start(card) + NAME.width(card.node.title()));
+        let names = widest(&|card| start(card) + NAME.width(card.node().title()));
         let states = widest(&|card| STATE.width(&card.state()));
         let notes = widest(&|card| NOTE.width(&card.note()));
         let edge = widest(&|card| inset(card.depth)) + INSET;
@@ -96,20 +94,24 @@ fn inset(depth: usize) -> f64 {
 }
 
 /// The width that the titles of Groups need.
-fn titles(node: &Node, depth: usize) -> f64 {
-    let mixed = if node.is_mixed() {
+fn titles(view: &View, depth: usize) -> f64 {
+    let mixed = if view.node.is_mixed() {
         MIXED_TAG + PAD
     } else {
         0.0
     };
-    let own = GROUP.width(node.title()) + mixed + 2.0 * (PAD + inset(depth));
-    let groups = node
-        .members
-        .iter()
-        .filter(|member| member.line.kind == Kind::Group);
+    let part = part(view).map_or(0.0, |words| PAD + PART.width(&words));
+    let own = GROUP.width(view.node.title()) + part + mixed + 2.0 * (PAD + inset(depth));
+    let groups = view.members.iter().filter(|member| !member.is_card());
     groups
         .map(|group| titles(group, depth + 1))
         .fold(own, f64::max)
+}
+
+/// How much of a Group is drawn, where that is not all: "2 of 7 members".
+pub fn part(view: &View) -> Option<String> {
+    let (drawn, all) = (view.members.len(), view.node.members.len());
+    (drawn < all).then(|| format!("{drawn} of {all} members"))
 }
 
 fn gutter(wires: &Wires) -> f64 {

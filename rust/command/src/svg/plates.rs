@@ -1,11 +1,9 @@
 //! Where everything stands down the page.
 
-use lindypo::Kind;
-
 use super::cards::Cards;
 use super::measure::{Measures, CAPTION_LINE, CARD, GAP, MARGIN, PAD, PORT, TITLE};
+use super::view::View;
 use super::wires::Wires;
-use crate::tree::Node;
 
 /// A box on the page.
 #[derive(Clone, Copy)]
@@ -34,12 +32,12 @@ impl Plate {
 /// The boxes of the cards by row, and of the Groups, outer ones first.
 pub struct Plates<'a> {
     pub cards: Vec<Plate>,
-    pub groups: Vec<(&'a Node<'a>, usize, Plate)>,
+    pub groups: Vec<(&'a View<'a>, usize, Plate)>,
 }
 
 impl<'a> Plates<'a> {
     pub fn new(
-        outermost: &'a Node<'a>,
+        outermost: &'a View<'a>,
         cards: &Cards,
         measures: &Measures,
         wires: [&Wires; 2],
@@ -79,7 +77,7 @@ struct Stack<'a, 'm> {
 
 impl<'a> Stack<'a, '_> {
     /// Lays down a Group and its members from `y` on; answers where it ends.
-    fn group(&mut self, node: &'a Node<'a>, depth: usize, y: f64) -> f64 {
+    fn group(&mut self, view: &'a View<'a>, depth: usize, y: f64) -> f64 {
         let (x, width) = match depth {
             0 => (MARGIN, self.measures.outermost()),
             _ => self.measures.extent(depth),
@@ -91,15 +89,15 @@ impl<'a> Stack<'a, '_> {
             width,
             height,
         };
-        self.plates.groups.push((node, depth, plate(TITLE)));
+        self.plates.groups.push((view, depth, plate(TITLE)));
         let mut bottom = y + TITLE - GAP;
-        for member in &node.members {
-            bottom = match member.line.kind {
-                Kind::Group => self.group(member, depth + 1, bottom + GAP),
-                _ => self.card(depth + 1, bottom + GAP),
+        for member in &view.members {
+            bottom = match member.is_card() {
+                true => self.card(depth + 1, bottom + GAP),
+                false => self.group(member, depth + 1, bottom + GAP),
             };
         }
-        let end = if node.members.is_empty() {
+        let end = if view.members.is_empty() {
             y + TITLE
         } else {
             bottom + PAD

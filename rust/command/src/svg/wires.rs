@@ -1,9 +1,9 @@
 //! Arrows in the gutter on one side of the cards: which lanes they run in, and
 //! in what sequence they meet a card.
 
-use std::collections::{BTreeMap, BTreeSet};
+use std::collections::BTreeMap;
 
-use lindypo::Sheet;
+use lindypo::{Kind, Label, Sheet};
 
 use super::cards::Cards;
 
@@ -14,10 +14,24 @@ pub enum Side {
     Right,
 }
 
-/// All mentions of one definition. Definitions are their rows here.
+/// An R or C line: which definition mentions which.
+#[derive(Clone, Copy)]
+pub struct Mention {
+    pub line: Label,
+    pub from: Label,
+    pub to: Label,
+}
+
+/// All mentions from one card to another. Cards are their rows here.
+pub struct Tail {
+    pub row: usize,
+    pub mentions: Vec<Mention>,
+}
+
+/// All mentions of what one card stands for.
 pub struct Trunk {
     pub target: usize,
-    pub sources: Vec<usize>,
+    pub tails: Vec<Tail>,
     /// From 0, nearest to the cards.
     pub lane: usize,
 }
@@ -83,10 +97,8 @@ impl Trunk {
     /// ordered as they stand down the page.
     fn reach(&self) -> ((usize, Meeting), (usize, Meeting)) {
         let head = (self.target, Meeting::Head);
-        let tails = self
-            .sources
-            .iter()
-            .map(|&source| (source, self.meeting(source)));
+        let tails = self.tails.iter();
+        let tails = tails.map(|tail| (tail.row, self.meeting(tail.row)));
         tails.fold((head, head), |(top, bottom), tail| {
             (top.min(tail), bottom.max(tail))
         })
@@ -98,25 +110,48 @@ impl Trunk {
     }
 }
 
-/// The mentions on one side, each once, by what is mentioned.
+/// The mentions on one side by what is mentioned, then by who mentions it. What
+/// a folded Group has to do with itself is no arrow.
 fn trunks(side: Side, cards: &Cards, sheet: &Sheet) -> Vec<Trunk> {
     let rows = cards.rows(sheet.labels());
-    let mut mentions: BTreeMap<usize, BTreeSet<usize>> = BTreeMap::new();
-    for (from, to) in sheet.mentions() {
-        let (Some(source), Some(target)) = (rows[from], rows[to]) else {
+    let mut arrows: BTreeMap<(usize, usize), Vec<Mention>> = BTreeMap::new();
+    for mention in mentions(side, sheet) {
+        let (Some(source), Some(target)) = (rows[mention.from], rows[mention.to]) else {
             continue;
         };
-        let is_call = cards.list[target].is_function();
-        if is_call == (side == Side::Left) {
-            mentions.entry(target).or_default().insert(source);
+        if source != target || !cards.list[source].view.is_folded {
+            arrows.entry((target, source)).or_default().push(mention);
         }
     }
-    let trunk = |(target, sources): (usize, BTreeSet<usize>)| Trunk {
-        target,
-        sources: sources.into_iter().collect(),
-        lane: 0,
+    let mut trunks: Vec<Trunk> = vec![];
+    for ((target, row), mentions) in arrows {
+        let tail = Tail { row, mentions };
+        match trunks.last_mut().filter(|trunk| trunk.target == target) {
+            Some(trunk) => trunk.tails.push(tail),
+            None => trunks.push(Trunk {
+                target,
+                tails: vec![tail],
+                lane: 0,
+            }),
+        }
+    }
+    trunks
+}
+
+/// Calls on the left, reads on the right.
+fn mentions<'a>(side: Side, sheet: &'a Sheet) -> impl Iterator<Item = Mention> + 'a {
+    let kind = match side {
+        Side::Left => Kind::Call,
+        Side::Right => Kind::Read,
     };
-    mentions.into_iter().map(trunk).collect()
+    let lines = sheet.lines().filter(move |line| line.kind == kind);
+    lines.filter_map(|line| {
+        Some(Mention {
+            line: line.label,
+            from: line.owner?,
+            to: line.target?,
+        })
+    })
 }
 
 /// Gives each trunk the nearest lane in which it meets no other, the short ones
@@ -148,9 +183,9 @@ fn ports(trunks: &[Trunk], cards: usize) -> Vec<Vec<Port>> {
     for (trunk, lines) in trunks.iter().enumerate() {
         let at = Meeting::Head;
         ports[lines.target].push(Port { trunk, at });
-        for &source in &lines.sources {
-            let at = lines.meeting(source);
-            ports[source].push(Port { trunk, at });
+        for tail in &lines.tails {
+            let at = lines.meeting(tail.row);
+            ports[tail.row].push(Port { trunk, at });
         }
     }
     for ports in &mut ports {

@@ -64,7 +64,8 @@ fn lines_are_short() {
 #[test]
 fn examples_are_true() {
     for word in WORDS {
-        assert!(!word.examples.is_empty(), "{}", word.name);
+        // a page to print is too long for a help
+        assert_eq!(word.examples.is_empty(), word.name == "slip");
         for example in word.examples {
             let words: Vec<&str> = example.words.split(' ').collect();
             assert_eq!(stdout(&output(&words)), example.print, "{}", example.words);

@@ -3,10 +3,11 @@
 mod checks;
 mod helps;
 mod json;
-mod language;
+mod markup;
 mod pages;
 mod pictures;
 mod random;
+mod slips;
 mod transcripts;
 mod trees;
 

@@ -3,85 +3,16 @@
 
 use std::collections::BTreeSet;
 
-use command::explain;
-use lindypo::Sheet;
+use command::picture;
+use command::svg::{Wanted, MOST};
+use lindypo::{formula, Kind, Label, Line, Sheet};
 
+use crate::markup::{parts, tags, words_in, Tag};
 use crate::{read, read_text};
 
 const CASES: u64 = 1_500;
 
-/// An element: its name, its attributes, and whether it ends at once.
-struct Tag<'a> {
-    name: &'a str,
-    attributes: Vec<(&'a str, &'a str)>,
-    is_empty: bool,
-}
-
-impl<'a> Tag<'a> {
-    fn new(inside: &'a str) -> Self {
-        let is_empty = inside.ends_with('/');
-        let inside = inside.trim_end_matches('/');
-        let (name, mut rest) = inside.split_once(' ').unwrap_or((inside, ""));
-        let mut attributes = vec![];
-        while let Some((key, after)) = rest.split_once("=\"") {
-            let (value, after) = after.split_once('"').expect("a quote that ends");
-            assert!(is_escaped(value), "{value}");
-            attributes.push((key.trim(), value));
-            rest = after;
-        }
-        assert_eq!(rest.trim(), "", "{inside}");
-        Tag {
-            name,
-            attributes,
-            is_empty,
-        }
-    }
-
-    fn get(&self, key: &str) -> &'a str {
-        let found = self.attributes.iter().find(|(name, _)| *name == key);
-        found
-            .unwrap_or_else(|| panic!("{} has no {key}", self.name))
-            .1
-    }
-
-    fn number(&self, key: &str) -> f64 {
-        self.get(key).parse().expect("a number")
-    }
-
-    fn is(&self, name: &str, class: &str) -> bool {
-        self.name == name && self.attributes.contains(&("class", class))
-    }
-}
-
-fn is_escaped(text: &str) -> bool {
-    let names = ["amp;", "lt;", "gt;", "quot;", "apos;"];
-    let is_known = |after: &str| names.iter().any(|name| after.starts_with(name));
-    !text.contains(['<', '>']) && text.split('&').skip(1).all(is_known)
-}
-
-/// The elements in sequence. Every one is ended where it should be, and words
-/// between them are escaped.
-fn tags(svg: &str) -> Vec<Tag<'_>> {
-    let (mut tags, mut open): (Vec<Tag>, Vec<&str>) = (vec![], vec![]);
-    let mut parts = svg.split('<');
-    assert_eq!(parts.next(), Some(""));
-    for part in parts {
-        let (inside, words) = part.split_once('>').expect("a tag that ends");
-        assert!(is_escaped(words), "{words}");
-        match inside.strip_prefix('/') {
-            Some(name) => assert_eq!(open.pop(), Some(name)),
-            None => {
-                let tag = Tag::new(inside);
-                if !tag.is_empty {
-                    open.push(tag.name);
-                }
-                tags.push(tag);
-            }
-        }
-    }
-    assert!(open.is_empty(), "{open:?}");
-    tags
-}
+const CAPTION: &str = "a < \"b\" & 'c'\u{7}";
 
 /// A card: left, right, top and bottom.
 type Card = [f64; 4];
@@ -162,32 +93,104 @@ fn keep_apart(arrows: &[Arrow]) {
     }
 }
 
-fn check(text: &[u8]) -> Option<usize> {
-    let (svg, _) = explain::picture(text, "a < \"b\" & 'c'\u{7}").ok()?;
-    assert!(svg.contains(">a &lt; &quot;b&quot; &amp; &apos;c&apos;\u{fffd}</text>"));
+/// Everything, nothing folded.
+fn all() -> Wanted {
+    Wanted {
+        focus: None,
+        folded: Some(BTreeSet::new()),
+    }
+}
+
+/// What has to be on a picture: by label the card that stands for a definition,
+/// itself or a folded Group around it; none where it is not drawn.
+struct Drawn<'a> {
+    sheet: &'a Sheet<'a>,
+    cards: Vec<Option<Label>>,
+}
+
+impl<'a> Drawn<'a> {
+    /// `focus` has the definitions to draw, where these are not all.
+    fn new(
+        sheet: &'a Sheet<'a>,
+        focus: Option<&BTreeSet<Label>>,
+        folded: &BTreeSet<Label>,
+    ) -> Self {
+        let mut drawn = Drawn {
+            sheet,
+            cards: vec![None; sheet.labels() + 1],
+        };
+        for line in sheet.lines().filter(|line| line.kind.is_definition()) {
+            let is_meant = focus.is_none_or(|focus| focus.contains(&line.label));
+            let groups = drawn.groups(line.label);
+            let mut folded_around = groups.into_iter().filter(|group| folded.contains(group));
+            let card = folded_around.next_back().unwrap_or(line.label);
+            let is_card = folded.contains(&card) || line.kind != Kind::Group;
+            drawn.cards[line.label] = (is_meant && is_card).then_some(card);
+        }
+        drawn
+    }
+
+    /// The definition and the Groups around it, innermost first.
+    fn groups(&self, label: Label) -> Vec<Label> {
+        let around = |&at: &Label| self.sheet.line(at)?.owner;
+        std::iter::successors(Some(label), around).collect()
+    }
+
+    fn count(&self) -> usize {
+        let cards: BTreeSet<Label> = self.cards.iter().copied().flatten().collect();
+        cards.len()
+    }
+
+    /// The arrows: from which card to which, and by which kind of line.
+    fn arrows(&self, folded: &BTreeSet<Label>) -> BTreeSet<(Label, Label, i64)> {
+        let arrow = |line: Line| {
+            let (from, to) = (self.cards[line.owner?]?, self.cards[line.target?]?);
+            let is_within = from == to && folded.contains(&from);
+            (!is_within).then_some((from, to, line.kind.code()))
+        };
+        self.sheet.lines().filter_map(arrow).collect()
+    }
+}
+
+/// Draws a text that runs, and looks at all of the picture.
+fn check(text: &[u8], wanted: &Wanted, focus: Option<&BTreeSet<Label>>) -> Option<usize> {
+    let (svg, _) = picture::picture(text, wanted, CAPTION).ok()?;
+    assert!(svg.contains(">a &lt; &quot;b&quot; &amp; &apos;c&apos;\u{fffd}"));
     let sheet = Sheet::read(text).expect("a sheet that reads");
     let tags = tags(&svg);
     let (cards, arrows) = (cards(&tags), arrows(&tags));
-    let has_card = |kind: lindypo::Kind| kind.is_definition() && kind != lindypo::Kind::Group;
-    let wanted = sheet.lines().filter(|line| has_card(line.kind)).count();
-    assert_eq!(cards.len(), wanted);
-    let mentions: BTreeSet<_> = sheet.mentions().collect();
-    assert_eq!(arrows.len(), mentions.len());
+    let folded = wanted.folded.clone().unwrap_or_default();
+    let drawn = Drawn::new(&sheet, focus, &folded);
+    assert_eq!(cards.len(), drawn.count());
+    assert_eq!(arrows.len(), drawn.arrows(&folded).len());
     for arrow in &arrows {
         runs_beside_cards(arrow, &cards);
     }
     keep_apart(&arrows);
+    let boxes = tags.iter().filter(|tag| tag.is("g", "box")).count();
+    let titles = tags.iter().filter(|tag| tag.name == "title").count();
+    assert_eq!(titles, 1 + boxes + cards.len() + arrows.len());
     Some(arrows.len())
+}
+
+/// A random sheet that runs.
+fn random(seed: u64) -> Option<Vec<u8>> {
+    let text = generator::sheet(&mut generator::Rng::new(seed));
+    let runs = Sheet::read(&text).and_then(|sheet| sheet.run()).is_ok();
+    runs.then_some(text)
+}
+
+fn definitions(sheet: &Sheet) -> Vec<Label> {
+    let lines = sheet.lines().filter(|line| line.kind.is_definition());
+    lines.map(|line| line.label).collect()
 }
 
 #[test]
 fn random_pictures() {
     let (mut drawn, mut arrows) = (0, 0);
-    for seed in 0..CASES {
-        let text = generator::sheet(&mut generator::Rng::new(seed));
-        if let Some(count) = check(&text) {
-            (drawn, arrows) = (drawn + 1, arrows + count);
-        }
+    for text in (0..CASES).filter_map(random) {
+        let count = check(&text, &all(), None).expect("a picture");
+        (drawn, arrows) = (drawn + 1, arrows + count);
     }
     assert!(
         drawn > 1_000 && arrows > 5_000,
@@ -195,10 +198,182 @@ fn random_pictures() {
     );
 }
 
+/// Who reaches whom, by mentions put end to end.
+fn reached(sheet: &Sheet) -> BTreeSet<(Label, Label)> {
+    let mut pairs: BTreeSet<(Label, Label)> = sheet.mentions().collect();
+    for middle in definitions(sheet) {
+        let into: Vec<Label> = pairs
+            .iter()
+            .filter(|pair| pair.1 == middle)
+            .map(|pair| pair.0)
+            .collect();
+        let out: Vec<Label> = pairs
+            .iter()
+            .filter(|pair| pair.0 == middle)
+            .map(|pair| pair.1)
+            .collect();
+        for from in into {
+            pairs.extend(out.iter().map(|&to| (from, to)));
+        }
+    }
+    pairs
+}
+
+/// With a focus, what it reaches and what reaches it is drawn and nothing else;
+/// so it is for all that is in a Group.
+#[test]
+fn random_focus() {
+    let (mut drawn, mut left_out) = (0, 0);
+    for text in (0..CASES / 5).filter_map(random) {
+        let sheet = Sheet::read(&text).expect("a sheet");
+        let (reached, none) = (reached(&sheet), BTreeSet::new());
+        let whole = Drawn::new(&sheet, None, &none);
+        for focus in definitions(&sheet) {
+            let is_under = |&label: &Label| whole.groups(label).contains(&focus);
+            let under: BTreeSet<Label> = definitions(&sheet).into_iter().filter(is_under).collect();
+            let has_to_do = |&label: &Label| {
+                let is_linked = |&other: &Label| {
+                    reached.contains(&(other, label)) || reached.contains(&(label, other))
+                };
+                under.contains(&label) || under.iter().any(is_linked)
+            };
+            let meant: BTreeSet<Label> =
+                definitions(&sheet).into_iter().filter(has_to_do).collect();
+            let wanted = Wanted {
+                focus: Some(focus),
+                ..all()
+            };
+            check(&text, &wanted, Some(&meant)).expect("a picture");
+            drawn += 1;
+            left_out +=
+                usize::from(Drawn::new(&sheet, Some(&meant), &none).count() < whole.count());
+        }
+    }
+    assert!(
+        drawn > 1_500 && left_out > 500,
+        "{drawn} pictures, {left_out} in part"
+    );
+}
+
+/// A folded Group is one card, and arrows end at it.
+#[test]
+fn random_folds() {
+    let mut drawn = 0;
+    for seed in 0..CASES {
+        let Some(text) = random(seed) else { continue };
+        let sheet = Sheet::read(&text).expect("a sheet");
+        let rng = &mut generator::Rng::new(seed);
+        let groups = sheet.lines().filter(|line| line.kind == Kind::Group);
+        let folded = groups
+            .map(|line| line.label)
+            .filter(|&label| label > 1 && rng.chance(40));
+        let folded: BTreeSet<Label> = folded.collect();
+        drawn += usize::from(!folded.is_empty());
+        let wanted = Wanted {
+            focus: None,
+            folded: Some(folded),
+        };
+        check(&text, &wanted, None).expect("a picture");
+    }
+    assert!(drawn > 300, "{drawn} pictures with folded Groups");
+}
+
+/// The labels of the Groups that a picture has as cards.
+fn folded_on(svg: &str) -> BTreeSet<Label> {
+    let group = |line: &str| {
+        let words = ["folded", "failed"]
+            .iter()
+            .find_map(|class| line.strip_prefix(&format!("<g class=\"{class}\"><title>Group ")))?;
+        words
+            .split(", label ")
+            .nth(1)?
+            .split(',')
+            .next()?
+            .parse()
+            .ok()
+    };
+    svg.lines().filter_map(group).collect()
+}
+
+/// As many Groups are folded as it takes, and no more.
+#[test]
+fn automatic_folds() {
+    let mut sheets: Vec<Vec<u8>> = generator::shapes()
+        .into_iter()
+        .map(|shape| shape.text)
+        .collect();
+    sheets.extend((0..12).map(|seed| generator::everyday(200 + 60 * seed, seed as u64)));
+    let mut drawn = 0;
+    for text in sheets {
+        let Ok((svg, count)) = picture::picture(&text, &Wanted::default(), CAPTION) else {
+            continue;
+        };
+        let (folded, sheet) = (folded_on(&svg), Sheet::read(&text).expect("a sheet"));
+        assert_eq!(folded.len(), count);
+        let cards = |folded: &BTreeSet<Label>| Drawn::new(&sheet, None, folded).count();
+        assert_eq!(cards_on(&svg), cards(&folded));
+        for group in &folded {
+            let mut fewer = folded.clone();
+            fewer.remove(group);
+            let (svg, _) = picture::picture(
+                &text,
+                &Wanted {
+                    focus: None,
+                    folded: Some(fewer.clone()),
+                },
+                "",
+            )
+            .expect("a picture");
+            assert!(cards_on(&svg) > MOST);
+        }
+        let outer = sheet
+            .members(1)
+            .filter(|line| line.kind == Kind::Group)
+            .map(|line| line.label);
+        let fewest = cards(&outer.collect());
+        assert!(cards(&folded) <= MOST.max(fewest), "{}", cards(&folded));
+        drawn += usize::from(!folded.is_empty());
+    }
+    assert!(drawn > 5, "{drawn} pictures with folded Groups");
+}
+
+fn cards_on(svg: &str) -> usize {
+    cards(&tags(svg)).len()
+}
+
+/// Where the pointer rests on a card: full name, label and formula.
+#[test]
+fn titles_say_more() {
+    for text in (0..CASES / 10).filter_map(random) {
+        let (svg, _) = picture::picture(&text, &all(), CAPTION).expect("a picture");
+        let sheet = Sheet::read(&text).expect("a sheet");
+        let parts = parts(&svg);
+        let values = [
+            words_in(&parts, "g", "value"),
+            words_in(&parts, "g", "failed"),
+        ]
+        .concat();
+        for line in sheet.lines().filter(|line| line.kind == Kind::Value) {
+            let label = line.label;
+            let (name, formula) = (sheet.full_name(label), formula::of(&sheet, label));
+            let formula = formula.expect("a formula");
+            let start = format!(
+                "value {name}, label {label}, line {}\n= {formula}\n",
+                label + 1
+            );
+            assert!(
+                values.iter().any(|words| words.starts_with(&start)),
+                "{start}"
+            );
+        }
+    }
+}
+
 #[test]
 fn everyday_pictures() {
     for lines in 1..120 {
-        check(&generator::everyday(lines, lines as u64)).expect("a picture");
+        let text = generator::everyday(lines, lines as u64);
+        check(&text, &all(), None).expect("a picture");
     }
 }
 
@@ -206,7 +381,7 @@ fn everyday_pictures() {
 #[test]
 fn large_pictures() {
     for shape in generator::shapes() {
-        if let Ok((svg, _)) = explain::picture(&shape.text, shape.name) {
+        if let Ok((svg, _)) = picture::picture(&shape.text, &all(), shape.name) {
             assert!(!tags(&svg).is_empty(), "{}", shape.name);
         }
     }
@@ -218,8 +393,9 @@ fn the_pictures_on_file() {
     for (sheet, picture) in [("01-example", "example"), ("03-mixed", "mixed")] {
         let (sheet, picture) = (format!("{sheet}.sheet"), format!("docs/{picture}.svg"));
         let path = format!("sheets/{sheet}");
-        let (drawn, _) = explain::picture(&read(&path), &sheet).expect("a picture");
-        let again = format!("to draw it anew: ./lindypo explain --force --svg {picture} {path}");
+        let drawn = picture::picture(&read(&path), &Wanted::default(), &sheet);
+        let (drawn, _) = drawn.expect("a picture");
+        let again = format!("to draw it anew: ./lindypo explain --svg {picture} {path}");
         assert!(drawn == read_text(&picture), "{again}");
     }
 }

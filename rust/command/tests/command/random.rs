@@ -73,6 +73,7 @@ fn every_word_answers() {
         &["run"][..],
         &["plan"],
         &["explain"],
+        &["slip"],
         &["check"],
         &["check", "--all"],
     ] {

@@ -53,6 +53,16 @@ fn every_word_on_bad_input() {
 }
 
 #[test]
+fn pictures_of_sheets() {
+    is_replayed("pictures.txt");
+}
+
+#[test]
+fn slips_to_print() {
+    is_replayed("slips.txt");
+}
+
+#[test]
 fn wrong_words_files_and_outputs() {
     is_replayed("wrong.txt");
 }

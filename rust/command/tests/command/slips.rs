@@ -4,7 +4,7 @@
 use std::process::Command;
 
 use command::slip;
-use lindypo::{formula, Kind, Order, Run, Sheet};
+use lindypo::{formula, Kind, Label, Order, Run, Sheet};
 
 use crate::markup::{parts, words_in, Part};
 use crate::{output, read, read_text, sheets, stdout, top};
@@ -47,8 +47,8 @@ fn states(run: &Run) -> Vec<String> {
         .collect()
 }
 
-/// The Group that each load is of, by the values under it, and whether it is
-/// said to be loaded again.
+/// How many values each load has, and whether its Group is said to be loaded
+/// again.
 fn loads(page: &Page) -> Vec<(usize, bool)> {
     let headings = words_in(&page.parts, "tr", "load");
     let mut headings = headings.iter();
@@ -66,19 +66,37 @@ fn loads(page: &Page) -> Vec<(usize, bool)> {
     loads
 }
 
-/// A load is a longest run of values of one Group; AGAIN is where a Group goes
-/// on that was left.
+/// The Groups that a value is in.
+fn groups(sheet: &Sheet, label: Label) -> Vec<Label> {
+    let around = |&at: &Label| sheet.line(at)?.owner;
+    std::iter::successors(Some(label), around).skip(1).collect()
+}
+
+/// Whether a Group of this value was left and goes on: it has an earlier value,
+/// and the last one is not in it.
+fn goes_on(sheet: &Sheet, before: &[Label], value: Label) -> bool {
+    let before: Vec<Vec<Label>> = before.iter().map(|&label| groups(sheet, label)).collect();
+    let last = before.last().cloned().unwrap_or_default();
+    groups(sheet, value)
+        .iter()
+        .any(|group| !last.contains(group) && before.iter().any(|groups| groups.contains(group)))
+}
+
+/// A load is a longest run of values of one Group; AGAIN is where one goes on
+/// that was left.
 fn loads_are_the_groups(sheet: &Sheet, run: &Run, page: &Page) {
-    let group = |label: usize| sheet.line(label).and_then(|line| line.owner).expect("one");
-    let mut values = run.plan.labels.iter().copied();
-    let (mut last, mut has_again) = (None, false);
+    let group = |&label: &Label| groups(sheet, label)[0];
+    let (plan, mut last) = (&run.plan.labels, None);
+    let (mut start, mut has_again) = (0, false);
     for (count, is_again) in loads(page) {
-        let under: Vec<usize> = values.by_ref().take(count).map(group).collect();
+        let (before, rest) = plan.split_at(start);
+        let under: Vec<Label> = rest[..count].iter().map(group).collect();
         assert!(count > 0 && under.iter().all(|&other| other == under[0]));
         assert_ne!(last, Some(under[0]));
-        (last, has_again) = (Some(under[0]), has_again || is_again);
+        assert_eq!(is_again, goes_on(sheet, before, rest[0]));
+        (start, last, has_again) = (start + count, Some(under[0]), has_again || is_again);
     }
-    assert_eq!(values.next(), None);
+    assert_eq!(start, plan.len());
     assert_eq!(has_again, run.plan.order == Order::Mixed);
 }
 

@@ -153,6 +153,7 @@ module _ (s : List ℕ) (t u : List ℤ) (a : Alike t u) where
     allotted-alike : (n : ℕ) → Allotted t n starts → Allotted u n starts
     allotted-alike n h = record {
       long = h .long;
+      base = h .base;
       rising = h .rising;
       few = h .few;
       some = λ l p q d. rw (a .owners l) (h .some l p q (sym (definition-alike l) ∙ d));
@@ -169,16 +170,15 @@ module _ (s : List ℕ) (t u : List ℤ) (a : Alike t u) where
       h l k low less high (sym (definition-alike l) ∙ d) (sym (definition-alike k) ∙ e) (sym (a .owners l) ∙ o ∙ a .owners k)
       (rw (like .names l, like .names k) at q)
 
-  pub linked-alike : {n : ℕ} {starts first next : List ℕ} → Linked s t n starts first next → Linked s u n starts first next
-  linked-alike {n} {starts} {first} {next} (h) = record { all = below (h .all); apart = apart-alike n (h .apart) }
+  pub linked-alike : {n : ℕ} {starts links : List ℕ} → Linked s t n starts links → Linked s u n starts links
+  linked-alike {n} {starts} {links} h = record { all = below (h .all); apart = apart-alike n (h .apart) }
     where
-      below : LinkedBelow s t n (n + 1) starts first next → LinkedBelow s u n (n + 1) starts first next
+      below : LinkedBelow s t n (n + 1) starts links → LinkedBelow s u n (n + 1) starts links
       below l = record {
         allotted = allotted-alike starts n (l .allotted);
-        buckets = l .buckets;
         room = l .room;
         most = l .most;
-        heads = λ b. l .heads b ∙ sym (chain-alike starts b (n + 1));
+        heads = λ b g. l .heads b g ∙ sym (chain-alike starts b (n + 1));
         nexts = λ x p q d. l .nexts x p q (sym (definition-alike x) ∙ d) ∙ rw (bucket-alike starts x) (sym (chain-alike starts (bucketAt s t starts x) x));
         falls = l .falls;
       }

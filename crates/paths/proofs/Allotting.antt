@@ -26,9 +26,10 @@ pub sum-part : (c : List ℕ) (g : ℕ) → getD c g 0 ≤ sumTo c g
 sum-part c zero = omega arith
 sum-part c (suc g) = omega arith
 
-clear-sum : (c : List ℕ) → ((i : ℕ) → getD c i 0 ≡ 0) → (g : ℕ) → sumTo c g ≡ 0
-clear-sum c h zero = h 0
-clear-sum c h (suc g) = omega (arith, clear-sum c h g, h (suc g))
+-- zeros but for the first place
+first-sum : (c : List ℕ) (v : ℕ) → ((i : ℕ) → getD c i 0 ≡ 0) → 0 < length c → (g : ℕ) → sumTo (set c 0 v) g ≡ v
+first-sum c v h l zero = getD-set-same c 0 v 0 l
+first-sum c v h l (suc g) = omega (arith, first-sum c v h l g, getD-set-other c 0 (suc g) v 0 (λ e. omega arith), h (suc g))
 
 -- one count is 2 larger
 module _ (c : List ℕ) (i : ℕ) (inside : i < length c) where
@@ -59,20 +60,28 @@ module _ (c : List ℕ) (i : ℕ) (inside : i < length c) where
 -- ---- the counts
 
 module _ (t : List ℤ) (n : ℕ) where
-  pub count-start : (c : List ℕ) → n + 1 < length c → ((i : ℕ) → getD c i 0 ≡ 0) → Counted t n 1 c
-  count-start c h z = record { long = h; total = omega (arith, clear-sum c z (n + 1)); some = λ l a b d. absurd (omega arith) }
+  pub count-start : (c : List ℕ) → n + 1 < length c → ((i : ℕ) → getD c i 0 ≡ 0) → Counted t n 1 (set c 0 (n + 1))
+  count-start c h z =
+      let first = getD-set-same c 0 (n + 1) 0 (omega arith) in
+      record {
+        long = omega (arith, length-set c 0 (n + 1));
+        base = first;
+        total = omega (arith, first-sum c (n + 1) z (omega arith) (n + 1));
+        some = λ l a b d. absurd (omega arith);
+      }
 
   module _ {k : ℕ} {c : List ℕ} (h : Counted t n k c) (most : k ≤ n) (falls : owner t k < k) where
     pub count-room : owner t k + 1 < length c
     count-room = omega (arith, h .long)
 
-    pub count-small : n ≤ 1024 → getD c (owner t k + 1) 0 ≤ 2048
+    pub count-small : n ≤ 1024 → getD c (owner t k + 1) 0 ≤ 4096
     count-small few =
         omega (arith, h .total, sum-part c (owner t k + 1), sum-rises c (owner t k + 1) (n + 1) (omega arith))
 
     count-own : isDefinition t k ≡ true → Counted t n (k + 1) (set c (owner t k + 1) (getD c (owner t k + 1) 0 + 2))
     count-own d = record {
       long = omega (arith, h .long, length-set c (owner t k + 1) (getD c (owner t k + 1) 0 + 2));
+      base = getD-set-other c (owner t k + 1) 0 (getD c (owner t k + 1) 0 + 2) 0 (λ e. omega arith) ∙ h .base;
       total = omega (arith, h .total, sum-more c (owner t k + 1) count-room (n + 1));
       some = λ l a b e. ⊎-elim (λ q. at l q) (λ q. omega (arith, h .some l a q e, grown c (owner t k + 1) count-room (owner t l + 1))) (eq-or-lt-of-le {n = l} {m = k} (omega arith));
     }
@@ -83,6 +92,7 @@ module _ (t : List ℤ) (n : ℕ) where
     count-other : isDefinition t k ≡ false → Counted t n (k + 1) c
     count-other d = record {
       long = h .long;
+      base = h .base;
       total = omega (arith, h .total);
       some = λ l a b e. ⊎-elim (λ (q : l ≡ k). absurd (true-false (sym e ∙ ap (isDefinition t) q ∙ d))) (λ q. h .some l a q e) (eq-or-lt-of-le {n = l} {m = k} (omega arith));
     }
@@ -143,6 +153,7 @@ pub allotted : {t : List ℤ} {n : ℕ} {c starts : List ℕ} → ((l : ℕ) →
     → length starts ≡ length c → ((g : ℕ) → g ≤ n + 1 → getD starts g 0 ≡ sumTo c g) → Allotted t n starts
 allotted {t} {n} {c} {starts} falls h size sums = record {
   long = omega (arith, h .long);
+  base = sums 0 (omega arith) ∙ h .base;
   rising = λ g k l m. rw (sums g (omega arith), sums k m) (sum-rises c g k l);
   few = rw (sums (n + 1) (omega arith)) (omega (arith, h .total));
   some = λ l a b d. rw (sums (owner t l) (omega (arith, falls l a b)), sums (owner t l + 1) (omega (arith, falls l a b))) (rises l (h .some l a (omega arith) d));

@@ -29,7 +29,7 @@ bucket-high starts g hash small some =
     omega (arith, mul-lt-mul-of-pos-right {m = hash} {n = hashes} {k = startOf starts (g + 1) - startOf starts g} small (omega arith))
 
 -- the product that says so fits
-pub bucket-fits : {starts : List ℕ} {g hash : ℕ} → Stretch starts g → hash < hashes → hash * (startOf starts (g + 1) - startOf starts g) ≤ 2048 * hashes
+pub bucket-fits : {starts : List ℕ} {g hash : ℕ} → Stretch starts g → hash < hashes → hash * (startOf starts (g + 1) - startOf starts g) ≤ 4096 * hashes
 bucket-fits {starts} {g} {hash} h small =
     omega (arith, h .order, h .few, mul-le-mul-right {m = hash} {n = hashes} (startOf starts (g + 1) - startOf starts g) (omega arith))
 
@@ -74,29 +74,27 @@ named-bucket s t starts g w x e =
 
 -- ---- linking
 
-pub link-fresh : (s : List ℕ) (t : List ℤ) {n : ℕ} {starts first next : List ℕ} {old : List ℕ} → Allotted t n starts → Fresh n old first next → LinkedBelow s t n 1 starts first next
+pub link-fresh : (s : List ℕ) (t : List ℤ) {n : ℕ} {old starts links : List ℕ} → Allotted t n starts → Fresh n old links → LinkedBelow s t n 1 starts links
 link-fresh s t {starts = starts} a f = record {
   allotted = a;
-  buckets = f .buckets;
   room = f .room;
   most = omega arith;
-  heads = λ b. f .clear b .1 ∙ sym (last-one (inBucket s t starts b));
+  heads = λ b g. f .clear b .1 ∙ sym (last-one (inBucket s t starts b));
   nexts = λ l h g d. absurd (omega arith);
-  falls = λ l h. omega (arith, f .clear l .2);
+  falls = λ l h g. omega (arith, f .clear l .1);
 }
 
-module _ {s : List ℕ} {t : List ℤ} {n k : ℕ} {starts first next : List ℕ} (rows : Rows s t n) (h : LinkedBelow s t n k starts first next) (low : 1 ≤ k) (high : k ≤ n) where
+module _ {s : List ℕ} {t : List ℤ} {n k : ℕ} {starts links : List ℕ} (rows : Rows s t n) (h : LinkedBelow s t n k starts links) (low : 1 ≤ k) (high : k ≤ n) where
   -- a label that is not in the bucket changes nothing for it
   past : (b : ℕ) → inBucket s t starts b k ≡ false → lastBelow (inBucket s t starts b) k ≡ lastBelow (inBucket s t starts b) (k + 1)
   past b e = rw (add-one k) (sym (last-miss (inBucket s t starts b) k e))
 
-  pub link-other : isDefinition t k ≡ false → LinkedBelow s t n (k + 1) starts first next
+  pub link-other : isDefinition t k ≡ false → LinkedBelow s t n (k + 1) starts links
   link-other e = record {
     allotted = h .allotted;
-    buckets = h .buckets;
     room = h .room;
     most = omega arith;
-    heads = λ b. h .heads b ∙ past b (rw e);
+    heads = λ b g. h .heads b g ∙ past b (rw e);
     nexts = λ l u v d. ⊎-elim (λ (q : l ≡ k). absurd (true-false (sym d ∙ ap (isDefinition t) q ∙ e))) (λ q. h .nexts l u q d) (eq-or-lt-of-le {n = l} {m = k} (omega arith));
     falls = h .falls;
   }
@@ -104,107 +102,140 @@ module _ {s : List ℕ} {t : List ℤ} {n k : ℕ} {starts first next : List ℕ
   abbrev own : ℕ
   own = bucketAt s t starts k
 
+  -- its bucket stands behind the labels
+  pub own-low : n < own
+  own-low = let f = rows .falls k low high in omega (arith, h .allotted .base, h .allotted .rising 0 (owner t k) (omega arith) (omega arith))
+
   module _ (e : isDefinition t k ≡ true) where
-    pub own-inside : own < length first
+    pub own-inside : own < length links
     own-inside =
         let f = rows .falls k low high in
-        omega (arith, bucket-at-high rows (h .allotted) k low high e, h .allotted .rising (owner t k + 1) (n + 1) (omega arith) (omega arith), h .allotted .few, h .buckets)
+        let rises = h .allotted .rising (owner t k + 1) (n + 1) (omega arith) (omega arith) in
+        omega (arith, bucket-at-high rows (h .allotted) k low high e, h .allotted .few, h .room)
 
-    head : (b : ℕ) (x : Bool) → eqb own b ≡ x → getD (set first own k) b 0 ≡ lastBelow (inBucket s t starts b) (k + 1)
-    head b true f =
+    abbrev stored : List ℕ
+    stored = set links k (getD links own 0)
+
+    stored-long : length stored ≡ length links
+    stored-long = length-set links k (getD links own 0)
+
+    -- what stands behind a label, and behind a bucket
+    at-label : (l : ℕ) → l ≤ n → getD (set stored own k) l 0 ≡ getD stored l 0
+    at-label l g = getD-set-other stored own l k 0 (λ q. omega (arith, own-low))
+
+    head : (b : ℕ) → n < b → (x : Bool) → eqb own b ≡ x → getD (set stored own k) b 0 ≡ lastBelow (inBucket s t starts b) (k + 1)
+    head b g true f =
         let q : own ≡ b = eqb-true own b f in
-        rw (← q, add-one k) (getD-set-same first own k 0 own-inside ∙ sym (last-hit (inBucket s t starts own) k (rw (e, eq-eqb own own refl))))
-    head b false f = getD-set-other first own b k 0 (λ q. eqb-false own b f (sym q)) ∙ h .heads b ∙ past b (rw (e, f))
+        let room : own < length stored = omega (arith, stored-long, own-inside) in
+        rw (← q, add-one k) (getD-set-same stored own k 0 room ∙ sym (last-hit (inBucket s t starts own) k (rw (e, eq-eqb own own refl))))
+    head b g false f =
+        getD-set-other stored own b k 0 (λ q. eqb-false own b f (sym q))
+        ∙ getD-set-other links k b (getD links own 0) 0 (λ q. omega arith)
+        ∙ h .heads b g
+        ∙ past b (rw (e, f))
 
-    pub link-own : LinkedBelow s t n (k + 1) starts (set first own k) (set next k (getD first own 0))
+    new : getD stored k 0 ≡ lastBelow (inBucket s t starts own) k
+    new = getD-set-same links k (getD links own 0) 0 (omega (arith, h .room)) ∙ h .heads own own-low
+
+    at-new : (l : ℕ) → l ≡ k → getD stored l 0 ≡ lastBelow (inBucket s t starts (bucketAt s t starts l)) l
+    at-new l q = rw q new
+
+    fall : (l : ℕ) → 1 ≤ l → l ≤ n → (x : Bool) → eqb l k ≡ x → getD stored l 0 < l
+    fall l u g true f = rw (eqb-true l k f) (omega (arith, new, last-small (inBucket s t starts own) k low))
+    fall l u g false f = rw (getD-set-other links k l (getD links own 0) 0 (eqb-false l k f)) (h .falls l u g)
+
+    pub link-own : LinkedBelow s t n (k + 1) starts (set stored own k)
     link-own = record {
       allotted = h .allotted;
-      buckets = omega (arith, h .buckets, length-set first own k);
-      room = omega (arith, h .room, length-set next k (getD first own 0));
+      room = omega (arith, h .room, stored-long, length-set stored own k);
       most = omega arith;
-      heads = λ b. head b (eqb own b) refl;
-      nexts = λ l u v d. ⊎-elim (λ q. at l q) (λ q. getD-set-other next k l (getD first own 0) 0 (λ z. omega arith) ∙ h .nexts l u q d) (eq-or-lt-of-le {n = l} {m = k} (omega arith));
-      falls = λ l u. fall l u (eqb l k) refl;
+      heads = λ b g. head b g (eqb own b) refl;
+      nexts = λ l u v d.
+          at-label l (omega arith)
+          ∙ ⊎-elim (at-new l) (λ q. getD-set-other links k l (getD links own 0) 0 (λ z. omega arith) ∙ h .nexts l u q d) (eq-or-lt-of-le {n = l} {m = k} (omega arith));
+      falls = λ l u g. rw (at-label l g) (fall l u g (eqb l k) refl);
     }
-      where
-        new : getD (set next k (getD first own 0)) k 0 ≡ lastBelow (inBucket s t starts own) k
-        new = getD-set-same next k (getD first own 0) 0 (omega (arith, h .room)) ∙ h .heads own
 
-        at : (l : ℕ) → l ≡ k → getD (set next k (getD first own 0)) l 0 ≡ lastBelow (inBucket s t starts (bucketAt s t starts l)) l
-        at l q = rw q new
+-- ---- walking from a label below the bound, where chains fall
 
-        fall : (l : ℕ) → 1 ≤ l → (x : Bool) → eqb l k ≡ x → getD (set next k (getD first own 0)) l 0 < l
-        fall l u true f = rw (eqb-true l k f) (omega (arith, new, last-small (inBucket s t starts own) k low))
-        fall l u false f = rw (getD-set-other next k l (getD first own 0) 0 (eqb-false l k f)) (h .falls l u)
+module _ (s : List ℕ) (t : List ℤ) (links w : List ℕ) (bound : ℕ) (falls : (l : ℕ) → 1 ≤ l → l < bound → getD links l 0 < l) where
+  enough : (f j x : ℕ) → x < bound → x ≤ f → x ≤ j → walkBy s t links w f x ≡ walkBy s t links w j x
+  enough zero zero zero m u v = refl
+  enough zero (suc j) zero m u v = refl
+  enough (suc f) zero zero m u v = refl
+  enough (suc f) (suc j) zero m u v = refl
+  enough zero j (suc x) m u v = absurd (omega arith)
+  enough (suc f) zero (suc x) m u v = absurd (omega arith)
+  enough (suc f) (suc j) (suc x) m u v =
+      let l = falls (suc x) (omega arith) m in
+      rw (enough f j (getD links (suc x) 0) (omega arith) (omega arith) (omega arith))
 
--- ---- walking, where chains fall
-
-module _ (s : List ℕ) (t : List ℤ) (next w : List ℕ) (falls : (l : ℕ) → 1 ≤ l → getD next l 0 < l) where
-  enough : (f j x : ℕ) → x ≤ f → x ≤ j → walkBy s t next w f x ≡ walkBy s t next w j x
-  enough zero zero zero u v = refl
-  enough zero (suc j) zero u v = refl
-  enough (suc f) zero zero u v = refl
-  enough (suc f) (suc j) zero u v = refl
-  enough zero j (suc x) u v = absurd (omega arith)
-  enough (suc f) zero (suc x) u v = absurd (omega arith)
-  enough (suc f) (suc j) (suc x) u v =
-      let l = falls (suc x) (omega arith) in
-      rw (enough f j (getD next (suc x) 0) (omega arith) (omega arith))
-
-  pub walk-hit : (x : ℕ) → (x ≡ 0 → ⊥) → sameName (nameOf s t x) w ≡ true → walk s t next w x ≡ x
+  walk-hit : (x : ℕ) → (x ≡ 0 → ⊥) → sameName (nameOf s t x) w ≡ true → walk s t links w x ≡ x
   walk-hit zero z e = absurd (z refl)
   walk-hit (suc x) z e = rw e
 
-  pub walk-turn : (x : ℕ) → (x ≡ 0 → ⊥) → sameName (nameOf s t x) w ≡ false → walk s t next w x ≡ walk s t next w (getD next x 0)
-  walk-turn zero z e = absurd (z refl)
-  walk-turn (suc x) z e =
-      let l = falls (suc x) (omega arith) in
-      rw e (enough x (getD next (suc x) 0) (getD next (suc x) 0) (omega arith) (omega arith))
+  walk-turn : (x : ℕ) → x < bound → (x ≡ 0 → ⊥) → sameName (nameOf s t x) w ≡ false → walk s t links w x ≡ walk s t links w (getD links x 0)
+  walk-turn zero m z e = absurd (z refl)
+  walk-turn (suc x) m z e =
+      let l = falls (suc x) (omega arith) m in
+      rw e (enough x (getD links (suc x) 0) (getD links (suc x) 0) (omega arith) (omega arith) (omega arith))
 
 -- the loop along a chain: what is left of it gives the answer
-pub record Walking (s : List ℕ) (t : List ℤ) (next w : List ℕ) (answer x : ℕ) : Type 0 where
-  pub inside : x < length next
-  pub falls : (l : ℕ) → 1 ≤ l → getD next l 0 < l
-  pub rest : walk s t next w x ≡ answer
+pub record Walking (s : List ℕ) (t : List ℤ) (links w : List ℕ) (bound answer x : ℕ) : Type 0 where
+  pub inside : x < bound
+  pub room : bound ≤ length links
+  pub falls : (l : ℕ) → 1 ≤ l → l < bound → getD links l 0 < l
+  pub rest : walk s t links w x ≡ answer
 
-module _ {s : List ℕ} {t : List ℤ} {next w : List ℕ} {answer x : ℕ} (h : Walking s t next w answer x) where
+module _ {s : List ℕ} {t : List ℤ} {links w : List ℕ} {bound answer x : ℕ} (h : Walking s t links w bound answer x) where
   pub walking-end : x ≡ 0 → 0 ≡ answer
   walking-end e = rw e at h .rest
 
   module _ (some : x ≡ 0 → ⊥) where
-    pub walking-less : getD next x 0 < x
-    walking-less = h .falls x (omega (arith, some))
+    pub walking-less : getD links x 0 < x
+    walking-less = h .falls x (omega (arith, some)) (h .inside)
 
     pub walking-hit : sameName (nameOf s t x) w ≡ true → x ≡ answer
-    walking-hit e = sym (walk-hit s t next w (h .falls) x some e) ∙ h .rest
+    walking-hit e = sym (walk-hit s t links w bound (h .falls) x some e) ∙ h .rest
 
-    pub walking-turn : sameName (nameOf s t x) w ≡ false → Walking s t next w answer (getD next x 0)
-    walking-turn e =
-        record { inside = omega (arith, walking-less, h .inside); falls = h .falls; rest = sym (walk-turn s t next w (h .falls) x some e) ∙ h .rest }
+    pub walking-turn : sameName (nameOf s t x) w ≡ false → Walking s t links w bound answer (getD links x 0)
+    walking-turn e = record {
+      inside = omega (arith, walking-less, h .inside);
+      room = h .room;
+      falls = h .falls;
+      rest = sym (walk-turn s t links w bound (h .falls) x (h .inside) some e) ∙ h .rest;
+    }
 
 -- it begins at the first of the name's bucket
 first-go : (b : Bool) (v m : ℕ) → v < m → cond b 0 v < m
 first-go true v m l = omega arith
 first-go false v m l = l
 
-pub walking-start : (s : List ℕ) (t : List ℤ) (w : List ℕ) {starts first next : List ℕ} {g x : ℕ} (hash : ℕ) → Walkable starts first next g → x ≡ firstIn starts first g hash
-    → Walking s t next w (walk s t next w (firstIn starts first g hash)) x
-walking-start s t w {starts} {first} {next} {g} {x} hash h e = record {
-  inside = rw e (first-go (eqb (startOf starts g) (startOf starts (g + 1))) (getD first (bucketOf starts g hash) 0) (length next) (h .heads (bucketOf starts g hash)));
-  falls = h .falls;
-  rest = ap (walk s t next w) e;
-}
+pub walking-start : (s : List ℕ) (t : List ℤ) (w : List ℕ) {starts links : List ℕ} {g x : ℕ} (hash : ℕ) → Walkable starts links g → x ≡ firstIn starts links g hash
+    → Walking s t links w (startOf starts 0) (walk s t links w (firstIn starts links g hash)) x
+walking-start s t w {starts} {links} {g} {x} hash h e =
+    let some = h .heads (bucketOf starts g hash) (omega (arith, h .base)) in
+    record {
+      inside = rw e (first-go (eqb (startOf starts g) (startOf starts (g + 1))) (getD links (bucketOf starts g hash) 0) (startOf starts 0) some);
+      room = omega (arith, h .base, h .stretch .order, h .room);
+      falls = h .falls;
+      rest = ap (walk s t links w) e;
+    }
 
 -- ---- what a lookup in Group g finds: the last member with the name, of the labels that are linked
 
-module _ {s : List ℕ} {t : List ℤ} {n k : ℕ} {starts first next : List ℕ} (rows : Rows s t n) (h : LinkedBelow s t n k starts first next) (low : 1 ≤ k) (g : ℕ) (in-table : g ≤ n) where
-  pub walkable : Walkable starts first next g
-  walkable = record {
-    stretch = stretch (h .allotted) g in-table (rows .few);
-    buckets = omega (arith, h .allotted .rising (g + 1) (n + 1) (omega arith) (omega arith), h .allotted .few, h .buckets);
-    heads = λ b. rw (h .heads b) (omega (arith, last-small (inBucket s t starts b) k low, h .most, h .room));
-    falls = h .falls;
-  }
+module _ {s : List ℕ} {t : List ℤ} {n k : ℕ} {starts links : List ℕ} (rows : Rows s t n) (h : LinkedBelow s t n k starts links) (low : 1 ≤ k) (g : ℕ) (in-table : g ≤ n) where
+  pub walkable : Walkable starts links g
+  walkable =
+      let a = h .allotted in
+      let base = a .base in
+      record {
+        stretch = stretch a g in-table (rows .few);
+        base = a .rising 0 g (omega arith) (omega arith);
+        room = omega (arith, a .rising (g + 1) (n + 1) (omega arith) (omega arith), a .few, h .room);
+        heads = λ b u. rw (h .heads b (omega arith)) (omega (arith, last-small (inBucket s t starts b) k low, h .most));
+        falls = λ l u v. h .falls l u (omega arith);
+      }
 
   module _ (w : List ℕ) where
     abbrev named : ℕ → Bool
@@ -225,13 +256,13 @@ module _ {s : List ℕ} {t : List ℤ} {n k : ℕ} {starts first next : List ℕ
           member-named s t g w x (and-left (isDefinition t x) (eqb (bucketAt s t starts x) bucket) c) owned
 
       -- the next of the chain
-      follows : (x : ℕ) → 1 ≤ x → x < k → chained x ≡ true → getD next x 0 ≡ lastBelow chained x
+      follows : (x : ℕ) → 1 ≤ x → x < k → chained x ≡ true → getD links x 0 ≡ lastBelow chained x
       follows x u v c =
           let q : bucketAt s t starts x ≡ bucket = eqb-true (bucketAt s t starts x) bucket (and-right (isDefinition t x) (eqb (bucketAt s t starts x) bucket) c) in
           h .nexts x u v (and-left (isDefinition t x) (eqb (bucketAt s t starts x) bucket) c) ∙ ap (λ (b : ℕ). lastBelow (inBucket s t starts b) x) q
 
-      along-go : (f x : ℕ) → 1 ≤ x → x < k → chained x ≡ true → walkBy s t next w f (getD next x 0) ≡ lastBelow named (suc (getD next x 0))
-          → (b : Bool) → sameName (nameOf s t x) w ≡ b → cond b x (walkBy s t next w f (getD next x 0)) ≡ lastBelow named (suc x)
+      along-go : (f x : ℕ) → 1 ≤ x → x < k → chained x ≡ true → walkBy s t links w f (getD links x 0) ≡ lastBelow named (suc (getD links x 0))
+          → (b : Bool) → sameName (nameOf s t x) w ≡ b → cond b x (walkBy s t links w f (getD links x 0)) ≡ lastBelow named (suc x)
       along-go f x u v c rest true e = sym (last-hit named x (meets x u v c ∙ e))
       along-go f x u v c rest false e =
           rest
@@ -239,16 +270,16 @@ module _ {s : List ℕ} {t : List ℤ} {n k : ℕ} {starts first next : List ℕ
           ∙ sym (last-skip named chained (named-bucket s t starts g w) x)
           ∙ sym (last-miss named x (meets x u v c ∙ e))
 
-      along : (f x : ℕ) → x ≤ f → x < k → ((x ≡ 0 → ⊥) → chained x ≡ true) → walkBy s t next w f x ≡ lastBelow named (suc x)
+      along : (f x : ℕ) → x ≤ f → x < k → ((x ≡ 0 → ⊥) → chained x ≡ true) → walkBy s t links w f x ≡ lastBelow named (suc x)
       along zero zero l m c = sym (last-one named)
       along (suc f) zero l m c = sym (last-one named)
       along zero (suc x) l m c = absurd (omega arith)
       along (suc f) (suc x) l m c =
           let is : chained (suc x) ≡ true = c (λ z. omega arith) in
-          let less = h .falls (suc x) (omega arith) in
+          let less = h .falls (suc x) (omega arith) (omega (arith, h .most)) in
           let y = follows (suc x) (omega arith) m is in
           along-go f (suc x) (omega arith) m is
-          (along f (getD next (suc x) 0) (omega arith) (omega arith) (λ z. last-passes chained (suc x) (getD next (suc x) 0) (sym y) z .0))
+          (along f (getD links (suc x) 0) (omega arith) (omega arith) (λ z. last-passes chained (suc x) (getD links (suc x) 0) (sym y) z .0))
           (sameName (nameOf s t (suc x)) w) refl
 
     -- a Group that has no bucket has no member
@@ -258,16 +289,17 @@ module _ {s : List ℕ} {t : List ℤ} {n k : ℕ} {starts first next : List ℕ
         let m = rw (p .owned) at (h .allotted .some y u (omega (arith, h .most)) (p .definition)) in
         omega arith
 
-    pub found-last : walk s t next w (firstIn starts first g (hashOf w)) ≡ lastBelow named k
+    pub found-last : walk s t links w (firstIn starts links g (hashOf w)) ≡ lastBelow named k
     found-last = go (eqb (startOf starts g) (startOf starts (g + 1))) refl
       where
-        go : (b : Bool) → eqb (startOf starts g) (startOf starts (g + 1)) ≡ b → walk s t next w (cond b 0 (getD first bucket 0)) ≡ lastBelow named k
+        go : (b : Bool) → eqb (startOf starts g) (startOf starts (g + 1)) ≡ b → walk s t links w (cond b 0 (getD links bucket 0)) ≡ lastBelow named k
         go true f = sym (none-last named k (missing (eqb-true (startOf starts g) (startOf starts (g + 1)) f)))
         go false f =
             let rises = h .allotted .rising g (g + 1) (omega arith) (omega arith) in
             let some : startOf starts g < startOf starts (g + 1) = omega (arith, eqb-false (startOf starts g) (startOf starts (g + 1)) f) in
-            let x = getD first bucket 0 in
-            let y : x ≡ lastBelow chained k = h .heads bucket in
+            let x = getD links bucket 0 in
+            let base = h .allotted .rising 0 g (omega arith) (omega arith) in
+            let y : x ≡ lastBelow chained k = h .heads bucket (omega (arith, h .allotted .base)) in
             along some x x (omega arith) (omega (arith, last-small chained k low)) (λ z. last-passes chained k x (sym y) z .0)
             ∙ ap (λ (v : ℕ). lastBelow named (suc v)) y
             ∙ sym (last-skip named chained (named-bucket s t starts g w) k)
@@ -284,12 +316,12 @@ pub own-read : (s : List ℕ) (t : List ℤ) (l : ℕ) {from size hash group : �
     → hash ≡ hashOf (slice from (from + size) s) → group ≡ owner t l → Own s t l from (from + size) hash group
 own-read s t l p q e f = record { name = rw (p, q); hashed = e; owned = f }
 
-module _ {s : List ℕ} {t : List ℤ} {n l : ℕ} {starts first next : List ℕ} (rows : Rows s t n) (h : LinkedBelow s t n l starts first next) (low : 1 ≤ l) (high : l ≤ n)
+module _ {s : List ℕ} {t : List ℤ} {n l : ℕ} {starts links : List ℕ} (rows : Rows s t n) (h : LinkedBelow s t n l starts links) (low : 1 ≤ l) (high : l ≤ n)
     {from to hash group : ℕ} (o : Own s t l from to hash group) where
   pub own-group : group ≤ n
   own-group = omega (arith, o .owned, rows .falls l low high)
 
-  pub own-found : {found : ℕ} → found ≡ walk s t next (slice from to s) (firstIn starts first group hash) → found ≡ lastBelow (isNamed s t (owner t l) (nameOf s t l)) l
+  pub own-found : {found : ℕ} → found ≡ walk s t links (slice from to s) (firstIn starts links group hash) → found ≡ lastBelow (isNamed s t (owner t l) (nameOf s t l)) l
   own-found e =
       e ∙ rw (o .hashed, o .name, o .owned) (found-last rows h low (owner t l) (omega (arith, rows .falls l low high)) (nameOf s t l))
 
@@ -297,35 +329,34 @@ module _ {s : List ℕ} {t : List ℤ} {n l : ℕ} {starts first next : List ℕ
     own-bucket : b ≡ bucketAt s t starts l
     own-bucket = e ∙ rw (o .hashed, o .name, o .owned)
 
-    pub own-room : b < length first
-    own-room = omega (arith, own-bucket, own-inside rows h low high d)
+    pub own-room : (b < length links) × (l < b)
+    own-room = (omega (arith, own-bucket, own-inside rows h low high d), omega (arith, own-bucket, own-low rows h low high))
 
-    pub own-linked : {first′ next′ : List ℕ} → first′ ≡ set first b l → next′ ≡ set next l (getD first b 0) → LinkedBelow s t n (l + 1) starts first′ next′
-    own-linked p q = rw (p, q, own-bucket) (link-own rows h low high d)
+    pub own-linked : {links′ : List ℕ} → links′ ≡ set (set links l (getD links b 0)) b l → LinkedBelow s t n (l + 1) starts links′
+    own-linked p = rw (p, own-bucket) (link-own rows h low high d)
 
 -- all are linked, and names are apart: the member
-module _ {s : List ℕ} {t : List ℤ} {n : ℕ} {starts first next : List ℕ} (rows : Rows s t n) (h : Linked s t n starts first next) (g : ℕ) (in-table : g ≤ n) where
-  pub linked-walkable : Walkable starts first next g
+module _ {s : List ℕ} {t : List ℤ} {n : ℕ} {starts links : List ℕ} (rows : Rows s t n) (h : Linked s t n starts links) (g : ℕ) (in-table : g ≤ n) where
+  pub linked-walkable : Walkable starts links g
   linked-walkable = walkable rows (h .all) (omega arith) g in-table
 
-  pub found-member : (w : List ℕ) → walk s t next w (firstIn starts first g (hashOf w)) ≡ member s t n g w
+  pub found-member : (w : List ℕ) → walk s t links w (firstIn starts links g (hashOf w)) ≡ member s t n g w
   found-member w = found-last rows (h .all) (omega arith) g in-table w ∙ member-last s t n (h .apart) g w
 
-  pub member-walking : (w : List ℕ) {hash x : ℕ} → hash ≡ hashOf w → x ≡ firstIn starts first g hash → Walking s t next w (member s t n g w) x
+  pub member-walking : (w : List ℕ) {hash x : ℕ} → hash ≡ hashOf w → x ≡ firstIn starts links g hash → Walking s t links w (startOf starts 0) (member s t n g w) x
   member-walking w e f =
-      rw (← (found-member w)) (walking-start s t w (hashOf w) linked-walkable (f ∙ ap (firstIn starts first g) e))
+      rw (← (found-member w)) (walking-start s t w (hashOf w) linked-walkable (f ∙ ap (firstIn starts links g) e))
 
-  pub member-is : (w : List ℕ) {hash r : ℕ} → hash ≡ hashOf w → r ≡ walk s t next w (firstIn starts first g hash) → r ≡ member s t n g w
-  member-is w e f = f ∙ ap (λ (h : ℕ). walk s t next w (firstIn starts first g h)) e ∙ found-member w
+  pub member-is : (w : List ℕ) {hash r : ℕ} → hash ≡ hashOf w → r ≡ walk s t links w (firstIn starts links g hash) → r ≡ member s t n g w
+  member-is w e f = f ∙ ap (λ (h : ℕ). walk s t links w (firstIn starts links g h)) e ∙ found-member w
 
 -- ---- scratch that is all zeros, for n labels below k
 
-pub fresh-zeros : (n k : ℕ) → n < k → Fresh n (replicate (k + 1) 0) (replicate (2 * k) 0) (replicate k 0)
+pub fresh-zeros : (n k : ℕ) → n < k → Fresh n (replicate (k + 1) 0) (replicate (3 * k) 0)
 fresh-zeros n k h = record {
   long = omega (arith, long (k + 1));
-  buckets = omega (arith, long (2 * k));
-  room = omega (arith, long k);
-  clear = λ i. (zero-at (k + 1) i, zero-at (2 * k) i, zero-at k i);
+  room = omega (arith, long (3 * k));
+  clear = λ i. (zero-at (k + 1) i, zero-at (3 * k) i);
 }
   where
     long : (m : ℕ) → length (replicate {0} {A = ℕ} m 0) ≡ m

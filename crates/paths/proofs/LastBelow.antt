@@ -83,7 +83,7 @@ module _ (p : ℕ → Bool) where
 
   -- the first is the last where no two pass
   module _ (n : ℕ) (apart : (x y : ℕ) → 1 ≤ x → x < y → y ≤ n → p x ≡ true → p y ≡ true → ⊥) where
-    one-only : (x y : ℕ) → 1 ≤ x → x ≤ n → p x ≡ true → 1 ≤ y → y ≤ n → p y ≡ true → x ≡ y
+    pub one-only : (x y : ℕ) → 1 ≤ x → x ≤ n → p x ≡ true → 1 ≤ y → y ≤ n → p y ≡ true → x ≡ y
     one-only x y l h e m g f = go (ltb x y) (ltb y x) refl refl
       where
         go : (a b : Bool) → ltb x y ≡ a → ltb y x ≡ b → x ≡ y

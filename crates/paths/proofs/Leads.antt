@@ -4,10 +4,10 @@ use mathlib.Core.Bool.{Bool, true, false, cond, not, _&&_}
 use mathlib.Core.List.{List, [], _∷_}
 use Prim.Native.Nat.{ℕ, zero, suc, _-_, _≤_, _<_}
 use native.Mathlib.Omega.{arith}
-use lib.Dec.{eqb, ltb}
+use lib.Dec.{eqb}
 use lib.IntN.{ℤ}
 use lib.ListN.{drop}
-use borrow.Author.Tests.{eq-eqb, ne-eqb, eqb-true, eqb-false, ltb-true, ltb-false, not-false}
+use borrow.Author.Tests.{eq-eqb, ne-eqb, eqb-true, eqb-false, not-false}
 use Rattle.kinds.specs.Kinds.{groupCode}
 use Rattle.cells.specs.Table.{kind, owner, isDefinition, hasPath}
 use Rattle.refusals.specs.Rows.{duplicateRow, headRow, laterRow, targetRow}
@@ -22,8 +22,8 @@ use Rattle.cells.specs.Lists.{orIfZero}
 use Rattle.paths.specs.Paths.{settled, headFrom, descended, namesOf, headOf, targetOf, wanted, duplicateBad, pathHeadBad, laterBad, targetBad, laterRows, headRows, pathsBad}
 use Rattle.paths.specs.Leads.{IsMember, Heads, here, outward, Descends, ended, inward, HeadSettles, Leads, NamesApart, PathsKept}
 use Rattle.paths.proofs.FirstLabel.{Passing, first-found, none-passes}
-use Rattle.paths.proofs.SameName.{same-sym, same-trans}
-use Rattle.paths.proofs.Members.{member-named, named-parts}
+use Rattle.paths.proofs.LastBelow.{one-only}
+use Rattle.paths.proofs.Members.{member-named, named-parts, two-named}
 use Rattle.paths.proofs.Resolving.{above-zero, owner-small, settled-at, down-none, down-stop, down-on}
 
 -- ---- a row's check of one label
@@ -51,10 +51,13 @@ module _ (s : List ℕ) (t : List ℤ) (n : ℕ) where
         let p = named-parts s t g w m (f .passes) in
         record { group = h; low = f .low; high = omega (arith, f .high); definition = p .definition; owned = p .owned; named = p .named }
 
+    is-named : {m : ℕ} → IsMember s t n g w m → isNamed s t g w m ≡ true
+    is-named {m} p = member-named s t g w m (p .definition) (p .owned) ∙ p .named
+
     member-none : member s t n g w ≡ 0 → (m : ℕ) → IsMember s t n g w m → ⊥
     unfolding member
     member-none e m p =
-        none-passes (isNamed s t g w) n 1 m (omega arith) e (p .low) (omega (arith, p .high)) (member-named s t g w m (p .definition) (p .owned) ∙ p .named)
+        none-passes (isNamed s t g w) n 1 m (omega arith) e (p .low) (omega (arith, p .high)) (is-named p)
 
     none-member : 1 ≤ g → ((m : ℕ) → IsMember s t n g w m → ⊥) → member s t n g w ≡ 0
     none-member h f = go (member s t n g w) refl
@@ -64,18 +67,10 @@ module _ (s : List ℕ) (t : List ℤ) (n : ℕ) where
         go (suc m) e = absurd (f (suc m) (member-found h (suc m) e (λ z. omega arith)))
 
     module _ (apart : NamesApart s t n) where
-      two-members : {m x : ℕ} → m < x → IsMember s t n g w m → IsMember s t n g w x → ⊥
-      two-members {m} {x} h p q =
-          apart m x (p .low) h (q .high) (p .definition) (q .definition) (p .owned ∙ sym (q .owned)) (same-trans (nameOf s t m) w (nameOf s t x) (p .named) (same-sym (nameOf s t x) w (q .named)))
-
       -- two members of a Group with one name are one
       pub member-only : {m x : ℕ} → IsMember s t n g w m → IsMember s t n g w x → m ≡ x
-      member-only {m} {x} p q = go (ltb m x) (ltb x m) refl refl
-        where
-          go : (a b : Bool) → ltb m x ≡ a → ltb x m ≡ b → m ≡ x
-          go true b e f = absurd (two-members (ltb-true m x e) p q)
-          go false true e f = absurd (two-members (ltb-true x m f) q p)
-          go false false e f = omega (arith, ltb-false m x e, ltb-false x m f)
+      member-only {m} {x} p q =
+          one-only (isNamed s t g w) n (two-named s t n apart g w) m x (p .low) (p .high) (is-named p) (q .low) (q .high) (is-named q)
 
       member-is : {m : ℕ} → IsMember s t n g w m → member s t n g w ≡ m
       member-is {m} p = member-only (member-found (p .group) (member s t n g w) refl (λ z. member-none z m p)) p

@@ -42,7 +42,7 @@ module _ (s : List ℕ) (t : List ℤ) (g : ℕ) (w : List ℕ) (m : ℕ) where
 -- ---- names apart
 
 module _ (s : List ℕ) (t : List ℤ) (n : ℕ) (apart : NamesApart s t n) (g : ℕ) (w : List ℕ) where
-  two-named : (m x : ℕ) → 1 ≤ m → m < x → x ≤ n → isNamed s t g w m ≡ true → isNamed s t g w x ≡ true → ⊥
+  pub two-named : (m x : ℕ) → 1 ≤ m → m < x → x ≤ n → isNamed s t g w m ≡ true → isNamed s t g w x ≡ true → ⊥
   two-named m x low less high e f =
       let p : Named s t g w m = named-parts s t g w m e in
       let q : Named s t g w x = named-parts s t g w x f in

@@ -62,16 +62,18 @@ startOf starts g = getD starts g 0
 pub record Stretch (starts : List ℕ) (g : ℕ) : Type 0 where
   pub long : g + 1 < length starts
   pub order : startOf starts g ≤ startOf starts (g + 1)
-  pub few : startOf starts (g + 1) ≤ 2048
+  pub few : startOf starts (g + 1) ≤ 4096
 
--- the Groups 0 to n have buckets of their own, 2 * n in all at most; a Group that has a member has some
+-- the Groups 0 to n have buckets of their own, numbered from n + 1 on, 2 * n in all at most; a Group that has a member has some
 pub record Allotted (t : List ℤ) (n : ℕ) (starts : List ℕ) : Type 0 where
   pub long : n + 1 < length starts
+  pub base : startOf starts 0 ≡ n + 1
   pub rising : (g h : ℕ) → g ≤ h → h ≤ n + 1 → startOf starts g ≤ startOf starts h
-  pub few : startOf starts (n + 1) ≤ 2 * n
+  pub few : startOf starts (n + 1) ≤ n + 1 + 2 * n
   pub some : (l : ℕ) → 1 ≤ l → l ≤ n → isDefinition t l ≡ true → startOf starts (owner t l) < startOf starts (owner t l + 1)
 
--- how they are allotted: each definition counts for two, at the place behind that of its Group; then counts are added up
+-- how they are allotted: the first place has n + 1, and each definition counts for two at the place behind that of its Group; then these
+-- are added up
 abbrev pub countedAt : List ℤ → ℕ → List ℕ → List ℕ
 countedAt t l c = cond (isDefinition t l) (set c (owner t l + 1) (getD c (owner t l + 1) 0 + 2)) c
 
@@ -82,7 +84,8 @@ sumTo c (suc g) = sumTo c g + getD c (suc g) 0
 -- the definitions below label k are counted
 pub record Counted (t : List ℤ) (n k : ℕ) (c : List ℕ) : Type 0 where
   pub long : n + 1 < length c
-  pub total : sumTo c (n + 1) + 2 ≤ 2 * k
+  pub base : getD c 0 0 ≡ n + 1
+  pub total : sumTo c (n + 1) + 2 ≤ n + 1 + 2 * k
   pub some : (l : ℕ) → 1 ≤ l → l < k → isDefinition t l ≡ true → 1 ≤ getD c (owner t l + 1) 0
 
 -- ---- the bucket of a name
@@ -104,46 +107,45 @@ abbrev pub lastBelow : (ℕ → Bool) → ℕ → ℕ
 lastBelow test zero = 0
 lastBelow test (suc k) = cond (test k) k (lastBelow test k)
 
--- the definitions below label k are linked: `first` has the last of each bucket, `next` behind each definition the last before it
-pub record LinkedBelow (s : List ℕ) (t : List ℤ) (n k : ℕ) (starts first next : List ℕ) : Type 0 where
+-- the definitions below label k are linked: behind each bucket stands the last one of it, behind each definition the last one before it
+pub record LinkedBelow (s : List ℕ) (t : List ℤ) (n k : ℕ) (starts links : List ℕ) : Type 0 where
   pub allotted : Allotted t n starts
-  pub buckets : 2 * n ≤ length first
-  pub room : n < length next
+  pub room : n + 2 * n < length links
   pub most : k ≤ n + 1
-  pub heads : (b : ℕ) → getD first b 0 ≡ lastBelow (inBucket s t starts b) k
-  pub nexts : (l : ℕ) → 1 ≤ l → l < k → isDefinition t l ≡ true → getD next l 0 ≡ lastBelow (inBucket s t starts (bucketAt s t starts l)) l
-  pub falls : (l : ℕ) → 1 ≤ l → getD next l 0 < l
+  pub heads : (b : ℕ) → n < b → getD links b 0 ≡ lastBelow (inBucket s t starts b) k
+  pub nexts : (l : ℕ) → 1 ≤ l → l < k → isDefinition t l ≡ true → getD links l 0 ≡ lastBelow (inBucket s t starts (bucketAt s t starts l)) l
+  pub falls : (l : ℕ) → 1 ≤ l → l ≤ n → getD links l 0 < l
 
 -- all definitions are linked, and row 12 finds nothing
-pub record Linked (s : List ℕ) (t : List ℤ) (n : ℕ) (starts first next : List ℕ) : Type 0 where
-  pub all : LinkedBelow s t n (n + 1) starts first next
+pub record Linked (s : List ℕ) (t : List ℤ) (n : ℕ) (starts links : List ℕ) : Type 0 where
+  pub all : LinkedBelow s t n (n + 1) starts links
   pub apart : NamesApart s t n
 
 -- scratch before any of it: zeros, long enough for n labels
-pub record Fresh (n : ℕ) (starts first next : List ℕ) : Type 0 where
+pub record Fresh (n : ℕ) (starts links : List ℕ) : Type 0 where
   pub long : n + 1 < length starts
-  pub buckets : 2 * n ≤ length first
-  pub room : n < length next
-  pub clear : (i : ℕ) → (getD starts i 0 ≡ 0) × (getD first i 0 ≡ 0) × (getD next i 0 ≡ 0)
+  pub room : n + 2 * n < length links
+  pub clear : (i : ℕ) → (getD starts i 0 ≡ 0) × (getD links i 0 ≡ 0)
 
 -- ---- a lookup in a Group: along the chain of the name's bucket there
 
 -- where the chain begins; 0 where the Group has no bucket
 abbrev pub firstIn : List ℕ → List ℕ → ℕ → ℕ → ℕ
-firstIn starts first g hash = cond (eqb (startOf starts g) (startOf starts (g + 1))) 0 (getD first (bucketOf starts g hash) 0)
+firstIn starts links g hash = cond (eqb (startOf starts g) (startOf starts (g + 1))) 0 (getD links (bucketOf starts g hash) 0)
 
--- the chains of Group g lie in the arrays, and fall
-pub record Walkable (starts first next : List ℕ) (g : ℕ) : Type 0 where
+-- the chains of Group g lie in the links; they go from a bucket to a label, then to smaller labels
+pub record Walkable (starts links : List ℕ) (g : ℕ) : Type 0 where
   pub stretch : Stretch starts g
-  pub buckets : startOf starts (g + 1) ≤ length first
-  pub heads : (b : ℕ) → getD first b 0 < length next
-  pub falls : (l : ℕ) → 1 ≤ l → getD next l 0 < l
+  pub base : startOf starts 0 ≤ startOf starts g
+  pub room : startOf starts (g + 1) ≤ length links
+  pub heads : (b : ℕ) → startOf starts 0 ≤ b → getD links b 0 < startOf starts 0
+  pub falls : (l : ℕ) → 1 ≤ l → l < startOf starts 0 → getD links l 0 < l
 
 -- the first of a chain, from x on, with the name w; 0 where none has it. At most f labels are looked at: x are enough, as chains fall
 abbrev pub walkBy : List ℕ → List ℤ → List ℕ → List ℕ → ℕ → ℕ → ℕ
-walkBy s t next w zero x = 0
-walkBy s t next w (suc f) zero = 0
-walkBy s t next w (suc f) (suc x) = cond (sameName (nameOf s t (suc x)) w) (suc x) (walkBy s t next w f (getD next (suc x) 0))
+walkBy s t links w zero x = 0
+walkBy s t links w (suc f) zero = 0
+walkBy s t links w (suc f) (suc x) = cond (sameName (nameOf s t (suc x)) w) (suc x) (walkBy s t links w f (getD links (suc x) 0))
 
 abbrev pub walk : List ℕ → List ℤ → List ℕ → List ℕ → ℕ → ℕ
-walk s t next w x = walkBy s t next w x x
+walk s t links w x = walkBy s t links w x x

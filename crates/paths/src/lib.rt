@@ -1,5 +1,5 @@
 // Names and paths: rows 12 to 15 of document 01's table of refusals, and the target of each R and C.
-// Each Group has buckets of its own: a lookup in a Group walks those of its members whose name has the bucket of the name looked for.
+// Each Group has buckets of its own: a lookup in a Group walks those of its members that stand in the bucket of the name looked for.
 
 ghost use mathlib.Core.Path.{_≡_};
 ghost use mathlib.Core.Bool.{true, _&&_};
@@ -102,9 +102,10 @@ fn is_definition(table: &[i64], label: usize) -> bool
     kinds::is_definition(cells::cell_at(table, label, cells::KIND))
 }
 
-// ---- buckets
+// ---- buckets: starts[g] is the first bucket of Group g; links[x] is what follows x in its chain, and x is a label or, behind the labels, a
+// bucket
 
-// The bucket of a name's hash in a Group: the Group's buckets are those from starts[group] up to starts[group + 1].
+// The bucket of a name's hash in a Group, of those from starts[group] up to starts[group + 1].
 fn bucket(starts: &[u16], group: usize, hash: usize) -> usize
     requires { ⌜ Stretch (now starts) group × (hash < hashes) ⌝ }
     ensures { λ r. ⌜ r ≡ bucketOf (now (starts .entry)) group hash ⌝ }
@@ -115,19 +116,19 @@ fn bucket(starts: &[u16], group: usize, hash: usize) -> usize
 }
 
 // The first member in the bucket of a name's hash in a Group; 0 where there is none.
-fn first_in(starts: &[u16], first: &[u16], group: usize, hash: usize) -> usize
-    requires { ⌜ Stretch (now starts) group × (hash < hashes) × (startOf (now starts) (group + 1) ≤ length (now first)) ⌝ }
-    ensures { λ r. ⌜ r ≡ firstIn (now (starts .entry)) (now (first .entry)) group hash ⌝ }
+fn first_in(starts: &[u16], links: &[u16], group: usize, hash: usize) -> usize
+    requires { ⌜ Stretch (now starts) group × (hash < hashes) × (startOf (now starts) (group + 1) ≤ length (now links)) ⌝ }
+    ensures { λ r. ⌜ r ≡ firstIn (now (starts .entry)) (now (links .entry)) group hash ⌝ }
 {
     if starts[group] == starts[group + 1] {
         return 0;
     }
-    first[bucket(starts, group, hash)] as usize
+    links[bucket(starts, group, hash)] as usize
 }
 
 // A definition counts for two buckets of its Group.
 fn count_label(table: &[i64], label: usize, starts: &mut [u16])
-    requires { ⌜ (owner (now table) label + 1 < length (now starts)) × (getD (now starts) (owner (now table) label + 1) 0 ≤ 2048) ⌝ }
+    requires { ⌜ (owner (now table) label + 1 < length (now starts)) × (getD (now starts) (owner (now table) label + 1) 0 ≤ 4096) ⌝ }
     ensures { λ _. ⌜ now (starts .exit) ≡ countedAt (now (table .entry)) label (now (starts .entry)) ⌝ }
 {
     if is_definition(table, label) {
@@ -150,7 +151,7 @@ fn count_buckets(table: &[i64], n: usize, starts: &mut [u16])
 
 // Counts become starts: each is the sum of those up to it.
 fn add_up(n: usize, starts: &mut [u16])
-    requires { ⌜ (n + 1 < length (now starts)) × (sumTo (now starts) (n + 1) ≤ 2048) ⌝ }
+    requires { ⌜ (n + 1 < length (now starts)) × (sumTo (now starts) (n + 1) ≤ 4096) ⌝ }
     ensures { λ _. ⌜ ((g : ℕ) → g ≤ n + 1 → getD (now (starts .exit)) g 0 ≡ sumTo (now (starts .entry)) g) ⌝ }
 {
     let mut group: usize = 0;
@@ -160,11 +161,13 @@ fn add_up(n: usize, starts: &mut [u16])
     }
 }
 
-// Each Group gets two buckets for each of its members.
+// Each Group gets two buckets for each of its members, numbered from n + 1 on.
 fn allot(table: &[i64], n: usize, starts: &mut [u16])
-    requires { ⌜ (n ≤ 1024) × ((l : ℕ) → 1 ≤ l → l ≤ n → owner (now table) l < l) × Counted (now table) n 1 (now starts) ⌝ }
+    requires { ⌜ (n ≤ 1024) × ((l : ℕ) → 1 ≤ l → l ≤ n → owner (now table) l < l) ⌝ }
+    requires { ⌜ (n + 1 < length (now starts)) × ((i : ℕ) → getD (now starts) i 0 ≡ 0) ⌝ }
     ensures { λ _. ⌜ Allotted (now (table .entry)) n (now (starts .exit)) ⌝ }
 {
+    starts[0] = (n + 1) as u16;
     count_buckets(table, n, starts);
     add_up(n, starts);
 }
@@ -176,35 +179,33 @@ fn member_in(
     text: &[u8],
     table: &[i64],
     starts: &[u16],
-    first: &[u16],
-    next: &[u16],
+    links: &[u16],
     group: usize,
     hash: usize,
     from: usize,
     to: usize,
 ) -> usize
-    requires { ⌜ Walkable (now starts) (now first) (now next) group × (hash < hashes) ⌝ }
+    requires { ⌜ Walkable (now starts) (now links) group × (hash < hashes) ⌝ }
     requires { ⌜ (from ≤ to) × (to ≤ length (now text)) × ((l : ℕ) → Placed (now text) (now table) l) ⌝ }
-    ensures { λ r. ⌜ r ≡ walk (now (text .entry)) (now (table .entry)) (now (next .entry)) (slice from to (now (text .entry))) (firstIn (now (starts .entry)) (now (first .entry)) group hash) ⌝ }
+    ensures { λ r. ⌜ r ≡ walk (now (text .entry)) (now (table .entry)) (now (links .entry)) (slice from to (now (text .entry))) (firstIn (now (starts .entry)) (now (links .entry)) group hash) ⌝ }
 {
-    let mut m = first_in(starts, first, group, hash);
+    let mut m = first_in(starts, links, group, hash);
     while m != 0 {
         if has_name(text, table, m, from, to) {
             return m;
         }
-        m = next[m] as usize;
+        m = links[m] as usize;
     }
     0
 }
 
 // A label goes to the front of the bucket's chain.
-fn push(first: &mut [u16], next: &mut [u16], b: usize, label: usize)
-    requires { ⌜ (b < length (now first)) × (label < length (now next)) × (label ≤ 1024) ⌝ }
-    ensures { λ _. ⌜ now (first .exit) ≡ set (now (first .entry)) b label ⌝ }
-    ensures { λ _. ⌜ now (next .exit) ≡ set (now (next .entry)) label (getD (now (first .entry)) b 0) ⌝ }
+fn push(links: &mut [u16], b: usize, label: usize)
+    requires { ⌜ (b < length (now links)) × (label < b) × (label ≤ 1024) ⌝ }
+    ensures { λ _. ⌜ now (links .exit) ≡ set (set (now (links .entry)) label (getD (now (links .entry)) b 0)) b label ⌝ }
 {
-    next[label] = first[b];
-    first[b] = label as u16;
+    links[label] = links[b];
+    links[b] = label as u16;
 }
 
 // Links a definition. Answers the last one before it with its name in its Group; 0 where there is none.
@@ -213,21 +214,20 @@ fn link_definition(
     table: &[i64],
     n: usize,
     starts: &[u16],
-    first: &mut [u16],
-    next: &mut [u16],
+    links: &mut [u16],
     label: usize,
 ) -> usize
-    requires { ⌜ Rows (now text) (now table) n × LinkedBelow (now text) (now table) n label (now starts) (now first) (now next) ⌝ }
+    requires { ⌜ Rows (now text) (now table) n × LinkedBelow (now text) (now table) n label (now starts) (now links) ⌝ }
     requires { ⌜ (1 ≤ label) × (label ≤ n) × (isDefinition (now table) label ≡ true) ⌝ }
     ensures { λ r. ⌜ r ≡ lastBelow (isNamed (now (text .entry)) (now (table .entry)) (owner (now (table .entry)) label) (nameOf (now (text .entry)) (now (table .entry)) label)) label ⌝ }
-    ensures { λ _. ⌜ LinkedBelow (now (text .entry)) (now (table .entry)) n (label + 1) (now (starts .entry)) (now (first .exit)) (now (next .exit)) ⌝ }
+    ensures { λ _. ⌜ LinkedBelow (now (text .entry)) (now (table .entry)) n (label + 1) (now (starts .entry)) (now (links .exit)) ⌝ }
 {
     let from = cells::cell_at(table, label, cells::NAME_START);
     let to = from + cells::cell_at(table, label, cells::NAME_LENGTH);
     let hash = hash_name(text, from, to);
     let group = cells::cell_at(table, label, cells::OWNER);
-    let found = member_in(text, table, starts, first, next, group, hash, from, to);
-    push(first, next, bucket(starts, group, hash), label);
+    let found = member_in(text, table, starts, links, group, hash, from, to);
+    push(links, bucket(starts, group, hash), label);
     found
 }
 
@@ -237,17 +237,16 @@ fn link_label(
     table: &[i64],
     n: usize,
     starts: &[u16],
-    first: &mut [u16],
-    next: &mut [u16],
+    links: &mut [u16],
     label: usize,
 ) -> u64
-    requires { ⌜ Rows (now text) (now table) n × LinkedBelow (now text) (now table) n label (now starts) (now first) (now next) ⌝ }
+    requires { ⌜ Rows (now text) (now table) n × LinkedBelow (now text) (now table) n label (now starts) (now links) ⌝ }
     requires { ⌜ (1 ≤ label) × (label ≤ n) ⌝ }
     ensures { λ r. ⌜ r ≡ duplicateBad (now (text .entry)) (now (table .entry)) label ⌝ }
-    ensures { λ _. ⌜ LinkedBelow (now (text .entry)) (now (table .entry)) n (label + 1) (now (starts .entry)) (now (first .exit)) (now (next .exit)) ⌝ }
+    ensures { λ _. ⌜ LinkedBelow (now (text .entry)) (now (table .entry)) n (label + 1) (now (starts .entry)) (now (links .exit)) ⌝ }
 {
     if is_definition(table, label) {
-        let found = link_definition(text, table, n, starts, first, next, label);
+        let found = link_definition(text, table, n, starts, links, label);
         if found != 0 {
             return refusals::DUPLICATE;
         }
@@ -255,22 +254,15 @@ fn link_label(
     0
 }
 
-// Row 12. Every definition is linked where it finds nothing.
-fn link(
-    text: &[u8],
-    table: &[i64],
-    n: usize,
-    starts: &[u16],
-    first: &mut [u16],
-    next: &mut [u16],
-) -> Verdict
-    requires { ⌜ Rows (now text) (now table) n × LinkedBelow (now text) (now table) n 1 (now starts) (now first) (now next) ⌝ }
+// Row 12. Where it finds nothing, every definition is linked.
+fn link(text: &[u8], table: &[i64], n: usize, starts: &[u16], links: &mut [u16]) -> Verdict
+    requires { ⌜ Rows (now text) (now table) n × LinkedBelow (now text) (now table) n 1 (now starts) (now links) ⌝ }
     ensures { λ r. ⌜ r ≡ firstBad (duplicateBad (now (text .entry)) (now (table .entry))) 1 n ⌝ }
-    ensures { λ r. ⌜ (r ≡ Verdict.Fine → Linked (now (text .entry)) (now (table .entry)) n (now (starts .entry)) (now (first .exit)) (now (next .exit))) ⌝ }
+    ensures { λ r. ⌜ (r ≡ Verdict.Fine → Linked (now (text .entry)) (now (table .entry)) n (now (starts .entry)) (now (links .exit))) ⌝ }
 {
     let mut label: usize = 1;
     while label <= n {
-        let row = link_label(text, table, n, starts, first, next, label);
+        let row = link_label(text, table, n, starts, links, label);
         if row != 0 {
             return Verdict::Refused(row, label as u64);
         }
@@ -285,13 +277,12 @@ fn search(
     table: &[i64],
     n: usize,
     starts: &[u16],
-    first: &[u16],
-    next: &[u16],
+    links: &[u16],
     group: usize,
     from: usize,
     to: usize,
 ) -> usize
-    requires { ⌜ Rows (now text) (now table) n × Linked (now text) (now table) n (now starts) (now first) (now next) ⌝ }
+    requires { ⌜ Rows (now text) (now table) n × Linked (now text) (now table) n (now starts) (now links) ⌝ }
     requires { ⌜ (group ≤ n) × (from ≤ to) × (to ≤ length (now text)) ⌝ }
     ensures { λ r. ⌜ r ≡ headFrom (now (text .entry)) (now (table .entry)) n (slice from to (now (text .entry))) group ⌝ }
 {
@@ -299,13 +290,13 @@ fn search(
     let mut g = group;
     let mut found: usize = 0;
     'groups: while 0 < g {
-        let mut m = first_in(starts, first, g, hash);
+        let mut m = first_in(starts, links, g, hash);
         while m != 0 {
             if has_name(text, table, m, from, to) {
                 found = m;
                 break 'groups;
             }
-            m = next[m] as usize;
+            m = links[m] as usize;
         }
         g = cells::natural_cell(table, g, cells::OWNER);
     }
@@ -320,13 +311,12 @@ fn descend(
     table: &[i64],
     n: usize,
     starts: &[u16],
-    first: &[u16],
-    next: &[u16],
+    links: &[u16],
     head: usize,
     from: usize,
     to: usize,
 ) -> usize
-    requires { ⌜ Rows (now text) (now table) n × Linked (now text) (now table) n (now starts) (now first) (now next) ⌝ }
+    requires { ⌜ Rows (now text) (now table) n × Linked (now text) (now table) n (now starts) (now links) ⌝ }
     requires { ⌜ (head ≤ n) × (from ≤ to) × (to ≤ length (now text)) ⌝ }
     ensures { λ r. ⌜ (r ≡ descended (now (text .entry)) (now (table .entry)) n head (drop 1 (cut 46 (slice from to (now (text .entry)))))) × (r ≤ n) ⌝ }
 {
@@ -339,7 +329,7 @@ fn descend(
         let start = at + 1;
         at = name_stop(text, start, to);
         let hash = hash_name(text, start, at);
-        m = member_in(text, table, starts, first, next, m, hash, start, at);
+        m = member_in(text, table, starts, links, m, hash, start, at);
     }
     m
 }
@@ -357,11 +347,10 @@ fn head_at(
     table: &[i64],
     n: usize,
     starts: &[u16],
-    first: &[u16],
-    next: &[u16],
+    links: &[u16],
     label: usize,
 ) -> usize
-    requires { ⌜ Rows (now text) (now table) n × Linked (now text) (now table) n (now starts) (now first) (now next) ⌝ }
+    requires { ⌜ Rows (now text) (now table) n × Linked (now text) (now table) n (now starts) (now links) ⌝ }
     requires { ⌜ (1 ≤ label) × (label ≤ n) ⌝ }
     ensures { λ r. ⌜ (r ≡ headCell (now (text .entry)) (now (table .entry)) n label) × (r ≤ n) ⌝ }
 {
@@ -377,7 +366,7 @@ fn head_at(
             cells::cell_at(table, label, cells::OWNER),
             cells::OWNER,
         );
-        return search(text, table, n, starts, first, next, group, from, to);
+        return search(text, table, n, starts, links, group, from, to);
     }
     0
 }
@@ -388,12 +377,11 @@ fn target_at(
     table: &[i64],
     n: usize,
     starts: &[u16],
-    first: &[u16],
-    next: &[u16],
+    links: &[u16],
     label: usize,
     head: usize,
 ) -> usize
-    requires { ⌜ Rows (now text) (now table) n × Linked (now text) (now table) n (now starts) (now first) (now next) ⌝ }
+    requires { ⌜ Rows (now text) (now table) n × Linked (now text) (now table) n (now starts) (now links) ⌝ }
     requires { ⌜ (head ≤ n) ⌝ }
     ensures { λ r. ⌜ (r ≡ targetBy (now (text .entry)) (now (table .entry)) n label head) × (r ≤ n) ⌝ }
 {
@@ -404,8 +392,7 @@ fn target_at(
             table,
             n,
             starts,
-            first,
-            next,
+            links,
             head,
             from,
             from + cells::cell_at(table, label, cells::NAME_LENGTH),
@@ -436,16 +423,15 @@ fn settle_head(
     table: &mut [i64],
     n: usize,
     starts: &[u16],
-    first: &[u16],
-    next: &[u16],
+    links: &[u16],
     label: usize,
 ) -> usize
-    requires { ⌜ Rows (now text) (now table) n × Linked (now text) (now table) n (now starts) (now first) (now next) ⌝ }
+    requires { ⌜ Rows (now text) (now table) n × Linked (now text) (now table) n (now starts) (now links) ⌝ }
     requires { ⌜ (1 ≤ label) × (label ≤ n) ⌝ }
     ensures { λ r. ⌜ r ≡ headCell (now (text .entry)) (now (table .entry)) n label ⌝ }
     ensures { λ _. ⌜ now (table .exit) ≡ set (now (table .entry)) (8 * (label - 1) + 7) (pos (headCell (now (text .entry)) (now (table .entry)) n label)) ⌝ }
 {
-    let head = head_at(text, table, n, starts, first, next, label);
+    let head = head_at(text, table, n, starts, links, label);
     cells::put_cell(table, label, cells::TARGET, head);
     head
 }
@@ -456,17 +442,16 @@ fn settle_target(
     table: &mut [i64],
     n: usize,
     starts: &[u16],
-    first: &[u16],
-    next: &[u16],
+    links: &[u16],
     label: usize,
 ) -> usize
-    requires { ⌜ Rows (now text) (now table) n × Linked (now text) (now table) n (now starts) (now first) (now next) ⌝ }
+    requires { ⌜ Rows (now text) (now table) n × Linked (now text) (now table) n (now starts) (now links) ⌝ }
     requires { ⌜ (1 ≤ label) × (label ≤ n) × (target (now table) label ≤ n) ⌝ }
     ensures { λ r. ⌜ r ≡ targetBy (now (text .entry)) (now (table .entry)) n label (target (now (table .entry)) label) ⌝ }
     ensures { λ _. ⌜ now (table .exit) ≡ set (now (table .entry)) (8 * (label - 1) + 7) (pos (targetBy (now (text .entry)) (now (table .entry)) n label (target (now (table .entry)) label))) ⌝ }
 {
     let head = cells::cell_at(table, label, cells::TARGET);
-    let end = target_at(text, table, n, starts, first, next, label, head);
+    let end = target_at(text, table, n, starts, links, label, head);
     cells::put_cell(table, label, cells::TARGET, end);
     end
 }
@@ -482,21 +467,14 @@ fn is_unresolved(table: &[i64], label: usize, found: usize) -> bool
 }
 
 // Row 13. The heads stand in the target cells.
-fn settle_heads(
-    text: &[u8],
-    table: &mut [i64],
-    n: usize,
-    starts: &[u16],
-    first: &[u16],
-    next: &[u16],
-) -> Verdict
-    requires { ⌜ Rows (now text) (now table) n × Linked (now text) (now table) n (now starts) (now first) (now next) ⌝ }
+fn settle_heads(text: &[u8], table: &mut [i64], n: usize, starts: &[u16], links: &[u16]) -> Verdict
+    requires { ⌜ Rows (now text) (now table) n × Linked (now text) (now table) n (now starts) (now links) ⌝ }
     ensures { λ r. ⌜ r ≡ firstBad (pathHeadBad (now (text .entry)) (now (table .entry)) n) 1 n ⌝ }
     ensures { λ r. ⌜ (r ≡ Verdict.Fine → now (table .exit) ≡ withColumn 7 (headCell (now (text .entry)) (now (table .entry)) n) n (now (table .entry))) ⌝ }
 {
     let mut label: usize = 1;
     while label <= n {
-        let head = settle_head(text, table, n, starts, first, next, label);
+        let head = settle_head(text, table, n, starts, links, label);
         if is_unresolved(table, label, head) {
             return Verdict::Refused(refusals::HEAD, label as u64);
         }
@@ -511,17 +489,16 @@ fn settle_targets(
     table: &mut [i64],
     n: usize,
     starts: &[u16],
-    first: &[u16],
-    next: &[u16],
+    links: &[u16],
 ) -> Verdict
-    requires { ⌜ Rows (now text) (now table) n × Linked (now text) (now table) n (now starts) (now first) (now next) ⌝ }
+    requires { ⌜ Rows (now text) (now table) n × Linked (now text) (now table) n (now starts) (now links) ⌝ }
     requires { ⌜ ((l : ℕ) → 1 ≤ l → l ≤ n → target (now table) l ≡ headCell (now text) (now table) n l) ⌝ }
     ensures { λ r. ⌜ r ≡ firstBad (laterBad (now (text .entry)) (now (table .entry)) n) 1 n ⌝ }
     ensures { λ r. ⌜ (r ≡ Verdict.Fine → now (table .exit) ≡ withColumn 7 (targetCell (now (text .entry)) (now (table .entry)) n) n (now (table .entry))) ⌝ }
 {
     let mut label: usize = 1;
     while label <= n {
-        let end = settle_target(text, table, n, starts, first, next, label);
+        let end = settle_target(text, table, n, starts, links, label);
         if is_unresolved(table, label, end) {
             return Verdict::Refused(refusals::LATER, label as u64);
         }
@@ -547,59 +524,38 @@ fn check_targets(table: &[i64], n: usize) -> Verdict
 }
 
 // Rows 14 and 15, with the heads in the target cells.
-fn resolve_later(
-    text: &[u8],
-    table: &mut [i64],
-    n: usize,
-    starts: &[u16],
-    first: &[u16],
-    next: &[u16],
-) -> Verdict
-    requires { ⌜ Rows (now text) (now table) n × Linked (now text) (now table) n (now starts) (now first) (now next) ⌝ }
+fn resolve_later(text: &[u8], table: &mut [i64], n: usize, starts: &[u16], links: &[u16]) -> Verdict
+    requires { ⌜ Rows (now text) (now table) n × Linked (now text) (now table) n (now starts) (now links) ⌝ }
     requires { ⌜ ((l : ℕ) → 1 ≤ l → l ≤ n → target (now table) l ≡ headCell (now text) (now table) n l) ⌝ }
     ensures { λ r. ⌜ r ≡ laterRows (now (text .entry)) (now (table .entry)) n ⌝ }
     ensures { λ r. ⌜ (r ≡ Verdict.Fine → now (table .exit) ≡ withColumn 7 (targetCell (now (text .entry)) (now (table .entry)) n) n (now (table .entry))) ⌝ }
 {
-    match settle_targets(text, table, n, starts, first, next) {
+    match settle_targets(text, table, n, starts, links) {
         Verdict::Fine => check_targets(table, n),
         Verdict::Refused(row, label) => Verdict::Refused(row, label),
     }
 }
 
 // Rows 13 to 15.
-fn resolve_heads(
-    text: &[u8],
-    table: &mut [i64],
-    n: usize,
-    starts: &[u16],
-    first: &[u16],
-    next: &[u16],
-) -> Verdict
-    requires { ⌜ Rows (now text) (now table) n × Linked (now text) (now table) n (now starts) (now first) (now next) ⌝ }
+fn resolve_heads(text: &[u8], table: &mut [i64], n: usize, starts: &[u16], links: &[u16]) -> Verdict
+    requires { ⌜ Rows (now text) (now table) n × Linked (now text) (now table) n (now starts) (now links) ⌝ }
     ensures { λ r. ⌜ r ≡ headRows (now (text .entry)) (now (table .entry)) n ⌝ }
     ensures { λ r. ⌜ (r ≡ Verdict.Fine → now (table .exit) ≡ withColumn 7 (targetCell (now (text .entry)) (now (table .entry)) n) n (now (table .entry))) ⌝ }
 {
-    match settle_heads(text, table, n, starts, first, next) {
-        Verdict::Fine => resolve_later(text, table, n, starts, first, next),
+    match settle_heads(text, table, n, starts, links) {
+        Verdict::Fine => resolve_later(text, table, n, starts, links),
         Verdict::Refused(row, label) => Verdict::Refused(row, label),
     }
 }
 
 // Rows 12 to 15, once each Group has its buckets.
-fn resolve(
-    text: &[u8],
-    table: &mut [i64],
-    n: usize,
-    starts: &[u16],
-    first: &mut [u16],
-    next: &mut [u16],
-) -> Verdict
-    requires { ⌜ Rows (now text) (now table) n × LinkedBelow (now text) (now table) n 1 (now starts) (now first) (now next) ⌝ }
+fn resolve(text: &[u8], table: &mut [i64], n: usize, starts: &[u16], links: &mut [u16]) -> Verdict
+    requires { ⌜ Rows (now text) (now table) n × LinkedBelow (now text) (now table) n 1 (now starts) (now links) ⌝ }
     ensures { λ r. ⌜ r ≡ pathsBad (now (text .entry)) (now (table .entry)) n ⌝ }
     ensures { λ r. ⌜ (r ≡ Verdict.Fine → now (table .exit) ≡ withColumn 7 (targetCell (now (text .entry)) (now (table .entry)) n) n (now (table .entry))) ⌝ }
 {
-    match link(text, table, n, starts, first, next) {
-        Verdict::Fine => resolve_heads(text, table, n, starts, first, next),
+    match link(text, table, n, starts, links) {
+        Verdict::Fine => resolve_heads(text, table, n, starts, links),
         Verdict::Refused(row, label) => Verdict::Refused(row, label),
     }
 }
@@ -610,15 +566,14 @@ fn read_with(
     table: &mut [i64],
     n: usize,
     starts: &mut [u16],
-    first: &mut [u16],
-    next: &mut [u16],
+    links: &mut [u16],
 ) -> Verdict
-    requires { ⌜ Rows (now text) (now table) n × Fresh n (now starts) (now first) (now next) ⌝ }
+    requires { ⌜ Rows (now text) (now table) n × Fresh n (now starts) (now links) ⌝ }
     ensures { λ r. ⌜ r ≡ pathsBad (now (text .entry)) (now (table .entry)) n ⌝ }
     ensures { λ r. ⌜ (r ≡ Verdict.Fine → now (table .exit) ≡ withColumn 7 (targetCell (now (text .entry)) (now (table .entry)) n) n (now (table .entry))) ⌝ }
 {
     allot(table, n, starts);
-    resolve(text, table, n, starts, first, next)
+    resolve(text, table, n, starts, links)
 }
 
 // The same with scratch for up to 127 labels: most sheets are small, and scratch is zeroed at each call.
@@ -628,9 +583,8 @@ fn read_small(text: &[u8], table: &mut [i64], n: usize) -> Verdict
     ensures { λ r. ⌜ (r ≡ Verdict.Fine → now (table .exit) ≡ withColumn 7 (targetCell (now (text .entry)) (now (table .entry)) n) n (now (table .entry))) ⌝ }
 {
     let mut starts = [0u16; 129];
-    let mut first = [0u16; 256];
-    let mut next = [0u16; 128];
-    read_with(text, table, n, &mut starts, &mut first, &mut next)
+    let mut links = [0u16; 384];
+    read_with(text, table, n, &mut starts, &mut links)
 }
 
 // The same with scratch for up to 1,024 labels.
@@ -640,9 +594,8 @@ fn read_large(text: &[u8], table: &mut [i64], n: usize) -> Verdict
     ensures { λ r. ⌜ (r ≡ Verdict.Fine → now (table .exit) ≡ withColumn 7 (targetCell (now (text .entry)) (now (table .entry)) n) n (now (table .entry))) ⌝ }
 {
     let mut starts = [0u16; 1026];
-    let mut first = [0u16; 2050];
-    let mut next = [0u16; 1025];
-    read_with(text, table, n, &mut starts, &mut first, &mut next)
+    let mut links = [0u16; 3075];
+    read_with(text, table, n, &mut starts, &mut links)
 }
 
 // Rows 12 to 15. Where they find nothing, the target of each R and C stands in its cell; where they refuse, the table is for the

@@ -31,7 +31,7 @@ add-starts-2 : tie.Need-add-starts-2
 add-starts-2 c =
     let a = c .before .before .before .before .before .args in
     let p = c .before .before .before .before .before .pre in
-    let small : getD (a .starts .now) (c .before .cell-at .result + 1) 0 ≤ 2048 = rw (c .before .cell-at .ensures) (p .1) in
+    let small : getD (a .starts .now) (c .before .cell-at .result + 1) 0 ≤ 4096 = rw (c .before .cell-at .ensures) (p .1) in
     omega arith
 
 slice-write-starts : tie.Need-slice-write-starts

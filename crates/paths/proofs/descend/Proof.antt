@@ -14,18 +14,18 @@ use Rattle.paths.proofs.descend.Statement.{statement}
 use Rattle.paths.proofs.descend.Tie as tie
 
 abbrev Inv-loop : tie.InvT-loop
-Inv-loop text table n starts first next head from to m₀ at₀ m at =
+Inv-loop text table n starts links head from to m₀ at₀ m at =
     (m ≤ n) × (at ≤ to) × (descended text table n m (later text at to) ≡ descended text table n head (drop 1 (cut 46 (slice from to text))))
 
 abbrev μ-loop : tie.MeasureT-loop
-μ-loop text table n starts first next head from to m₀ at₀ m at = to - at
+μ-loop text table n starts links head from to m₀ at₀ m at = to - at
 
 name-stop-requires : tie.Need-name-stop-requires Inv-loop μ-loop
 name-stop-requires c κs = omega arith
 
 loop-holds : tie.Need-loop-holds Inv-loop μ-loop
 loop-holds c =
-    let a = c .before .before .before .before .before .args in
+    let a = c .before .before .before .before .args in
     let e = c .name-stop .ensures in
     let high = stop-high (a .text .now) (a .from) (a .to) (omega arith) (omega arith) in
     (omega arith, omega (arith, e), rw (e, names-cut (a .text .now) (a .from) (a .to) (omega arith) (omega arith)))
@@ -35,7 +35,7 @@ cell-at-requires c κs = search needs
 
 returns : tie.Need-returns Inv-loop μ-loop
 returns c =
-    let a = c .before .before .before .before .before .before .before .before .before .args in
+    let a = c .before .before .before .before .before .before .before .before .args in
     let l = c .before .before .before .loop in
     let stop = later-stop (a .text .now) (a .table .now) (a .n) (l .m) (l .at) (a .to) (omega arith) (omega arith) (λ e. c .if1 .taken (c .before .cell-at .ensures ∙ e)) in
     (sym stop ∙ l .inv .2, omega arith)
@@ -49,14 +49,14 @@ name-stop-requires-2 c κs = omega arith
 hash-name-requires : tie.Need-hash-name-requires Inv-loop μ-loop
 hash-name-requires c κs =
     let l = c .before .before .before .before .loop in
-    let a = c .before .before .before .before .before .before .before .before .before .before .args in
+    let a = c .before .before .before .before .before .before .before .before .before .args in
     let low = stop-low (a .text .now) (l .at + 1) (a .to) (omega arith) (omega arith) in
     let high = stop-high (a .text .now) (l .at + 1) (a .to) (omega arith) (omega arith) in
     (omega (arith, c .name-stop2 .ensures), omega (arith, c .name-stop2 .ensures))
 
 member-in-requires : tie.Need-member-in-requires Inv-loop μ-loop
 member-in-requires c κs =
-    let e = c .before .before .before .before .before .before .before .before .before .before .before in
+    let e = c .before .before .before .before .before .before .before .before .before .before in
     let a = e .args in
     let p = e .pre .0 in
     let l = c .before .before .before .before .before .loop in
@@ -68,7 +68,7 @@ member-in-requires c κs =
 loop-less : tie.Need-loop-less Inv-loop μ-loop
 loop-less c =
     let l = c .before .before .before .before .before .before .loop in
-    let a = c .before .before .before .before .before .before .before .before .before .before .before .before .args in
+    let a = c .before .before .before .before .before .before .before .before .before .before .before .args in
     let low = stop-low (a .text .now) (l .at + 1) (a .to) (omega arith) (omega arith) in
     omega (arith, c .before .before .name-stop2 .ensures)
 
@@ -76,7 +76,7 @@ loop-again : tie.Need-loop-again Inv-loop μ-loop
 loop-again c =
     let cell-at = c .before .before .before .before .cell-at in
     let if1 = c .before .before .before .if1 in
-    let e = c .before .before .before .before .before .before .before .before .before .before .before .before in
+    let e = c .before .before .before .before .before .before .before .before .before .before .before in
     let a = e .args in
     let p = e .pre .0 in
     let l = c .before .before .before .before .before .before .loop in
@@ -90,7 +90,7 @@ loop-again c =
 
 returns-2 : tie.Need-returns-2 Inv-loop μ-loop
 returns-2 c =
-    let a = c .before .before .before .before .before .before .before .args in
+    let a = c .before .before .before .before .before .before .args in
     let l = c .before .loop in
     (sym (later-end (a .text .now) (a .table .now) (a .n) (l .m) (l .at) (a .to) (omega arith)) ∙ l .inv .2, l .inv .0)
 

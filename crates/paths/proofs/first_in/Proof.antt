@@ -8,8 +8,8 @@ use native.Mathlib.Omega.{arith}
 use Rattle.paths.proofs.first_in.Statement.{statement}
 use Rattle.paths.proofs.first_in.Tie as tie
 
--- the bucket lies in `first`
-inside : (c : tie.After-bucket) → let a = c .before .before .before .before .before .before .args in c .bucket .result < length (a .first .now)
+-- the bucket lies in the links
+inside : (c : tie.After-bucket) → let a = c .before .before .before .before .before .before .args in c .bucket .result < length (a .links .now)
 inside c =
     let e = c .before .before .before .before .before .before in
     let a = e .args in
@@ -60,7 +60,7 @@ cast-result c = omega (arith, c .shared-slice-known5 .given (c .before .bucket .
 returns-2 : tie.Need-returns-2
 returns-2 c =
     let a = c .before .before .before .before .before .before .before .args in
-    rw (ne-eqb _ _ (c .before .before .if1 .left)) (ap (λ b. getD (a .first .now) b 0) (c .before .bucket .ensures))
+    rw (ne-eqb _ _ (c .before .before .if1 .left)) (ap (λ b. getD (a .links .now) b 0) (c .before .bucket .ensures))
 
 pub first-in-spec : {M : Type 1} → statement M
 first-in-spec =

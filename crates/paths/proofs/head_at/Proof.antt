@@ -10,15 +10,15 @@ use Rattle.paths.proofs.head_at.Statement.{statement}
 use Rattle.paths.proofs.head_at.Tie as tie
 
 -- the name field lies in the text
-inside : (c : tie.After-cell-at2) → let a = c .before .before .before .before .before .before .before .before .args in c .before .cell-at .result + c .cell-at2 .result ≤ length (a .text .now)
+inside : (c : tie.After-cell-at2) → let a = c .before .before .before .before .before .before .before .args in c .before .cell-at .result + c .cell-at2 .result ≤ length (a .text .now)
 inside c =
-    let e = c .before .before .before .before .before .before .before .before in
+    let e = c .before .before .before .before .before .before .before in
     omega (arith, c .before .cell-at .ensures, c .cell-at2 .ensures, e .pre .0 .0 .names (e .args .label))
 
 -- the Group around the owner is a label
-grouped : (c : tie.After-cell-at4) → let a = c .before .before .before .before .before .before .before .before .before .before .before .args in c .cell-at4 .result ≤ a .n
+grouped : (c : tie.After-cell-at4) → let a = c .before .before .before .before .before .before .before .before .before .before .args in c .cell-at4 .result ≤ a .n
 grouped c =
-    let e = c .before .before .before .before .before .before .before .before .before .before .before in
+    let e = c .before .before .before .before .before .before .before .before .before .before in
     let r = e .pre .0 .0 in
     let o = c .before .cell-at3 in
     let f = r .falls (e .args .label) (omega arith) (omega arith) in
@@ -50,7 +50,7 @@ search-requires : tie.Need-search-requires
 search-requires c κs =
     let cell-at = c .before .before .before .before .cell-at in
     let cell-at2 = c .before .before .before .cell-at2 in
-    let e = c .before .before .before .before .before .before .before .before .before .before .before in
+    let e = c .before .before .before .before .before .before .before .before .before .before in
     let s = e .args .text .now in
     let from = cell-at .result in
     let to = from + cell-at2 .result in
@@ -66,7 +66,7 @@ returns c =
     let cell-at = c .before .before .before .before .before .cell-at in
     let cell-at2 = c .before .before .before .before .cell-at2 in
     let name-stop = c .before .before .before .name-stop in
-    let e = c .before .before .before .before .before .before .before .before .before .before .before .before in
+    let e = c .before .before .before .before .before .before .before .before .before .before .before in
     let a = e .args in
     let s = a .text .now in
     let t = a .table .now in

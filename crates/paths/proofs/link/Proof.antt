@@ -7,44 +7,37 @@ use Rattle.paths.proofs.link.Statement.{statement}
 use Rattle.paths.proofs.link.Tie as tie
 
 abbrev Inv-loop : tie.InvT-loop
-Inv-loop text table n starts first₀ next₀ label₀ first next label = Linking text table n starts first₀ next₀ first next label
+Inv-loop text table n starts links₀ label₀ links label = Linking text table n starts links₀ links label
 
 abbrev μ-loop : tie.MeasureT-loop
-μ-loop text table n starts first₀ next₀ label₀ first next label = n + 1 - label
+μ-loop text table n starts links₀ label₀ links label = n + 1 - label
 
 loop-holds : tie.Need-loop-holds Inv-loop μ-loop
 loop-holds c =
-    let p = c .before .before .before .before .pre in
+    let p = c .before .before .before .pre in
     linking-start (p .1)
 
 link-label-requires : tie.Need-link-label-requires Inv-loop μ-loop
 link-label-requires c κs =
-    let p = c .before .before .before .before .before .before .before .before .pre in
-    let l = c .before .before .before .loop in
-    let g = l .inv in
+    let p = c .before .before .before .before .before .before .pre in
+    let g = c .before .before .loop .inv in
     ((p .0, g .linked), (g .pass .low, omega arith))
 
 same-length : tie.Need-same-length Inv-loop μ-loop
 same-length c =
-    let l = c .before .before .before .before .before .before .before .before .before .loop in
-    let link-label = c .before .before .before .before .before .link-label in
-    link-label .kept .1 .1 .1 .1 .0 ∙ l .inv .buckets
-
-same-length-2 : tie.Need-same-length-2 Inv-loop μ-loop
-same-length-2 c =
-    let l = c .before .before .before .before .before .before .before .before .before .loop in
-    let link-label = c .before .before .before .before .before .link-label in
-    link-label .kept .1 .1 .1 .1 .1 .0 ∙ l .inv .room
+    let l = c .before .before .before .before .before .before .loop in
+    let link-label = c .before .before .before .link-label in
+    link-label .kept .1 .1 .1 .1 .0 ∙ l .inv .size
 
 returns : tie.Need-returns Inv-loop μ-loop
 returns c =
-    let l = c .before .before .before .before .before .before .before .before .before .loop in
-    let link-label = c .before .before .before .before .before .link-label in
+    let l = c .before .before .before .before .before .before .loop in
+    let link-label = c .before .before .before .link-label in
     (pass-stop (l .inv .pass) (omega arith) (link-label .ensures .0) (c .if1 .taken), λ z. not-fine z)
 
 add-label : tie.Need-add-label Inv-loop μ-loop
 add-label c =
-    let p = c .before .before .before .before .before .before .before .before .before .before .before .before .before .before .pre in
+    let p = c .before .before .before .before .before .before .before .before .before .before .pre in
     omega (arith, p .0 .few)
 
 loop-less : tie.Need-loop-less Inv-loop μ-loop
@@ -52,15 +45,12 @@ loop-less c = omega arith
 
 loop-again : tie.Need-loop-again Inv-loop μ-loop
 loop-again c =
-    let l = c .before .before .before .before .before .before .before .before .before .loop in
-    let k = c .before .before .before .before .before .link-label in
-    linking-turn (l .inv) (omega arith) (sym (k .ensures .0) ∙ c .if1 .left) (k .ensures .1) (k .kept .1 .1 .1 .1 .0) (k .kept .1 .1 .1 .1 .1 .0)
+    let l = c .before .before .before .before .before .before .loop in
+    let k = c .before .before .before .link-label in
+    linking-turn (l .inv) (omega arith) (sym (k .ensures .0) ∙ c .if1 .left) (k .ensures .1) (k .kept .1 .1 .1 .1 .0)
 
-same-length-3 : tie.Need-same-length-3 Inv-loop μ-loop
-same-length-3 c = c .before .loop .inv .buckets
-
-same-length-4 : tie.Need-same-length-4 Inv-loop μ-loop
-same-length-4 c = c .before .loop .inv .room
+same-length-2 : tie.Need-same-length-2 Inv-loop μ-loop
+same-length-2 c = c .before .loop .inv .size
 
 returns-2 : tie.Need-returns-2 Inv-loop μ-loop
 returns-2 c =
@@ -76,11 +66,9 @@ link-spec =
     loop-holds
     link-label-requires
     same-length
-    same-length-2
     returns
     add-label
     loop-less
     loop-again
-    same-length-3
-    same-length-4
+    same-length-2
     returns-2)

@@ -1,33 +1,33 @@
 use mathlib.Core.Path.{_∙_, sym}
 use lib.Seq.{slice}
-use Rattle.paths.specs.Buckets.{firstIn, walk}
+use Rattle.paths.specs.Buckets.{startOf, firstIn, walk}
 use Rattle.paths.proofs.Chains.{Walking, walking-start, walking-less, walking-hit, walking-turn, walking-end}
 use native.Mathlib.Omega.{arith}
 use Rattle.paths.proofs.member_in.Statement.{statement}
 use Rattle.paths.proofs.member_in.Tie as tie
 
 abbrev Inv-loop : tie.InvT-loop
-Inv-loop text table starts first next group hash from to m₀ m =
-    Walking text table next (slice from to text) (walk text table next (slice from to text) (firstIn starts first group hash)) m
+Inv-loop text table starts links group hash from to m₀ m =
+    Walking text table links (slice from to text) (startOf starts 0) (walk text table links (slice from to text) (firstIn starts links group hash)) m
 
 abbrev μ-loop : tie.MeasureT-loop
-μ-loop text table starts first next group hash from to m₀ m = m
+μ-loop text table starts links group hash from to m₀ m = m
 
 first-in-requires : tie.Need-first-in-requires Inv-loop μ-loop
 first-in-requires c κs =
-    let p = c .before .before .before .before .pre in
+    let p = c .before .before .before .pre in
     let h = p .0 .0 in
-    (h .stretch, p .0 .1, h .buckets)
+    (h .stretch, p .0 .1, h .room)
 
 loop-holds : tie.Need-loop-holds Inv-loop μ-loop
 loop-holds c =
-    let p = c .before .before .before .before .before .pre in
-    let a = c .before .before .before .before .before .args in
+    let p = c .before .before .before .before .pre in
+    let a = c .before .before .before .before .args in
     walking-start (a .text .now) (a .table .now) (slice (a .from) (a .to) (a .text .now)) (a .hash) (p .0 .0) (c .first-in .ensures)
 
 has-name-requires : tie.Need-has-name-requires Inv-loop μ-loop
 has-name-requires c κs =
-    let p = c .before .before .before .before .before .before .before .pre in
+    let p = c .before .before .before .before .before .before .pre in
     let p = p .1 in
     (p .0, p .1, p .2 (c .before .loop .m))
 
@@ -39,17 +39,17 @@ returns c =
 mul-m : tie.Need-mul-m Inv-loop μ-loop
 mul-m c =
     let l = c .before .before .before .loop in
-    omega (arith, l .inv .inside)
+    omega (arith, l .inv .inside, l .inv .room)
 
 shared-slice-read-m : tie.Need-shared-slice-read-m Inv-loop μ-loop
 shared-slice-read-m c =
     let l = c .before .before .before .before .loop in
-    omega (arith, l .inv .inside)
+    omega (arith, l .inv .inside, l .inv .room)
 
 cast-m : tie.Need-cast-m Inv-loop μ-loop
 cast-m c =
     let l = c .before .before .before .before .loop in
-    omega (arith, c .shared-slice-known5 .given (l .m))
+    omega (arith, c .shared-slice-known4 .given (l .m))
 
 loop-less : tie.Need-loop-less Inv-loop μ-loop
 loop-less c =

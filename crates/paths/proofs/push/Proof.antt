@@ -2,32 +2,29 @@ use borrow.Author.Needs.{needs}
 use Rattle.paths.proofs.push.Statement.{statement}
 use Rattle.paths.proofs.push.Tie as tie
 
-mul-next : tie.Need-mul-next
-mul-next c = search needs
+mul-links : tie.Need-mul-links
+mul-links c = search needs
 
-slice-read-next : tie.Need-slice-read-next
-slice-read-next c = search needs
+slice-read-links : tie.Need-slice-read-links
+slice-read-links c = search needs
 
-mul-next-2 : tie.Need-mul-next-2
-mul-next-2 c = search needs
+mul-links-2 : tie.Need-mul-links-2
+mul-links-2 c = search needs
 
-slice-write-next : tie.Need-slice-write-next
-slice-write-next c = search needs
+slice-write-links : tie.Need-slice-write-links
+slice-write-links c = search needs
 
-cast-first : tie.Need-cast-first
-cast-first c = search needs
+cast-links : tie.Need-cast-links
+cast-links c = search needs
 
-mul-first : tie.Need-mul-first
-mul-first c = search needs
+mul-links-3 : tie.Need-mul-links-3
+mul-links-3 c = search needs
 
-slice-write-first : tie.Need-slice-write-first
-slice-write-first c = search needs
+slice-write-links-2 : tie.Need-slice-write-links-2
+slice-write-links-2 c = search needs
 
 same-length : tie.Need-same-length
 same-length c = search needs
-
-same-length-2 : tie.Need-same-length-2
-same-length-2 c = search needs
 
 returns : tie.Need-returns
 returns c = search needs
@@ -36,13 +33,12 @@ pub push-spec : {M : Type 1} → statement M
 push-spec =
     tie.close
     (tie.spec
-    mul-next
-    slice-read-next
-    mul-next-2
-    slice-write-next
-    cast-first
-    mul-first
-    slice-write-first
+    mul-links
+    slice-read-links
+    mul-links-2
+    slice-write-links
+    cast-links
+    mul-links-3
+    slice-write-links-2
     same-length
-    same-length-2
     returns)

@@ -10,13 +10,10 @@ slice-aggregate-read-with c = search needs
 slice-aggregate-read-with-2 : tie.Need-slice-aggregate-read-with-2
 slice-aggregate-read-with-2 c = search needs
 
-slice-aggregate-read-with-3 : tie.Need-slice-aggregate-read-with-3
-slice-aggregate-read-with-3 c = search needs
-
 read-with-requires : tie.Need-read-with-requires
 read-with-requires c κs =
-    let a = c .before .before .before .before .before .args in
-    let r = c .before .before .before .before .before .pre in
+    let a = c .before .before .before .before .args in
+    let r = c .before .before .before .before .pre in
     (r, fresh-zeros (a .n) 1025 (omega (arith, r .few)))
 
 same-length : tie.Need-same-length
@@ -31,7 +28,6 @@ read-large-spec =
     (tie.spec
     slice-aggregate-read-with
     slice-aggregate-read-with-2
-    slice-aggregate-read-with-3
     read-with-requires
     same-length
     returns)

@@ -9,13 +9,10 @@ slice-aggregate-read-with c = search needs
 slice-aggregate-read-with-2 : tie.Need-slice-aggregate-read-with-2
 slice-aggregate-read-with-2 c = search needs
 
-slice-aggregate-read-with-3 : tie.Need-slice-aggregate-read-with-3
-slice-aggregate-read-with-3 c = search needs
-
 read-with-requires : tie.Need-read-with-requires
 read-with-requires c κs =
-    let p = c .before .before .before .before .before .pre in
-    let a = c .before .before .before .before .before .args in
+    let p = c .before .before .before .before .pre in
+    let a = c .before .before .before .before .args in
     (p .0, fresh-zeros (a .n) 128 (p .1))
 
 same-length : tie.Need-same-length
@@ -30,7 +27,6 @@ read-small-spec =
     (tie.spec
     slice-aggregate-read-with
     slice-aggregate-read-with-2
-    slice-aggregate-read-with-3
     read-with-requires
     same-length
     returns)

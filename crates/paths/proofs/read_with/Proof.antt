@@ -1,4 +1,3 @@
-use Rattle.paths.proofs.Allotting.{count-start}
 use Rattle.paths.proofs.Chains.{link-fresh}
 use borrow.Author.Needs.{needs}
 use Rattle.paths.proofs.read_with.Statement.{statement}
@@ -6,15 +5,13 @@ use Rattle.paths.proofs.read_with.Tie as tie
 
 allot-requires : tie.Need-allot-requires
 allot-requires c κs =
-    let e = c .before .before .before .before .before .before in
-    let a = e .args in
-    let p = e .pre in
-    (p .0 .few, p .0 .falls, count-start (a .table .now) (a .n) (a .starts .now) (p .1 .long) (λ i. p .1 .clear i .0))
+    let p = c .before .before .before .before .before .pre in
+    ((p .0 .few, p .0 .falls), (p .1 .long, λ i. p .1 .clear i .0))
 
 resolve-requires : tie.Need-resolve-requires
 resolve-requires c κs =
-    let allot = c .before .before .before .before .before .before .allot in
-    let e = c .before .before .before .before .before .before .before .before .before .before .before .before .before in
+    let allot = c .before .before .before .before .before .allot in
+    let e = c .before .before .before .before .before .before .before .before .before .before .before in
     let a = e .args in
     (e .pre .0, link-fresh (a .text .now) (a .table .now) (allot .ensures) (e .pre .1))
 
@@ -26,9 +23,6 @@ same-length-2 c = search needs
 
 same-length-3 : tie.Need-same-length-3
 same-length-3 c = search needs
-
-same-length-4 : tie.Need-same-length-4
-same-length-4 c = search needs
 
 returns : tie.Need-returns
 returns c = search needs
@@ -42,5 +36,4 @@ read-with-spec =
     same-length
     same-length-2
     same-length-3
-    same-length-4
     returns)

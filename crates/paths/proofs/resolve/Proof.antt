@@ -14,10 +14,9 @@ enum-told c = search needs
 
 resolve-heads-requires : tie.Need-resolve-heads-requires
 resolve-heads-requires c κs =
-    let p = c .before .before .before .before .before .before .before .before .before .before .before .before .before .before .before .before .before .pre in
-    let link = c .before .before .before .before .before .before .before .before .before .link in
-    let enum-told = c .before .before .before .enum-told in
-    (p .0, link .ensures .1 (enum-told .given .1))
+    let p = c .before .before .before .before .before .before .before .before .before .before .before .before .pre in
+    let link = c .before .before .before .before .before .before .link in
+    (p .0, link .ensures .1 (c .before .before .enum-told .given .1))
 
 enum-known-row : tie.Need-enum-known-row
 enum-known-row c = search needs
@@ -28,30 +27,24 @@ same-length c = search needs
 same-length-2 : tie.Need-same-length-2
 same-length-2 c = search needs
 
-same-length-3 : tie.Need-same-length-3
-same-length-3 c = search needs
-
 returns : tie.Need-returns
 unfolding pathsBad
 returns c =
-    let link = c .before .before .before .before .before .before .before .before .before .before .before .link in
-    let enum-told = c .before .before .before .before .before .enum-told in
+    let link = c .before .before .before .before .before .before .before .before .link in
+    let enum-told = c .before .before .before .before .enum-told in
     let r = c .before .resolve-heads .ensures in
     (or-next _ _ _ _ (link .ensures .0) (enum-told .given .1) (r .0), r .1)
+
+same-length-3 : tie.Need-same-length-3
+same-length-3 c = search needs
 
 same-length-4 : tie.Need-same-length-4
 same-length-4 c = search needs
 
-same-length-5 : tie.Need-same-length-5
-same-length-5 c = search needs
-
-same-length-6 : tie.Need-same-length-6
-same-length-6 c = search needs
-
 returns-2 : tie.Need-returns-2
 unfolding pathsBad
 returns-2 c =
-    let link = c .before .before .before .before .before .before .before .link in
+    let link = c .before .before .before .before .before .link in
     let r = c .before .row .given in
     (refused-first _ _ (r .0 .0) (r .0 .1 .0) (sym (link .ensures .0) ∙ r .1), λ z. not-fine z)
 
@@ -65,9 +58,7 @@ resolve-spec =
     enum-known-row
     same-length
     same-length-2
-    same-length-3
     returns
+    same-length-3
     same-length-4
-    same-length-5
-    same-length-6
     returns-2)

@@ -16,7 +16,7 @@ enum-told c = search needs
 resolve-later-requires : tie.Need-resolve-later-requires
 resolve-later-requires c κs =
     let settle-heads = c .before .before .before .before .settle-heads in
-    let e = c .before .before .before .before .before .before .before .before .before .before in
+    let e = c .before .before .before .before .before .before .before .before .before in
     let a = e .args in
     let s = a .text .now in
     let t = a .table .now in
@@ -36,7 +36,7 @@ same-length c = search needs
 returns : tie.Need-returns
 returns c =
     let enum-told = c .before .before .before .enum-told in
-    let e = c .before .before .before .before .before .before .before .before .before .before .before .before in
+    let e = c .before .before .before .before .before .before .before .before .before .before .before in
     let a = e .args in
     let s = a .text .now in
     let t = a .table .now in

@@ -3,6 +3,7 @@ use mathlib.Core.Path.{_≡_, refl, _∙_, sym}
 use Prim.Native.Nat.{_≤_}
 use lib.Seq.{slice}
 use Rattle.paths.specs.Names.{member}
+use Rattle.paths.specs.Buckets.{startOf}
 use Rattle.paths.specs.Paths.{headFrom}
 use Rattle.paths.proofs.SameName.{hash-small}
 use Rattle.paths.proofs.Chains.{Walking, linked-walkable, member-walking, walking-less, walking-hit, walking-turn, walking-end}
@@ -12,18 +13,18 @@ use Rattle.paths.proofs.search.Statement.{statement}
 use Rattle.paths.proofs.search.Tie as tie
 
 abbrev Inv-loop : tie.InvT-loop
-Inv-loop text table n starts first next group from to hash g found₀ m₀ found m =
-    (found ≡ 0) × Walking text table next (slice from to text) (member text table n g (slice from to text)) m
+Inv-loop text table n starts links group from to hash g found₀ m₀ found m =
+    (found ≡ 0) × Walking text table links (slice from to text) (startOf starts 0) (member text table n g (slice from to text)) m
 
 abbrev μ-loop : tie.MeasureT-loop
-μ-loop text table n starts first next group from to hash g found₀ m₀ found m = m
+μ-loop text table n starts links group from to hash g found₀ m₀ found m = m
 
 abbrev Inv-groups : tie.InvT-groups
-Inv-groups text table n starts first next group from to hash g₀ found₀ g found =
+Inv-groups text table n starts links group from to hash g₀ found₀ g found =
     (g ≤ n) × (found ≡ 0) × (headFrom text table n (slice from to text) g ≡ headFrom text table n (slice from to text) group)
 
 abbrev μ-groups : tie.MeasureT-groups
-μ-groups text table n starts first next group from to hash g₀ found₀ g found = g
+μ-groups text table n starts links group from to hash g₀ found₀ g found = g
 
 hash-name-requires : tie.Need-hash-name-requires Inv-loop μ-loop Inv-groups μ-groups
 hash-name-requires c κs = omega arith
@@ -33,41 +34,41 @@ groups-holds c = (omega arith, refl, refl)
 
 first-in-requires : tie.Need-first-in-requires Inv-loop μ-loop Inv-groups μ-groups
 first-in-requires c κs =
-    let p = c .before .before .before .before .before .before .before .pre in
-    let a = c .before .before .before .before .before .before .before .args in
+    let p = c .before .before .before .before .before .before .pre in
+    let a = c .before .before .before .before .before .before .args in
     let p = p .0 in
     let h = linked-walkable (p .0) (p .1) (c .before .groups .g) (omega arith) in
     let small = hash-small (slice (a .from) (a .to) (a .text .now)) in
-    (h .stretch, omega (arith, c .before .before .hash-name .ensures), h .buckets)
+    (h .stretch, omega (arith, c .before .before .hash-name .ensures), h .room)
 
 loop-holds : tie.Need-loop-holds Inv-loop μ-loop Inv-groups μ-groups
 loop-holds c =
-    let p = c .before .before .before .before .before .before .before .before .pre in
+    let p = c .before .before .before .before .before .before .before .pre in
     let hash-name = c .before .before .before .hash-name in
-    let a = c .before .before .before .before .before .before .before .before .args in
+    let a = c .before .before .before .before .before .before .before .args in
     let p = p .0 in
     let w = slice (a .from) (a .to) (a .text .now) in
     (c .before .before .groups .inv .1, member-walking (p .0) (p .1) (c .before .before .groups .g) (omega arith) w (hash-name .ensures) (c .first-in .ensures))
 
 has-name-requires : tie.Need-has-name-requires Inv-loop μ-loop Inv-groups μ-groups
 has-name-requires c κs =
-    let p = c .before .before .before .before .before .before .before .before .before .before .pre in
+    let p = c .before .before .before .before .before .before .before .before .before .pre in
     (omega arith, omega arith, p .0 .0 .names (c .before .loop .m))
 
 mul-m : tie.Need-mul-m Inv-loop μ-loop Inv-groups μ-groups
 mul-m c =
     let l = c .before .before .before .loop in
-    omega (arith, l .inv .1 .inside)
+    omega (arith, l .inv .1 .inside, l .inv .1 .room)
 
 shared-slice-read-m : tie.Need-shared-slice-read-m Inv-loop μ-loop Inv-groups μ-groups
 shared-slice-read-m c =
     let l = c .before .before .before .before .loop in
-    omega (arith, l .inv .1 .inside)
+    omega (arith, l .inv .1 .inside, l .inv .1 .room)
 
 cast-m : tie.Need-cast-m Inv-loop μ-loop Inv-groups μ-groups
 cast-m c =
     let l = c .before .before .before .before .loop in
-    omega (arith, c .shared-slice-known5 .given (l .m))
+    omega (arith, c .shared-slice-known4 .given (l .m))
 
 loop-less : tie.Need-loop-less Inv-loop μ-loop Inv-groups μ-groups
 loop-less c =
@@ -83,21 +84,21 @@ loop-again c =
 
 natural-cell-requires : tie.Need-natural-cell-requires Inv-loop μ-loop Inv-groups μ-groups
 natural-cell-requires c κs =
-    let p = c .before .before .before .before .before .before .before .before .before .before .pre in
+    let p = c .before .before .before .before .before .before .before .before .before .pre in
     let g = c .before .before .before .before .groups in
     let r = p .0 .0 in
     (omega arith, omega (arith, r .room), omega arith, r .owners (g .g) (omega arith) (omega arith))
 
 groups-less : tie.Need-groups-less Inv-loop μ-loop Inv-groups μ-groups
 groups-less c =
-    let p = c .before .before .before .before .before .before .before .before .before .before .before .pre in
+    let p = c .before .before .before .before .before .before .before .before .before .before .pre in
     let g = c .before .before .before .before .before .groups in
     omega (arith, c .natural-cell .ensures, p .0 .0 .falls (g .g) (omega arith) (omega arith))
 
 groups-again : tie.Need-groups-again Inv-loop μ-loop Inv-groups μ-groups
 groups-again c =
-    let p = c .before .before .before .before .before .before .before .before .before .before .before .pre in
-    let a = c .before .before .before .before .before .before .before .before .before .before .before .args in
+    let p = c .before .before .before .before .before .before .before .before .before .before .pre in
+    let a = c .before .before .before .before .before .before .before .before .before .before .args in
     let r = p .0 .0 in
     let g = c .before .before .before .before .before .groups in
     let f = r .falls (g .g) (omega arith) (omega arith) in
@@ -108,17 +109,17 @@ groups-again c =
 
 returns : tie.Need-returns Inv-loop μ-loop Inv-groups μ-groups
 returns c =
-    let p = c .before .before .before .before .before .before .before .pre in
-    let a = c .before .before .before .before .before .before .before .args in
+    let p = c .before .before .before .before .before .before .pre in
+    let a = c .before .before .before .before .before .before .args in
     let g = c .before .groups in
     let w = slice (a .from) (a .to) (a .text .now) in
     g .inv .1 ∙ sym (head-end (a .text .now) (a .table .now) (a .n) w (p .0 .0 .falls) (g .g) (omega arith)) ∙ g .inv .2
 
 returns-2 : tie.Need-returns-2 Inv-loop μ-loop Inv-groups μ-groups
 returns-2 c =
-    let p = c .before .before .before .before .before .before .before .before .before .before .before .before .pre in
+    let p = c .before .before .before .before .before .before .before .before .before .before .before .pre in
     let l = c .before .before .before .loop in
-    let a = c .before .before .before .before .before .before .before .before .before .before .before .before .args in
+    let a = c .before .before .before .before .before .before .before .before .before .before .before .args in
     let g = c .before .before .before .before .before .before .groups in
     let w = slice (a .from) (a .to) (a .text .now) in
     let hit = walking-hit (l .inv .1) (c .before .before .loop-test .taken) (sym (c .before .has-name .ensures) ∙ c .if1 .taken) in

@@ -18,7 +18,7 @@ same-length c = search needs
 returns : tie.Need-returns
 returns c =
     let head-at = c .before .before .before .head-at in
-    let a = c .before .before .before .before .before .before .before .before .before .args in
+    let a = c .before .before .before .before .before .before .before .before .args in
     let e = head-at .ensures .0 in
     (e, c .before .put-cell .ensures ∙ ap (λ v. set (a .table .now) (8 * (a .label - 1) + 7) (pos v)) e)
 

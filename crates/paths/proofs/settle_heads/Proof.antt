@@ -11,28 +11,28 @@ use Rattle.paths.proofs.settle_heads.Statement.{statement}
 use Rattle.paths.proofs.settle_heads.Tie as tie
 
 abbrev Inv-loop : tie.InvT-loop
-Inv-loop text table₀ n starts first next label₀ table label =
+Inv-loop text table₀ n starts links label₀ table label =
     Settling (pathHeadBad text table₀ n) (headCell text table₀ n) n table₀ label table
 
 abbrev μ-loop : tie.MeasureT-loop
-μ-loop text table₀ n starts first next label₀ table label = n + 1 - label
+μ-loop text table₀ n starts links label₀ table label = n + 1 - label
 
 -- what is settled in the table so far is what is settled in the first
-same : (c : tie.At-loop Inv-loop μ-loop) → let a = c .before .before .before .before .before .args in let l = c .loop in
+same : (c : tie.At-loop Inv-loop μ-loop) → let a = c .before .before .before .before .args in let l = c .loop in
     headCell (a .text .now) (l .table) (a .n) (l .label) ≡ headCell (a .text .now) (a .table .now) (a .n) (l .label)
 same c =
-    let a = c .before .before .before .before .before .args in
+    let a = c .before .before .before .before .args in
     let l = c .loop in
     head-cell-alike (a .text .now) (a .table .now) (l .table) (settle-alike (l .inv)) (a .n) (l .label)
 
 loop-holds : tie.Need-loop-holds Inv-loop μ-loop
 loop-holds c =
-    let a = c .before .before .before .before .args in
+    let a = c .before .before .before .args in
     settle-start (pathHeadBad (a .text .now) (a .table .now) (a .n)) (headCell (a .text .now) (a .table .now) (a .n)) (a .n) (a .table .now)
 
 settle-head-requires : tie.Need-settle-head-requires Inv-loop μ-loop
 settle-head-requires c κs =
-    let e = c .before .before .before .before .before .before .before in
+    let e = c .before .before .before .before .before .before in
     let a = e .args in
     let l = c .before .before .loop in
     let g = l .inv in
@@ -54,7 +54,7 @@ returns : tie.Need-returns Inv-loop μ-loop
 returns c =
     let l = c .before .before .before .before .before .before .before .loop in
     let settle-head = c .before .before .before .before .settle-head in
-    let a = c .before .before .before .before .before .before .before .before .before .before .before .before .args in
+    let a = c .before .before .before .before .before .before .before .before .before .before .before .args in
     let at = c .before .before .before .before .before .before .before in
     let h = settle-head .ensures in
     let rule = head-rule (a .text .now) (a .table .now) (a .n) in
@@ -63,7 +63,7 @@ returns c =
 
 add-label : tie.Need-add-label Inv-loop μ-loop
 add-label c =
-    let p = c .before .before .before .before .before .before .before .before .before .before .before .before .pre in
+    let p = c .before .before .before .before .before .before .before .before .before .before .before .pre in
     omega (arith, p .0 .few)
 
 loop-less : tie.Need-loop-less Inv-loop μ-loop
@@ -73,7 +73,7 @@ loop-again : tie.Need-loop-again Inv-loop μ-loop
 loop-again c =
     let l = c .before .before .before .before .before .before .before .loop in
     let settle-head = c .before .before .before .before .settle-head in
-    let a = c .before .before .before .before .before .before .before .before .before .before .before .before .args in
+    let a = c .before .before .before .before .before .before .before .before .before .before .before .args in
     let at = c .before .before .before .before .before .before .before in
     let h = settle-head .ensures in
     let rule = head-rule (a .text .now) (a .table .now) (a .n) in

@@ -23,7 +23,7 @@ returns : tie.Need-returns
 returns c =
     let cell-at = c .before .before .before .before .before .cell-at in
     let target-at = c .before .before .before .target-at in
-    let a = c .before .before .before .before .before .before .before .before .before .before .before .args in
+    let a = c .before .before .before .before .before .before .before .before .before .before .args in
     let e = target-at .ensures .0 ∙ ap (targetBy (a .text .now) (a .table .now) (a .n) (a .label)) (cell-at .ensures) in
     (e, c .before .put-cell .ensures ∙ ap (λ v. set (a .table .now) (8 * (a .label - 1) + 7) (pos v)) e)
 

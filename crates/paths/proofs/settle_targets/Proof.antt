@@ -12,17 +12,17 @@ use Rattle.paths.proofs.settle_targets.Statement.{statement}
 use Rattle.paths.proofs.settle_targets.Tie as tie
 
 abbrev Inv-loop : tie.InvT-loop
-Inv-loop text table₀ n starts first next label₀ table label =
+Inv-loop text table₀ n starts links label₀ table label =
     Settling (laterBad text table₀ n) (targetCell text table₀ n) n table₀ label table
 
 abbrev μ-loop : tie.MeasureT-loop
-μ-loop text table₀ n starts first next label₀ table label = n + 1 - label
+μ-loop text table₀ n starts links label₀ table label = n + 1 - label
 
 -- what the head in the label's cell leads to is the target
-same : (c : tie.In-loop Inv-loop μ-loop) → let a = c .before .before .before .before .before .before .args in let l = c .before .loop in
+same : (c : tie.In-loop Inv-loop μ-loop) → let a = c .before .before .before .before .before .args in let l = c .before .loop in
     targetBy (a .text .now) (l .table) (a .n) (l .label) (target (l .table) (l .label)) ≡ targetCell (a .text .now) (a .table .now) (a .n) (l .label)
 same c =
-    let e = c .before .before .before .before .before .before in
+    let e = c .before .before .before .before .before in
     let a = e .args in
     let l = c .before .loop in
     let g = l .inv in
@@ -31,12 +31,12 @@ same c =
 
 loop-holds : tie.Need-loop-holds Inv-loop μ-loop
 loop-holds c =
-    let a = c .before .before .before .before .args in
+    let a = c .before .before .before .args in
     settle-start (laterBad (a .text .now) (a .table .now) (a .n)) (targetCell (a .text .now) (a .table .now) (a .n)) (a .n) (a .table .now)
 
 settle-target-requires : tie.Need-settle-target-requires Inv-loop μ-loop
 settle-target-requires c κs =
-    let e = c .before .before .before .before .before .before .before in
+    let e = c .before .before .before .before .before .before in
     let a = e .args in
     let l = c .before .before .loop in
     let g = l .inv in
@@ -60,7 +60,7 @@ returns : tie.Need-returns Inv-loop μ-loop
 returns c =
     let l = c .before .before .before .before .before .before .before .loop in
     let settle-target = c .before .before .before .before .settle-target in
-    let a = c .before .before .before .before .before .before .before .before .before .before .before .before .args in
+    let a = c .before .before .before .before .before .before .before .before .before .before .before .args in
     let at = c .before .before .before .before .before .before in
     let h = settle-target .ensures in
     let rule = later-rule (a .text .now) (a .table .now) (a .n) in
@@ -69,7 +69,7 @@ returns c =
 
 add-label : tie.Need-add-label Inv-loop μ-loop
 add-label c =
-    let p = c .before .before .before .before .before .before .before .before .before .before .before .before .pre in
+    let p = c .before .before .before .before .before .before .before .before .before .before .before .pre in
     omega (arith, p .0 .0 .few)
 
 loop-less : tie.Need-loop-less Inv-loop μ-loop
@@ -79,7 +79,7 @@ loop-again : tie.Need-loop-again Inv-loop μ-loop
 loop-again c =
     let l = c .before .before .before .before .before .before .before .loop in
     let settle-target = c .before .before .before .before .settle-target in
-    let a = c .before .before .before .before .before .before .before .before .before .before .before .before .args in
+    let a = c .before .before .before .before .before .before .before .before .before .before .before .args in
     let at = c .before .before .before .before .before .before in
     let h = settle-target .ensures in
     let rule = later-rule (a .text .now) (a .table .now) (a .n) in

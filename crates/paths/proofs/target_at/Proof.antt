@@ -9,9 +9,9 @@ use Rattle.paths.proofs.target_at.Statement.{statement}
 use Rattle.paths.proofs.target_at.Tie as tie
 
 -- the name field lies in the text
-inside : (c : tie.After-cell-at2) → let a = c .before .before .before .before .before .before .before .before .args in c .before .cell-at .result + c .cell-at2 .result ≤ length (a .text .now)
+inside : (c : tie.After-cell-at2) → let a = c .before .before .before .before .before .before .before .args in c .before .cell-at .result + c .cell-at2 .result ≤ length (a .text .now)
 inside c =
-    let e = c .before .before .before .before .before .before .before .before in
+    let e = c .before .before .before .before .before .before .before in
     omega (arith, c .before .cell-at .ensures, c .cell-at2 .ensures, e .pre .0 .0 .names (e .args .label))
 
 has-path-requires : tie.Need-has-path-requires
@@ -28,14 +28,14 @@ add-descend c = omega (arith, inside c)
 
 descend-requires : tie.Need-descend-requires
 descend-requires c κs =
-    let p = c .before .before .before .before .before .before .before .before .pre in
+    let p = c .before .before .before .before .before .before .before .pre in
     (p .0, (p .1, omega arith, inside c))
 
 returns : tie.Need-returns
 returns c =
     let has-path = c .before .before .before .before .has-path in
     let if1 = c .before .before .before .if1 in
-    let a = c .before .before .before .before .before .before .before .before .before .args in
+    let a = c .before .before .before .before .before .before .before .before .args in
     let t = a .table .now in
     let from = c .before .before .cell-at .result in
     let to = from + c .before .cell-at2 .result in

@@ -37,7 +37,7 @@ fn is_dash(text: &[u8], from: usize, to: usize) -> bool
     if to - from != 1 {
         return false;
     }
-    text[from] == 45
+    text[from] == b'-'
 }
 
 // A field whose cell is 0, if it is of the right form.
@@ -117,23 +117,23 @@ fn split_line(text: &[u8], from: usize) -> Split
     requires { ⌜ (from < length (now text)) × endsLines (now text) × (all isAllowed (now text) ≡ true) × (length (now text) ≤ 65536) ⌝ }
     ensures { λ r. ⌜ SplitOf (now (text .entry)) from r ⌝ }
 {
-    let kind = text::field_end(text, from, 32);
+    let kind = text::field_end(text, from, b' ');
     if kind == 0 {
         return Split::Other;
     }
-    let name = text::field_end(text, kind + 1, 32);
+    let name = text::field_end(text, kind + 1, b' ');
     if name == 0 {
         return Split::Other;
     }
-    let a = text::field_end(text, name + 1, 32);
+    let a = text::field_end(text, name + 1, b' ');
     if a == 0 {
         return Split::Other;
     }
-    let b = text::field_end(text, a + 1, 32);
+    let b = text::field_end(text, a + 1, b' ');
     if b == 0 {
         return Split::Other;
     }
-    let c = text::field_end(text, b + 1, 10);
+    let c = text::field_end(text, b + 1, b'\n');
     if c == 0 {
         return Split::Other;
     }
@@ -372,7 +372,7 @@ fn text_lines(text: &[u8]) -> usize
     if 65536 < size {
         return 0;
     }
-    if text[size - 1] != 10 {
+    if text[size - 1] != b'\n' {
         return 0;
     }
     let counts = text::survey(text);

@@ -34,7 +34,7 @@ fn name_stop(text: &[u8], from: usize, to: usize) -> usize
 {
     let mut i = from;
     while i < to {
-        if text[i] == 46 {
+        if text[i] == b'.' {
             return i;
         }
         i += 1;

@@ -16,13 +16,13 @@ use numbers::Decimal;
 fn bad_byte(b: u8) -> u32
     ensures { λ r. ⌜ r ≡ one (isBad b) ⌝ }
 {
-    if b == 10 {
+    if b == b'\n' {
         return 0;
     }
-    if b < 32 {
+    if b < b' ' {
         return 1;
     }
-    if 126 < b {
+    if b'~' < b {
         return 1;
     }
     0
@@ -32,7 +32,7 @@ fn bad_byte(b: u8) -> u32
 fn newline(b: u8) -> u32
     ensures { λ r. ⌜ r ≡ one (isNewline b) ⌝ }
 {
-    if b == 10 { 1 } else { 0 }
+    if b == b'\n' { 1 } else { 0 }
 }
 
 // How many bytes of a text row 1 does not allow, and how many lines it has.
@@ -85,7 +85,7 @@ fn graphic_end(text: &[u8], from: usize) -> usize
     ensures { λ r. ⌜ r ≡ runEnd isGraphic (now (text .entry)) from (length (now (text .entry))) ⌝ }
 {
     let mut i = from;
-    while 32 < text[i] {
+    while b' ' < text[i] {
         i += 1;
     }
     // narrowed, so that the loop counts in one register and not once for each later use of its end
@@ -113,16 +113,16 @@ pub fn field_end(text: &[u8], from: usize, stop: u8) -> usize
 fn is_letter(b: u8) -> bool
     ensures { λ r. ⌜ r ≡ isLetter b ⌝ }
 {
-    if b < 65 {
+    if b < b'A' {
         return false;
     }
-    if b <= 90 {
+    if b <= b'Z' {
         return true;
     }
-    if b < 97 {
+    if b < b'a' {
         return false;
     }
-    b <= 122
+    b <= b'z'
 }
 
 // An ASCII letter or digit.
@@ -132,10 +132,10 @@ fn is_alphanumeric(b: u8) -> bool
     if is_letter(b) {
         return true;
     }
-    if b < 48 {
+    if b < b'0' {
         return false;
     }
-    b <= 57
+    b <= b'9'
 }
 
 // Where the letters and digits end that begin at `from`.
@@ -191,7 +191,7 @@ pub fn is_path(text: &[u8], from: usize, to: usize) -> bool
         if end == 0 {
             return false;
         }
-        if text[end] != 46 {
+        if text[end] != b'.' {
             return false;
         }
         at = end + 1;

@@ -1,6 +1,6 @@
 use mathlib.Core.Path.{ap, _∙_}
 use borrow.Author.Needs.{needs}
-use Rattle.kinds.specs.Kinds as kinds
+use Rattle.kinds.specs.Plans.{givesValues}
 use Rattle.reach.proofs.gives_values.Statement.{statement}
 use Rattle.reach.proofs.gives_values.Tie as tie
 
@@ -11,7 +11,7 @@ gives-values-requires : tie.Need-gives-values-requires
 gives-values-requires c κs = search needs
 
 returns : tie.Need-returns
-returns c = c .gives-values .ensures ∙ ap kinds.givesValues (c .before .kind-of .ensures)
+returns c = c .gives-values .ensures ∙ ap givesValues (c .before .kind-of .ensures)
 
 pub gives-values-spec : {M : Type 1} → statement M
 gives-values-spec = tie.close (tie.spec kind-of-requires gives-values-requires returns)

@@ -21,6 +21,8 @@ fn link(archive: &Path) {
     for call in CALLS {
         command.arg(format!("--redefine-sym=lindypo_{call}=earlier_{call}"));
     }
+    // whatever else it exports would stand beside today's under one name
+    command.args(["--wildcard", "--keep-global-symbol=earlier_*"]);
     let copied = command
         .arg(archive)
         .arg(folder.join("libearlier.a"))

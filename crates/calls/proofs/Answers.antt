@@ -16,16 +16,16 @@ use Rattle.refusals.specs.Rows.{cycleRow}
 use Rattle.refusals.specs.declared.Verdict.{Verdict}
 use Rattle.refusals.specs.declared.Verdict.the-variants.{Fine, Refused}
 use Rattle.order.specs.Order.{firstCycle, someStuck, Answer, cycle, whole, mixed, plan}
-use Rattle.order.specs.Demand as demand
+use Rattle.order.specs.PlanMeans as demand
 use Rattle.order.specs.Following.{labelsOf}
-use Rattle.order.specs.Rows.{cycleBad}
+use Rattle.order.specs.Rows16to18.{cycleBad}
 use Rattle.order.proofs.Planned.{cycle-smallest, planned, order-short}
 use Rattle.planning.specs.Plans.{PlanIs}
 use Rattle.planning.specs.declared.Planned.{Planned}
 use Rattle.planning.specs.declared.Planned.the-variants as made
-use Rattle.calls.specs.Plan.{answerBy, listedBy, numberOf, lengthOf}
+use Rattle.calls.specs.Plan.{answerBy, listedBy, planRefusal, lengthOf}
 use Rattle.calls.specs.Demand.{PlanKept}
-use Rattle.calls.specs.Stages.{keptBy, rowsOf, TablePlans}
+use Rattle.calls.specs.CallStages.{keptBy, cellsTo, TablePlans}
 use Rattle.calls.specs.declared.PlanReply.{PlanReply}
 use Rattle.calls.specs.declared.PlanReply.the-variants as reply
 
@@ -62,7 +62,7 @@ answers (reply.Refused r l) = false
 answers (reply.Whole k) = true
 answers (reply.Mixed k) = true
 
-pub answers-number : (r : PlanReply) → answers r ≡ true → numberOf r ≡ 0
+pub answers-number : (r : PlanReply) → answers r ≡ true → planRefusal r ≡ 0
 answers-number (reply.Refused r l) e = let z : _≡_ {A = ℕ} 0 1 = cc in absurd (omega arith)
 answers-number (reply.Whole k) e = refl
 answers-number (reply.Mixed k) e = refl
@@ -72,7 +72,7 @@ answers-fine Fine a e = refl
 answers-fine (Refused r l) a e = let z : _≡_ {A = ℕ} 0 1 = cc in absurd (omega arith)
 
 -- what an answer means, in demand 3's words
-means : (t : List ℤ) (p : ℕ) (a : Answer) → demand.Planned t a → PlanKept t (answerBy (cycleOf a) a) (listedBy (cycleOf a) a p)
+means : (t : List ℤ) (p : ℕ) (a : Answer) → demand.PlanMeans t a → PlanKept t (answerBy (cycleOf a) a) (listedBy (cycleOf a) a p)
 means t p (cycle v) (_, h) = record {
   refuses = (λ _. h, λ _. refl);
   answers = λ o q. absurd (h o q);
@@ -145,15 +145,15 @@ module _ (t : List ℤ) (n : ℕ) (ok : Accepted t n) where
   pub length-few : lengthOf (answerBy (cycleBad t n) (plan t n)) ≤ n
   length-few = rw cycle-of (go (plan t n) (planned t n ok))
     where
-      go : (a : Answer) → demand.Planned t a → lengthOf (answerBy (cycleOf a) a) ≤ n
+      go : (a : Answer) → demand.PlanMeans t a → lengthOf (answerBy (cycleOf a) a) ≤ n
       go (cycle v) h = omega arith
       go (whole o) h = order-short t n ok o (h .0)
       go (mixed o) h = order-short t n ok o (h .0)
 
 -- where planning made x of a plan p and left p′, in a table w
-pub table-plans : (n : ℕ) (w p p′ : List ℤ) (r : Planned) → Accepted (rowsOf n w) n → PlanIs (plan (rowsOf n w) n) p p′ r
+pub table-plans : (n : ℕ) (w p p′ : List ℤ) (r : Planned) → Accepted (cellsTo n w) n → PlanIs (plan (cellsTo n w) n) p p′ r
     → (x : Planned) (u q : List ℤ) → r ≡ x → u ≡ tableMade x w → q ≡ cellsMade x p′ → TablePlans n w (length p) (replyMade x) u q
 table-plans n w p p′ r ok is x u q e f g =
-    let c = cycle-of (rowsOf n w) n ok in
-    let k = made-left w p p′ r (plan (rowsOf n w) n) is in
+    let c = cycle-of (cellsTo n w) n ok in
+    let k = made-left w p p′ r (plan (cellsTo n w) n) is in
     record { reply = rw (← e, c) (k .0); table = rw (f, ← e, c) (k .1 .0); plan = rw (g, ← e, c) (k .1 .1) }

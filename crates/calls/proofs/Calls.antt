@@ -16,9 +16,9 @@ use Rattle.refusals.specs.declared.Reply.the-variants as head
 use Rattle.refusals.proofs.OrElse.{both-fine}
 use Rattle.lines.specs.Lines.{labels}
 use Rattle.order.specs.Following.{ProperList}
-use Rattle.order.specs.Rows.{cycleBad}
+use Rattle.order.specs.Rows16to18.{cycleBad}
 use Rattle.reading.specs.Read.{tableShort, sheetBad, sheetTable, Reads}
-use Rattle.reading.specs.Stages.{Passed}
+use Rattle.reading.specs.ReadStages.{Passed}
 use Rattle.reading.proofs.Accepted.{reads, read-accepted}
 use Rattle.figures.specs.Figures.{resultCells}
 use Rattle.calls.specs.Buffers.{planShort, resultsShort, planBuffers, runBuffers}
@@ -26,7 +26,7 @@ use Rattle.calls.specs.Plan.{plannedBad, planOf, answerBy, listedBy, len
 use Rattle.calls.specs.Run.{resultsBy, runBad, runReply, runTable, runPlan, runResults}
 use Rattle.calls.specs.Demand.{PlanKept}
 use Rattle.calls.specs.Leaves.{PlanLeaves, RunLeaves}
-use Rattle.calls.specs.Stages.{headReply, sheetPlanned, rowsOf, PlanBy, RunBy, SheetPlans, SheetRuns}
+use Rattle.calls.specs.CallStages.{headReply, sheetPlanned, cellsTo, PlanBy, RunBy, SheetPlans, SheetRuns}
 use Rattle.calls.specs.declared.PlanReply.{PlanReply}
 use Rattle.calls.specs.declared.PlanReply.the-variants as reply
 use Rattle.calls.proofs.Rooms.{table-room, plan-room, results-room, opened, shut}
@@ -95,10 +95,10 @@ module _ (s : List ℕ) (m p n : ℕ) (r : PlanReply) (t o : List ℤ) (h : Pass
     by-cycle : (x ≡ answerBy (cycleBad (sheetTable s) (labels s)) (planOf s)) × (o ≡ listedBy (cycleBad (sheetTable s) (labels s)) (planOf s) p)
     by-cycle = rw (sheet-fine fine .1) (sym is ∙ (rw fine at (st .reply)), rw fine at (st .plan))
 
-    rows-sheets : rowsOf n t ≡ sheetTable s
+    rows-sheets : cellsTo n t ≡ sheetTable s
     rows-sheets = rows-taken s m n t (sheet-fine fine .0) (h .count) (rw fine at (st .table))
 
-    pub run-down-ready : n ≤ p → Accepted (rowsOf n t) n × (k ≤ p) × ProperList (rowsOf n t) (take k o)
+    pub run-down-ready : n ≤ p → Accepted (cellsTo n t) n × (k ≤ p) × ProperList (cellsTo n t) (take k o)
     unfolding planOf
     run-down-ready g =
         let ok = read-accepted s (sheet-fine fine .0) in
@@ -107,7 +107,7 @@ module _ (s : List ℕ) (m p n : ℕ) (r : PlanReply) (t o : List ℤ) (h : Pass
         let kept : PlanKept (sheetTable s) x o = rw (c .0, c .1) (plan-kept (sheetTable s) (labels s) ok p) in
         (rw (rows-sheets, h .count) ok, omega (arith, h .count), rw (rows-sheets, ← l) (kept .proper (answers-number x a)))
 
-    pub results-evaluated : (q : ℕ) (u : List ℤ) → u ≡ resultCells (rowsOf n t) n q → SheetRuns s m p q x t o u
+    pub results-evaluated : (q : ℕ) (u : List ℤ) → u ≡ resultCells (cellsTo n t) n q → SheetRuns s m p q x t o u
     results-evaluated q u e = record {
       planned = record { reply = sym is ∙ st .reply; table = st .table; plan = st .plan };
       results = rw fine (e ∙ rw (rows-sheets, h .count));

@@ -11,13 +11,13 @@ use Rattle.kinds.specs.Kinds.{valueCode}
 use Rattle.cells.specs.Cells.{zeros}
 use Rattle.cells.specs.Table.{kind}
 use Rattle.cells.specs.Accepted.{Accepted}
-use Rattle.refusals.specs.Refusal.{numberOf}
+use Rattle.refusals.specs.Refusal.{refusalOf}
 use Rattle.refusals.specs.declared.Verdict.the-variants.{Fine}
 use Rattle.refusals.proofs.OrElse.{both-fine}
 use Rattle.lines.specs.Lines.{labels}
 use Rattle.order.specs.Order.{NoCycle}
 use Rattle.order.specs.Following.{ProperList}
-use Rattle.order.specs.Evaluating.{row}
+use Rattle.order.specs.Evaluating.{labelCells}
 use Rattle.order.proofs.Mixed.{proper-no-cycle}
 use Rattle.reading.specs.Read.{tableShort, sheetTable, Reads}
 use Rattle.reading.specs.Keeps.{Keeps}
@@ -37,7 +37,7 @@ use Rattle.calls.proofs.Sheets.{reads-planned, kept}
 use Rattle.calls.proofs.Followed.{proper-rows, accepts-exactly}
 
 -- Follow's reply, of a sheet that reads with buffers long enough
-pub follow-accepts : (s : List ℕ) (o : List ℤ) (m q : ℕ) → Reads s → followBuffers s m q ≡ Fine → (numberOf (followReply s o m q) ≡ 0) ↔ ProperList (sheetTable s) o
+pub follow-accepts : (s : List ℕ) (o : List ℤ) (m q : ℕ) → Reads s → followBuffers s m q ≡ Fine → (refusalOf (followReply s o m q) ≡ 0) ↔ ProperList (sheetTable s) o
 unfolding followReply followBad
 follow-accepts s o m q e f =
     rw (reads-planned s (followBuffers s m q) e f) (accepts-exactly (sheetTable s) (labels s) (read-accepted s e) o (length o))
@@ -85,7 +85,7 @@ module _ (s : List ℕ) (m p q m′ q′ : ℕ) (e : Reads s) (f : runBuffers s 
         let r = proper-rows t n ok o l in
         rw (reads-planned s (followBuffers s m′ q′) e g, r .0, r .1)
 
-    same : (v : ℕ) → kind t v ≡ valueCode → row 3 (followResults s o m′ q′) v ≡ row 3 (runResults s m p q) v
+    same : (v : ℕ) → kind t v ≡ valueCode → labelCells 3 (followResults s o m′ q′) v ≡ labelCells 3 (runResults s m p q) v
     same v k =
         let b = value-label t n ok v k in
         rw (follow-results, run-results)
@@ -110,7 +110,7 @@ module _ (s : List ℕ) (m p q m′ q′ : ℕ) (e : Reads s) (f : runBuffers s 
   }
 
   -- so the plan of one day is followed on another, whatever the buffers' lengths
-  pub plan-followed : plan.numberOf (planReply s m p) ≡ 0 → numberOf (followReply s (take (lengthOf (planReply s m p)) (planCells s m p)) m′ q′) ≡ 0
+  pub plan-followed : plan.planRefusal (planReply s m p) ≡ 0 → refusalOf (followReply s (take (lengthOf (planReply s m p)) (planCells s m p)) m′ q′) ≡ 0
   plan-followed h = demand-3 .accepts (take (lengthOf (planReply s m p)) (planCells s m p)) .1 (demand-3 .plan .proper h)
 
 -- ---- of a sheet that keeps document 01's rules, said of its text alone
@@ -124,5 +124,6 @@ module _ (s : List ℕ) where
   unfolding tableShort resultsShort
   long-follow m q a b = rw (le-leb (8 * labels s) m a, le-leb (3 * labels s) q b)
 
-  pub keeps-demand : Keeps s → (m p q m′ q′ : ℕ) → 8 * labels s ≤ m → labels s ≤ p → 3 * labels s ≤ q → 8 * labels s ≤ m′ → 3 * labels s ≤ q′ → Demand3 s m p q m′ q′
+  pub keeps-demand : Keeps s → (m p q m′ q′ : ℕ) → 8 * labels s ≤ m → labels s ≤ p → 3 * labels s ≤ q → 8 * labels s ≤ m′ → 3 * labels s ≤ q′
+      → Demand3 s m p q m′ q′
   keeps-demand k m p q m′ q′ a b c a′ c′ = demand-3 s m p q m′ q′ (keeps-read s k) (long-run m p q a b c) (long-follow m′ q′ a′ c′)

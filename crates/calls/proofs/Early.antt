@@ -12,7 +12,7 @@ use Rattle.refusals.proofs.OrElse.{both-fine}
 use Rattle.lines.specs.Lines.{labels}
 use Rattle.order.specs.Order.{Proper, Answer, orderOf}
 use Rattle.order.specs.Following.{labelsOf}
-use Rattle.order.specs.Rows.{orderBad}
+use Rattle.order.specs.Rows16to18.{orderBad}
 use Rattle.order.proofs.Following.{proper-list}
 use Rattle.reading.specs.Read.{tableShort, sheetTable}
 use Rattle.reading.proofs.Accepted.{read-accepted}

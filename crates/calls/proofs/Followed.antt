@@ -6,12 +6,12 @@ use Prim.Native.Nat.{ℕ, zero, suc}
 use native.Mathlib.Omega.{arith}
 use lib.IntN.{ℤ}
 use Rattle.cells.specs.Accepted.{Accepted}
-use Rattle.refusals.specs.Refusal.{orElse, replyOf, foundAt, numberOf}
+use Rattle.refusals.specs.Refusal.{orElse, replyOf, foundAt, refusalOf}
 use Rattle.refusals.specs.declared.Verdict.the-variants.{Fine}
 use Rattle.refusals.proofs.OrElse.{both-fine}
 use Rattle.order.specs.Order.{NoCycle, Proper, plan, orderOf, place16}
 use Rattle.order.specs.Following.{ProperList, place17, place18}
-use Rattle.order.specs.Rows.{cycleBad, orderBad}
+use Rattle.order.specs.Rows16to18.{cycleBad, orderBad}
 use Rattle.order.proofs.Mixed.{proper-no-cycle}
 use Rattle.order.proofs.Planned.{place16-exactly, plan-proper}
 use Rattle.order.proofs.Following.{follow-exactly}
@@ -26,7 +26,7 @@ at-none : (r k : ℕ) → k ≡ 0 → foundAt r k ≡ Fine
 at-none r k e = rw e
 
 -- a reply of number 0 is to rows that find nothing
-no-number : (a b c k : ℕ) → numberOf (replyOf (orElse (foundAt 16 a) (orElse (foundAt 17 b) (foundAt 18 c))) k) ≡ 0 → (a ≡ 0) × (b ≡ 0) × (c ≡ 0)
+no-number : (a b c k : ℕ) → refusalOf (replyOf (orElse (foundAt 16 a) (orElse (foundAt 17 b) (foundAt 18 c))) k) ≡ 0 → (a ≡ 0) × (b ≡ 0) × (c ≡ 0)
 no-number zero zero zero k e = (refl, refl, refl)
 no-number zero zero (suc c) k e = absurd (omega arith)
 no-number zero (suc b) c k e = absurd (omega arith)
@@ -58,7 +58,7 @@ module _ (t : List ℤ) (n : ℕ) (ok : Accepted t n) where
         (free-cycle (proper-no-cycle (p .proper)), rw (f .0, f .1))
 
     -- Follow accepts exactly the proper orders
-    pub accepts-exactly : (k : ℕ) → (numberOf (replyOf (orElse (cycleBad t n) (orderBad t n cells)) k) ≡ 0) ↔ ProperList t cells
+    pub accepts-exactly : (k : ℕ) → (refusalOf (replyOf (orElse (cycleBad t n) (orderBad t n cells)) k) ≡ 0) ↔ ProperList t cells
     unfolding cycleBad orderBad
     accepts-exactly k =
         (λ e. let z = no-number (place16 t n) (place17 t n cells) (place18 t n cells) k e in follow-exactly t n ok cells .0 (z .1, z .2), λ p. let f = proper-rows p in rw (f .0, f .1))

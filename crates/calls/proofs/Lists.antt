@@ -15,16 +15,16 @@ use Rattle.refusals.specs.declared.Reply.the-variants as reply
 use Rattle.refusals.proofs.OrElse.{both-fine}
 use Rattle.lines.specs.Lines.{labels, headBad}
 use Rattle.order.specs.Following.{ProperList}
-use Rattle.order.specs.Rows.{cycleBad, orderBad}
+use Rattle.order.specs.Rows16to18.{cycleBad, orderBad}
 use Rattle.reading.specs.Read.{sheetBad, sheetTable, Reads}
-use Rattle.reading.specs.Stages.{Passed, SheetReads}
+use Rattle.reading.specs.ReadStages.{Passed, SheetReads}
 use Rattle.reading.proofs.Accepted.{reads, read-accepted}
 use Rattle.reading.proofs.Stage.{refused-judged}
 use Rattle.figures.specs.Figures.{resultCells}
 use Rattle.calls.specs.Buffers.{resultsShort, followBuffers}
 use Rattle.calls.specs.Follow.{followBad, followReply, followTable, followResults}
 use Rattle.calls.specs.Leaves.{FollowLeaves}
-use Rattle.calls.specs.Stages.{headReply, sheetPlanned, sheetFollowed, rowsOf, FollowBy, RowsFollow, SheetFollows}
+use Rattle.calls.specs.CallStages.{headReply, sheetPlanned, sheetFollowed, cellsTo, FollowBy, RowsFollow, SheetFollows}
 use Rattle.calls.proofs.Rooms.{results-room, or-all, opened, shut}
 use Rattle.calls.proofs.Sheets.{rows-taken, sheet-rows, all-rows}
 use Rattle.calls.proofs.Calls.{ready}
@@ -35,7 +35,7 @@ module _ (s : List ℕ) (o : List ℤ) (m n : ℕ) (h : Passed s n) where
   -- ---- rows 5 to 15 found v and left t, and the others follow
 
   module _ (v : Verdict) (t : List ℤ) (b : SheetReads s m v t) where
-    pub list-checked : (r : Verdict) → v ≡ Fine → r ≡ orElse (cycleBad (rowsOf n t) n) (orderBad (rowsOf n t) n o) → RowsFollow s o m r t
+    pub list-checked : (r : Verdict) → v ≡ Fine → r ≡ orElse (cycleBad (cellsTo n t) n) (orderBad (cellsTo n t) n o) → RowsFollow s o m r t
     unfolding sheetFollowed
     list-checked r f e = record {
       found = rw (sym (b .found) ∙ f, ← sheet-rows s m n h v t b f, ← h .count) e;
@@ -58,16 +58,16 @@ module _ (s : List ℕ) (o : List ℤ) (m n : ℕ) (h : Passed s n) where
     list-reads : v ≡ Fine → Reads s
     list-reads f = reads s (h .head) (parts (sym (b .found) ∙ f) .0)
 
-    list-rows : v ≡ Fine → rowsOf n t ≡ sheetTable s
+    list-rows : v ≡ Fine → cellsTo n t ≡ sheetTable s
     list-rows f = rows-taken s m n t (list-reads f) (h .count) (b .left f)
 
-    pub list-ready : v ≡ Fine → Accepted (rowsOf n t) n × ProperList (rowsOf n t) (take (length o) o)
+    pub list-ready : v ≡ Fine → Accepted (cellsTo n t) n × ProperList (cellsTo n t) (take (length o) o)
     list-ready f =
         let ok = read-accepted s (list-reads f) in
         let proper = order-proper (sheetTable s) (labels s) ok o (parts (sym (b .found) ∙ f) .1) in
         (rw (list-rows f, h .count) ok, rw (list-rows f, take-length o) proper)
 
-    pub list-follows : (j : ℕ) (u : List ℤ) → v ≡ Fine → u ≡ resultCells (rowsOf n t) n j → SheetFollows s o m j (reply.Answered (length o)) t u
+    pub list-follows : (j : ℕ) (u : List ℤ) → v ≡ Fine → u ≡ resultCells (cellsTo n t) n j → SheetFollows s o m j (reply.Answered (length o)) t u
     list-follows j u f e =
         let g = sym (b .found) ∙ f in
         record { reply = rw g; table = rw g (b .left f); results = rw g (e ∙ rw (list-rows f, h .count)) }

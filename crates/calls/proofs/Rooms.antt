@@ -15,10 +15,10 @@ use Rattle.refusals.proofs.OrElse.{both-fine}
 use Rattle.lines.specs.Lines.{labels, headBad}
 use Rattle.lines.proofs.Heads.{headed}
 use Rattle.reading.specs.Read.{tableShort}
-use Rattle.reading.specs.Stages.{Passed}
+use Rattle.reading.specs.ReadStages.{Passed}
 use Rattle.reading.proofs.Stage.{answered, refused}
 use Rattle.calls.specs.Buffers.{planShort, resultsShort, planBuffers, runBuffers}
-use Rattle.calls.specs.Stages.{shortBy, headReply}
+use Rattle.calls.specs.CallStages.{shortBy, headReply}
 
 -- ---- row 4 of one buffer
 

@@ -12,13 +12,13 @@ use Rattle.refusals.specs.declared.Verdict.{Verdict}
 use Rattle.refusals.specs.declared.Verdict.the-variants.{Fine, Refused}
 use Rattle.refusals.proofs.OrElse.{both-fine}
 use Rattle.lines.specs.Lines.{labels, headBad}
-use Rattle.order.specs.Rows.{cycleBad}
+use Rattle.order.specs.Rows16to18.{cycleBad}
 use Rattle.reading.specs.Read.{sheetBad, sheetTable, Reads, tableOf}
-use Rattle.reading.specs.Stages.{Passed, SheetReads}
+use Rattle.reading.specs.ReadStages.{Passed, SheetReads}
 use Rattle.reading.proofs.Accepted.{reads, read-accepted, read-length}
 use Rattle.calls.specs.Plan.{openBad, plannedBad, planOf, answerBy, listedBy}
 use Rattle.calls.specs.Demand.{PlanKept}
-use Rattle.calls.specs.Stages.{sheetPlanned, keptBy, rowsOf, PlanBy, TablePlans, SheetPlans}
+use Rattle.calls.specs.CallStages.{sheetPlanned, keptBy, cellsTo, PlanBy, TablePlans, SheetPlans}
 use Rattle.calls.specs.declared.PlanReply.{PlanReply}
 use Rattle.calls.specs.declared.PlanReply.the-variants as reply
 use Rattle.calls.proofs.Answers.{plan-kept}
@@ -35,7 +35,7 @@ table-left Fine s m t e l = e
 table-left (Refused r p) s m t e l = ap zeros l
 
 -- the rows of n labels in a table t that holds those of a sheet that reads
-pub rows-taken : (s : List ℕ) (m n : ℕ) (t : List ℤ) → Reads s → n ≡ labels s → t ≡ tableOf Fine s m → rowsOf n t ≡ sheetTable s
+pub rows-taken : (s : List ℕ) (m n : ℕ) (t : List ℤ) → Reads s → n ≡ labels s → t ≡ tableOf Fine s m → cellsTo n t ≡ sheetTable s
 rows-taken s m n t e is f = rw (is, f) (take-at (sheetTable s) (zeros (m - 8 * labels s)) (8 * labels s) (read-length s e))
 
 -- ---- rows 5 to 16
@@ -48,17 +48,17 @@ module _ (s : List ℕ) (m n : ℕ) (h : Passed s n) (v : Verdict) (t : List ℤ
   sheet-reads : v ≡ Fine → Reads s
   sheet-reads f = reads s (h .head) (sym (b .found) ∙ f)
 
-  pub sheet-rows : v ≡ Fine → rowsOf n t ≡ sheetTable s
+  pub sheet-rows : v ≡ Fine → cellsTo n t ≡ sheetTable s
   sheet-rows f = rows-taken s m n t (sheet-reads f) (h .count) (b .left f)
 
-  pub sheet-ready : v ≡ Fine → Accepted (rowsOf n t) n
+  pub sheet-ready : v ≡ Fine → Accepted (cellsTo n t) n
   sheet-ready f = rw (sheet-rows f, h .count) (read-accepted s (sheet-reads f))
 
   pub sheet-plans : (p : ℕ) (r : PlanReply) (u q : List ℤ) → v ≡ Fine → length t ≡ m → TablePlans n t p r u q → SheetPlans s m p r u q
   unfolding sheetPlanned planOf
   sheet-plans p r u q f l k =
       let e = sym (b .found) ∙ f in
-      let left = table-left (cycleBad (rowsOf n t) n) s m t (b .left f) l in
+      let left = table-left (cycleBad (cellsTo n t) n) s m t (b .left f) l in
       record {
         reply = rw (e, ← sheet-rows f, ← h .count) (k .reply);
         table = rw (e, ← sheet-rows f, ← h .count) (k .table ∙ left);

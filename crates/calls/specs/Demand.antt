@@ -9,14 +9,15 @@ use lib.ListN.{length, take}
 use Rattle.kinds.specs.Kinds.{valueCode}
 use Rattle.cells.specs.Cells.{zeros}
 use Rattle.cells.specs.Table.{kind}
+use Rattle.refusals.specs.Rows.{cycleRow}
 use Rattle.refusals.specs.Refusal as refusal
 use Rattle.order.specs.Order.{Proper, Whole}
 use Rattle.order.specs.Following.{ProperList, labelsOf}
-use Rattle.order.specs.Evaluating.{down, row}
+use Rattle.order.specs.Evaluating.{down, labelCells}
 use Rattle.reading.specs.Read.{sheetTable}
 use Rattle.figures.specs.Figures.{Evaluated, evaluateInto}
 use Rattle.figures.specs.Entered.{NeverEarly}
-use Rattle.calls.specs.Plan.{planReply, planCells, numberOf, lengthOf, wholeOrMixed}
+use Rattle.calls.specs.Plan.{planReply, planCells, planRefusal, lengthOf, wholeOrMixed}
 use Rattle.calls.specs.Run.{runResults}
 use Rattle.calls.specs.Follow.{followReply, followResults}
 use Rattle.calls.specs.declared.PlanReply.{PlanReply}
@@ -24,10 +25,10 @@ use Rattle.calls.specs.declared.PlanReply.{PlanReply}
 -- the reply r, and the cells of the plan as Plan or Run leaves them
 pub record PlanKept (t : List ℤ) (r : PlanReply) (cells : List ℤ) : Type 0 where
   -- "Plan refuses with 16 exactly when there is no proper order"
-  pub refuses : (numberOf r ≡ 16) ↔ ((o : List ℕ) → Proper t o → ⊥)
+  pub refuses : (planRefusal r ≡ cycleRow) ↔ ((o : List ℕ) → Proper t o → ⊥)
   -- "Otherwise it gives a proper one"
-  pub answers : (o : List ℕ) → Proper t o → numberOf r ≡ 0
-  pub proper : numberOf r ≡ 0 → ProperList t (take (lengthOf r) cells)
+  pub answers : (o : List ℕ) → Proper t o → planRefusal r ≡ 0
+  pub proper : planRefusal r ≡ 0 → ProperList t (take (lengthOf r) cells)
   -- "if some proper order is whole, a whole one with the answer whole"
   pub whole : (o : List ℕ) → Proper t o → Whole t o → (wholeOrMixed r ≡ 1) × Whole t (labelsOf (take (lengthOf r) cells))
   -- "if none is, one with the answer mixed"
@@ -39,9 +40,10 @@ pub record Demand3 (s : List ℕ) (m p q m′ q′ : ℕ) : Type 0 where
   -- the sentences on Plan, above
   pub plan : PlanKept (sheetTable s) (planReply s m p) (planCells s m p)
   -- "Whatever list Follow is handed, it accepts exactly when that list is a proper order of the sheet"
-  pub accepts : (o : List ℤ) → (refusal.numberOf (followReply s o m′ q′) ≡ 0) ↔ ProperList (sheetTable s) o
+  pub accepts : (o : List ℤ) → (refusal.refusalOf (followReply s o m′ q′) ≡ 0) ↔ ProperList (sheetTable s) o
   -- "Whichever proper order that is, Follow gives every value the same state, number and step count as Run does": its three cells
-  pub same : (o : List ℤ) → ProperList (sheetTable s) o → (v : ℕ) → kind (sheetTable s) v ≡ valueCode → row 3 (followResults s o m′ q′) v ≡ row 3 (runResults s m p q) v
+  pub same : (o : List ℤ) → ProperList (sheetTable s) o → (v : ℕ) → kind (sheetTable s) v ≡ valueCode
+      → labelCells 3 (followResults s o m′ q′) v ≡ labelCells 3 (runResults s m p q) v
   -- "and they are those of document 01's Working out": they satisfy its rules, and no others do
   pub evaluated : (o : List ℤ) → ProperList (sheetTable s) o → Evaluated (sheetTable s) (followResults s o m′ q′)
   pub only : (o : List ℤ) → ProperList (sheetTable s) o → (r : List ℤ) → length r ≡ q′ → Evaluated (sheetTable s) r → r ≡ followResults s o m′ q′

@@ -8,7 +8,7 @@ use Rattle.refusals.specs.declared.Verdict.{Verdict}
 use Rattle.refusals.specs.declared.Reply.{Reply}
 use Rattle.lines.specs.Lines.{labels}
 use Rattle.reading.specs.Read.{sheetTable, tableOf}
-use Rattle.order.specs.Rows.{orderBad}
+use Rattle.order.specs.Rows16to18.{orderBad}
 use Rattle.calls.specs.Buffers.{followBuffers}
 use Rattle.calls.specs.Plan.{plannedBad}
 use Rattle.calls.specs.Run.{resultsBy}

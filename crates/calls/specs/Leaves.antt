@@ -5,7 +5,7 @@ use mathlib.Core.Logic.{_↔_}
 use mathlib.Core.List.{List}
 use Prim.Native.Nat.{ℕ}
 use lib.IntN.{ℤ}
-use Rattle.refusals.specs.Refusal.{numberOf}
+use Rattle.refusals.specs.Refusal.{refusalOf}
 use Rattle.refusals.specs.declared.Verdict.the-variants.{Fine}
 use Rattle.refusals.specs.declared.Reply.{Reply}
 use Rattle.order.specs.Following.{ProperList}
@@ -39,4 +39,4 @@ pub record FollowLeaves (s : List ℕ) (o : List ℤ) (m q : ℕ) (r : Reply) (t
   pub table : t ≡ followTable s o m q
   pub results : u ≡ followResults s o m q
   -- "Whatever list Follow is handed, it accepts exactly when that list is a proper order of the sheet"
-  pub accepts : Reads s → followBuffers s m q ≡ Fine → (numberOf r ≡ 0) ↔ ProperList (sheetTable s) o
+  pub accepts : Reads s → followBuffers s m q ≡ Fine → (refusalOf r ≡ 0) ↔ ProperList (sheetTable s) o

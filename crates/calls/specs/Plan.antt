@@ -10,7 +10,7 @@ use Rattle.refusals.specs.declared.Verdict.{Verdict}
 use Rattle.refusals.specs.declared.Verdict.the-variants.{Fine, Refused}
 use Rattle.lines.specs.Lines.{labels, headBad}
 use Rattle.order.specs.Order.{Answer, cycle, whole, mixed, plan, orderOf}
-use Rattle.order.specs.Rows.{cycleBad}
+use Rattle.order.specs.Rows16to18.{cycleBad}
 use Rattle.reading.specs.Read.{sheetBad, sheetTable, tableOf}
 use Rattle.calls.specs.Buffers.{planBuffers}
 use Rattle.calls.specs.declared.PlanReply.{PlanReply}
@@ -54,15 +54,15 @@ planCells s m p = listedBy (planBad s m p) (planOf s) p
 
 -- ---- document 01's number, place and values of a reply
 
-abbrev pub numberOf : PlanReply → ℕ
-numberOf (reply.Refused r l) = r
-numberOf (reply.Whole k) = 0
-numberOf (reply.Mixed k) = 0
+abbrev pub planRefusal : PlanReply → ℕ
+planRefusal (reply.Refused r l) = r
+planRefusal (reply.Whole k) = 0
+planRefusal (reply.Mixed k) = 0
 
-abbrev pub placeOf : PlanReply → ℕ
-placeOf (reply.Refused r l) = l
-placeOf (reply.Whole k) = 0
-placeOf (reply.Mixed k) = 0
+abbrev pub planPlace : PlanReply → ℕ
+planPlace (reply.Refused r l) = l
+planPlace (reply.Whole k) = 0
+planPlace (reply.Mixed k) = 0
 
 -- the plan's length; 0 of a refusal
 abbrev pub lengthOf : PlanReply → ℕ

@@ -7,10 +7,10 @@ ghost use Rattle.cells.specs.Cells.{zeros};
 ghost use Rattle.cells.specs.Accepted.{Accepted};
 ghost use Rattle.refusals.specs.Refusal.{replyOf};
 ghost use Rattle.reading.specs.Read.{tableShort};
-ghost use Rattle.reading.specs.Stages.{Passed};
+ghost use Rattle.reading.specs.ReadStages.{Passed};
 ghost use Rattle.calls.specs.Buffers.{planBuffers, runBuffers, followBuffers};
 ghost use Rattle.calls.specs.Leaves.{PlanLeaves, RunLeaves, FollowLeaves};
-ghost use Rattle.calls.specs.Stages.{shortBy, headReply, rowsOf, TablePlans, SheetPlans, SheetRuns, RowsFollow, SheetFollows};
+ghost use Rattle.calls.specs.CallStages.{shortBy, headReply, cellsTo, TablePlans, SheetPlans, SheetRuns, RowsFollow, SheetFollows};
 use planning::Planned;
 use refusals::Reply;
 use refusals::Verdict;
@@ -90,7 +90,7 @@ fn clear_both(first: &mut [i64], second: &mut [i64])
 // Row 16, and the plan of a table whose rows of n labels are accepted. Planning leaves the cells behind the order as they were, so they
 // are cleared here.
 fn plan_table(n: usize, table: &mut [i64], plan: &mut [i64]) -> PlanReply
-    requires { ⌜ Accepted (rowsOf n (now table)) n × (8 * n ≤ length (now table)) × (n ≤ length (now plan)) ⌝ }
+    requires { ⌜ Accepted (cellsTo n (now table)) n × (8 * n ≤ length (now table)) × (n ≤ length (now plan)) ⌝ }
     ensures { λ r. ⌜ TablePlans n (now (table .entry)) (length (now (plan .entry))) r (now (table .exit)) (now (plan .exit)) ⌝ }
 {
     match planning::plan_of(&table[..8 * n], n, plan) {

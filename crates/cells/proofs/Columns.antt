@@ -11,7 +11,7 @@ use lib.IntN.{ℤ, pos}
 use lib.ListN.{length, set, length-set}
 use lib.Seq.{ext-getD}
 use Rattle.cells.specs.Cells.{natOf, intAt}
-use Rattle.cells.specs.Table.{cell, entry, numberOf, withColumn}
+use Rattle.cells.specs.Table.{cell, entry, lineNumber, withColumn}
 use Rattle.cells.proofs.Stores.{intAt-put, intAt-other}
 
 pub column-length : (j : ℕ) (f : ℕ → ℕ) (n : ℕ) (t : List ℤ) → length (withColumn j f n t) ≡ length t
@@ -47,7 +47,7 @@ module _ (j : ℕ) (f : ℕ → ℕ) (small : j < 8) where
   column-other n t zero i a d = refl
   column-other n t (suc l) i a d = ap natOf (column-keeps n t (8 * l + i) (λ k m q. d (omega arith)))
 
-  pub column-number : (n : ℕ) (t : List ℤ) (l : ℕ) → (3 ≡ j → ⊥) → numberOf (withColumn j f n t) l ≡ numberOf t l
+  pub column-number : (n : ℕ) (t : List ℤ) (l : ℕ) → (3 ≡ j → ⊥) → lineNumber (withColumn j f n t) l ≡ lineNumber t l
   column-number n t zero d = refl
   column-number n t (suc l) d = column-keeps n t (8 * l + 3) (λ k m q. d (omega arith))
 

@@ -8,7 +8,7 @@ use native.Mathlib.Nat.{not-suc-le-zero}
 use lib.IntN.{ℤ, pos}
 use lib.ListN.{length, set, List·getD-eq-default}
 use Rattle.cells.specs.Cells.{natOf, intAt, natAt}
-use Rattle.cells.specs.Table.{cell, numberOf}
+use Rattle.cells.specs.Table.{cell, lineNumber}
 use Rattle.cells.proofs.Stores.{intAt-put, intAt-other}
 
 -- ---- a cell by its index. A label from 1 on is the `suc` of the label before
@@ -17,7 +17,7 @@ pub cell-at : (t : List ℤ) (l j : ℕ) → 1 ≤ l → cell t l j ≡ natAt t 
 cell-at t zero j h = absurd (not-suc-le-zero h)
 cell-at t (suc k) j h = let e : suc k - 1 ≡ k = omega arith in rw e
 
-pub number-at : (t : List ℤ) (l : ℕ) → 1 ≤ l → numberOf t l ≡ intAt t (8 * (l - 1) + 3)
+pub number-at : (t : List ℤ) (l : ℕ) → 1 ≤ l → lineNumber t l ≡ intAt t (8 * (l - 1) + 3)
 number-at t zero h = absurd (not-suc-le-zero h)
 number-at t (suc k) h = let e : suc k - 1 ≡ k = omega arith in rw e
 

@@ -5,9 +5,10 @@ use mathlib.Core.List.{List}
 use Prim.Native.Nat.{ℕ, _+_, _-_, _*_, _≤_, _<_}
 use lib.IntN.{ℤ, pos, natAbs}
 use lib.ListN.{length}
-use Rattle.kinds.specs.Kinds.{groupCode, numberCode, isKind, operandA, operandB, operandC, wantedBy, takes, placeOf}
+use Rattle.cells.specs.Limits.{labelLimit, numberLimit}
+use Rattle.kinds.specs.Kinds.{groupCode, numberCode, isKind, operandA, operandB, operandC, wantedBy, takes, argumentPlace}
 use Rattle.cells.specs.Cells.{intAt}
-use Rattle.cells.specs.Table.{cell, kind, isDefinition, isExpression, hasBody, hasPath, fieldA, fieldB, fieldC, owner, target, numberOf}
+use Rattle.cells.specs.Table.{cell, kind, isDefinition, isExpression, hasBody, hasPath, fieldA, fieldB, fieldC, owner, target, lineNumber}
 
 abbrev pub HasBody : List ℤ → ℕ → Type 0
 HasBody t l = hasBody t l ≡ true
@@ -21,7 +22,7 @@ pub record Part (t : List ℤ) (n l d x : ℕ) : Type 0 where
 
 pub record Accepted (t : List ℤ) (n : ℕ) : Type 0 where
   pub some : 1 ≤ n
-  pub few : n ≤ 1024
+  pub few : n ≤ labelLimit
   pub room : 8 * n ≤ length t
   -- unused cells are zero
   pub unused : (i : ℕ) → 8 * n ≤ i → intAt t i ≡ pos 0
@@ -36,7 +37,7 @@ pub record Accepted (t : List ℤ) (n : ℕ) : Type 0 where
   pub group : (l : ℕ) → 2 ≤ l → l ≤ n → isDefinition t l ≡ true → kind t (owner t l) ≡ groupCode
   -- an expression's owner has a body, and an argument's owner is given it
   pub owners : (l : ℕ) → isExpression t l ≡ true → HasBody t (owner t l)
-  pub argument : (l : ℕ) → placeOf (kind t l) ≤ takes (kind t (owner t l))
+  pub argument : (l : ℕ) → argumentPlace (kind t l) ≤ takes (kind t (owner t l))
   -- bodies and operands
   pub body : (l : ℕ) → HasBody t l → Part t n l l (fieldB t l)
   pub first : (l : ℕ) → operandA (kind t l) ≡ true → Part t n l (owner t l) (fieldA t l)
@@ -46,4 +47,4 @@ pub record Accepted (t : List ℤ) (n : ℕ) : Type 0 where
   pub leads : (l : ℕ) → hasPath t l ≡ true → kind t (target t l) ≡ wantedBy (kind t l)
   pub others : (l : ℕ) → hasPath t l ≡ false → target t l ≡ 0
   -- an N line's number is in range
-  pub number : (l : ℕ) → kind t l ≡ numberCode → natAbs (numberOf t l) ≤ 1000000000
+  pub number : (l : ℕ) → kind t l ≡ numberCode → natAbs (lineNumber t l) ≤ numberLimit

@@ -1,3 +1,4 @@
+pub mod Limits
 pub mod Cells
 pub mod Clearing
 pub mod Lists

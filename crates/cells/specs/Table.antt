@@ -61,9 +61,9 @@ abbrev pub target : List ℤ → ℕ → ℕ
 target t l = cell t l 7
 
 -- the number of an N line: its field a, which is any integer
-abbrev pub numberOf : List ℤ → ℕ → ℤ
-numberOf t zero = pos 0
-numberOf t (suc k) = intAt t (8 * k + 3)
+abbrev pub lineNumber : List ℤ → ℕ → ℤ
+lineNumber t zero = pos 0
+lineNumber t (suc k) = intAt t (8 * k + 3)
 
 -- the table t in which cell j of each label from 1 to n is what f says of the label
 abbrev pub withColumn : ℕ → (ℕ → ℕ) → ℕ → List ℤ → List ℤ

@@ -5,6 +5,7 @@ ghost use mathlib.Core.Path.{_≡_};
 ghost use Prim.Native.Nat.{_+_, _-_, _*_, _^_, _≤_, _<_};
 ghost use lib.ListN.{length, set};
 ghost use lib.IntN.{pos, natAbs};
+ghost use Rattle.cells.specs.Limits.{sizeLimit};
 ghost use Rattle.cells.specs.Cells.{isNegative, natOf, withSign, intAt, natAt, zeros};
 ghost use Rattle.cells.specs.Clearing.{clearFrom};
 ghost use Rattle.cells.specs.Table.{cell};
@@ -27,6 +28,20 @@ pub const C: usize = 5;
 pub const OWNER: usize = 6;
 
 pub const TARGET: usize = 7;
+
+// ---- the limits of a sheet
+
+// Its bytes, and its lines: the column names, and one for each of 1,024 labels.
+pub const SIZE_LIMIT: usize = 65536;
+
+pub const LINE_LIMIT: usize = 1025;
+
+// The letters and digits of a name, the names of a path, and the level of an expression.
+pub const NAME_LIMIT: usize = 16;
+
+pub const PATH_LIMIT: usize = 8;
+
+pub const LEVEL_LIMIT: usize = 32;
 
 // ---- the sign and the size of a cell
 
@@ -79,7 +94,7 @@ pub fn nat_at(t: &[i64], i: usize) -> usize
 
 // Cell i becomes v.
 pub fn put_nat(t: &mut [i64], i: usize, v: usize)
-    requires { ⌜ (i < length (now t)) × (v ≤ 65536) ⌝ }
+    requires { ⌜ (i < length (now t)) × (v ≤ sizeLimit) ⌝ }
     ensures { λ _. ⌜ now (t .exit) ≡ set (now (t .entry)) i (pos v) ⌝ }
 {
     t[i] = v as i64;
@@ -130,7 +145,7 @@ pub fn natural_cell(t: &[i64], label: usize, j: usize) -> usize
 
 // Cell j of the label's row becomes v.
 pub fn put_cell(t: &mut [i64], label: usize, j: usize, v: usize)
-    requires { ⌜ (1 ≤ label) × (8 * label ≤ length (now t)) × (j < 8) × (v ≤ 65536) ⌝ }
+    requires { ⌜ (1 ≤ label) × (8 * label ≤ length (now t)) × (j < 8) × (v ≤ sizeLimit) ⌝ }
     ensures { λ _. ⌜ now (t .exit) ≡ set (now (t .entry)) (8 * (label - 1) + j) (pos v) ⌝ }
 {
     put_nat(t, 8 * (label - 1) + j, v);

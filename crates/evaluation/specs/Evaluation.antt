@@ -1,4 +1,4 @@
--- Document 01, "Working out", by open recursion: each rule is told how the expressions inside are evaluated, and `within` alone
+-- Document 01, "Working out", by open recursion: each rule is told how the expressions inside are evaluated, and `withFuel` alone
 -- counts entries, so that the recursion ends.
 use mathlib.Core.Bool.{Bool, true, false, cond}
 use mathlib.Core.List.{List}
@@ -10,7 +10,7 @@ use Rattle.kinds.specs.declared.Operation.{Operation}
 use Rattle.kinds.specs.declared.Clause.{Clause}
 use Rattle.kinds.specs.declared.Clause.the-variants as clause
 use Rattle.cells.specs.Cells.{equals}
-use Rattle.cells.specs.Table.{kind, fieldA, fieldB, fieldC, target, numberOf}
+use Rattle.cells.specs.Table.{kind, fieldA, fieldB, fieldC, target, lineNumber}
 use Rattle.numbers.specs.Arithmetic.{calculated}
 use Rattle.numbers.specs.declared.Tie.{Tie}
 use Rattle.numbers.specs.declared.Tie.the-variants.{Away}
@@ -66,13 +66,13 @@ abbrev pub Way : Type 0
 Way = ℕ → Arguments → ℕ → ℕ → Outcome
 
 -- what C hands to the body of its target
-abbrev pub one : ℤ → Arguments
-one y = record { first = y }
+abbrev pub oneArgument : ℤ → Arguments
+oneArgument y = record { first = y }
 
--- "at depth 64 the state is then 5, else the target's body is worked out one deeper"
+-- "at depth 64 the state is then 5, else the target's body is worked out oneArgument deeper"
 unfoldable pub bodyBy : Bool → Way → List ℤ → ℕ → ℤ → ℕ → ℕ → Outcome
 bodyBy true rec t l y s d = fails tooDeep s
-bodyBy false rec t l y s d = rec (fieldB t (target t l)) (one y) s (d + 1)
+bodyBy false rec t l y s d = rec (fieldB t (target t l)) (oneArgument y) s (d + 1)
 
 -- "C works out its argument" first
 unfoldable pub callBy : Way → List ℤ → Way
@@ -88,13 +88,13 @@ operationBy rec t op l g s d =
 abbrev pub branchOf : List ℤ → ℕ → ℤ → ℕ
 branchOf t l y = cond (equals 0 y) (fieldC t l) (fieldB t l)
 
--- "I works out a, then one branch only."
+-- "I works out a, then oneArgument branch only."
 unfoldable pub choiceBy : Way → List ℤ → Way
 choiceBy rec t l g s d = unlessFailed (rec (fieldA t l) g s d) (λ y s′. rec (branchOf t l y) g s′ d)
 
 -- an expression that has been entered, by the clause of its kind; a definition has none, and in a sheet that reads none is ever entered
 unfoldable pub enteredBy : Way → List ℤ → List ℤ → Clause → Way
-enteredBy rec t r clause.Number l g s d = gives (numberOf t l) s
+enteredBy rec t r clause.Number l g s d = gives (lineNumber t l) s
 enteredBy rec t r (clause.Argument i) l g s d = gives (g .first) s
 enteredBy rec t r clause.Read l g s d = answerAt r (target t l) s
 enteredBy rec t r (clause.Call n) l g s d = callBy rec t l g s d
@@ -102,21 +102,21 @@ enteredBy rec t r (clause.Operation op) l g s d = operationBy rec t op l g s d
 enteredBy rec t r clause.Choice l g s d = choiceBy rec t l g s d
 enteredBy rec t r clause.None l g s d = fails 0 s
 
--- "Entering an expression takes one step; with none left the state is 4."
+-- "Entering an expression takes oneArgument step; with none left the state is 4."
 unfoldable pub stepBy : Way → List ℤ → List ℤ → Way
 stepBy rec t r l g zero d = fails outOfSteps 0
 stepBy rec t r l g (suc s) d = enteredBy rec t r (clauseOf (kind t l)) l g s d
 
 -- ---- the recursion closed
 
--- at most `fuel` entries, one in the other
-unfoldable pub within : ℕ → List ℤ → List ℤ → Way
-within zero t r l g s d = fails outOfSteps 0
-within (suc fuel) t r l g s d = stepBy (within fuel t r) t r l g s d
+-- at most `fuel` entries, oneArgument in the other
+unfoldable pub withFuel : ℕ → List ℤ → List ℤ → Way
+withFuel zero t r l g s d = fails outOfSteps 0
+withFuel (suc fuel) t r l g s d = stepBy (withFuel fuel t r) t r l g s d
 
 -- an expression: entries are no deeper than the steps left
 unfoldable pub outcome : List ℤ → List ℤ → Way
-outcome t r l g s d = within s t r l g s d
+outcome t r l g s d = withFuel s t r l g s d
 
 -- ---- a value
 

@@ -13,23 +13,23 @@ use Rattle.cells.specs.Cells.{intAt}
 use Rattle.cells.specs.Table.{cell, kind, isExpression, owner}
 use Rattle.cells.specs.Accepted.{Accepted}
 use Rattle.cells.specs.Reaches.{Reaches}
-use Rattle.numbers.specs.Range.{limit}
+use Rattle.cells.specs.Limits.{numberLimit}
 use Rattle.evaluation.specs.declared.Arguments.{Arguments}
-use Rattle.evaluation.specs.Results.{stateAt, Settled}
+use Rattle.evaluation.specs.Results.{stateAt, Recorded}
 use Rattle.evaluation.specs.Evaluation.{depthLimit}
 
 pub record Ready (t r : List ℤ) : Type 0 where
   pub count : ℕ
   pub accepted : Accepted t count
   pub room : 3 * count ≤ length r
-  pub settled : (l : ℕ) → Settled 0 r l
+  pub recorded : (l : ℕ) → Recorded 0 r l
 
 -- every value that definition d reaches has been evaluated: its stored state is no longer the 0 that results start with
 abbrev pub ReachedEvaluated : List ℤ → List ℤ → ℕ → Type 0
 ReachedEvaluated t r d = (w : ℕ) → kind t w ≡ valueCode → Reaches t d w → 1 ≤ stateAt r w
 
 -- l is an expression of a table of n labels
-pub record Line (t : List ℤ) (n l : ℕ) : Type 0 where
+pub record ExpressionAt (t : List ℤ) (n l : ℕ) : Type 0 where
   pub low : 1 ≤ l
   pub high : l ≤ n
   pub expression : isExpression t l ≡ true
@@ -37,8 +37,8 @@ pub record Line (t : List ℤ) (n l : ℕ) : Type 0 where
 -- expression l may be entered with arguments g at depth d: every value that its definition reaches has been evaluated
 pub record Entry (t r : List ℤ) (l : ℕ) (g : Arguments) (d : ℕ) : Type 0 where
   pub ready : Ready t r
-  pub line : Line t (ready .count) l
-  pub given : natAbs (g .first) ≤ limit
+  pub line : ExpressionAt t (ready .count) l
+  pub given : natAbs (g .first) ≤ numberLimit
   pub shallow : d ≤ depthLimit
   pub reached : ReachedEvaluated t r (owner t l)
 
@@ -60,7 +60,7 @@ pub record Cell (t : List ℤ) (l j : ℕ) : Type 0 where
   pub natural : intAt t (8 * (l - 1) + j) ≡ pos (cell t l j)
 
 -- label l's results have their room in r
-pub record Room (r : List ℤ) (l : ℕ) : Type 0 where
+pub record ResultsRoom (r : List ℤ) (l : ℕ) : Type 0 where
   pub low : 1 ≤ l
   pub room : 3 * l ≤ length r
 

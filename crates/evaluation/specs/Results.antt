@@ -6,7 +6,7 @@ use mathlib.Core.List.{List, [], _∷_}
 use lib.IntN.{ℤ, pos, natAbs}
 use lib.Seq.{sets}
 use Rattle.cells.specs.Cells.{intAt, natAt}
-use Rattle.numbers.specs.Range.{limit}
+use Rattle.cells.specs.Limits.{numberLimit}
 use Rattle.evaluation.specs.declared.Value.{Value}
 use Rattle.evaluation.specs.States.{hasNumber, lastState}
 
@@ -31,7 +31,7 @@ abbrev pub store : List ℤ → ℕ → Value → List ℤ
 store r l v = sets r (3 * (l - 1)) (pos (v .state) ∷ v .number ∷ pos (v .steps) ∷ [])
 
 -- label l's stored state is from `low` on and a state of document 01, and a stored number is in range
-pub record Settled (low : ℕ) (r : List ℤ) (l : ℕ) : Type 0 where
+pub record Recorded (low : ℕ) (r : List ℤ) (l : ℕ) : Type 0 where
   pub least : low ≤ stateAt r l
   pub most : stateAt r l ≤ lastState
-  pub ranged : stateAt r l ≡ hasNumber → natAbs (numberAt r l) ≤ limit
+  pub ranged : stateAt r l ≡ hasNumber → natAbs (numberAt r l) ≤ numberLimit

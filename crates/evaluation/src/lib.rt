@@ -9,12 +9,12 @@ ghost use mathlib.Core.Path.{_≡_};
 ghost use Prim.Native.Nat.{_-_, _*_, _≤_, _<_};
 ghost use lib.ListN.{length};
 ghost use lib.IntN.{natAbs};
-ghost use Rattle.cells.specs.Table.{cell, numberOf, target};
-ghost use Rattle.numbers.specs.Range.{limit};
-ghost use Rattle.evaluation.specs.Results.{store, Settled};
+ghost use Rattle.cells.specs.Table.{cell, lineNumber, target};
+ghost use Rattle.cells.specs.Limits.{numberLimit};
+ghost use Rattle.evaluation.specs.Results.{store, Recorded};
 ghost use Rattle.evaluation.specs.Evaluation.{gives, fails, answerAt, outcomeOf, tieRule, stepLimit, branchOf, callBy, operationBy, choiceBy, outcome, evaluated};
 ghost use Rattle.numbers.specs.Arithmetic.{calculated};
-ghost use Rattle.evaluation.specs.Ready.{Entry, Entered, EnteredCall, Cell, Room, Evaluable};
+ghost use Rattle.evaluation.specs.Ready.{Entry, Entered, EnteredCall, Cell, ResultsRoom, Evaluable};
 
 // ---- what evaluation carries
 
@@ -119,7 +119,7 @@ fn field(table: &[i64], label: usize, j: usize) -> usize
 // The number of an N line.
 fn number_of(table: &[i64], label: usize) -> i64
     requires { ⌜ (1 ≤ label) × (8 * label ≤ length (now table)) ⌝ }
-    ensures { λ r. ⌜ r ≡ numberOf (now (table .entry)) label ⌝ }
+    ensures { λ r. ⌜ r ≡ lineNumber (now (table .entry)) label ⌝ }
 {
     table[8 * (label - 1) + cells::A]
 }
@@ -137,7 +137,7 @@ fn branch_of(table: &[i64], label: usize, test: i64) -> usize
 
 // The stored answer of a label that has been evaluated.
 fn answer_at(results: &[i64], label: usize, left: u32) -> Outcome
-    requires { ⌜ Room (now results) label × Settled 1 (now results) label ⌝ }
+    requires { ⌜ ResultsRoom (now results) label × Recorded 1 (now results) label ⌝ }
     ensures { λ r. ⌜ r ≡ answerAt (now (results .entry)) label left ⌝ }
 {
     let at = 3 * (label - 1);
@@ -150,7 +150,7 @@ fn answer_at(results: &[i64], label: usize, left: u32) -> Outcome
 
 // "R the target's stored answer, failures too." The target has been evaluated.
 fn read(table: &[i64], results: &[i64], label: usize, left: u32) -> Outcome
-    requires { ⌜ Cell (now table) label 7 × Room (now results) (target (now table) label) × Settled 1 (now results) (target (now table) label) ⌝ }
+    requires { ⌜ Cell (now table) label 7 × ResultsRoom (now results) (target (now table) label) × Recorded 1 (now results) (target (now table) label) ⌝ }
     ensures { λ r. ⌜ r ≡ answerAt (now (results .entry)) (target (now (table .entry)) label) left ⌝ }
 {
     answer_at(results, field(table, label, cells::TARGET), left)
@@ -171,7 +171,7 @@ fn outcome_of(c: Calculated, left: u32) -> Outcome
 
 // Two operands under A, S, M or D; halves go away from zero.
 fn combine(op: Operation, a: i64, b: i64, left: u32) -> Outcome
-    requires { ⌜ (natAbs a ≤ limit) × (natAbs b ≤ limit) ⌝ }
+    requires { ⌜ (natAbs a ≤ numberLimit) × (natAbs b ≤ numberLimit) ⌝ }
     ensures { λ r. ⌜ r ≡ outcomeOf (calculated tieRule op a b) left ⌝ }
 {
     outcome_of(numbers::calculate(Tie::Away, op, a, b), left)
@@ -306,7 +306,7 @@ pub fn evaluate(table: &[i64], results: &[i64], label: usize) -> Value
 
 // Stores a value's results and leaves every other cell.
 pub fn put_value(results: &mut [i64], label: usize, v: Value)
-    requires { ⌜ Room (now results) label ⌝ }
+    requires { ⌜ ResultsRoom (now results) label ⌝ }
     ensures { λ _. ⌜ now (results .exit) ≡ store (now (results .entry)) label v ⌝ }
 {
     let at = 3 * (label - 1);

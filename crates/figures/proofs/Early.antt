@@ -12,19 +12,19 @@ use Rattle.cells.specs.Cells.{zeros}
 use Rattle.cells.specs.Table.{kind, target}
 use Rattle.cells.specs.Accepted.{Accepted}
 use Rattle.cells.specs.Reaches.{Reaches}
-use Rattle.order.specs.Lists.{_∈_}
+use Rattle.order.specs.LabelLists.{_∈_}
 use Rattle.order.specs.Order.{NoCycle, Proper, mixedPlan}
 use Rattle.order.specs.Evaluating.{down}
 use Rattle.order.proofs.Lists.{count-parts, in-here, in-left, in-right, in-append, in-single}
 use Rattle.order.proofs.Mixed.{listed-once, listed-value, mixed-proper}
 use Rattle.order.proofs.Evaluating.{run-append, run-fits, run-other}
-use Rattle.evaluation.specs.Results.{stored, Settled}
+use Rattle.evaluation.specs.Results.{stored, Recorded}
 use Rattle.evaluation.specs.Ready.{Ready, Evaluable}
 use Rattle.evaluation.specs.declared.Arguments.{Arguments}
 use Rattle.kinds.specs.declared.Clause.{Clause}
 use Rattle.kinds.specs.declared.Clause.the-variants as clause
 use Rattle.evaluation.proofs.Closure.{Within, From, from-closed, Leads, leads, body-within}
-use Rattle.evaluation.proofs.Stored.{ready-zeros, evaluated-own, settled-still, ready-stored}
+use Rattle.evaluation.proofs.Stored.{ready-zeros, evaluated-own, recorded-still, ready-stored}
 use Rattle.figures.specs.Figures.{figures, resultCells, evaluateInto}
 use Rattle.figures.specs.Entered.{GoesBy, firstOutcome, Enters, itself, argument, body, first, second, test, branch, EntersRead, NeverEarly}
 use Rattle.figures.proofs.Rows.{same-stored, length-zeros}
@@ -62,22 +62,22 @@ module _ (t : List ℤ) (n : ℕ) (ok : Accepted t n) (v : ℕ) where
 -- ---- down a proper order
 
 -- those of a have been evaluated and v may be: then v has been evaluated too
-pub settled-next : (t r : List ℤ) (v : ℕ) → Evaluable t r v → (a : List ℕ) → ((x : ℕ) → x ∈ a → Settled 1 r x)
-    → (x : ℕ) → x ∈ a ++ v ∷ [] → Settled 1 (evaluateInto t r v) x
-settled-next t r v e a old x m = go (in-append x a (v ∷ []) m)
+pub recorded-next : (t r : List ℤ) (v : ℕ) → Evaluable t r v → (a : List ℕ) → ((x : ℕ) → x ∈ a → Recorded 1 r x)
+    → (x : ℕ) → x ∈ a ++ v ∷ [] → Recorded 1 (evaluateInto t r v) x
+recorded-next t r v e a old x m = go (in-append x a (v ∷ []) m)
   where
-    go : (x ∈ a) ⊎ (x ∈ v ∷ []) → Settled 1 (evaluateInto t r v) x
-    go (inl i) = settled-still t r v e 1 (omega arith) x (old x i)
-    go (inr i) = subst (λ (y : ℕ). Settled 1 (evaluateInto t r v) y) (sym (in-single x v i)) (evaluated-own t r v e)
+    go : (x ∈ a) ⊎ (x ∈ v ∷ []) → Recorded 1 (evaluateInto t r v) x
+    go (inl i) = recorded-still t r v e 1 (omega arith) x (old x i)
+    go (inr i) = subst (λ (y : ℕ). Recorded 1 (evaluateInto t r v) y) (sym (in-single x v i)) (evaluated-own t r v e)
 
 module _ (t : List ℤ) (n : ℕ) (ok : Accepted t n) (o : List ℕ) (p : Proper t o) where
   -- those of a have been evaluated, and then those of c too
-  settled-down : (c a b : List ℕ) → o ≡ a ++ (c ++ b) → (r : List ℤ) → Ready t r → ((x : ℕ) → x ∈ a → Settled 1 r x)
-      → (x : ℕ) → x ∈ a ++ c → Settled 1 (down (evaluateInto t) c r) x
-  settled-down [] a b e r q old x m = old x (subst (λ (l : List ℕ). x ∈ l) (append-nil a) m)
-  settled-down (v ∷ c) a b e r q old x m =
-      settled-down c (a ++ v ∷ []) b (e ∙ sym (append-assoc a (v ∷ []) (c ++ b))) (evaluateInto t r v) (ready-stored t r v turn)
-      (settled-next t r v turn a old) x (subst (λ (l : List ℕ). x ∈ l) (sym (append-assoc a (v ∷ []) c)) m)
+  recorded-down : (c a b : List ℕ) → o ≡ a ++ (c ++ b) → (r : List ℤ) → Ready t r → ((x : ℕ) → x ∈ a → Recorded 1 r x)
+      → (x : ℕ) → x ∈ a ++ c → Recorded 1 (down (evaluateInto t) c r) x
+  recorded-down [] a b e r q old x m = old x (subst (λ (l : List ℕ). x ∈ l) (append-nil a) m)
+  recorded-down (v ∷ c) a b e r q old x m =
+      recorded-down c (a ++ v ∷ []) b (e ∙ sym (append-assoc a (v ∷ []) (c ++ b))) (evaluateInto t r v) (ready-stored t r v turn)
+      (recorded-next t r v turn a old) x (subst (λ (l : List ℕ). x ∈ l) (sym (append-assoc a (v ∷ []) c)) m)
     where
       turn : Evaluable t r v
       turn = record {
@@ -102,14 +102,15 @@ module _ (t : List ℤ) (n : ℕ) (ok : Accepted t n) (o : List ℕ) (p : Proper
       before : target t x ∈ a
       before = let q = entered-read t n ok v now x value i in p .after a v b e (target t x) (q .0) (q .1)
 
-      finds-answer : Settled 1 now (target t x)
-      finds-answer = settled-down a [] (v ∷ b) e (zeros m) (ready-zeros t n m ok fit) (λ y j. absurd (omega arith)) (target t x) before
+      finds-answer : Recorded 1 now (target t x)
+      finds-answer = recorded-down a [] (v ∷ b) e (zeros m) (ready-zeros t n m ok fit) (λ y j. absurd (omega arith)) (target t x) before
 
       -- what it finds are its target's figures
       pub finds-figures : stored (down (evaluateInto t) a (zeros m)) (target t x) ≡ figures t n (target t x)
       finds-figures =
           sym (same-stored (down (evaluateInto t) (v ∷ b) now) now (target t x) (run-other t (working t n ok) (v ∷ b) back (target t x) later now here))
-          ∙ ap (λ (r : List ℤ). stored r (target t x)) (sym (ap (λ (l : List ℕ). down (evaluateInto t) l (zeros m)) e ∙ run-append t (working t n ok) a (v ∷ b) (zeros m)) ∙ down-figures t n ok m fit o p)
+          ∙ ap (λ (r : List ℤ). stored r (target t x)) (sym (ap (λ (l : List ℕ). down (evaluateInto t) l (zeros m)) e ∙ run-append t (working t n ok) a (v ∷ b) (zeros m))
+          ∙ down-figures t n ok m fit o p)
           ∙ figures-stored t n ok m fit (target t x)
         where
           front : (y : ℕ) → y ∈ a → kind t y ≡ valueCode
@@ -128,10 +129,10 @@ module _ (t : List ℤ) (n : ℕ) (ok : Accepted t n) (o : List ℕ) (p : Proper
     never-early = finds-answer
 
     -- once all have been evaluated, every value has a state from 1 to 5
-    end-settled : (v : ℕ) → kind t v ≡ valueCode → Settled 1 (resultCells t n m) v
-    end-settled v k =
-        subst (λ (r : List ℤ). Settled 1 r v) (down-figures t n ok m fit o p)
-        (settled-down o [] [] (sym (append-nil o)) (zeros m) (ready-zeros t n m ok fit) (λ y j. absurd (omega arith)) v (omega (arith, listed-once p v k)))
+    end-recorded : (v : ℕ) → kind t v ≡ valueCode → Recorded 1 (resultCells t n m) v
+    end-recorded v k =
+        subst (λ (r : List ℤ). Recorded 1 r v) (down-figures t n ok m fit o p)
+        (recorded-down o [] [] (sym (append-nil o)) (zeros m) (ready-zeros t n m ok fit) (λ y j. absurd (omega arith)) v (omega (arith, listed-once p v k)))
 
-pub figures-settled : (t : List ℤ) (n : ℕ) → Accepted t n → NoCycle t → (m : ℕ) → 3 * n ≤ m → (v : ℕ) → kind t v ≡ valueCode → Settled 1 (resultCells t n m) v
-figures-settled t n ok nc m fit v k = end-settled t n ok (mixedPlan t n) (mixed-proper t n ok nc) m fit v k
+pub figures-recorded : (t : List ℤ) (n : ℕ) → Accepted t n → NoCycle t → (m : ℕ) → 3 * n ≤ m → (v : ℕ) → kind t v ≡ valueCode → Recorded 1 (resultCells t n m) v
+figures-recorded t n ok nc m fit v k = end-recorded t n ok (mixedPlan t n) (mixed-proper t n ok nc) m fit v k

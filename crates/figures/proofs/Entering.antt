@@ -19,7 +19,8 @@ use Rattle.evaluation.specs.declared.Outcome.{Outcome}
 use Rattle.evaluation.proofs.Steps.{unrolled, left-less}
 use Rattle.figures.specs.Entered.{GoesBy, firstOutcome, FirstNumber, Enters, itself, argument, body, first, second, test, branch, EntersRead}
 
-unless-same : (o o′ : Outcome) (k k′ : ℤ → ℕ → Outcome) → o ≡ o′ → (o .state ≡ hasNumber → k (o .number) (o .left) ≡ k′ (o .number) (o .left)) → unlessFailed o k ≡ unlessFailed o′ k′
+unless-same : (o o′ : Outcome) (k k′ : ℤ → ℕ → Outcome) → o ≡ o′ → (o .state ≡ hasNumber → k (o .number) (o .left) ≡ k′ (o .number) (o .left))
+    → unlessFailed o k ≡ unlessFailed o′ k′
 unfolding onNumber
 unless-same o o′ k k′ e f = go (eqb (o .state) hasNumber) refl ∙ ap (λ (u : Outcome). unlessFailed u k′) e
   where
@@ -32,7 +33,8 @@ module _ (t r r′ : List ℤ) where
   abbrev SameFound : ℕ → Arguments → ℕ → ℕ → Type 0
   SameFound l g s d = (x : ℕ) → GoesBy t clause.Read x → Enters t r x l g s d → (q : ℕ) → answerAt r (target t x) q ≡ answerAt r′ (target t x) q
 
-  module _ (s : ℕ) (rec : (l : ℕ) (g : Arguments) (n d : ℕ) → n ≤ s → SameFound l g n d → outcome t r l g n d ≡ outcome t r′ l g n d) (l : ℕ) (g : Arguments) (d : ℕ) (f : SameFound l g (suc s) d) where
+  module _ (s : ℕ) (rec : (l : ℕ) (g : Arguments) (n d : ℕ) → n ≤ s → SameFound l g n d → outcome t r l g n d ≡ outcome t r′ l g n d) (l : ℕ) (g : Arguments) (d : ℕ)
+      (f : SameFound l g (suc s) d) where
     less : firstOutcome t r l g s d .left ≤ s
     less = left-less t r (fieldA t l) g s d
 
@@ -45,7 +47,8 @@ module _ (t r r′ : List ℤ) where
         unless-same _ _ _ _ (rec (fieldA t l) g s d (le-refl s) (λ x h i. f x h (argument l n e i))) (λ c. deeper c (eqb d depthLimit) refl)
       where
         deeper : FirstNumber t r l g s d → (b : Bool) → eqb d depthLimit ≡ b
-            → bodyBy b (outcome t r) t l (firstOutcome t r l g s d .number) (firstOutcome t r l g s d .left) d ≡ bodyBy b (outcome t r′) t l (firstOutcome t r l g s d .number) (firstOutcome t r l g s d .left) d
+            → bodyBy b (outcome t r) t l (firstOutcome t r l g s d .number) (firstOutcome t r l g s d .left) d ≡ bodyBy b (outcome t r′) t l (firstOutcome t r l g s d .number)
+            (firstOutcome t r l g s d .left) d
         deeper c true q = refl
         deeper c false q = rec (fieldB t (target t l)) _ _ (d + 1) less (λ x h i. f x h (body l n e c (eqb-false d depthLimit q) i))
     entered-same (clause.Operation op) e =

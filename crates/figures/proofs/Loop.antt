@@ -11,7 +11,7 @@ use Rattle.kinds.specs.Kinds.{valueCode}
 use Rattle.cells.specs.Cells.{natOf, natAt, zeros}
 use Rattle.cells.specs.Table.{kind}
 use Rattle.cells.specs.Accepted.{Accepted}
-use Rattle.order.specs.Lists.{_∈_}
+use Rattle.order.specs.LabelLists.{_∈_}
 use Rattle.order.specs.Order.{Proper}
 use Rattle.order.specs.Following.{ProperList, labelsOf}
 use Rattle.order.specs.Evaluating.{down}
@@ -20,12 +20,12 @@ use Rattle.order.proofs.Mixed.{listed-value}
 use Rattle.order.proofs.Following.{proper-list}
 use Rattle.evaluation.specs.Evaluation.{evaluated}
 use Rattle.evaluation.specs.Ready.{Ready, ReachedEvaluated, Evaluable}
-use Rattle.evaluation.specs.Results.{Settled}
+use Rattle.evaluation.specs.Results.{Recorded}
 use Rattle.evaluation.proofs.Stored.{store-length, ready-zeros, ready-stored}
 use Rattle.figures.specs.Figures.{evaluateInto, resultCells}
 use Rattle.figures.specs.Down.{Listed}
 use Rattle.figures.proofs.Working.{down-figures}
-use Rattle.figures.proofs.Early.{settled-next}
+use Rattle.figures.proofs.Early.{recorded-next}
 
 -- ---- the labels before index i, and those from it on
 
@@ -60,7 +60,7 @@ pub record Going (t order : List ℤ) (k : ℕ) (r₀ r : List ℤ) (i : ℕ) : 
   pub upto : i ≤ k
   pub long : length r ≡ length r₀
   pub ready : Ready t r
-  pub sofar : (x : ℕ) → x ∈ labelsOf (take i order) → Settled 1 r x
+  pub sofar : (x : ℕ) → x ∈ labelsOf (take i order) → Recorded 1 r x
   pub rest : down (evaluateInto t) (labelsOf (drop i (take k order))) r ≡ down (evaluateInto t) (labelsOf (take k order)) r₀
 
 module _ (t order : List ℤ) (k : ℕ) (r₀ : List ℤ) where
@@ -84,8 +84,10 @@ module _ (t order : List ℤ) (k : ℕ) (r₀ : List ℤ) where
           upto = omega arith;
           long = ap length q ∙ store-length r v (evaluated t r v) ∙ g .long;
           ready = rw q (ready-stored t r v w);
-          sofar = λ x m. rw q (settled-next t r v w (labelsOf (take i order)) (g .sofar) x (rw e (rw (one-more order k i (g .asked .room) j) at m)));
-          rest = ap (down (evaluateInto t) (left order k (i + 1))) (q ∙ ap (evaluateInto t r) e) ∙ sym (ap (λ (l : List ℕ). down (evaluateInto t) l r) (next order k i (g .asked .room) j)) ∙ g .rest;
+          sofar = λ x m. rw q (recorded-next t r v w (labelsOf (take i order)) (g .sofar) x (rw e (rw (one-more order k i (g .asked .room) j) at m)));
+          rest =
+              ap (down (evaluateInto t) (left order k (i + 1))) (q ∙ ap (evaluateInto t r) e) ∙ sym (ap (λ (l : List ℕ). down (evaluateInto t) l r) (next order k i (g .asked .room) j))
+              ∙ g .rest;
         }
 
     pub done : k ≤ i → r ≡ down (evaluateInto t) (labelsOf (take k order)) r₀
@@ -102,7 +104,9 @@ module _ (t order : List ℤ) (n k m : ℕ) {r : List ℤ} (ok : Accepted t n) (
   listed = record {
     room = room;
     ready = rw cleared (ready-zeros t n m ok fit);
-    values = λ i j. listed-value proper (natAt order i) (rw (parts order k i room j) (in-right (natAt order i) (labelsOf (take i order)) (natAt order i ∷ left order k (i + 1)) (in-here (natAt order i) (left order k (i + 1)))));
+    values =
+        λ i j. listed-value proper (natAt order i) (rw (parts order k i room j)
+        (in-right (natAt order i) (labelsOf (take i order)) (natAt order i ∷ left order k (i + 1)) (in-here (natAt order i) (left order k (i + 1)))));
     after = λ i j. proper .after (labelsOf (take i order)) (natAt order i) (left order k (i + 1)) (parts order k i room j);
   }
 

@@ -6,7 +6,7 @@ use lib.IntN.{ℤ, pos}
 use Rattle.kinds.specs.Kinds.{kinds, kindAt, clauseOf}
 use Rattle.numbers.specs.Rounding.{rounded, quotient}
 use Rattle.numbers.specs.Arithmetic.{rangedOf, result, calculated}
-use Rattle.evaluation.specs.Evaluation.{onNumber, answerAt, outcomeOf, bodyBy, callBy, operationBy, choiceBy, enteredBy, stepBy, within, outcome, valueOutcome}
+use Rattle.evaluation.specs.Evaluation.{onNumber, answerAt, outcomeOf, bodyBy, callBy, operationBy, choiceBy, enteredBy, stepBy, withFuel, outcome, valueOutcome}
 use Rattle.figures.specs.Figures.{afterRounds, resultCells}
 
 -- a line: its kind, a, b, owner and target, before the lines that follow
@@ -29,5 +29,5 @@ table =
 
 failure-passed-on : resultCells table 12 36
     ≡ no (has 3 (pos 0) 3 (no (no (no (no (no (no (no (has 3 (pos 0) 5 (no (no [])))))))))))
-unfolding afterRounds rounded quotient rangedOf result calculated onNumber answerAt outcomeOf kinds kindAt clauseOf bodyBy callBy operationBy choiceBy enteredBy stepBy within outcome valueOutcome
+unfolding afterRounds rounded quotient rangedOf result calculated onNumber answerAt outcomeOf kinds kindAt clauseOf bodyBy callBy operationBy choiceBy enteredBy stepBy withFuel outcome valueOutcome
 failure-passed-on = refl

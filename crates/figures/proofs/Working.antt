@@ -14,7 +14,7 @@ use Rattle.cells.specs.Table.{kind}
 use Rattle.cells.specs.Accepted.{Accepted}
 use Rattle.cells.specs.Reaches.{Reaches}
 use Rattle.order.specs.Order.{NoCycle, Proper, mixedPlan}
-use Rattle.order.specs.Evaluating.{Evaluation, down, row}
+use Rattle.order.specs.Evaluating.{Evaluation, down, labelCells}
 use Rattle.order.proofs.Lists.{split, in-here, in-right}
 use Rattle.order.proofs.Tables.{kind-v, kind-label}
 use Rattle.order.proofs.Mixed.{listed-once, listed-value, mixed-proper}
@@ -26,29 +26,30 @@ use Rattle.evaluation.specs.Results.{stored, store}
 use Rattle.evaluation.specs.Evaluation.{valueOf, evaluated}
 use Rattle.evaluation.proofs.Local.{results-local}
 use Rattle.evaluation.proofs.Stored.{store-length}
-use Rattle.figures.specs.Figures.{blank, cellsOf, rowsOf, afterRounds, figures, resultCells, Evaluated, evaluateInto}
+use Rattle.figures.specs.Figures.{blank, valueCells, resultsOf, afterRounds, figures, resultCells, Evaluated, evaluateInto}
 use Rattle.figures.proofs.Rows.{same-stored, stored-row, stored-zeros, row-of, rows-same, zeros-buffer, length-zeros, buffer-length}
 
 -- ---- the rows of results once a value is stored
 
-pub store-own : (r : List ℤ) (l : ℕ) (v : Value) → 1 ≤ l → 3 * l ≤ length r → row 3 (store r l v) l ≡ cellsOf v
+pub store-own : (r : List ℤ) (l : ℕ) (v : Value) → 1 ≤ l → 3 * l ≤ length r → labelCells 3 (store r l v) l ≡ valueCells v
 store-own r zero v h k = absurd (omega arith)
 store-own r (suc l) v h k =
     let e : suc l - 1 ≡ l = omega arith in
-    rw e (row-own 3 l r (cellsOf v) refl k)
+    rw e (row-own 3 l r (valueCells v) refl k)
 
-pub store-other : (r : List ℤ) (l : ℕ) (v : Value) (m : ℕ) → 1 ≤ l → (m ≡ l → ⊥) → row 3 (store r l v) m ≡ row 3 r m
+pub store-other : (r : List ℤ) (l : ℕ) (v : Value) (m : ℕ) → 1 ≤ l → (m ≡ l → ⊥) → labelCells 3 (store r l v) m ≡ labelCells 3 r m
 store-other r zero v m h d = absurd (omega arith)
 store-other r (suc l) v m h d =
     let e : suc l - 1 ≡ l = omega arith in
-    rw e (row-other 3 l m r (cellsOf v) refl d)
+    rw e (row-other 3 l m r (valueCells v) refl d)
 
 module _ (t : List ℤ) (n : ℕ) (ok : Accepted t n) where
   pub value-label : (v : ℕ) → kind t v ≡ valueCode → (1 ≤ v) × (v ≤ n)
   value-label v k = kind-label t n ok v (omega arith)
 
   -- a value's results depend on the rows of the values that it reaches
-  pub value-rows : (r r′ : List ℤ) (v : ℕ) → kind t v ≡ valueCode → ((w : ℕ) → kind t w ≡ valueCode → Reaches t v w → row 3 r w ≡ row 3 r′ w) → evaluated t r v ≡ evaluated t r′ v
+  pub value-rows : (r r′ : List ℤ) (v : ℕ) → kind t v ≡ valueCode → ((w : ℕ) → kind t w ≡ valueCode → Reaches t v w → labelCells 3 r w ≡ labelCells 3 r′ w)
+      → evaluated t r v ≡ evaluated t r′ v
   value-rows r r′ v k h =
       ap valueOf (results-local t r r′ n ok v k (λ w i j. let e = same-stored r r′ w (h w i j) in record { state = ap (λ (x : Value). x .state) e; number = ap (λ (x : Value). x .number) e }))
 
@@ -56,18 +57,18 @@ module _ (t : List ℤ) (n : ℕ) (ok : Accepted t n) where
   abbrev pub working : Evaluation t (List ℤ) (List ℤ)
   working = record {
     Fits = λ r. 3 * n ≤ length r;
-    stored = row 3;
-    result = λ r v. cellsOf (evaluated t r v);
+    stored = labelCells 3;
+    result = λ r v. valueCells (evaluated t r v);
     evaluate = evaluateInto t;
     fits = λ r v k h. omega (arith, store-length r v (evaluated t r v));
     own = λ r v k h. let b = value-label v k in store-own r v (evaluated t r v) (b .0) (omega (arith, b .1));
     other = λ r v w k h d. store-other r v (evaluated t r v) w (value-label v k .0) d;
-    local = λ r r′ v k f g h. ap cellsOf (value-rows r r′ v k h);
+    local = λ r r′ v k f g h. ap valueCells (value-rows r r′ v k h);
   }
 
   -- ---- a round
 
-  round-value : (k v : ℕ) → kind t v ≡ valueCode → afterRounds t n (suc k) v ≡ evaluated t (rowsOf (afterRounds t n k) n) v
+  round-value : (k v : ℕ) → kind t v ≡ valueCode → afterRounds t n (suc k) v ≡ evaluated t (resultsOf (afterRounds t n k) n) v
   unfolding afterRounds
   round-value k v e = rw (kind-v t v e)
 
@@ -83,32 +84,32 @@ module _ (t : List ℤ) (n : ℕ) (ok : Accepted t n) where
     abbrev cells : List ℤ
     cells = resultCells t n m
 
-    figure-row : (v : ℕ) → kind t v ≡ valueCode → row 3 cells v ≡ cellsOf (figures t n v)
+    figure-row : (v : ℕ) → kind t v ≡ valueCode → labelCells 3 cells v ≡ valueCells (figures t n v)
     figure-row v k = let b = value-label v k in row-of (figures t n) n (zeros (m - 3 * n)) v (b .0) (b .1)
 
-    other-row : (l : ℕ) → (kind t l ≡ valueCode → ⊥) → row 3 cells l ≡ row 3 (zeros m) l
+    other-row : (l : ℕ) → (kind t l ≡ valueCode → ⊥) → labelCells 3 cells l ≡ labelCells 3 (zeros m) l
     other-row l d =
         rows-same (figures t n) (λ _. blank) n (zeros (m - 3 * n)) l (λ _ _. round-blank _ l d)
-        ∙ ap (λ (r : List ℤ). row 3 r l) (sym (zeros-buffer n m fit))
+        ∙ ap (λ (r : List ℤ). labelCells 3 r l) (sym (zeros-buffer n m fit))
 
     module _ (o : List ℕ) (p : Proper t o) where
       abbrev end : List ℤ
       end = down (evaluateInto t) o (zeros m)
 
       -- k rounds settle the first k values of the order
-      rounds-settle : (k : ℕ) (a : List ℕ) (v : ℕ) (b : List ℕ) → o ≡ a ++ v ∷ b → length a < k → row 3 end v ≡ cellsOf (afterRounds t n k v)
+      rounds-settle : (k : ℕ) (a : List ℕ) (v : ℕ) (b : List ℕ) → o ≡ a ++ v ∷ b → length a < k → labelCells 3 end v ≡ valueCells (afterRounds t n k v)
       rounds-settle zero a v b e h = absurd (omega arith)
       rounds-settle (suc k) a v b e h =
           run-solves t working o p (zeros m) fits-zeros v value
-          ∙ ap cellsOf (value-rows end (rowsOf (afterRounds t n k) n ++ []) v value (λ w i r. earlier w i (split w a (p .after a v b e w i r)) (rounds-settle k))
-          ∙ ap (λ (r : List ℤ). evaluated t r v) (append-nil (rowsOf (afterRounds t n k) n)) ∙ sym (round-value k v value))
+          ∙ ap valueCells (value-rows end (resultsOf (afterRounds t n k) n ++ []) v value (λ w i r. earlier w i (split w a (p .after a v b e w i r)) (rounds-settle k))
+          ∙ ap (λ (r : List ℤ). evaluated t r v) (append-nil (resultsOf (afterRounds t n k) n)) ∙ sym (round-value k v value))
         where
           value : kind t v ≡ valueCode
           value = listed-value p v (rw e (in-right v a (v ∷ b) (in-here v b)))
 
           earlier : (w : ℕ) → kind t w ≡ valueCode → (a₁ : List ℕ) × (a₂ : List ℕ) × (a ≡ a₁ ++ w ∷ a₂)
-              → ((a : List ℕ) (v : ℕ) (b : List ℕ) → o ≡ a ++ v ∷ b → length a < k → row 3 end v ≡ cellsOf (afterRounds t n k v))
-              → row 3 end w ≡ row 3 (rowsOf (afterRounds t n k) n ++ []) w
+              → ((a : List ℕ) (v : ℕ) (b : List ℕ) → o ≡ a ++ v ∷ b → length a < k → labelCells 3 end v ≡ valueCells (afterRounds t n k v))
+              → labelCells 3 end w ≡ labelCells 3 (resultsOf (afterRounds t n k) n ++ []) w
           earlier w i (a₁, a₂, q) older =
               let s : length a ≡ length a₁ + suc (length a₂) = ap length q ∙ length-append a₁ (w ∷ a₂) in
               let b₂ = value-label w i in
@@ -116,25 +117,25 @@ module _ (t : List ℤ) (n : ℕ) (ok : Accepted t n) where
               ∙ sym (row-of (afterRounds t n k) n [] w (b₂ .0) (b₂ .1))
 
       -- and there are at most n
-      end-figures : (v : ℕ) → kind t v ≡ valueCode → row 3 end v ≡ row 3 cells v
+      end-figures : (v : ℕ) → kind t v ≡ valueCode → labelCells 3 end v ≡ labelCells 3 cells v
       end-figures v k = at (split v o (omega (arith, listed-once p v k))) ∙ sym (figure-row v k)
         where
-          at : (a : List ℕ) × (b : List ℕ) × (o ≡ a ++ v ∷ b) → row 3 end v ≡ cellsOf (figures t n v)
+          at : (a : List ℕ) × (b : List ℕ) × (o ≡ a ++ v ∷ b) → labelCells 3 end v ≡ valueCells (figures t n v)
           at (a, b, e) =
               let s : length o ≡ length a + suc (length b) = ap length e ∙ length-append a (v ∷ b) in
               rounds-settle n a v b e (omega (arith, order-short t n ok o p))
 
       proper-solve : Evaluated t cells
       proper-solve = record {
-        values = λ v k. sym (end-figures v k) ∙ run-solves t working o p (zeros m) fits-zeros v k ∙ ap cellsOf (value-rows end cells v k (λ w i _. end-figures w i));
-        others = λ l d. other-row l d ∙ ap (λ (i : ℕ). row 3 (zeros i) l) (sym (buffer-length (figures t n) n m fit));
+        values = λ v k. sym (end-figures v k) ∙ run-solves t working o p (zeros m) fits-zeros v k ∙ ap valueCells (value-rows end cells v k (λ w i _. end-figures w i));
+        others = λ l d. other-row l d ∙ ap (λ (i : ℕ). labelCells 3 (zeros i) l) (sym (buffer-length (figures t n) n m fit));
       }
 
       -- what satisfies "Working out" is what one comes to down the order, from zeros
       down-only : (r : List ℤ) → length r ≡ m → Evaluated t r → end ≡ r
       down-only r e w =
           only-cells t 3 (omega arith) working (λ r l. refl) (λ r v. store-length r v (evaluated t r v)) o p (zeros m) r fits-zeros
-          (omega arith) (e ∙ sym (length-zeros m)) (w .values) (λ l d. w .others l d ∙ ap (λ (i : ℕ). row 3 (zeros i) l) e)
+          (omega arith) (e ∙ sym (length-zeros m)) (w .values) (λ l d. w .others l d ∙ ap (λ (i : ℕ). labelCells 3 (zeros i) l) e)
 
       -- whichever proper order one works down, from zeros, one comes to the figures
       pub down-figures : down (evaluateInto t) o (zeros m) ≡ resultCells t n m

@@ -8,7 +8,7 @@ use Rattle.kinds.specs.Kinds.{valueCode}
 use Rattle.cells.specs.Cells.{natAt}
 use Rattle.cells.specs.Table.{kind}
 use Rattle.cells.specs.Reaches.{Reaches}
-use Rattle.order.specs.Lists.{_∈_}
+use Rattle.order.specs.LabelLists.{_∈_}
 use Rattle.order.specs.Following.{labelsOf}
 use Rattle.evaluation.specs.Ready.{Ready}
 

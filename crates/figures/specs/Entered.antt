@@ -8,8 +8,8 @@ use Rattle.cells.specs.Table.{kind, fieldA, fieldB, target}
 use Rattle.kinds.specs.declared.Operation.{Operation}
 use Rattle.order.specs.Evaluating.{down}
 use Rattle.evaluation.specs.States.{hasNumber}
-use Rattle.evaluation.specs.Evaluation.{branchOf, depthLimit, stepLimit, one, outcome, nothing}
-use Rattle.evaluation.specs.Results.{Settled}
+use Rattle.evaluation.specs.Evaluation.{branchOf, depthLimit, stepLimit, oneArgument, outcome, nothing}
+use Rattle.evaluation.specs.Results.{Recorded}
 use Rattle.evaluation.specs.declared.Arguments.{Arguments}
 use Rattle.kinds.specs.declared.Clause.{Clause}
 use Rattle.kinds.specs.declared.Clause.the-variants as clause
@@ -31,15 +31,15 @@ FirstNumber t r l g s d = firstOutcome t r l g s d .state ≡ hasNumber
 -- entered in evaluating what l's rule evaluates.
 pub data Enters (t r : List ℤ) (x : ℕ) : ℕ → Arguments → ℕ → ℕ → Type 0 where
   itself : {g : Arguments} {s d : ℕ} → Enters t r x x g (suc s) d
-  -- "C works out its argument; at depth 64 the state is then 5, else the target's body is worked out one deeper"
+  -- "C works out its argument; at depth 64 the state is then 5, else the target's body is worked out oneArgument deeper"
   argument : (l k : ℕ) {g : Arguments} {s d : ℕ} → GoesBy t (clause.Call k) l → Enters t r x (fieldA t l) g s d → Enters t r x l g (suc s) d
   body : (l k : ℕ) {g : Arguments} {s d : ℕ} → GoesBy t (clause.Call k) l → FirstNumber t r l g s d → (d ≡ depthLimit → ⊥)
-      → Enters t r x (fieldB t (target t l)) (one (firstOutcome t r l g s d .number)) (firstOutcome t r l g s d .left) (d + 1) → Enters t r x l g (suc s) d
+      → Enters t r x (fieldB t (target t l)) (oneArgument (firstOutcome t r l g s d .number)) (firstOutcome t r l g s d .left) (d + 1) → Enters t r x l g (suc s) d
   -- "A, S, M, D work out a, then b"
   first : (l : ℕ) (op : Operation) {g : Arguments} {s d : ℕ} → GoesBy t (clause.Operation op) l → Enters t r x (fieldA t l) g s d → Enters t r x l g (suc s) d
   second : (l : ℕ) (op : Operation) {g : Arguments} {s d : ℕ} → GoesBy t (clause.Operation op) l → FirstNumber t r l g s d
       → Enters t r x (fieldB t l) g (firstOutcome t r l g s d .left) d → Enters t r x l g (suc s) d
-  -- "I works out a, then one branch only"
+  -- "I works out a, then oneArgument branch only"
   test : (l : ℕ) {g : Arguments} {s d : ℕ} → GoesBy t clause.Choice l → Enters t r x (fieldA t l) g s d → Enters t r x l g (suc s) d
   branch : (l : ℕ) {g : Arguments} {s d : ℕ} → GoesBy t clause.Choice l → FirstNumber t r l g s d
       → Enters t r x (branchOf t l (firstOutcome t r l g s d .number)) g (firstOutcome t r l g s d .left) d → Enters t r x l g (suc s) d
@@ -53,4 +53,4 @@ pub record EntersRead (t r : List ℤ) (v x : ℕ) : Type 0 where
 -- with a state from 1 to 5.
 abbrev pub NeverEarly : List ℤ → List ℕ → List ℤ → Type 0
 NeverEarly t o r = (a : List ℕ) (v : ℕ) (b : List ℕ) → o ≡ a ++ v ∷ b
-    → (x : ℕ) → EntersRead t (down (evaluateInto t) a r) v x → Settled 1 (down (evaluateInto t) a r) (target t x)
+    → (x : ℕ) → EntersRead t (down (evaluateInto t) a r) v x → Recorded 1 (down (evaluateInto t) a r) (target t x)

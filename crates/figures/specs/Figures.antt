@@ -9,7 +9,7 @@ use Rattle.kinds.specs.Kinds.{valueCode}
 use Rattle.cells.specs.Cells.{zeros}
 use Rattle.cells.specs.Table.{kind}
 use Rattle.order.specs.Order.{isV}
-use Rattle.order.specs.Evaluating.{row}
+use Rattle.order.specs.Evaluating.{labelCells}
 use Rattle.evaluation.specs.declared.Value.{Value}
 use Rattle.evaluation.specs.Results.{store}
 use Rattle.evaluation.specs.Evaluation.{evaluated}
@@ -20,26 +20,26 @@ use Rattle.evaluation.specs.Evaluation.{evaluated}
 abbrev pub blank : Value
 blank = record { number = pos 0; state = 0; steps = 0 }
 
-abbrev pub cellsOf : Value → List ℤ
-cellsOf v = pos (v .state) ∷ v .number ∷ pos (v .steps) ∷ []
+abbrev pub valueCells : Value → List ℤ
+valueCells v = pos (v .state) ∷ v .number ∷ pos (v .steps) ∷ []
 
 -- those of labels 1 to n, three cells a label
-abbrev pub rowsOf : (ℕ → Value) → ℕ → List ℤ
-rowsOf f zero = []
-rowsOf f (suc k) = rowsOf f k ++ cellsOf (f (suc k))
+abbrev pub resultsOf : (ℕ → Value) → ℕ → List ℤ
+resultsOf f zero = []
+resultsOf f (suc k) = resultsOf f k ++ valueCells (f (suc k))
 
 -- the same in a buffer of m cells, whose unused cells are zero
 abbrev pub bufferOf : (ℕ → Value) → ℕ → ℕ → List ℤ
-bufferOf f n m = rowsOf f n ++ zeros (m - 3 * n)
+bufferOf f n m = resultsOf f n ++ zeros (m - 3 * n)
 
 -- ---- the figures
 
 -- label l's results after k rounds, in each of which every value is evaluated from the results of the round before
 unfoldable pub afterRounds : List ℤ → ℕ → ℕ → ℕ → Value
 afterRounds t n zero l = blank
-afterRounds t n (suc k) l = cond (isV t l) (evaluated t (rowsOf (afterRounds t n k) n) l) blank
+afterRounds t n (suc k) l = cond (isV t l) (evaluated t (resultsOf (afterRounds t n k) n) l) blank
 
--- each label's results. Where no value reaches itself, a value is settled one round after those that it reaches; so n rounds are
+-- each label's results. Where no value reaches itself, a value has its results one round after those that it reaches; so n rounds are
 -- enough, and another one would change nothing.
 abbrev pub figures : List ℤ → ℕ → ℕ → Value
 figures t n = afterRounds t n n
@@ -52,8 +52,8 @@ resultCells t n m = bufferOf (figures t n) n m
 
 -- Results satisfy "Working out": each V has what it comes to from these very results, and all other cells are 0.
 pub record Evaluated (t r : List ℤ) : Type 0 where
-  pub values : (v : ℕ) → kind t v ≡ valueCode → row 3 r v ≡ cellsOf (evaluated t r v)
-  pub others : (l : ℕ) → (kind t l ≡ valueCode → ⊥) → row 3 r l ≡ row 3 (zeros (length r)) l
+  pub values : (v : ℕ) → kind t v ≡ valueCode → labelCells 3 r v ≡ valueCells (evaluated t r v)
+  pub others : (l : ℕ) → (kind t l ≡ valueCode → ⊥) → labelCells 3 r l ≡ labelCells 3 (zeros (length r)) l
 
 -- ---- down an order
 

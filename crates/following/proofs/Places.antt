@@ -17,18 +17,18 @@ use Rattle.refusals.specs.declared.Verdict.{Verdict}
 use Rattle.refusals.specs.declared.Verdict.the-variants.{Refused}
 use Rattle.refusals.specs.Refusal.{orElse, foundAt}
 use Rattle.refusals.specs.Rows.{cycleRow, listedRow, earlyRow}
-use Rattle.order.specs.Lists.{_∈_, mem, upFrom, any}
+use Rattle.order.specs.LabelLists.{_∈_, mem, upFrom, any}
 use Rattle.order.specs.Order.{isV, values, reaches, place16}
 use Rattle.cells.specs.Lists.{orIfZero}
 use Rattle.order.specs.Following.{labelsOf, firstPosition, notNew, missing, early, place17, place18}
-use Rattle.order.specs.Rows.{cycleBad, orderBad}
+use Rattle.order.specs.Rows16to18.{cycleBad, orderBad}
 use Rattle.order.proofs.Tests.{clash, not-so, and-left, and-right, and-intro}
 use Rattle.order.proofs.Lists.{split, any-true, any-intro, any-refute, count-upFrom}
 use Rattle.order.proofs.Tables.{v-kind, kind-label, in-values, value-of, reaches-exact}
 use Rattle.order.proofs.Following.{place17-exactly}
 use Rattle.marks.specs.Marks.{mark, First}
 use Rattle.marks.proofs.Squares.{mark-in}
-use Rattle.reach.specs.Rows.{width, AllRows}
+use Rattle.reach.specs.MarkRows.{width, AllMarkRows}
 use Rattle.reach.proofs.Links.{touch-body, touch-around, forth-exact}
 use Rattle.reach.proofs.Reading.{row-room}
 use Rattle.following.specs.Left.{Values, Left, lacks, awaits}
@@ -67,7 +67,8 @@ module _ (t : List ℤ) (n : ℕ) (ok : Accepted t n) (row : List ℕ) (is : Val
       place-past h =
           let m : (isV t r && not (mem r (labelsOf cells))) ≡ true = ap (λ (b : Bool). b && not (mem r (labelsOf cells))) (sym (is r)) ∙ sym (rest r) ∙ f .here h in
           let x : missing t n (labelsOf cells) ≡ true =
-          any-intro (λ v. not (mem v (labelsOf cells))) (values t n) r (in-values t n ok r (and-left (isV t r) (not (mem r (labelsOf cells))) m)) (and-right (isV t r) (not (mem r (labelsOf cells))) m) in
+          any-intro (λ v. not (mem v (labelsOf cells))) (values t n) r (in-values t n ok r (and-left (isV t r) (not (mem r (labelsOf cells))) m))
+          (and-right (isV t r) (not (mem r (labelsOf cells))) m) in
           sym (rw (sym (e ∙ wrong-is) ∙ z, x, add-one))
 
       pub place-full : 64 * width n ≤ r → 0 ≡ place17 t n cells
@@ -93,7 +94,7 @@ module _ (t : List ℤ) (n : ℕ) (ok : Accepted t n) (row : List ℕ) (is : Val
         go (yes k) = k
         go (no k) = let s = split v (labelsOf cells) m in absurd (place17-exactly t n ok cells 0 .0 z .0 (s .0) v (s .1) (s .2) (inl k))
 
-    module _ (square : List ℕ) (rows : AllRows t n 7 square) where
+    module _ (square : List ℕ) (rows : AllMarkRows t n 7 square) where
       awaits-early : (a : List ℕ) (v : ℕ) → kind t v ≡ valueCode → awaits square row (width n) a v ≡ early t n a v
       unfolding awaits
       awaits-early a v k = same-test (any marked (upFrom 0 (64 * width n))) (any reached (values t n)) there back

@@ -9,7 +9,7 @@ use lib.IntN.{ℤ, pos}
 use lib.ListN.{length, getD, take, drop, drop-of-length-le, length-map, List·getD-map}
 use lib.Seq.{take-suc, drop-cons}
 use Rattle.cells.specs.Cells.{natOf, natAt}
-use Rattle.order.specs.Lists.{_∈_}
+use Rattle.order.specs.LabelLists.{_∈_}
 use Rattle.order.specs.Following.{labelsOf, firstPosition}
 use Rattle.order.proofs.Tests.{not-so}
 use Rattle.order.proofs.Lists.{in-here, in-there}
@@ -33,7 +33,8 @@ module _ (bad : List ℕ → ℕ → Bool) (l : List ℕ) (i : ℕ) where
   onward-fine h z = not-so (bad (take i l) (getD l i 0)) (λ e. omega (arith, onward-here h e))
 
 -- tests that agree on the list's labels find the same
-pub same-position : (f g : List ℕ → ℕ → Bool) (l seen : List ℕ) (k : ℕ) → ((a : List ℕ) (v : ℕ) → v ∈ l → f a v ≡ g a v) → firstPosition f seen k l ≡ firstPosition g seen k l
+pub same-position : (f g : List ℕ → ℕ → Bool) (l seen : List ℕ) (k : ℕ) → ((a : List ℕ) (v : ℕ) → v ∈ l → f a v ≡ g a v)
+    → firstPosition f seen k l ≡ firstPosition g seen k l
 same-position f g [] seen k h = refl
 same-position f g (v ∷ l) seen k h = rw (h seen v (in-here v l), same-position f g l (seen ++ v ∷ []) (suc k) (λ a u m. h a u (in-there u v l m)))
 

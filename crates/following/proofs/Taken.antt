@@ -11,7 +11,7 @@ use lib.IntN.{ℤ}
 use lib.ListN.{length, getD, take}
 use lib.Seq.{take-suc, take-all}
 use Rattle.cells.specs.Cells.{natAt}
-use Rattle.order.specs.Lists.{count, _∈_, mem, upFrom, any}
+use Rattle.order.specs.LabelLists.{count, _∈_, mem, upFrom, any}
 use Rattle.order.specs.Following.{labelsOf}
 use Rattle.order.proofs.Tests.{not-so, and-left, and-right, and-intro}
 use Rattle.order.proofs.Lists.{count-append, count-there, count-upFrom, any-true, any-intro, mem-of, in-right, in-here}
@@ -78,7 +78,12 @@ module _ (row : List ℕ) (w : ℕ) (seen left : List ℕ) (is : Left row w seen
     awaits-none h = not-so (any (λ q. mark square w v q && (mark row w 0 q && not (mem q seen))) (upFrom 0 (64 * w))) (λ e.
         let x = any-true (λ q. mark square w v q && (mark row w 0 q && not (mem q seen))) (upFrom 0 (64 * w)) e in
         let q = x .0 in
-        h (record { at = q; here = and-left (mark square w v q) (mark row w 0 q && not (mem q seen)) (x .2); there = is q ∙ and-right (mark square w v q) (mark row w 0 q && not (mem q seen)) (x .2) }))
+        h (record {
+          at = q;
+          here = and-left (mark square w v q) (mark row w 0 q && not (mem q seen)) (x .2);
+          there = is q
+              ∙ and-right (mark square w v q) (mark row w 0 q && not (mem q seen)) (x .2);
+        }))
 
 -- ---- the turns of a pass over an order list: index i, whose label is v
 

@@ -21,7 +21,7 @@ use Rattle.order.proofs.Tables.{v-kind, kind-v, kind-label}
 use Rattle.marks.specs.Marks.{bit, mark, Added}
 use Rattle.marks.proofs.Bits.{bit-and, bit-none, lowest-is}
 use Rattle.marks.proofs.Squares.{inside, mark-in}
-use Rattle.reach.specs.Rows.{width}
+use Rattle.reach.specs.MarkRows.{width}
 use Rattle.following.specs.Left.{Values, Meets}
 
 -- ---- marks in common

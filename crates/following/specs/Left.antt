@@ -4,10 +4,10 @@ use mathlib.Core.List.{List}
 use mathlib.Core.Bool.{Bool, true, not, _&&_, _||_}
 use Prim.Native.Nat.{ℕ, _*_}
 use lib.IntN.{ℤ}
-use Rattle.order.specs.Lists.{mem, upFrom, any}
+use Rattle.order.specs.LabelLists.{mem, upFrom, any}
 use Rattle.order.specs.Order.{isV}
 use Rattle.marks.specs.Marks.{mark}
-use Rattle.reach.specs.Rows.{width}
+use Rattle.reach.specs.MarkRows.{width}
 
 -- the first row has the values, and nothing else
 abbrev pub Values : List ℤ → ℕ → List ℕ → Type 0

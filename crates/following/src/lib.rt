@@ -10,9 +10,9 @@ ghost use lib.ListN.{length};
 ghost use Rattle.cells.specs.Accepted.{Accepted};
 ghost use Rattle.refusals.specs.Refusal.{orElse, foundAt};
 ghost use Rattle.order.specs.Following.{labelsOf, firstPosition, place17, place18};
-ghost use Rattle.order.specs.Rows.{cycleBad, orderBad};
+ghost use Rattle.order.specs.Rows16to18.{cycleBad, orderBad};
 ghost use Rattle.marks.specs.Marks.{mark};
-ghost use Rattle.reach.specs.Rows.{width, Blank, AllRows};
+ghost use Rattle.reach.specs.MarkRows.{width, Blank, AllMarkRows};
 ghost use Rattle.following.specs.Left.{Values, Left, lacks, awaits, Meets};
 use refusals::Verdict;
 
@@ -125,7 +125,7 @@ fn first_early(order: &[i64], square: &[u64], left: &mut [u64], w: usize) -> usi
 // The row's place, where row 17 finds nothing.
 fn early_place(table: &[i64], n: usize, order: &[i64], square: &[u64], left: &mut [u64]) -> usize
     requires { ⌜ Accepted (now table) n ⌝ }
-    requires { ⌜ ((n + 1) * width n ≤ length (now square)) × AllRows (now table) n 7 (now square) ⌝ }
+    requires { ⌜ ((n + 1) * width n ≤ length (now square)) × AllMarkRows (now table) n 7 (now square) ⌝ }
     requires { ⌜ width n ≤ length (now left) ⌝ }
     requires { ⌜ place17 (now table) n (now order) ≡ 0 ⌝ }
     ensures { λ r. ⌜ r ≡ place18 (now (table .entry)) n (now (order .entry)) ⌝ }
@@ -149,7 +149,7 @@ fn found_at(row: u64, place: usize) -> Verdict
 // Rows 17 and 18.
 fn check_list(table: &[i64], n: usize, order: &[i64], square: &[u64], left: &mut [u64]) -> Verdict
     requires { ⌜ Accepted (now table) n ⌝ }
-    requires { ⌜ ((n + 1) * width n ≤ length (now square)) × AllRows (now table) n 7 (now square) ⌝ }
+    requires { ⌜ ((n + 1) * width n ≤ length (now square)) × AllMarkRows (now table) n 7 (now square) ⌝ }
     requires { ⌜ width n ≤ length (now left) ⌝ }
     ensures { λ r. ⌜ r ≡ orderBad (now (table .entry)) n (now (order .entry)) ⌝ }
 {

@@ -1,4 +1,4 @@
--- Chains of members, and labels gathered in lists.
+-- Chains of members, and allLabels gathered in lists.
 use mathlib.Core.Path.{_≡_, refl, sym, ap, _∙_, subst}
 use mathlib.Core.Logic.{_⊎_, inl, inr}
 use mathlib.Core.List.{List, [], _∷_, _++_, append-assoc, append-nil}
@@ -13,18 +13,18 @@ use lib.ListN.{length, getD, set, take, drop, length-set, length-append, drop-of
 use lib.Seq.{getD-set-same, getD-set-other, take-suc-set, length-take-le, drop-cons}
 use borrow.Author.Tests.{eq-eqb, ne-eqb}
 use Rattle.cells.specs.Table.{owner, isDefinition}
-use Rattle.order.specs.Lists.{count, _∈_, upFrom, filter}
-use Rattle.order.specs.Order.{labels, isMember}
+use Rattle.order.specs.LabelLists.{count, _∈_, upFrom, filter}
+use Rattle.order.specs.Order.{allLabels, isMember}
 use Rattle.order.proofs.Tests.{so-or-not}
 use Rattle.order.proofs.Lists.{in-here, in-there, in-right, in-filter, count-below, count-here, count-append, filter-le, length-upFrom}
-use Rattle.placing.specs.Placing.{Rising}
+use Rattle.placing.specs.UnmetCounts.{Rising}
 use Rattle.reach.specs.Chains.{Empty}
 use Rattle.groups.specs.Members.{Chain, Chained, Gathered, Relinked}
 
--- ---- labels that pass a test, upward
+-- ---- allLabels that pass a test, upward
 
-pub labels-few : (f : ℕ → Bool) (n : ℕ) → length (filter f (labels n)) ≤ n
-labels-few f n = omega (arith, filter-le f (labels n), length-upFrom 1 n)
+pub labels-few : (f : ℕ → Bool) (n : ℕ) → length (filter f (allLabels n)) ≤ n
+labels-few f n = omega (arith, filter-le f (allLabels n), length-upFrom 1 n)
 
 above : (f : ℕ → Bool) (m k y : ℕ) → y ∈ filter f (upFrom m k) → m ≤ y
 above f m k y h = go (ℕ-lt y m)
@@ -50,7 +50,8 @@ rising-filter f m (suc k) = go (so-or-not (f m)) (rising-filter f (suc m) k)
 
 -- ---- chains
 
-pub chain-same : (n : ℕ) (next next′ : List ℕ) (p : ℕ) (l : List ℕ) → ((x : ℕ) → x ∈ l → getD next′ (n + x) 0 ≡ getD next (n + x) 0) → Chain n next p l → Chain n next′ p l
+pub chain-same : (n : ℕ) (next next′ : List ℕ) (p : ℕ) (l : List ℕ) → ((x : ℕ) → x ∈ l → getD next′ (n + x) 0 ≡ getD next (n + x) 0) → Chain n next p l
+    → Chain n next′ p l
 chain-same n next next′ p [] h c = c
 chain-same n next next′ p (y ∷ l) h c = (
   c .0,
@@ -128,8 +129,12 @@ module _ (t : List ℤ) (n : ℕ) where
               ap (λ (j : ℕ). getD next j 0) e
               ∙ sym (getD-set-other (set next (n + l) (getD next (owner t l) 0)) (owner t l) (n + l) l 0 (λ z. omega arith)
               ∙ getD-set-same next (n + l) (getD next (owner t l) 0) 0 (omega arith)) in
-              subst (λ (m : List ℕ). Chain n (set (set next (n + l) (getD next (owner t l) 0)) (owner t l) l) (getD (set (set next (n + l) (getD next (owner t l) 0)) (owner t l) l) g 0) m) lists
-              (head, lo, subst (λ (q : ℕ). Chain n (set (set next (n + l) (getD next (owner t l) 0)) (owner t l) l) q (filter (isMember t g) (upFrom (suc l) (n - l)))) link (kept g (getD next g 0) (k g h)))
+              subst (λ (m : List ℕ). Chain n (set (set next (n + l) (getD next (owner t l) 0)) (owner t l) l) (getD (set (set next (n + l) (getD next (owner t l) 0)) (owner t l) l) g 0) m) lists (
+                head,
+                lo,
+                subst (λ (q : ℕ). Chain n (set (set next (n + l) (getD next (owner t l) 0)) (owner t l) l) q (filter (isMember t g) (upFrom (suc l) (n - l)))) link
+                    (kept g (getD next g 0) (k g h)),
+              )
           go (no e) =
               let test : isMember t g l ≡ false = rw d (ne-eqb (owner t l) g (λ z. e (sym z))) in
               let head : getD (set (set next (n + l) (getD next (owner t l) 0)) (owner t l) l) g 0 ≡ getD next g 0 =
@@ -195,37 +200,37 @@ module _ (n : ℕ) (next whole items : List ℕ) where
       go [] e c = record { cells = sym (append-nil (take m items)) ∙ e; within = w .within }
       go (x ∷ l) e c = absurd (omega (arith, c .0, c .1))
 
--- ---- filtering the labels upward
+-- ---- filtering the allLabels upward
 
-module _ (f : ℕ → Bool) (n : ℕ) (items : List ℕ) (l m : ℕ) (lo : l ≤ n) (e : take m items ++ filter f (upFrom l (n + 1 - l)) ≡ filter f (labels n)) where
+module _ (f : ℕ → Bool) (n : ℕ) (items : List ℕ) (l m : ℕ) (lo : l ≤ n) (e : take m items ++ filter f (upFrom l (n + 1 - l)) ≡ filter f (allLabels n)) where
   next-label : filter f (upFrom l (n + 1 - l)) ≡ cond (f l) (l ∷ filter f (upFrom (l + 1) (n + 1 - (l + 1)))) (filter f (upFrom (l + 1) (n + 1 - (l + 1))))
   next-label =
       let a : n + 1 - l ≡ suc (n + 1 - (l + 1)) = omega arith in
       let b : suc l ≡ l + 1 = omega arith in
       ap (λ (j : ℕ). filter f (upFrom l j)) a ∙ ap (λ (j : ℕ). cond (f l) (l ∷ filter f (upFrom j (n + 1 - (l + 1)))) (filter f (upFrom j (n + 1 - (l + 1))))) b
 
-  pub take-label : f l ≡ true → m < length items → take (m + 1) (set items m l) ++ filter f (upFrom (l + 1) (n + 1 - (l + 1))) ≡ filter f (labels n)
+  pub take-label : f l ≡ true → m < length items → take (m + 1) (set items m l) ++ filter f (upFrom (l + 1) (n + 1 - (l + 1))) ≡ filter f (allLabels n)
   take-label h g =
       ap (λ (y : List ℕ). y ++ filter f (upFrom (l + 1) (n + 1 - (l + 1)))) (take-one items m l g)
       ∙ append-assoc (take m items) (l ∷ []) (filter f (upFrom (l + 1) (n + 1 - (l + 1)))) ∙ ap (λ (y : List ℕ). take m items ++ y) (sym (next-label ∙ rw h)) ∙ e
 
-  pub skip-label : f l ≡ false → take m items ++ filter f (upFrom (l + 1) (n + 1 - (l + 1))) ≡ filter f (labels n)
+  pub skip-label : f l ≡ false → take m items ++ filter f (upFrom (l + 1) (n + 1 - (l + 1))) ≡ filter f (allLabels n)
   skip-label h = ap (λ (y : List ℕ). take m items ++ y) (sym (next-label ∙ rw h)) ∙ e
 
-pub first-label : (f : ℕ → Bool) (n : ℕ) → filter f (upFrom 1 (n + 1 - 1)) ≡ filter f (labels n)
+pub first-label : (f : ℕ → Bool) (n : ℕ) → filter f (upFrom 1 (n + 1 - 1)) ≡ filter f (allLabels n)
 first-label f n =
     let z : n + 1 - 1 ≡ n = omega arith in
     ap (λ (j : ℕ). filter f (upFrom 1 j)) z
 
-pub no-more : (f : ℕ → Bool) (n : ℕ) (items : List ℕ) (l m : ℕ) → n < l → m ≤ length items → take m items ++ filter f (upFrom l (n + 1 - l)) ≡ filter f (labels n)
-    → Gathered (filter f (labels n)) items m
+pub no-more : (f : ℕ → Bool) (n : ℕ) (items : List ℕ) (l m : ℕ) → n < l → m ≤ length items → take m items ++ filter f (upFrom l (n + 1 - l)) ≡ filter f (allLabels n)
+    → Gathered (filter f (allLabels n)) items m
 no-more f n items l m h g e =
     let z : 0 ≡ n + 1 - l = omega arith in
     record { cells = sym (append-nil (take m items)) ∙ ap (λ (j : ℕ). take m items ++ filter f (upFrom l j)) z ∙ e; within = g }
 
 -- ---- a chain put in order, from its end
 
--- the labels of L from i on are linked, and nothing else changed
+-- the allLabels of L from i on are linked, and nothing else changed
 pub record Relinking (n : ℕ) (next₀ L next : List ℕ) (head i : ℕ) : Type 0 where
   pub chain : Chain n next head (drop i L)
   pub others : (y : ℕ) → ((x : ℕ) → x ∈ drop i L → y ≡ n + x → ⊥) → getD next y 0 ≡ getD next₀ y 0

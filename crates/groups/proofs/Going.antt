@@ -9,9 +9,9 @@ use lib.IntN.{ℤ}
 use lib.ListN.{getD}
 use Rattle.cells.specs.Table.{owner}
 use Rattle.cells.specs.Accepted.{Accepted}
-use Rattle.order.specs.Lists.{_∈_}
+use Rattle.order.specs.LabelLists.{_∈_}
 use Rattle.order.specs.Placing.{placed, stuck}
-use Rattle.order.specs.Order.{isG, labels, members, needs, ordered, groupStuck, someStuck}
+use Rattle.order.specs.Order.{isG, allLabels, members, needs, ordered, groupStuck, someStuck}
 use Rattle.order.proofs.Tests.{clash, and-intro}
 use Rattle.order.proofs.Lists.{in-here, any-intro, any-refute, count-below, count-above}
 use Rattle.order.proofs.Placing.{placed-sub}
@@ -64,7 +64,8 @@ module _ (t : List ℤ) (n : ℕ) (ok : Accepted t n) where
 
       -- a chain of members of another Group is as it was
       other : (k p : ℕ) (l : List ℕ) → (k ≡ g → ⊥) → ((x : ℕ) → x ∈ l → x ∈ members t n k) → Chain n next p l → Chain n next′ p l
-      other k p l d of c = chain-same n next next′ p l (λ x m. r .others (n + x) (λ z. omega (arith, member-label k x (of x m))) (λ y i z. apart x y (of x m) (order-member g y i) (omega arith))) c
+      other k p l d of c =
+          chain-same n next next′ p l (λ x m. r .others (n + x) (λ z. omega (arith, member-label k x (of x m))) (λ y i z. apart x y (of x m) (order-member g y i) (omega arith))) c
         where
           apart : (x y : ℕ) → x ∈ members t n k → y ∈ members t n g → x ≡ y → ⊥
           apart x y mx my e = d (sym (member-of t n ok k x mx .1) ∙ ap (owner t) e ∙ member-of t n ok g y my .1)
@@ -90,7 +91,7 @@ module _ (t : List ℤ) (n : ℕ) (ok : Accepted t n) where
     -- ---- a Group that is stuck
 
     pub going-stuck : groupStuck t n g ≡ true → someStuck t n ≡ true
-    going-stuck e = any-intro (λ g. isG t g && groupStuck t n g) (labels n) g (in-labels t n ok g low high) (and-intro (isG t g) (groupStuck t n g) (is-g (members t n g) refl) e)
+    going-stuck e = any-intro (λ g. isG t g && groupStuck t n g) (allLabels n) g (in-labels t n ok g low high) (and-intro (isG t g) (groupStuck t n g) (is-g (members t n g) refl) e)
       where
         is-g : (l : List ℕ) → members t n g ≡ l → isG t g ≡ true
         is-g [] z = clash (groupStuck t n g) e (ap (stuck (needs t n)) z)
@@ -101,9 +102,9 @@ module _ (t : List ℤ) (n : ℕ) (ok : Accepted t n) where
             subst (λ (k : ℕ). isG t k ≡ true) (w .1) (owner-group t n ok x (w .0) (omega (arith, owner-below t n ok x b, w .1)))
 
   pub going-end : (g : ℕ) (next : List ℕ) → Going t n g next → n < g → GroupOrders t n next false
-  going-end g next h l = (λ k a b. h .done k a b (omega arith), any-refute (λ g. isG t g && groupStuck t n g) (labels n) (λ x m. none x (label x m)))
+  going-end g next h l = (λ k a b. h .done k a b (omega arith), any-refute (λ g. isG t g && groupStuck t n g) (allLabels n) (λ x m. none x (label x m)))
     where
-      label : (x : ℕ) → x ∈ labels n → (1 ≤ x) × (x ≤ n)
+      label : (x : ℕ) → x ∈ allLabels n → (1 ≤ x) × (x ≤ n)
       label x m = go (decLt x 1) (decLt n x)
         where
           go : Dec (x < 1) → Dec (n < x) → (1 ≤ x) × (x ≤ n)

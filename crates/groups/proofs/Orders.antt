@@ -11,13 +11,13 @@ use lib.ListN.{length, getD, take}
 use lib.Seq.{length-take-le}
 use borrow.Author.Tests.{eq-eqb, ne-eqb}
 use Rattle.kinds.specs.Kinds.{groupCode}
-use Rattle.kinds.specs.Plans.{givesValues}
+use Rattle.kinds.specs.GivesValues.{givesValues}
 use Rattle.kinds.proofs.Plans.{group-gives, value-gives, gives-cases}
 use Rattle.cells.specs.Table.{kind, isDefinition}
 use Rattle.cells.specs.Accepted.{Accepted}
-use Rattle.order.specs.Lists.{one, count, _∈_, mem, any, first}
+use Rattle.order.specs.LabelLists.{one, count, _∈_, mem, any, first}
 use Rattle.order.specs.Placing.{waits, next, rounds, placed}
-use Rattle.order.specs.Order.{isG, isV, labels, isMember, members, values, reaches, needs, ordered, groupStuck, mixedPlan, place16, NoCycle}
+use Rattle.order.specs.Order.{isG, isV, allLabels, isMember, members, values, reaches, needs, ordered, groupStuck, mixedPlan, place16, NoCycle}
 use Rattle.order.proofs.Tests.{clash, so-or-not, not-so}
 use Rattle.order.proofs.Lists.{in-here, in-there, zero-or-in, length-mono, length-upFrom}
 use Rattle.order.proofs.Placing.{placed-sub, placed-all}
@@ -25,9 +25,9 @@ use Rattle.order.proofs.Tables.{v-kind, v-not-g, v-def, def-label, member-of, m
 use Rattle.order.proofs.Needs.{holds, holds-intro, holds-v, needs-intro, needs-elim, only-itself}
 use Rattle.order.proofs.Planned.{place16-exactly}
 use Rattle.marks.specs.Marks.{mark, Added}
-use Rattle.placing.specs.Placing.{needed, Fits, Placed}
+use Rattle.placing.specs.UnmetCounts.{needed, Fits, Placed}
 use Rattle.placing.proofs.Lists.{and-on, count-more, in-more, rising-once}
-use Rattle.reach.specs.Rows.{width}
+use Rattle.reach.specs.MarkRows.{width}
 use Rattle.reach.proofs.Reading.{row-room}
 use Rattle.needs.specs.Needs.{Holder, NeedRows}
 use Rattle.groups.specs.Members.{Gathered, Items, Scratch, Masked}
@@ -54,7 +54,8 @@ module _ (R Q : ℕ → ℕ → Bool) (items : List ℕ) (same : (p q : ℕ) →
   rounds-ext zero done = refl
   rounds-ext (suc k) done = go (next Q items done) refl (λ p. rounds-ext k (done ++ p ∷ []))
     where
-      go : (o : Option ℕ) → next Q items done ≡ o → ((p : ℕ) → rounds R items k (done ++ p ∷ []) ≡ rounds Q items k (done ++ p ∷ [])) → rounds R items (suc k) done ≡ rounds Q items (suc k) done
+      go : (o : Option ℕ) → next Q items done ≡ o → ((p : ℕ) → rounds R items k (done ++ p ∷ []) ≡ rounds Q items k (done ++ p ∷ []))
+          → rounds R items (suc k) done ≡ rounds Q items (suc k) done
       go none e r = rw (next-ext done, e)
       go (some p) e r = rw (next-ext done, e) (r p)
 
@@ -114,10 +115,10 @@ module _ (t : List ℤ) (n : ℕ) (ok : Accepted t n) where
 
     pub items-few : length items ≤ n
     items-few =
-        let m = length-mono items (labels n) (λ x. at x (zero-or-in (count x items))) in
+        let m = length-mono items (allLabels n) (λ x. at x (zero-or-in (count x items))) in
         omega (arith, length-upFrom 1 n)
       where
-        at : (x : ℕ) → (count x items ≡ 0) ⊎ (x ∈ items) → count x items ≤ count x (labels n)
+        at : (x : ℕ) → (count x items ≡ 0) ⊎ (x ∈ items) → count x items ≤ count x (allLabels n)
         at x (inl e) = omega arith
         at x (inr m) = let b = item-label x m in omega (arith, rising-once items (h .rising) x, in-labels t n ok x (b .0) (b .1))
 
@@ -224,7 +225,8 @@ module _ (t : List ℤ) (n : ℕ) (ok : Accepted t n) where
 
 -- ---- scratch of the same lengths
 
-pub scratch-as : (n : ℕ) (a b c d e a′ b′ c′ d′ e′ : List ℕ) → length a′ ≡ length a → length b′ ≡ length b → length c′ ≡ length c → length d′ ≡ length d → length e′ ≡ length e
+pub scratch-as : (n : ℕ) (a b c d e a′ b′ c′ d′ e′ : List ℕ) → length a′ ≡ length a → length b′ ≡ length b → length c′ ≡ length c → length d′ ≡ length d
+    → length e′ ≡ length e
     → Scratch n a b c d e → Scratch n a′ b′ c′ d′ e′
 scratch-as n a b c d e a′ b′ c′ d′ e′ p q r s u h = record {
   masks = omega (arith, h .masks);

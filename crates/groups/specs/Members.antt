@@ -8,12 +8,12 @@ use Prim.Native.Nat.{ℕ, _+_, _*_, _≤_, _<_}
 use lib.IntN.{ℤ}
 use lib.ListN.{length, getD, take}
 use Rattle.cells.specs.Table.{isDefinition}
-use Rattle.order.specs.Lists.{_∈_}
+use Rattle.order.specs.LabelLists.{_∈_}
 use Rattle.order.specs.Order.{members, ordered, groupStuck, someStuck}
 use Rattle.marks.specs.Marks.{mark}
 use Rattle.needs.specs.Needs.{Holder}
-use Rattle.placing.specs.Placing.{Rising}
-use Rattle.reach.specs.Rows.{width}
+use Rattle.placing.specs.UnmetCounts.{Rising}
+use Rattle.reach.specs.MarkRows.{width}
 
 -- from p on stand the labels of l
 abbrev pub Chain : ℕ → List ℕ → ℕ → List ℕ → Type 0

@@ -2,13 +2,14 @@
 
 ghost use Prim.Native.Nat.{ℕ, _+_, _*_, _≤_, _<_};
 ghost use lib.ListN.{length, getD, take};
+ghost use Rattle.cells.specs.Limits.{labelLimit};
 ghost use Rattle.cells.specs.Accepted.{Accepted};
-ghost use Rattle.order.specs.Lists.{count, _∈_};
+ghost use Rattle.order.specs.LabelLists.{count, _∈_};
 ghost use Rattle.order.specs.Order.{members, values, needs};
-ghost use Rattle.reach.specs.Rows.{width};
+ghost use Rattle.reach.specs.MarkRows.{width};
 ghost use Rattle.reach.specs.Chains.{Empty};
 ghost use Rattle.needs.specs.Needs.{NeedRows};
-ghost use Rattle.placing.specs.Placing.{Placed};
+ghost use Rattle.placing.specs.UnmetCounts.{Placed};
 ghost use Rattle.groups.specs.Members.{Chain, Chained, Gathered, Items, Scratch, Masked, Relinked, GroupOrder, GroupOrders};
 
 // ---- members
@@ -109,7 +110,7 @@ pub fn place_items(
 
 // The chain of a Group in the order given.
 fn relink(n: usize, next: &mut [u16], group: usize, order: &[u16], r: usize)
-    requires { ⌜ (n ≤ 1024) × (group ≤ n) × (2 * n < length (now next)) × (r ≤ length (now order)) ⌝ }
+    requires { ⌜ (n ≤ labelLimit) × (group ≤ n) × (2 * n < length (now next)) × (r ≤ length (now order)) ⌝ }
     requires { ⌜ ((x : ℕ) → x ∈ take r (now order) → (1 ≤ x) × (x ≤ n)) × ((x : ℕ) → count x (take r (now order)) ≤ 1) ⌝ }
     ensures { λ _. ⌜ Relinked n group (take r (now (order .entry))) (now (next .entry)) (now (next .exit)) ⌝ }
 {

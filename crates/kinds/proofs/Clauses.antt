@@ -9,7 +9,7 @@ use borrow.Author.Tests.{eqb-true, leb-true}
 use lib.Dec.{leb, eqb}
 use Rattle.kinds.specs.declared.Clause.{Clause}
 use Rattle.kinds.specs.declared.Clause.the-variants as clause
-use Rattle.kinds.specs.Kinds.{Kind, kinds, kindAt, isOperand, isExpression, hasPath, operandA, operandB, operandC, wantedBy, clauseOf, placeIn, takes, valueCode, numberCode}
+use Rattle.kinds.specs.Kinds.{Kind, kinds, kindAt, isOperandForm, isExpression, hasPath, operandA, operandB, operandC, wantedBy, clauseOf, placeIn, takes, valueCode, numberCode}
 use Rattle.kinds.proofs.Clause as tags
 use Rattle.kinds.proofs.Tests.{and-left, and-right}
 use Rattle.kinds.proofs.Rows.{each, by-rows}
@@ -46,15 +46,15 @@ module _ (c : ℕ) where
 
   pub a-uses : operandA c ≡ usesOf (clauseOf c) .a
   unfolding operandA clauseOf kinds
-  a-uses = rw (expression-row c) (by-rows (λ k. expresses k && isOperand (k .fields .a)) (λ k. usesOf (k .clause) .a) refl refl c)
+  a-uses = rw (expression-row c) (by-rows (λ k. expresses k && isOperandForm (k .fields .a)) (λ k. usesOf (k .clause) .a) refl refl c)
 
   pub b-uses : operandB c ≡ usesOf (clauseOf c) .b
   unfolding operandB clauseOf kinds
-  b-uses = rw (expression-row c) (by-rows (λ k. expresses k && isOperand (k .fields .b)) (λ k. usesOf (k .clause) .b) refl refl c)
+  b-uses = rw (expression-row c) (by-rows (λ k. expresses k && isOperandForm (k .fields .b)) (λ k. usesOf (k .clause) .b) refl refl c)
 
   pub c-uses : operandC c ≡ usesOf (clauseOf c) .c
   unfolding operandC clauseOf kinds
-  c-uses = rw (expression-row c) (by-rows (λ k. expresses k && isOperand (k .fields .c)) (λ k. usesOf (k .clause) .c) refl refl c)
+  c-uses = rw (expression-row c) (by-rows (λ k. expresses k && isOperandForm (k .fields .c)) (λ k. usesOf (k .clause) .c) refl refl c)
 
 -- ---- what else a row holds by its clause: an N has its code, an R leads to a V, a call to what takes as many arguments as it hands on
 

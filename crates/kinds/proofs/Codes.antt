@@ -13,7 +13,8 @@ use Rattle.kinds.specs.declared.Clause.{Clause}
 use Rattle.kinds.specs.declared.Clause.the-variants as clause
 use Rattle.kinds.specs.declared.Form.{Form}
 use Rattle.kinds.specs.declared.Form.the-variants.{Missing, Name, Path, Group, Operand, Number}
-use Rattle.kinds.specs.Kinds.{Kind, kinds, noKind, kindAt, codeIn, codeOf, fieldsAt, isKind, isOperand, isDefinition, isExpression, hasBody, clauseOf, placeIn, placeOf, wantedBy, takes, groupCode, valueCode, numberCode}
+use Rattle.kinds.specs.Kinds.{Kind, kinds, noKind, kindAt, codeIn, codeOf, fieldsAt, isKind, isOperandForm, isDefinition, isExpression, hasBody, clauseOf, placeIn}
+use Rattle.kinds.specs.Kinds.{argumentPlace, wantedBy, takes, groupCode, valueCode, numberCode}
 use Rattle.kinds.proofs.Tests.{clash}
 use Rattle.kinds.proofs.Rows.{every, implies, by-rule, by-rows}
 use Rattle.kinds.proofs.Laws.{defines, kinds-length, body-definition}
@@ -105,7 +106,7 @@ no-clause (clause.Operation op) e = clash e
 no-clause clause.Choice e = clash e
 
 -- only an expression stands for an argument
-pub other-place : (c : ℕ) → isExpression c ≡ false → placeOf c ≡ 0
+pub other-place : (c : ℕ) → isExpression c ≡ false → argumentPlace c ≡ 0
 other-place c e = ap placeIn (no-clause (clauseOf c) (sym (expression-uses c) ∙ e))
 
 module _ (c : ℕ) where
@@ -173,5 +174,5 @@ pub number-expression : isExpression numberCode ≡ true
 unfolding isExpression isKind isDefinition kindAt kinds
 number-expression = refl
 
-pub number-operand : isOperand (fieldsAt numberCode .a) ≡ false
-number-operand = ap isOperand number-form
+pub number-operand : isOperandForm (fieldsAt numberCode .a) ≡ false
+number-operand = ap isOperandForm number-form

@@ -8,7 +8,7 @@ use native.Mathlib.Omega.{arith}
 use borrow.Author.Tests.{leb-true, leb-false, le-leb, not-true}
 use lib.Dec.{leb, eqb, leb·suc-zero, leb·suc-suc}
 use lib.ListN.{length, getD, List·getD-eq-default}
-use Rattle.kinds.specs.Kinds.{Kind, kinds, noKind, kindAt, fieldsAt, isKind, isGroup, isOperand, isPath, isDefinition, isExpression, hasBody, hasPath, wantedBy}
+use Rattle.kinds.specs.Kinds.{Kind, kinds, noKind, kindAt, fieldsAt, isKind, isGroupForm, isOperandForm, isPathForm, isDefinition, isExpression, hasBody, hasPath, wantedBy}
 use Rattle.kinds.proofs.Tests.{clash, and-left, and-right}
 use Rattle.kinds.proofs.Rows.{by-rule, by-rows}
 
@@ -18,16 +18,16 @@ abbrev pub named : Kind → Bool
 named k = leb 1 (k .fields .letter)
 
 abbrev pub defines : Kind → Bool
-defines k = isGroup (k .fields .a)
+defines k = isGroupForm (k .fields .a)
 
 abbrev pub expresses : Kind → Bool
 expresses k = named k && not (defines k)
 
 abbrev bodied : Kind → Bool
-bodied k = defines k && isOperand (k .fields .b)
+bodied k = defines k && isOperandForm (k .fields .b)
 
 abbrev pub leads : Kind → Bool
-leads k = isPath (k .fields .name)
+leads k = isPathForm (k .fields .name)
 
 -- ---- codes
 
@@ -129,16 +129,16 @@ module _ (c : ℕ) where
 
   pub body-definition : hasBody c ≡ true → isDefinition c ≡ true
   unfolding hasBody
-  body-definition e = and-left (isDefinition c) (isOperand (fieldsAt c .b)) e
+  body-definition e = and-left (isDefinition c) (isOperandForm (fieldsAt c .b)) e
 
   -- the fields a and c of a definition hold no part of it
-  pub definition-a : isDefinition c ≡ true → isOperand (fieldsAt c .a) ≡ false
+  pub definition-a : isDefinition c ≡ true → isOperandForm (fieldsAt c .a) ≡ false
   unfolding isDefinition kinds
-  definition-a e = not-true (isOperand (fieldsAt c .a)) (by-rule defines (λ i k. not (isOperand (k .fields .a))) refl refl c e)
+  definition-a e = not-true (isOperandForm (fieldsAt c .a)) (by-rule defines (λ i k. not (isOperandForm (k .fields .a))) refl refl c e)
 
-  pub definition-c : isDefinition c ≡ true → isOperand (fieldsAt c .c) ≡ false
+  pub definition-c : isDefinition c ≡ true → isOperandForm (fieldsAt c .c) ≡ false
   unfolding isDefinition kinds
-  definition-c e = not-true (isOperand (fieldsAt c .c)) (by-rule defines (λ i k. not (isOperand (k .fields .c))) refl refl c e)
+  definition-c e = not-true (isOperandForm (fieldsAt c .c)) (by-rule defines (λ i k. not (isOperandForm (k .fields .c))) refl refl c e)
 
   pub path-expression : hasPath c ≡ true → isExpression c ≡ true
   unfolding hasPath kinds

@@ -98,53 +98,53 @@ isKind c = leb 1 c && leb c (length kinds)
 abbrev pub fieldsAt : ℕ → Fields
 fieldsAt c = kindAt c .fields
 
-abbrev pub isGroup : Form → Bool
-isGroup Missing = false
-isGroup Name = false
-isGroup Path = false
-isGroup Group = true
-isGroup Operand = false
-isGroup Number = false
+abbrev pub isGroupForm : Form → Bool
+isGroupForm Missing = false
+isGroupForm Name = false
+isGroupForm Path = false
+isGroupForm Group = true
+isGroupForm Operand = false
+isGroupForm Number = false
 
-abbrev pub isOperand : Form → Bool
-isOperand Missing = false
-isOperand Name = false
-isOperand Path = false
-isOperand Group = false
-isOperand Operand = true
-isOperand Number = false
+abbrev pub isOperandForm : Form → Bool
+isOperandForm Missing = false
+isOperandForm Name = false
+isOperandForm Path = false
+isOperandForm Group = false
+isOperandForm Operand = true
+isOperandForm Number = false
 
-abbrev pub isPath : Form → Bool
-isPath Missing = false
-isPath Name = false
-isPath Path = true
-isPath Group = false
-isPath Operand = false
-isPath Number = false
+abbrev pub isPathForm : Form → Bool
+isPathForm Missing = false
+isPathForm Name = false
+isPathForm Path = true
+isPathForm Group = false
+isPathForm Operand = false
+isPathForm Number = false
 
 -- "G, V and F lines are definitions", the kinds whose field a is a Group; "the rest are expressions"
 unfoldable pub isDefinition : ℕ → Bool
-isDefinition c = isGroup (fieldsAt c .a)
+isDefinition c = isGroupForm (fieldsAt c .a)
 
 unfoldable pub isExpression : ℕ → Bool
 isExpression c = isKind c && not (isDefinition c)
 
 -- a definition's field b may hold its body, an expression's fields a, b and c its operands
 unfoldable pub hasBody : ℕ → Bool
-hasBody c = isDefinition c && isOperand (fieldsAt c .b)
+hasBody c = isDefinition c && isOperandForm (fieldsAt c .b)
 
 unfoldable pub operandA : ℕ → Bool
-operandA c = isExpression c && isOperand (fieldsAt c .a)
+operandA c = isExpression c && isOperandForm (fieldsAt c .a)
 
 unfoldable pub operandB : ℕ → Bool
-operandB c = isExpression c && isOperand (fieldsAt c .b)
+operandB c = isExpression c && isOperandForm (fieldsAt c .b)
 
 unfoldable pub operandC : ℕ → Bool
-operandC c = isExpression c && isOperand (fieldsAt c .c)
+operandC c = isExpression c && isOperandForm (fieldsAt c .c)
 
 -- a path under name, and the code of the kind that it must end at
 unfoldable pub hasPath : ℕ → Bool
-hasPath c = isPath (fieldsAt c .name)
+hasPath c = isPathForm (fieldsAt c .name)
 
 unfoldable pub wantedBy : ℕ → ℕ
 wantedBy c = kindAt c .wanted
@@ -165,5 +165,5 @@ placeIn clause.Choice = 0
 unfoldable pub clauseOf : ℕ → Clause
 clauseOf c = kindAt c .clause
 
-abbrev pub placeOf : ℕ → ℕ
-placeOf c = placeIn (clauseOf c)
+abbrev pub argumentPlace : ℕ → ℕ
+argumentPlace c = placeIn (clauseOf c)

@@ -2,8 +2,8 @@
 
 ghost use mathlib.Core.Path.{_≡_};
 ghost use mathlib.Core.Bool.{true};
-ghost use Rattle.kinds.specs.Kinds.{fieldsAt, codeOf, isKind, isDefinition, isExpression, hasPath, clauseOf, wantedBy, takes, placeOf};
-ghost use Rattle.kinds.specs.Plans.{givesValues};
+ghost use Rattle.kinds.specs.Kinds.{fieldsAt, codeOf, isKind, isDefinition, isExpression, hasPath, clauseOf, wantedBy, takes, argumentPlace};
+ghost use Rattle.kinds.specs.GivesValues.{givesValues};
 
 // ---- what a row holds
 
@@ -244,7 +244,7 @@ pub fn clause_of(code: usize) -> Clause
 
 // The place of the argument that they stand for; 0 where they stand for none.
 pub fn place_of(code: usize) -> usize
-    ensures { λ r. ⌜ r ≡ placeOf code ⌝ }
+    ensures { λ r. ⌜ r ≡ argumentPlace code ⌝ }
 {
     match clause_of(code) {
         Clause::Argument(place) => place,

@@ -7,12 +7,12 @@ ghost use Rattle.printing.specs.Print.{PrintLeaves};
 ghost use Rattle.lindypo.specs.Exports.{Answers, PlanAnswers, ReadExport, PlanExport, RunExport, FollowExport};
 use calls::PlanReply;
 use printing::Printed;
-use reading::Part;
+use reading::TextPart;
 use refusals::Reply;
 
 // What a call answers, as C sees it. A refused reply has count 0 and order 0.
 #[repr(C)]
-pub struct Answer {
+pub struct CReply {
     pub refusal: u64,
     pub place: u64,
     pub count: u64,
@@ -20,10 +20,10 @@ pub struct Answer {
 }
 
 // An answer: no refusal.
-fn answered(count: u64, order: u64) -> Answer
+fn answered(count: u64, order: u64) -> CReply
     ensures { λ r. ⌜ (r .refusal ≡ 0) × (r .place ≡ 0) × (r .count ≡ count) × (r .order ≡ order) ⌝ }
 {
-    Answer {
+    CReply {
         refusal: 0,
         place: 0,
         count,
@@ -32,10 +32,10 @@ fn answered(count: u64, order: u64) -> Answer
 }
 
 // A refusal: no count and no order.
-fn refused(refusal: u64, place: u64) -> Answer
+fn refused(refusal: u64, place: u64) -> CReply
     ensures { λ r. ⌜ (r .refusal ≡ refusal) × (r .place ≡ place) × (r .count ≡ 0) × (r .order ≡ 0) ⌝ }
 {
-    Answer {
+    CReply {
         refusal,
         place,
         count: 0,
@@ -44,7 +44,7 @@ fn refused(refusal: u64, place: u64) -> Answer
 }
 
 // What Read and Follow answer.
-fn answer_of(reply: Reply) -> Answer
+fn answer_of(reply: Reply) -> CReply
     ensures { λ r. ⌜ Answers reply r ⌝ }
 {
     match reply {
@@ -54,7 +54,7 @@ fn answer_of(reply: Reply) -> Answer
 }
 
 // What Plan and Run answer: order 1 is whole, 2 mixed.
-fn plan_answer(reply: PlanReply) -> Answer
+fn plan_answer(reply: PlanReply) -> CReply
     ensures { λ r. ⌜ PlanAnswers reply r ⌝ }
 {
     match reply {
@@ -66,7 +66,7 @@ fn plan_answer(reply: PlanReply) -> Answer
 
 // Read.
 #[no_mangle]
-pub extern "C" fn lindypo_read(text: &[u8], table: &mut [i64]) -> Answer
+pub extern "C" fn lindypo_read(text: &[u8], table: &mut [i64]) -> CReply
     ensures { λ r. ⌜ ReadExport (now (text .entry)) (length (now (table .entry))) r (now (table .exit)) ⌝ }
 {
     answer_of(reading::read(text, table))
@@ -74,7 +74,7 @@ pub extern "C" fn lindypo_read(text: &[u8], table: &mut [i64]) -> Answer
 
 // Name: where the part is that `reading::name` hands back.
 #[no_mangle]
-pub extern "C" fn lindypo_name(text: &[u8], table: &mut [i64], label: i64) -> Part
+pub extern "C" fn lindypo_name(text: &[u8], table: &mut [i64], label: i64) -> TextPart
     ensures { λ r. ⌜ PartLeaves (now (text .entry)) (length (now (table .entry))) label r (now (table .exit)) ⌝ }
 {
     reading::name_part(text, table, label)
@@ -82,7 +82,7 @@ pub extern "C" fn lindypo_name(text: &[u8], table: &mut [i64], label: i64) -> Pa
 
 // Plan.
 #[no_mangle]
-pub extern "C" fn lindypo_plan(text: &[u8], table: &mut [i64], plan: &mut [i64]) -> Answer
+pub extern "C" fn lindypo_plan(text: &[u8], table: &mut [i64], plan: &mut [i64]) -> CReply
     ensures { λ r. ⌜ PlanExport (now (text .entry)) (length (now (table .entry))) (length (now (plan .entry))) r (now (table .exit)) (now (plan .exit)) ⌝ }
 {
     plan_answer(calls::plan(text, table, plan))
@@ -95,7 +95,7 @@ pub extern "C" fn lindypo_run(
     table: &mut [i64],
     plan: &mut [i64],
     results: &mut [i64],
-) -> Answer
+) -> CReply
     ensures { λ r. ⌜ RunExport (now (text .entry)) (length (now (table .entry))) (length (now (plan .entry))) (length (now (results .entry))) r (now (table .exit)) (now (plan .exit)) (now (results .exit)) ⌝ }
 {
     plan_answer(calls::run(text, table, plan, results))
@@ -108,7 +108,7 @@ pub extern "C" fn lindypo_follow(
     order: &[i64],
     table: &mut [i64],
     results: &mut [i64],
-) -> Answer
+) -> CReply
     ensures { λ r. ⌜ FollowExport (now (text .entry)) (now (order .entry)) (length (now (table .entry))) (length (now (results .entry))) r (now (table .exit)) (now (results .exit)) ⌝ }
 {
     answer_of(calls::follow(text, order, table, results))

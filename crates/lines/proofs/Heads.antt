@@ -8,6 +8,7 @@ use lib.Dec.{leb, eqb}
 use lib.ListN.{length, getD, take}
 use lib.Seq.{take-all}
 use borrow.Author.Tests.{eqb-true, leb-true, le-leb, lt-leb, eq-eqb, ne-eqb, not-true}
+use Rattle.cells.specs.Limits.{labelLimit, sizeLimit}
 use Rattle.refusals.specs.Refusal.{replyOf}
 use Rattle.refusals.specs.declared.Verdict.{Verdict}
 use Rattle.refusals.specs.declared.Verdict.the-variants.{Fine, Refused}
@@ -30,45 +31,45 @@ module _ (s : List ℕ) where
   unfolding isText
   text-empty h = rw (lt-leb 1 (length s) h)
 
-  pub text-long : 65536 < length s → 0 ≡ counted
+  pub text-long : sizeLimit < length s → 0 ≡ counted
   unfolding isText
-  text-long h = rw (lt-leb (length s) 65536 h, and-false (leb 1 (length s)) false refl)
+  text-long h = rw (lt-leb (length s) sizeLimit h, and-false (leb 1 (length s)) false refl)
 
   pub text-open : (getD s (length s - 1) 0 ≡ 10 → ⊥) → 0 ≡ counted
   unfolding isText
-  text-open f = rw (ne-eqb (getD s (length s - 1) 0) 10 f, and-false (leb 1 (length s) && leb (length s) 65536) false refl)
+  text-open f = rw (ne-eqb (getD s (length s - 1) 0) 10 f, and-false (leb 1 (length s) && leb (length s) sizeLimit) false refl)
 
   pub text-bad : (countBy isBad s ≡ 0 → ⊥) → 0 ≡ counted
   unfolding isText
   text-bad f =
-      rw (all-allowed s, ne-eqb (countBy isBad s) 0 f, and-false (leb 1 (length s) && leb (length s) 65536 && eqb (getD s (length s - 1) 0) 10) false refl)
+      rw (all-allowed s, ne-eqb (countBy isBad s) 0 f, and-false (leb 1 (length s) && leb (length s) sizeLimit && eqb (getD s (length s - 1) 0) 10) false refl)
 
-  pub text-right : 1 ≤ length s → length s ≤ 65536 → getD s (length s - 1) 0 ≡ 10 → countBy isBad s ≡ 0 → countBy isNewline s ≡ counted
+  pub text-right : 1 ≤ length s → length s ≤ sizeLimit → getD s (length s - 1) 0 ≡ 10 → countBy isBad s ≡ 0 → countBy isNewline s ≡ counted
   unfolding isText
   text-right h k e z =
-      rw (le-leb 1 (length s) h, le-leb (length s) 65536 k, eq-eqb (getD s (length s - 1) 0) 10 e, all-allowed s, eq-eqb (countBy isBad s) 0 z)
+      rw (le-leb 1 (length s) h, le-leb (length s) sizeLimit k, eq-eqb (getD s (length s - 1) 0) 10 e, all-allowed s, eq-eqb (countBy isBad s) 0 z)
 
   -- what row 1 lets pass
   module _ (t : isText s ≡ true) where
-    sized : (leb 1 (length s) && leb (length s) 65536 && eqb (getD s (length s - 1) 0) 10) ≡ true
+    sized : (leb 1 (length s) && leb (length s) sizeLimit && eqb (getD s (length s - 1) 0) 10) ≡ true
     unfolding isText
-    sized = and-left (leb 1 (length s) && leb (length s) 65536 && eqb (getD s (length s - 1) 0) 10) (all isAllowed s) t
+    sized = and-left (leb 1 (length s) && leb (length s) sizeLimit && eqb (getD s (length s - 1) 0) 10) (all isAllowed s) t
 
     pub text-allowed : all isAllowed s ≡ true
     unfolding isText
-    text-allowed = and-right (leb 1 (length s) && leb (length s) 65536 && eqb (getD s (length s - 1) 0) 10) (all isAllowed s) t
+    text-allowed = and-right (leb 1 (length s) && leb (length s) sizeLimit && eqb (getD s (length s - 1) 0) 10) (all isAllowed s) t
 
     pub text-ends : endsLines s
-    text-ends = eqb-true (getD s (length s - 1) 0) 10 (and-right (leb 1 (length s) && leb (length s) 65536) (eqb (getD s (length s - 1) 0) 10) sized)
+    text-ends = eqb-true (getD s (length s - 1) 0) 10 (and-right (leb 1 (length s) && leb (length s) sizeLimit) (eqb (getD s (length s - 1) 0) 10) sized)
 
-    both : (leb 1 (length s) && leb (length s) 65536) ≡ true
-    both = and-left (leb 1 (length s) && leb (length s) 65536) (eqb (getD s (length s - 1) 0) 10) sized
+    both : (leb 1 (length s) && leb (length s) sizeLimit) ≡ true
+    both = and-left (leb 1 (length s) && leb (length s) sizeLimit) (eqb (getD s (length s - 1) 0) 10) sized
 
     pub text-some : 1 ≤ length s
-    text-some = leb-true 1 (length s) (and-left (leb 1 (length s)) (leb (length s) 65536) both)
+    text-some = leb-true 1 (length s) (and-left (leb 1 (length s)) (leb (length s) sizeLimit) both)
 
-    pub text-size : length s ≤ 65536
-    text-size = leb-true (length s) 65536 (and-right (leb 1 (length s)) (leb (length s) 65536) both)
+    pub text-size : length s ≤ sizeLimit
+    text-size = leb-true (length s) sizeLimit (and-right (leb 1 (length s)) (leb (length s) sizeLimit) both)
 
     pub text-lines : 1 ≤ countBy isNewline s
     text-lines = count-some isNewline s (length s - 1) (omega (arith, text-some)) (eq-eqb (getD s (length s - 1) 0) 10 text-ends)
@@ -129,7 +130,8 @@ module _ (s : List ℕ) (h : 1 ≤ countBy isNewline s) where
   pub first-short : length s < 16 → false ≡ same (line s 0) firstLine
   first-short k =
       rw first-line
-      (sym (same-lengths (take 16 s) (107 ∷ 105 ∷ 110 ∷ 100 ∷ 32 ∷ 110 ∷ 97 ∷ 109 ∷ 101 ∷ 32 ∷ 97 ∷ 32 ∷ 98 ∷ 32 ∷ 99 ∷ 10 ∷ []) (λ e. omega (arith, e, length-take-short 16 s k))))
+      (sym (same-lengths (take 16 s) (107 ∷ 105 ∷ 110 ∷ 100 ∷ 32 ∷ 110 ∷ 97 ∷ 109 ∷ 101 ∷ 32 ∷ 97 ∷ 32 ∷ 98 ∷ 32 ∷ 99 ∷ 10 ∷ [])
+      (λ e. omega (arith, e, length-take-short 16 s k))))
 
 -- ---- rows 1 to 3 together
 
@@ -153,22 +155,22 @@ module _ (s : List ℕ) where
 
       pub head-many : 1025 < countBy isNewline s → reply.Refused 3 0 ≡ reply-is
       unfolding headBad labels
-      head-many h = rw (t, f, lt-leb (countBy isNewline s - 1) 1024 (omega arith), and-false (leb 1 (countBy isNewline s - 1)) false refl)
+      head-many h = rw (t, f, lt-leb (countBy isNewline s - 1) labelLimit (omega arith), and-false (leb 1 (countBy isNewline s - 1)) false refl)
 
       pub head-right : 2 ≤ countBy isNewline s → countBy isNewline s ≤ 1025 → reply.Answered (countBy isNewline s - 1) ≡ reply-is
       unfolding headBad labels
-      head-right h k = rw (t, f, le-leb 1 (countBy isNewline s - 1) (omega arith), le-leb (countBy isNewline s - 1) 1024 (omega arith))
+      head-right h k = rw (t, f, le-leb 1 (countBy isNewline s - 1) (omega arith), le-leb (countBy isNewline s - 1) labelLimit (omega arith))
 
 -- ---- what rows 1 to 3 let pass
 
 pub record Headed (s : List ℕ) : Type 0 where
-  pub size : length s ≤ 65536
+  pub size : length s ≤ sizeLimit
   pub some : 1 ≤ length s
   pub ends : endsLines s
   pub allowed : all isAllowed s ≡ true
   pub first : line s 0 ≡ firstLine
   pub low : 1 ≤ labels s
-  pub high : labels s ≤ 1024
+  pub high : labels s ≤ labelLimit
 
 refused-fine : (b : Bool) (v : Verdict) (r p : ℕ) → cond b v (Refused r p) ≡ Fine → (b ≡ true) × (v ≡ Fine)
 refused-fine true v r p e = (refl, e)
@@ -179,13 +181,13 @@ unfolding headBad
 headed s e =
     let one = refused-fine (isText s) _ 1 0 e in
     let two = refused-fine (same (line s 0) firstLine) _ 2 0 (one .1) in
-    let three = refused-fine (leb 1 (labels s) && leb (labels s) 1024) Fine 3 0 (two .1) in
+    let three = refused-fine (leb 1 (labels s) && leb (labels s) labelLimit) Fine 3 0 (two .1) in
     record {
       size = text-size s (one .0);
       some = text-some s (one .0);
       ends = text-ends s (one .0);
       allowed = text-allowed s (one .0);
       first = same-eq (line s 0) firstLine (two .0);
-      low = leb-true 1 (labels s) (and-left (leb 1 (labels s)) (leb (labels s) 1024) (three .0));
-      high = leb-true (labels s) 1024 (and-right (leb 1 (labels s)) (leb (labels s) 1024) (three .0));
+      low = leb-true 1 (labels s) (and-left (leb 1 (labels s)) (leb (labels s) labelLimit) (three .0));
+      high = leb-true (labels s) labelLimit (and-right (leb 1 (labels s)) (leb (labels s) labelLimit) (three .0));
     }

@@ -1,4 +1,4 @@
--- What rows 1 to 7 give of the table that they leave.
+-- What linesCells 1 to 7 give of the table that they leave.
 use mathlib.Core.Path.{_≡_, refl, ap, sym, _∙_}
 use mathlib.Core.Bool.{Bool, true, false, cond, _&&_}
 use mathlib.Core.List.{List, _++_}
@@ -10,6 +10,7 @@ use lib.Dec.{eqb, leb, ltb}
 use lib.IntN.{ℤ, pos, natAbs}
 use lib.ListN.{length, getD, length-append, length-replicate, List·getD-append}
 use lib.Seq.{getD-append-add}
+use Rattle.cells.specs.Limits.{labelLimit, numberLimit}
 use Rattle.kinds.specs.declared.Fields.{Fields}
 use Rattle.kinds.specs.declared.Form.{Form}
 use Rattle.kinds.specs.declared.Form.the-variants as form
@@ -29,13 +30,13 @@ use Rattle.refusals.specs.Rows.{fieldsRow, kindRow, formRow}
 use Rattle.refusals.specs.declared.Verdict.the-variants.{Fine}
 use Rattle.refusals.proofs.FirstBad.{first-none}
 use Rattle.text.specs.Bytes.{all, same, isLetter, isAlphanumeric}
-use Rattle.text.specs.Pieces.{cut, place, fieldsAre}
+use Rattle.text.specs.Pieces.{cut, pieceStart, fieldsAre}
 use Rattle.text.specs.Forms.{isName, isPath, labelOf}
 use Rattle.text.proofs.Bytes.{true-false, and-left, and-right, same-eq}
 use Rattle.text.proofs.Cuts.{pieces, piece-inside, fields-count}
 use Rattle.text.proofs.Labels.{label-least}
 use Rattle.lines.specs.Fields.{dash, blankIf, fromLabel, fromNumber, fieldOf, isRight, held, kindCode}
-use Rattle.lines.specs.Lines.{line, labels, rootLine, field, formsRight, lineBad, lineCheck, linesBad, rootRow, lineRow, rowOf, rows}
+use Rattle.lines.specs.Lines.{line, labels, rootLine, field, formsRight, lineBad, lineCheck, linesBad, rootCells, fieldCells, lineCells, linesCells}
 use Rattle.lines.specs.Lined.{linedTable, Lined}
 use Rattle.lines.proofs.Fields.{kind-known}
 use Rattle.lines.proofs.Pass.{rows-length}
@@ -74,11 +75,11 @@ held-natural form.Group n w e = label-natural (labelOf n w)
 held-natural form.Operand n w e = label-natural (labelOf n w)
 held-natural form.Number n w e = absurd (true-false e)
 
-held-number : (n : ℕ) (w : List ℕ) → natAbs (held (fieldOf form.Number n w)) ≤ 1000000000
+held-number : (n : ℕ) (w : List ℕ) → natAbs (held (fieldOf form.Number n w)) ≤ numberLimit
 unfolding fieldOf
 held-number n w = go (numberOf w) refl
   where
-    go : (x : Number) → numberOf w ≡ x → natAbs (held (fromNumber x)) ≤ 1000000000
+    go : (x : Number) → numberOf w ≡ x → natAbs (held (fromNumber x)) ≤ numberLimit
     go (number.Is z) e = number-size w z e
     go number.Not e = omega arith
 
@@ -90,7 +91,7 @@ held-label n w r = go (labelOf n w) refl r
     go (decimal.Is v) e f = label-least n w v e
     go decimal.Not e f = absurd (true-false (sym f))
 
--- ---- a line that rows 5 to 7 let pass
+-- ---- a line that linesCells 5 to 7 let pass
 
 -- an operand field, where the kind wants one, holds a label
 abbrev Right : Form → ℕ → List ℕ → Type 0
@@ -129,7 +130,7 @@ module _ (n k : ℕ) (l : List ℕ) (e : lineBad n k l ≡ 0) where
   abbrev formed : Bool
   formed = cond (eqb k 1) (same l rootLine) (formsRight n (fieldsAt code) fs)
 
-  -- what row 7 finds, and rows 6 and 7
+  -- what row 7 finds, and linesCells 6 and 7
   abbrev formBad : ℕ
   formBad = cond formed 0 formRow
 
@@ -189,28 +190,28 @@ module _ (n k : ℕ) (l : List ℕ) (e : lineBad n k l ≡ 0) where
 -- ---- the eight cells of a line
 
 -- the cells of label k: those of label 1, and those of the others
-by-label : (n k p : ℕ) (fs : List (List ℕ)) (P : List ℤ → Type 0) → (k ≡ 1 → P rootRow) → ((k ≡ 1 → ⊥) → P (lineRow n p fs)) → P (rowOf n k p fs)
+by-label : (n k p : ℕ) (fs : List (List ℕ)) (P : List ℤ → Type 0) → (k ≡ 1 → P rootCells) → ((k ≡ 1 → ⊥) → P (fieldCells n p fs)) → P (lineCells n k p fs)
 by-label n k p fs P root other = go (eqb k 1) refl
   where
-    go : (b : Bool) → eqb k 1 ≡ b → P (cond b rootRow (lineRow n p fs))
+    go : (b : Bool) → eqb k 1 ≡ b → P (cond b rootCells (fieldCells n p fs))
     go true q = root (eqb-true k 1 q)
     go false q = other (eqb-false k 1 q)
 
-blank-root : (j : ℕ) → 1 ≤ j → intAt rootRow j ≡ pos 0
+blank-root : (j : ℕ) → 1 ≤ j → intAt rootCells j ≡ pos 0
 blank-root zero h = absurd (omega arith)
 blank-root (suc j) h = intAt-zeros 7 j
 
-natural-root : (j : ℕ) → Natural (intAt rootRow j)
+natural-root : (j : ℕ) → Natural (intAt rootCells j)
 natural-root zero = refl
 natural-root (suc j) = rw (intAt-zeros 7 j)
 
 module _ (n p : ℕ) (fs : List (List ℕ)) where
-  blank-line : (j : ℕ) → 6 ≤ j → intAt (lineRow n p fs) j ≡ pos 0
-  unfolding lineRow
+  blank-line : (j : ℕ) → 6 ≤ j → intAt (fieldCells n p fs) j ≡ pos 0
+  unfolding fieldCells
   blank-line j h = let q : j ≡ suc (suc (suc (suc (suc (suc (j - 6)))))) = omega arith in rw q (intAt-zeros 2 (j - 6))
 
-  natural-line : (j : ℕ) → (kindCode (field fs 0) ≡ numberCode → j ≡ 3 → ⊥) → Natural (intAt (lineRow n p fs) j)
-  unfolding lineRow
+  natural-line : (j : ℕ) → (kindCode (field fs 0) ≡ numberCode → j ≡ 3 → ⊥) → Natural (intAt (fieldCells n p fs) j)
+  unfolding fieldCells
   natural-line zero d = refl
   natural-line (suc zero) d = refl
   natural-line (suc (suc zero)) d = refl
@@ -219,37 +220,37 @@ module _ (n p : ℕ) (fs : List (List ℕ)) where
   natural-line (suc (suc (suc (suc (suc zero))))) d = held-natural (fieldsAt (kindCode (field fs 0)) .c) n (field fs 4) (number-c (kindCode (field fs 0)))
   natural-line (suc (suc (suc (suc (suc (suc j)))))) d = rw (intAt-zeros 2 j)
 
-  pub blank-row : (k j : ℕ) → 6 ≤ j → intAt (rowOf n k p fs) j ≡ pos 0
+  pub blank-row : (k j : ℕ) → 6 ≤ j → intAt (lineCells n k p fs) j ≡ pos 0
   blank-row k j h = by-label n k p fs (λ (r : List ℤ). intAt r j ≡ pos 0) (λ q. blank-root j (omega arith)) (λ q. blank-line j h)
 
-  natural-row : (k j : ℕ) → (kindCode (field fs 0) ≡ numberCode → j ≡ 3 → ⊥) → Natural (intAt (rowOf n k p fs) j)
+  natural-row : (k j : ℕ) → (kindCode (field fs 0) ≡ numberCode → j ≡ 3 → ⊥) → Natural (intAt (lineCells n k p fs) j)
   natural-row k j d = by-label n k p fs (λ (r : List ℤ). Natural (intAt r j)) (λ q. natural-root j) (λ q. natural-line j d)
 
 -- ---- the cells of all lines
 
-pub row-at : (s : List ℕ) (n i k j : ℕ) → k < i → j < 8 → intAt (rows s n i) (8 * k + j) ≡ intAt (rowOf n (suc k) (place (cut 10 s) (suc k)) (cut 32 (line s (suc k)))) j
+pub row-at : (s : List ℕ) (n i k j : ℕ) → k < i → j < 8 → intAt (linesCells s n i) (8 * k + j) ≡ intAt (lineCells n (suc k) (pieceStart (cut 10 s) (suc k)) (cut 32 (line s (suc k)))) j
 row-at s n zero k j h g = absurd (not-suc-le-zero h)
 row-at s n (suc i) k j h g = go (ltb k i) refl (λ m. row-at s n i k j m g)
   where
     own : ℕ → List ℤ
-    own x = rowOf n (suc x) (place (cut 10 s) (suc x)) (cut 32 (line s (suc x)))
+    own x = lineCells n (suc x) (pieceStart (cut 10 s) (suc x)) (cut 32 (line s (suc x)))
 
-    go : (b : Bool) → ltb k i ≡ b → (k < i → intAt (rows s n i) (8 * k + j) ≡ intAt (own k) j) → intAt (rows s n i ++ own i) (8 * k + j) ≡ intAt (own k) j
+    go : (b : Bool) → ltb k i ≡ b → (k < i → intAt (linesCells s n i) (8 * k + j) ≡ intAt (own k) j) → intAt (linesCells s n i ++ own i) (8 * k + j) ≡ intAt (own k) j
     go true q older =
         let m : k < i = ltb-true k i q in
-        List·getD-append (rows s n i) (own i) (pos 0) (8 * k + j) (omega (arith, rows-length s n i)) ∙ older m
+        List·getD-append (linesCells s n i) (own i) (pos 0) (8 * k + j) (omega (arith, rows-length s n i)) ∙ older m
     go false q older =
         let m : k ≡ i = omega (arith, ltb-false k i q) in
-        let x : 8 * k + j ≡ length (rows s n i) + j = omega (arith, rows-length s n i) in
-        ap (intAt (rows s n i ++ own i)) x ∙ getD-append-add (rows s n i) (own i) j (pos 0) ∙ ap (λ (y : ℕ). intAt (own y) j) (sym m)
+        let x : 8 * k + j ≡ length (linesCells s n i) + j = omega (arith, rows-length s n i) in
+        ap (intAt (linesCells s n i ++ own i)) x ∙ getD-append-add (linesCells s n i) (own i) j (pos 0) ∙ ap (λ (y : ℕ). intAt (own y) j) (sym m)
 
 pub lined-length : (s : List ℕ) (m : ℕ) → 8 * labels s ≤ m → length (linedTable s m) ≡ m
 unfolding linedTable
 lined-length s m h =
     let n = labels s in
-    omega (arith, length-append (rows s n n) (zeros (m - 8 * n)), rows-length s n n, length-replicate (m - 8 * n) (pos 0))
+    omega (arith, length-append (linesCells s n n) (zeros (m - 8 * n)), rows-length s n n, length-replicate (m - 8 * n) (pos 0))
 
-module _ (s : List ℕ) (m : ℕ) (low : 1 ≤ labels s) (high : labels s ≤ 1024) (fine : linesBad s (labels s) ≡ Fine) where
+module _ (s : List ℕ) (m : ℕ) (low : 1 ≤ labels s) (high : labels s ≤ labelLimit) (fine : linesBad s (labels s) ≡ Fine) where
   abbrev n : ℕ
   n = labels s
 
@@ -258,7 +259,7 @@ module _ (s : List ℕ) (m : ℕ) (low : 1 ≤ labels s) (high : labels s ≤ 10
 
   -- of label k + 1
   abbrev start : ℕ → ℕ
-  start k = place (cut 10 s) (suc k)
+  start k = pieceStart (cut 10 s) (suc k)
 
   abbrev fields : ℕ → List (List ℕ)
   fields k = cut 32 (line s (suc k))
@@ -266,16 +267,16 @@ module _ (s : List ℕ) (m : ℕ) (low : 1 ≤ labels s) (high : labels s ≤ 10
   abbrev kindOf : ℕ → Fields
   kindOf k = fieldsAt (kindCode (field (fields k) 0))
 
-  cells-at : (k j : ℕ) → k < n → j < 8 → intAt t (8 * k + j) ≡ intAt (rowOf n (suc k) (start k) (fields k)) j
+  cells-at : (k j : ℕ) → k < n → j < 8 → intAt t (8 * k + j) ≡ intAt (lineCells n (suc k) (start k) (fields k)) j
   unfolding linedTable
   cells-at k j h g =
-      List·getD-append (rows s n n) (zeros (m - 8 * n)) (pos 0) (8 * k + j) (omega (arith, rows-length s n n)) ∙ row-at s n n k j h g
+      List·getD-append (linesCells s n n) (zeros (m - 8 * n)) (pos 0) (8 * k + j) (omega (arith, rows-length s n n)) ∙ row-at s n n k j h g
 
   unused-at : (i : ℕ) → 8 * n ≤ i → intAt t i ≡ pos 0
   unfolding linedTable
   unused-at i h =
-      let q : i ≡ length (rows s n n) + (i - 8 * n) = omega (arith, rows-length s n n) in
-      ap (intAt (rows s n n ++ zeros (m - 8 * n))) q ∙ getD-append-add (rows s n n) (zeros (m - 8 * n)) (i - 8 * n) (pos 0) ∙ intAt-zeros (m - 8 * n) (i - 8 * n)
+      let q : i ≡ length (linesCells s n n) + (i - 8 * n) = omega (arith, rows-length s n n) in
+      ap (intAt (linesCells s n n ++ zeros (m - 8 * n))) q ∙ getD-append-add (linesCells s n n) (zeros (m - 8 * n)) (i - 8 * n) (pos 0) ∙ intAt-zeros (m - 8 * n) (i - 8 * n)
 
   past : (k j : ℕ) → n ≤ k → cell t (suc k) j ≡ 0
   past k j h = ap natOf (unused-at (8 * k + j) (omega arith))
@@ -288,7 +289,7 @@ module _ (s : List ℕ) (m : ℕ) (low : 1 ≤ labels s) (high : labels s ≤ 10
   line-formed k h = all-formed n (suc k) (line s (suc k)) (line-fine k h)
 
   kind-at : (k : ℕ) → k < n → kind t (suc k) ≡ kindCode (field (fields k) 0)
-  unfolding lineRow
+  unfolding fieldCells
   kind-at k h =
       ap natOf (cells-at k 0 h (omega arith))
       ∙ by-label n (suc k) (start k) (fields k) (λ (r : List ℤ). natOf (intAt r 0) ≡ kindCode (field (fields k) 0))
@@ -320,16 +321,16 @@ module _ (s : List ℕ) (m : ℕ) (low : 1 ≤ labels s) (high : labels s ≤ 10
   line-inside k h = piece-inside 10 s (suc k) (omega (arith, pieces s))
 
   name-inside : (k : ℕ) → k < n → nameStart t (suc k) + nameLength t (suc k) ≤ length s
-  unfolding lineRow
+  unfolding fieldCells
   name-inside k h =
       rw (cells-at k 1 h (omega arith), cells-at k 2 h (omega arith))
       (by-label n (suc k) (start k) (fields k) (λ (r : List ℤ). natOf (intAt r 1) + natOf (intAt r 2) ≤ length s)
       (λ q. omega arith) (λ q. go (same (field (fields k) 1) dash)))
     where
-      in-line : place (fields k) 1 + length (field (fields k) 1) ≤ length (line s (suc k))
+      in-line : pieceStart (fields k) 1 + length (field (fields k) 1) ≤ length (line s (suc k))
       in-line = piece-inside 32 (line s (suc k)) 1 (omega (arith, five n (suc k) (line s (suc k)) (line-fine k h)))
 
-      go : (b : Bool) → cond b 0 (start k + place (fields k) 1) + cond b 0 (length (field (fields k) 1)) ≤ length s
+      go : (b : Bool) → cond b 0 (start k + pieceStart (fields k) 1) + cond b 0 (length (field (fields k) 1)) ≤ length s
       go true = omega arith
       go false = omega (arith, in-line, line-inside k h)
 
@@ -354,7 +355,7 @@ module _ (s : List ℕ) (m : ℕ) (low : 1 ≤ labels s) (high : labels s ≤ 10
       is-blank (isName (field (fields k) 1)) (and-left _ _ (and-left _ _ (and-left _ _ (rw c at (value-forms k h e)))))
 
   name-short : (k : ℕ) → k < n → kind t (suc k) ≡ valueCode → nameLength t (suc k) ≤ 16
-  unfolding lineRow
+  unfolding fieldCells
   name-short k h e =
       rw (cells-at k 2 h (omega arith))
       (by-label n (suc k) (start k) (fields k) (λ (r : List ℤ). natOf (intAt r 2) ≤ 16) (λ q. omega arith) (λ q. go (same (field (fields k) 1) dash)))
@@ -373,7 +374,7 @@ module _ (s : List ℕ) (m : ℕ) (low : 1 ≤ labels s) (high : labels s ≤ 10
 
   -- cell j of a line but label 1's holds its field i, of the form that `wanted` says of its kind; a Group has no operand
   operand-at : (wanted : Fields → Form) (i j : ℕ) → j < 8 → (wanted (fieldsAt groupCode) ≡ form.Operand → ⊥)
-      → ((k : ℕ) → intAt (lineRow n (start k) (fields k)) j ≡ held (fieldOf (wanted (kindOf k)) n (field (fields k) i)))
+      → ((k : ℕ) → intAt (fieldCells n (start k) (fields k)) j ≡ held (fieldOf (wanted (kindOf k)) n (field (fields k) i)))
       → ((k : ℕ) → k < n → Right (wanted (kindOf k)) n (field (fields k) i))
       → (l : ℕ) → 1 ≤ l → l ≤ n → wanted (fieldsAt (kind t l)) ≡ form.Operand → 1 ≤ cell t l j
   operand-at wanted i j small none holds right zero h g e = absurd (not-suc-le-zero h)
@@ -386,23 +387,23 @@ module _ (s : List ℕ) (m : ℕ) (low : 1 ≤ labels s) (high : labels s ≤ 10
       (λ q. absurd (none (sym (ap (λ (x : ℕ). wanted (fieldsAt (kind t x))) q ∙ ap (λ (c : ℕ). wanted (fieldsAt c)) root-kind) ∙ e)))
       (λ q. rw (holds k, f) (held-label n (field (fields k) i) r)))
 
-  number-at : (k : ℕ) → k < n → kind t (suc k) ≡ numberCode → natAbs (table.numberOf t (suc k)) ≤ 1000000000
-  unfolding lineRow
+  number-at : (k : ℕ) → k < n → kind t (suc k) ≡ numberCode → natAbs (table.lineNumber t (suc k)) ≤ numberLimit
+  unfolding fieldCells
   number-at k h e =
       let f : kindOf k .a ≡ form.Number = ap (λ (c : ℕ). fieldsAt c .a) (sym (kind-at k h) ∙ e) ∙ number-form in
       rw (cells-at k 3 h (omega arith))
-      (by-label n (suc k) (start k) (fields k) (λ (r : List ℤ). natAbs (intAt r 3) ≤ 1000000000) (λ q. omega arith) (λ q. rw f (held-number n (field (fields k) 2))))
+      (by-label n (suc k) (start k) (fields k) (λ (r : List ℤ). natAbs (intAt r 3) ≤ numberLimit) (λ q. omega arith) (λ q. rw f (held-number n (field (fields k) 2))))
 
-  number-in-range : (l : ℕ) → kind t l ≡ numberCode → natAbs (table.numberOf t l) ≤ 1000000000
+  number-in-range : (l : ℕ) → kind t l ≡ numberCode → natAbs (table.lineNumber t l) ≤ numberLimit
   number-in-range zero e = absurd (omega arith)
   number-in-range (suc k) e = go (ltb k n) refl
     where
-      go : (b : Bool) → ltb k n ≡ b → natAbs (table.numberOf t (suc k)) ≤ 1000000000
+      go : (b : Bool) → ltb k n ≡ b → natAbs (table.lineNumber t (suc k)) ≤ numberLimit
       go true q = number-at k (ltb-true k n q) e
       go false q = absurd (omega (arith, past k 0 (ltb-false k n q)))
 
   pub lined : 8 * labels s ≤ m → Lined s (linedTable s m) (labels s)
-  unfolding lineRow kindAt kinds
+  unfolding fieldCells kindAt kinds
   lined room = record {
     some = low;
     few = high;

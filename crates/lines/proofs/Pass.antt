@@ -14,15 +14,15 @@ use Rattle.refusals.specs.Refusal.{firstBad}
 use Rattle.refusals.specs.declared.Verdict.the-variants.{Fine, Refused}
 use Rattle.refusals.proofs.FirstBad.{first-start, first-fine, first-bad, first-end}
 use Rattle.text.specs.Bytes.{countBy, isNewline, endsLines}
-use Rattle.text.specs.Pieces.{cut, place, firstOf}
+use Rattle.text.specs.Pieces.{cut, pieceStart, firstOf}
 use Rattle.text.specs.Scans.{rest, fieldsFrom}
 use Rattle.text.proofs.Slices.{whole}
 use Rattle.text.proofs.Cuts.{pieces, place-zero, piece-is, pieces-next, place-next}
 use Rattle.text.proofs.Fields.{line-inside, line-next}
-use Rattle.lines.specs.Lines.{line, firstLine, labels, lineBad, lineCheck, linesBad, rootRow, lineRow, rowOf, rows}
-use Rattle.lines.specs.Steps.{lineFrom, rowAt, rootAt, rowFor, cellsOf, decide, lineRead, stepOf, written, linesWritten}
-use Rattle.lines.specs.declared.Row.{Row}
-use Rattle.lines.specs.declared.Line.the-variants.{Passes}
+use Rattle.lines.specs.Lines.{line, firstLine, labels, lineBad, lineCheck, linesBad, rootCells, fieldCells, lineCells, linesCells}
+use Rattle.lines.specs.LineSteps.{lineFrom, cellsByFields, rootAt, cellsFor, eightCells, decide, lineRead, stepOf, lineWritten, linesWritten}
+use Rattle.lines.specs.declared.LineCells.{LineCells}
+use Rattle.lines.specs.declared.LineJudged.the-variants.{Passes}
 use Rattle.lines.specs.declared.Next.the-variants.{At, Stop}
 use Rattle.lines.proofs.Heads.{Headed}
 
@@ -31,23 +31,23 @@ use Rattle.lines.proofs.Heads.{Headed}
 pub record Went (n k : ℕ) (s : List ℕ) (at next : ℕ) : Type 0 where
   pub fine : lineBad n k (lineFrom s at) ≡ 0
   pub is : next ≡ at + length (lineFrom s at) + 1
-  pub cells : (base : ℕ) (t : List ℤ) → written (lineRead n k s at) base t ≡ sets t base (rowOf n k at (fieldsFrom s at))
+  pub cells : (base : ℕ) (t : List ℤ) → lineWritten (lineRead n k s at) base t ≡ sets t base (lineCells n k at (fieldsFrom s at))
 
 pub record Stopped (n k : ℕ) (s : List ℕ) (at b : ℕ) : Type 0 where
   pub bad : lineBad n k (lineFrom s at) ≡ b
   pub some : b ≡ 0 → ⊥
-  pub cells : (base : ℕ) (t : List ℤ) → written (lineRead n k s at) base t ≡ t
+  pub cells : (base : ℕ) (t : List ℤ) → lineWritten (lineRead n k s at) base t ≡ t
 
 module _ (n k : ℕ) (s : List ℕ) (at : ℕ) where
-  abbrev row : Row
-  row = rowFor n k s at
+  abbrev row : LineCells
+  row = cellsFor n k s at
 
   -- the cells that the code carries are those of the definition
-  row-cells : cellsOf row ≡ rowOf n k at (fieldsFrom s at)
-  unfolding lineRow
+  row-cells : eightCells row ≡ lineCells n k at (fieldsFrom s at)
+  unfolding fieldCells
   row-cells = go (eqb k 1)
     where
-      go : (b : Bool) → cellsOf (cond b (rootAt s at) (rowAt n s at (fieldsFrom s at))) ≡ cond b rootRow (lineRow n at (fieldsFrom s at))
+      go : (b : Bool) → eightCells (cond b (rootAt s at) (cellsByFields n s at (fieldsFrom s at))) ≡ cond b rootCells (fieldCells n at (fieldsFrom s at))
       go true = refl
       go false = refl
 
@@ -55,11 +55,11 @@ module _ (n k : ℕ) (s : List ℕ) (at : ℕ) where
   row-end : row .end ≡ at + length (lineFrom s at)
   row-end = go (eqb k 1)
     where
-      go : (b : Bool) → cond b (rootAt s at) (rowAt n s at (fieldsFrom s at)) .end ≡ at + length (lineFrom s at)
+      go : (b : Bool) → cond b (rootAt s at) (cellsByFields n s at (fieldsFrom s at)) .end ≡ at + length (lineFrom s at)
       go true = refl
       go false = refl
 
-  at-next : (r : Row) (next : ℕ) → At (r .end + 1) ≡ At next → next ≡ r .end + 1
+  at-next : (r : LineCells) (next : ℕ) → At (r .end + 1) ≡ At next → next ≡ r .end + 1
   at-next r next f = cc
 
   pub went : (next : ℕ) → stepOf (lineRead n k s at) ≡ At next → Went n k s at next
@@ -79,10 +79,10 @@ module _ (n k : ℕ) (s : List ℕ) (at : ℕ) where
       go (suc x) q f = let y : suc x ≡ b = cc in record { bad = q ∙ y; some = λ z. omega arith; cells = λ base t. rw q }
 
   -- a line that passes ends inside the text
-  same-end : (x : Row) {r : Row} → Passes x ≡ Passes r → x .end ≡ r .end
-  same-end x {r} f = let q : x ≡ r = cc in ap (λ (y : Row). y .end) q
+  same-end : (x : LineCells) {r : LineCells} → Passes x ≡ Passes r → x .end ≡ r .end
+  same-end x {r} f = let q : x ≡ r = cc in ap (λ (y : LineCells). y .end) q
 
-  pub passes-inside : at < length s → endsLines s → (r : Row) → lineRead n k s at ≡ Passes r → r .end < length s
+  pub passes-inside : at < length s → endsLines s → (r : LineCells) → lineRead n k s at ≡ Passes r → r .end < length s
   unfolding lineRead
   passes-inside h ends r e = go (lineBad n k (lineFrom s at)) e
     where
@@ -90,39 +90,45 @@ module _ (n k : ℕ) (s : List ℕ) (at : ℕ) where
       go zero f = omega (arith, line-inside s at h ends, row-end, same-end row f)
       go (suc b) f = let z : _≡_ {A = ℕ} 0 1 = cc in absurd (omega arith)
 
--- ---- the rows written so far
+-- ---- the linesCells lineWritten so far
 
-row-length : (n k p : ℕ) (fs : List (List ℕ)) → length (rowOf n k p fs) ≡ 8
-unfolding lineRow
+row-length : (n k p : ℕ) (fs : List (List ℕ)) → length (lineCells n k p fs) ≡ 8
+unfolding fieldCells
 row-length n k p fs = go (eqb k 1)
   where
-    go : (b : Bool) → length (cond b rootRow (lineRow n p fs)) ≡ 8
+    go : (b : Bool) → length (cond b rootCells (fieldCells n p fs)) ≡ 8
     go true = refl
     go false = refl
 
-pub rows-length : (s : List ℕ) (n k : ℕ) → length (rows s n k) ≡ 8 * k
+pub rows-length : (s : List ℕ) (n k : ℕ) → length (linesCells s n k) ≡ 8 * k
 rows-length s n zero = refl
 rows-length s n (suc k) =
-    omega (arith, length-append (rows s n k) (rowOf n (suc k) (place (cut 10 s) (suc k)) (cut 32 (line s (suc k)))), rows-length s n k, row-length n (suc k) (place (cut 10 s) (suc k)) (cut 32 (line s (suc k))))
+    omega (
+      arith,
+      length-append (linesCells s n k) (lineCells n (suc k) (pieceStart (cut 10 s) (suc k)) (cut 32 (line s (suc k)))),
+      rows-length s n k,
+      row-length n (suc k)
+          (pieceStart (cut 10 s) (suc k)) (cut 32 (line s (suc k))),
+    )
 
 pub written-length : (s : List ℕ) (n k : ℕ) (t : List ℤ) → 8 * k ≤ length t → length (linesWritten s n k t) ≡ length t
-written-length s n k t h = omega (arith, length-append (rows s n k) (drop (8 * k) t), length-drop (8 * k) t, rows-length s n k)
+written-length s n k t h = omega (arith, length-append (linesCells s n k) (drop (8 * k) t), length-drop (8 * k) t, rows-length s n k)
 
 -- eight cells more
 pub row-written : (s : List ℕ) (n k : ℕ) (t : List ℤ) → 8 * k + 8 ≤ length t
-    → sets (linesWritten s n k t) (8 * k) (rowOf n (k + 1) (place (cut 10 s) (k + 1)) (cut 32 (line s (k + 1)))) ≡ linesWritten s n (k + 1) t
+    → sets (linesWritten s n k t) (8 * k) (lineCells n (k + 1) (pieceStart (cut 10 s) (k + 1)) (cut 32 (line s (k + 1)))) ≡ linesWritten s n (k + 1) t
 row-written s n k t h =
-    let v = rowOf n (k + 1) (place (cut 10 s) (k + 1)) (cut 32 (line s (k + 1))) in
+    let v = lineCells n (k + 1) (pieceStart (cut 10 s) (k + 1)) (cut 32 (line s (k + 1))) in
     let w = linesWritten s n k t in
     let r = rows-length s n k in
-    let e = row-length n (k + 1) (place (cut 10 s) (k + 1)) (cut 32 (line s (k + 1))) in
+    let e = row-length n (k + 1) (pieceStart (cut 10 s) (k + 1)) (cut 32 (line s (k + 1))) in
     let l : length w ≡ length t = written-length s n k t (omega arith) in
-    let front : take (8 * k) w ≡ rows s n k = take-at (rows s n k) (drop (8 * k) t) (8 * k) r in
-    let m : 8 * k + length v ≡ length (rows s n k) + 8 = omega arith in
+    let front : take (8 * k) w ≡ linesCells s n k = take-at (linesCells s n k) (drop (8 * k) t) (8 * k) r in
+    let m : 8 * k + length v ≡ length (linesCells s n k) + 8 = omega arith in
     let more-cells : 8 * k + 8 ≡ 8 * (k + 1) = omega arith in
     let back : drop (8 * k + length v) w ≡ drop (8 * (k + 1)) t =
-    ap (λ (i : ℕ). drop i w) m ∙ drop-append-add (rows s n k) (drop (8 * k) t) 8 ∙ drop-drop 8 (8 * k) t ∙ ap (λ (i : ℕ). drop i t) more-cells in
-    let more : rows s n (k + 1) ≡ rows s n k ++ v = rw (add-one k) in
+    ap (λ (i : ℕ). drop i w) m ∙ drop-append-add (linesCells s n k) (drop (8 * k) t) 8 ∙ drop-drop 8 (8 * k) t ∙ ap (λ (i : ℕ). drop i t) more-cells in
+    let more : linesCells s n (k + 1) ≡ linesCells s n k ++ v = rw (add-one k) in
     sets-eq v w (8 * k) (omega arith) ∙ rw (front, back, more)
 
 -- ---- what the loop keeps at a label whose line begins at `at`, with the table t, which was t₀
@@ -130,7 +136,7 @@ row-written s n k t h =
 pub record Going (s : List ℕ) (n : ℕ) (t₀ : List ℤ) (at label : ℕ) (t : List ℤ) : Type 0 where
   pub low : 1 ≤ label
   pub high : label ≤ n + 1
-  pub here : at ≡ place (cut 10 s) label
+  pub here : at ≡ pieceStart (cut 10 s) label
   pub left : cut 10 (rest s at) ≡ drop label (cut 10 s)
   pub table : t ≡ linesWritten s n (label - 1) t₀
   pub size : length t ≡ length t₀
@@ -187,16 +193,16 @@ module _ (s : List ℕ) (n : ℕ) (h : Headed s) (e : n ≡ labels s) where
       check-is : lineCheck s n k ≡ lineBad n k (lineFrom s at)
       check-is = ap (lineBad n k) line-is
 
-      pub turn : (next : ℕ) (t′ : List ℤ) → Went n k s at next → t′ ≡ written (lineRead n k s at) (8 * (k - 1)) t → 8 * n ≤ length t₀ → Going s n t₀ next (k + 1) t′
+      pub turn : (next : ℕ) (t′ : List ℤ) → Went n k s at next → t′ ≡ lineWritten (lineRead n k s at) (8 * (k - 1)) t → 8 * n ≤ length t₀ → Going s n t₀ next (k + 1) t′
       turn next t′ w q room =
           let j : k - 1 + 1 ≡ k = omega (arith, g .low) in
           let i : k + 1 - 1 ≡ k = omega arith in
           let base : ℕ = 8 * (k - 1) in
-          let own : rowOf n k at (fieldsFrom s at) ≡ rowOf n (k - 1 + 1) (place (cut 10 s) (k - 1 + 1)) (cut 32 (line s (k - 1 + 1))) =
-          rw (j, line-is) (ap (λ (p : ℕ). rowOf n k p (fieldsFrom s at)) (g .here)) in
+          let own : lineCells n k at (fieldsFrom s at) ≡ lineCells n (k - 1 + 1) (pieceStart (cut 10 s) (k - 1 + 1)) (cut 32 (line s (k - 1 + 1))) =
+          rw (j, line-is) (ap (λ (p : ℕ). lineCells n k p (fieldsFrom s at)) (g .here)) in
           let z : t′ ≡ linesWritten s n k t₀ =
           q ∙ w .cells base t
-          ∙ ap (λ (x : List ℤ). sets x base (rowOf n k at (fieldsFrom s at))) (g .table)
+          ∙ ap (λ (x : List ℤ). sets x base (lineCells n k at (fieldsFrom s at))) (g .table)
           ∙ ap (λ (v : List ℤ). sets (linesWritten s n (k - 1) t₀) base v) own
           ∙ row-written s n (k - 1) t₀ (omega (arith, g .low))
           ∙ ap (λ (x : ℕ). linesWritten s n x t₀) j in

@@ -18,13 +18,13 @@ use Rattle.kinds.specs.declared.Fields.{Fields}
 use Rattle.kinds.specs.Kinds.{groupCode, fieldsAt}
 use Rattle.lines.specs.Fields.{fieldOf, isRight, held, kindCode}
 use Rattle.lines.specs.Lines.{rootLine, lineBad, formsRight, field}
-use Rattle.lines.specs.Steps.{lineFrom, FiveAt, operandsOf, operandsAt, rowBy, rowAt, rootAt, rootRead, rowRead, decide, lineRead}
+use Rattle.lines.specs.LineSteps.{lineFrom, FiveAt, operandsOf, operandsAt, cellsByEnds, cellsByFields, rootAt, rootRead, otherRead, decide, lineRead}
 use Rattle.lines.specs.declared.Ends.{Ends}
-use Rattle.lines.specs.declared.Row.{Row}
+use Rattle.lines.specs.declared.LineCells.{LineCells}
 use Rattle.lines.specs.declared.Field.{Field}
 use Rattle.lines.specs.declared.Field.the-variants.{Holds, Wrong}
 use Rattle.lines.specs.declared.Operands.the-variants as operands
-use Rattle.lines.specs.declared.Line.the-variants.{Passes, Fails}
+use Rattle.lines.specs.declared.LineJudged.the-variants.{Passes, Fails}
 
 -- ---- what the operands' fields hold
 
@@ -45,7 +45,7 @@ hold-operands (Holds u) (Holds v) Wrong a b c e = let q : _≡_ {A = ℕ} 0 1 = 
 hold-operands (Holds u) Wrong z a b c e = let q : _≡_ {A = ℕ} 0 1 = cc in absurd (omega arith)
 hold-operands Wrong y z a b c e = let q : _≡_ {A = ℕ} 0 1 = cc in absurd (omega arith)
 
-by-test : (b : Bool) (r : Row) → cond b (Passes r) (Fails 7) ≡ decide (cond b 0 7) r
+by-test : (b : Bool) (r : LineCells) → cond b (Passes r) (Fails 7) ≡ decide (cond b 0 7) r
 by-test true r = refl
 by-test false r = refl
 
@@ -76,8 +76,8 @@ module _ (n : ℕ) (s : List ℕ) (from : ℕ) (e : Ends) (f : FiveAt s from e) 
   pub kind-is : kindCode (field (fieldsFrom s from) 0) ≡ code
   kind-is = rw (f .are)
 
-  row-is : rowAt n s from (fieldsFrom s from)
-      ≡ rowBy s e code
+  row-is : cellsByFields n s from (fieldsFrom s from)
+      ≡ cellsByEnds s e code
       (held (fieldOf (fieldsAt code .a) n (slice (e .name + 1) (e .a) s)))
       (held (fieldOf (fieldsAt code .b) n (slice (e .a + 1) (e .b) s)))
       (held (fieldOf (fieldsAt code .c) n (slice (e .b + 1) (e .c) s)))
@@ -95,10 +95,10 @@ module _ (n : ℕ) (s : List ℕ) (from : ℕ) (e : Ends) (f : FiveAt s from e) 
       && isRight (fieldOf (fieldsAt code .c) n (slice (e .b + 1) (e .c) s)))
   forms-are = rw (f .are)
 
-  name-wrong : fieldOf (fieldsAt code .name) n (slice (e .kind + 1) (e .name) s) ≡ Wrong → Fails 7 ≡ rowRead n s from
+  name-wrong : fieldOf (fieldsAt code .name) n (slice (e .kind + 1) (e .name) s) ≡ Wrong → Fails 7 ≡ otherRead n s from
   name-wrong g = rw (kind-is, forms-are, g)
 
-  operands-wrong : operandsAt s e (fieldsAt code) n ≡ operands.Wrong → Fails 7 ≡ rowRead n s from
+  operands-wrong : operandsAt s e (fieldsAt code) n ≡ operands.Wrong → Fails 7 ≡ otherRead n s from
   operands-wrong g =
       rw (
         kind-is,
@@ -111,9 +111,10 @@ module _ (n : ℕ) (s : List ℕ) (from : ℕ) (e : Ends) (f : FiveAt s from e) 
       )
 
   row-right : (x a b c : ℤ) → fieldOf (fieldsAt code .name) n (slice (e .kind + 1) (e .name) s) ≡ Holds x → operandsAt s e (fieldsAt code) n ≡ operands.Hold a b c
-      → Passes (rowBy s e code a b c) ≡ rowRead n s from
+      → Passes (cellsByEnds s e code a b c) ≡ otherRead n s from
   row-right x a b c g h =
-      let o = hold-operands (fieldOf (fieldsAt code .a) n (slice (e .name + 1) (e .a) s)) (fieldOf (fieldsAt code .b) n (slice (e .a + 1) (e .b) s)) (fieldOf (fieldsAt code .c) n (slice (e .b + 1) (e .c) s)) a b c h in
+      let o = hold-operands (fieldOf (fieldsAt code .a) n (slice (e .name + 1) (e .a) s)) (fieldOf (fieldsAt code .b) n (slice (e .a + 1) (e .b) s))
+      (fieldOf (fieldsAt code .c) n (slice (e .b + 1) (e .c) s)) a b c h in
       rw (row-is, kind-is, forms-are, g, o .first, o .second, o .third)
 
   -- the same for what the code holds: the code and the kind that it looked up, and the row that it made
@@ -121,16 +122,16 @@ module _ (n : ℕ) (s : List ℕ) (from : ℕ) (e : Ends) (f : FiveAt s from e) 
     by-kind : k ≡ fieldsAt code
     by-kind = q ∙ ap fieldsAt p
 
-    pub read-name-wrong : fieldOf (k .name) n (slice (e .kind + 1) (e .name) s) ≡ Wrong → Fails 7 ≡ rowRead n s from
+    pub read-name-wrong : fieldOf (k .name) n (slice (e .kind + 1) (e .name) s) ≡ Wrong → Fails 7 ≡ otherRead n s from
     read-name-wrong g = name-wrong (rw by-kind at g)
 
-    pub read-operands-wrong : operandsAt s e k n ≡ operands.Wrong → Fails 7 ≡ rowRead n s from
+    pub read-operands-wrong : operandsAt s e k n ≡ operands.Wrong → Fails 7 ≡ otherRead n s from
     read-operands-wrong g = operands-wrong (rw by-kind at g)
 
-    pub read-right : (x a b c : ℤ) (r : Row) → fieldOf (k .name) n (slice (e .kind + 1) (e .name) s) ≡ Holds x → operandsAt s e k n ≡ operands.Hold a b c
-        → r ≡ rowBy s e found a b c → Passes r ≡ rowRead n s from
+    pub read-right : (x a b c : ℤ) (r : LineCells) → fieldOf (k .name) n (slice (e .kind + 1) (e .name) s) ≡ Holds x → operandsAt s e k n ≡ operands.Hold a b c
+        → r ≡ cellsByEnds s e found a b c → Passes r ≡ otherRead n s from
     read-right x a b c r g h m =
-        ap Passes (m ∙ ap (λ (y : ℕ). rowBy s e y a b c) p) ∙ row-right x a b c (rw by-kind at g) (rw by-kind at h)
+        ap Passes (m ∙ ap (λ (y : ℕ). cellsByEnds s e y a b c) p) ∙ row-right x a b c (rw by-kind at g) (rw by-kind at h)
 
   -- ---- rows 5 to 7 at a line with five fields
 
@@ -155,9 +156,11 @@ module _ (n : ℕ) (s : List ℕ) (from : ℕ) (e : Ends) (f : FiveAt s from e) 
     unfolding lineRead lineBad
     line-root g q = rw (fields-right, ap (λ (m : ℕ). eqb m 0) kind-is ∙ ne-eqb code 0 g, eq-eqb k 1 q) (by-test (same (lineFrom s from) rootLine) (rootAt s from))
 
-    pub line-row : (code ≡ 0 → ⊥) → (k ≡ 1 → ⊥) → rowRead n s from ≡ lineRead n k s from
+    pub line-row : (code ≡ 0 → ⊥) → (k ≡ 1 → ⊥) → otherRead n s from ≡ lineRead n k s from
     unfolding lineRead lineBad
-    line-row g q = rw (fields-right, ap (λ (m : ℕ). eqb m 0) kind-is ∙ ne-eqb code 0 g, ne-eqb k 1 q) (by-test (formsRight n (fieldsAt (kindCode (field (fieldsFrom s from) 0))) (fieldsFrom s from)) (rowAt n s from (fieldsFrom s from)))
+    line-row g q =
+        rw (fields-right, ap (λ (m : ℕ). eqb m 0) kind-is ∙ ne-eqb code 0 g, ne-eqb k 1 q)
+        (by-test (formsRight n (fieldsAt (kindCode (field (fieldsFrom s from) 0))) (fieldsFrom s from)) (cellsByFields n s from (fieldsFrom s from)))
 
 pub line-fields : (n k : ℕ) (s : List ℕ) (from : ℕ) → fieldsAre 5 (fieldsFrom s from) ≡ false → Fails 5 ≡ lineRead n k s from
 unfolding lineRead lineBad

@@ -12,7 +12,7 @@ use Rattle.text.specs.Scans.{fieldEnd, rest, fieldsFrom}
 use Rattle.text.proofs.Slices.{slice-at}
 use Rattle.text.proofs.Fields.{Spaced, Last, space-end, space-none, last-end, last-none}
 use Rattle.lines.specs.declared.Ends.{Ends}
-use Rattle.lines.specs.Steps.{FiveAt}
+use Rattle.lines.specs.LineSteps.{FiveAt}
 
 -- k fields of the line from `from` on are still to be found, from `at` on
 pub record Left (s : List ℕ) (from k at : ℕ) : Type 0 where
@@ -47,7 +47,8 @@ module _ (s : List ℕ) (ends : endsLines s) (allowed : all isAllowed s ≡ true
   pub left-last : (at e : ℕ) → Left s from 1 at → e ≡ fieldEnd s at 10 → e ≡ 0 → fieldsAre 5 (fieldsFrom s from) ≡ false
   left-last at e l q z = l .same ∙ last-none s at (l .here) ends allowed (sym q ∙ z)
 
-pub five : (s : List ℕ) (from : ℕ) (e : Ends) → Spaced s from (e .kind) → Spaced s (e .kind + 1) (e .name) → Spaced s (e .name + 1) (e .a) → Spaced s (e .a + 1) (e .b) → Last s (e .b + 1) (e .c) → FiveAt s from e
+pub five : (s : List ℕ) (from : ℕ) (e : Ends) → Spaced s from (e .kind) → Spaced s (e .kind + 1) (e .name) → Spaced s (e .name + 1) (e .a) → Spaced s (e .a + 1) (e .b)
+    → Last s (e .b + 1) (e .c) → FiveAt s from e
 five s from e p q r t l =
     let ps = cut 10 (rest s (e .c + 1)) in
     let h3 : e .b + 1 ≤ e .c = omega (arith, l .wide) in

@@ -1,4 +1,4 @@
 pub mod Fields
 pub mod Lines
-pub mod Steps
+pub mod LineSteps
 pub mod Lined

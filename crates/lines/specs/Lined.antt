@@ -1,23 +1,24 @@
--- What holds of the table that rows 1 to 7 leave.
+-- What holds of the table that linesCells 1 to 7 leave.
 use mathlib.Core.Path.{_≡_}
 use mathlib.Core.Bool.{true}
 use mathlib.Core.List.{List, _++_}
 use Prim.Native.Nat.{ℕ, _+_, _-_, _*_, _≤_, _<_}
 use lib.IntN.{ℤ, pos, natAbs}
 use lib.ListN.{length}
+use Rattle.cells.specs.Limits.{labelLimit, numberLimit}
 use Rattle.cells.specs.Cells.{intAt, zeros}
-use Rattle.cells.specs.Table.{cell, kind, nameStart, nameLength, fieldA, fieldB, fieldC, numberOf}
+use Rattle.cells.specs.Table.{cell, kind, nameStart, nameLength, fieldA, fieldB, fieldC, lineNumber}
 use Rattle.kinds.specs.Kinds.{groupCode, numberCode, fieldsAt, isKind}
-use Rattle.lines.specs.Lines.{labels, rows}
+use Rattle.lines.specs.Lines.{labels, linesCells}
 use Rattle.kinds.specs.declared.Form.the-variants.{Operand}
 
 -- the cells of all lines, and zeros up to m cells
 unfoldable pub linedTable : List ℕ → ℕ → List ℤ
-linedTable s m = rows s (labels s) (labels s) ++ zeros (m - 8 * labels s)
+linedTable s m = linesCells s (labels s) (labels s) ++ zeros (m - 8 * labels s)
 
 pub record Lined (s : List ℕ) (t : List ℤ) (n : ℕ) : Type 0 where
   pub some : 1 ≤ n
-  pub few : n ≤ 1024
+  pub few : n ≤ labelLimit
   pub room : 8 * n ≤ length t
   -- unused cells are zero
   pub unused : (i : ℕ) → 8 * n ≤ i → intAt t i ≡ pos 0
@@ -36,4 +37,4 @@ pub record Lined (s : List ℕ) (t : List ℤ) (n : ℕ) : Type 0 where
   -- owner and target are still to be written
   pub blank : (k j : ℕ) → k < n → 6 ≤ j → j < 8 → intAt t (8 * k + j) ≡ pos 0
   -- an N line's number is in range
-  pub number : (l : ℕ) → kind t l ≡ numberCode → natAbs (numberOf t l) ≤ 1000000000
+  pub number : (l : ℕ) → kind t l ≡ numberCode → natAbs (lineNumber t l) ≤ numberLimit

@@ -5,11 +5,12 @@ use Prim.Native.Nat.{ℕ, zero, suc, _+_, _-_}
 use lib.Dec.{leb, eqb}
 use lib.IntN.{ℤ, pos}
 use lib.ListN.{length, getD}
+use Rattle.cells.specs.Limits.{sizeLimit, labelLimit}
 use Rattle.kinds.specs.declared.Fields.{Fields}
 use Rattle.kinds.specs.Kinds.{groupCode, fieldsAt}
 use Rattle.cells.specs.Cells.{zeros}
 use Rattle.text.specs.Bytes.{all, countBy, isAllowed, isNewline, same}
-use Rattle.text.specs.Pieces.{cut, place, fieldsAre}
+use Rattle.text.specs.Pieces.{cut, pieceStart, fieldsAre}
 use Rattle.text.specs.Quoted.{bytesOf}
 use Rattle.refusals.specs.Rows.{textRow, firstLineRow, labelsRow, fieldsRow, kindRow, formRow}
 use Rattle.refusals.specs.Refusal.{firstBad}
@@ -17,11 +18,11 @@ use Rattle.refusals.specs.declared.Verdict.{Verdict}
 use Rattle.refusals.specs.declared.Verdict.the-variants.{Fine, Refused}
 use Rattle.lines.specs.Fields.{dash, fieldOf, isRight, held, kindCode}
 
--- ---- rows 1 to 3, at place 0
+-- ---- linesCells 1 to 3, at pieceStart 0
 
 -- a sheet is 1 to 65,536 bytes of lines, each ended by byte 10; all others are 32 to 126
 unfoldable pub isText : List ℕ → Bool
-isText s = leb 1 (length s) && leb (length s) 65536 && eqb (getD s (length s - 1) 0) 10 && all isAllowed s
+isText s = leb 1 (length s) && leb (length s) sizeLimit && eqb (getD s (length s - 1) 0) 10 && all isAllowed s
 
 -- line k of the text: line 0 holds the column names, and line k after it has label k
 unfoldable pub line : List ℕ → ℕ → List ℕ
@@ -42,10 +43,10 @@ unfoldable pub headBad : List ℕ → Verdict
 headBad s =
     unless (isText s) textRow
     (unless (same (line s 0) firstLine) firstLineRow
-    (unless (leb 1 (labels s) && leb (labels s) 1024) labelsRow
+    (unless (leb 1 (labels s) && leb (labels s) labelLimit) labelsRow
     Fine))
 
--- ---- rows 5 to 7, one pass down the lines, the lowest number first in a line
+-- ---- linesCells 5 to 7, one pass down the lines, the lowest number first in a line
 
 -- what label 1 always is
 unfoldable pub rootLine : List ℕ
@@ -84,18 +85,18 @@ linesBad s n = firstBad (lineCheck s n) 1 n
 -- which later passes write
 
 -- those of label 1, which is always `G - 0 - -`: a Group, with no name and in no Group
-abbrev pub rootRow : List ℤ
-rootRow = pos groupCode ∷ zeros 7
+abbrev pub rootCells : List ℤ
+rootCells = pos groupCode ∷ zeros 7
 
--- those of any other line, which begins at place p of the text and has the fields fs
+-- those of any other line, which begins at pieceStart p of the text and has the fields fs
 abbrev pub nameCell : List (List ℕ) → ℕ → ℤ
 nameCell fs x = pos (cond (same (field fs 1) dash) 0 x)
 
-unfoldable pub lineRow : ℕ → ℕ → List (List ℕ) → List ℤ
-lineRow n p fs =
+unfoldable pub fieldCells : ℕ → ℕ → List (List ℕ) → List ℤ
+fieldCells n p fs =
     let k = fieldsAt (kindCode (field fs 0)) in
     pos (kindCode (field fs 0))
-    ∷ nameCell fs (p + place fs 1)
+    ∷ nameCell fs (p + pieceStart fs 1)
     ∷ nameCell fs (length (field fs 1))
     ∷ held (fieldOf (k .a) n (field fs 2))
     ∷ held (fieldOf (k .b) n (field fs 3))
@@ -104,10 +105,10 @@ lineRow n p fs =
     ∷ pos 0
     ∷ []
 
-abbrev pub rowOf : ℕ → ℕ → ℕ → List (List ℕ) → List ℤ
-rowOf n k p fs = cond (eqb k 1) rootRow (lineRow n p fs)
+abbrev pub lineCells : ℕ → ℕ → ℕ → List (List ℕ) → List ℤ
+lineCells n k p fs = cond (eqb k 1) rootCells (fieldCells n p fs)
 
 -- the cells of labels 1 to k
-abbrev pub rows : List ℕ → ℕ → ℕ → List ℤ
-rows s n zero = []
-rows s n (suc k) = rows s n k ++ rowOf n (suc k) (place (cut 10 s) (suc k)) (cut 32 (line s (suc k)))
+abbrev pub linesCells : List ℕ → ℕ → ℕ → List ℤ
+linesCells s n zero = []
+linesCells s n (suc k) = linesCells s n k ++ lineCells n (suc k) (pieceStart (cut 10 s) (suc k)) (cut 32 (line s (suc k)))

@@ -6,6 +6,7 @@ ghost use Prim.Native.Nat.{_+_, _-_, _*_, _≤_, _<_};
 ghost use lib.IntN.{pos};
 ghost use lib.ListN.{length};
 ghost use lib.Seq.{slice, sets};
+ghost use Rattle.cells.specs.Limits.{labelLimit, sizeLimit};
 ghost use Rattle.kinds.specs.Kinds.{isKind};
 ghost use Rattle.text.specs.Bytes.{all, countBy, isAllowed, isNewline, endsLines, same};
 ghost use Rattle.text.specs.Forms.{labelOf};
@@ -13,7 +14,7 @@ ghost use Rattle.numbers.specs.Decimal.{numberOf};
 ghost use Rattle.refusals.specs.Refusal.{replyOf};
 ghost use Rattle.lines.specs.Fields.{dash, blankIf, fromLabel, fromNumber, fieldOf, kindCode};
 ghost use Rattle.lines.specs.Lines.{isText, line, firstLine, labels, headBad, linesBad};
-ghost use Rattle.lines.specs.Steps.{FiveAt, SplitOf, operandsAt, cellsOf, rowBy, rowRead, rootRead, lineRead, stepOf, written, passed, linesWritten};
+ghost use Rattle.lines.specs.LineSteps.{FiveAt, SplitOf, operandsAt, eightCells, cellsByEnds, otherRead, rootRead, lineRead, stepOf, lineWritten, passed, linesWritten};
 use kinds::Fields;
 use kinds::Form;
 use numbers::Decimal;
@@ -49,7 +50,7 @@ fn blank_if(right: bool) -> Field
 
 // A field that holds a label, 1 to n.
 fn label_field(text: &[u8], from: usize, to: usize, n: usize) -> Field
-    requires { ⌜ (from < to) × (to ≤ length (now text)) × (n ≤ 1024) ⌝ }
+    requires { ⌜ (from < to) × (to ≤ length (now text)) × (n ≤ labelLimit) ⌝ }
     ensures { λ r. ⌜ r ≡ fromLabel (labelOf n (slice from to (now (text .entry)))) ⌝ }
 {
     match text::read_label(text, from, to, n as u64) {
@@ -71,7 +72,7 @@ fn number_field(text: &[u8], from: usize, to: usize) -> Field
 
 // A field, read in the form that the table of kinds wants.
 fn read_field(text: &[u8], from: usize, to: usize, form: Form, n: usize) -> Field
-    requires { ⌜ (from < to) × (to ≤ length (now text)) × (n ≤ 1024) ⌝ }
+    requires { ⌜ (from < to) × (to ≤ length (now text)) × (n ≤ labelLimit) ⌝ }
     ensures { λ r. ⌜ r ≡ fieldOf form n (slice from to (now (text .entry))) ⌝ }
 {
     match form {
@@ -114,7 +115,7 @@ pub enum Split {
 
 // The five fields of the line that begins at `from`, if it has five and none is empty.
 fn split_line(text: &[u8], from: usize) -> Split
-    requires { ⌜ (from < length (now text)) × endsLines (now text) × (all isAllowed (now text) ≡ true) × (length (now text) ≤ 65536) ⌝ }
+    requires { ⌜ (from < length (now text)) × endsLines (now text) × (all isAllowed (now text) ≡ true) × (length (now text) ≤ sizeLimit) ⌝ }
     ensures { λ r. ⌜ SplitOf (now (text .entry)) from r ⌝ }
 {
     let kind = text::field_end(text, from, b' ');
@@ -147,7 +148,7 @@ fn split_line(text: &[u8], from: usize) -> Split
 }
 
 // The cells of a line, and where the line ends.
-pub struct Row {
+pub struct LineCells {
     pub code: i64,
     pub start: i64,
     pub length: i64,
@@ -158,14 +159,14 @@ pub struct Row {
 }
 
 // A line that passes rows 5 to 7, or the number of the row that refuses it.
-pub enum Line {
-    Passes(Row),
+pub enum LineJudged {
+    Passes(LineCells),
     Fails(u64),
 }
 
 // A position, a length or a code as a cell.
 fn cell_of(x: usize) -> i64
-    requires { ⌜ x ≤ 65536 ⌝ }
+    requires { ⌜ x ≤ sizeLimit ⌝ }
     ensures { λ r. ⌜ r ≡ pos x ⌝ }
 {
     x as i64
@@ -179,7 +180,7 @@ pub enum Operands {
 
 // The fields a, b and c, each in the form that the kind wants.
 fn read_operands(text: &[u8], e: Ends, kind: Fields, n: usize) -> Operands
-    requires { ⌜ (e .name + 1 < e .a) × (e .a + 1 < e .b) × (e .b + 1 < e .c) × (e .c ≤ length (now text)) × (n ≤ 1024) ⌝ }
+    requires { ⌜ (e .name + 1 < e .a) × (e .a + 1 < e .b) × (e .b + 1 < e .c) × (e .c ≤ length (now text)) × (n ≤ labelLimit) ⌝ }
     ensures { λ r. ⌜ r ≡ operandsAt (now (text .entry)) e kind n ⌝ }
 {
     let form_a = kind.a;
@@ -198,16 +199,16 @@ fn read_operands(text: &[u8], e: Ends, kind: Fields, n: usize) -> Operands
 }
 
 // The cells of a line whose fields end at these places, with what a, b and c hold.
-fn row_of(text: &[u8], e: Ends, code: usize, a: i64, b: i64, c: i64) -> Row
-    requires { ⌜ (e .kind + 1 < e .name) × (e .name ≤ length (now text)) × (e .name ≤ 65536) × (isKind code ≡ true) ⌝ }
-    ensures { λ r. ⌜ r ≡ rowBy (now (text .entry)) e code a b c ⌝ }
+fn cells_of(text: &[u8], e: Ends, code: usize, a: i64, b: i64, c: i64) -> LineCells
+    requires { ⌜ (e .kind + 1 < e .name) × (e .name ≤ length (now text)) × (e .name ≤ sizeLimit) × (isKind code ≡ true) ⌝ }
+    ensures { λ r. ⌜ r ≡ cellsByEnds (now (text .entry)) e code a b c ⌝ }
 {
     let from = e.kind + 1;
     let to = e.name;
     let end = e.c;
     let code = cell_of(code);
     if is_dash(text, from, to) {
-        return Row {
+        return LineCells {
             code,
             start: 0,
             length: 0,
@@ -219,7 +220,7 @@ fn row_of(text: &[u8], e: Ends, code: usize, a: i64, b: i64, c: i64) -> Row
     }
     let start = cell_of(from);
     let length = cell_of(to - from);
-    Row {
+    LineCells {
         code,
         start,
         length,
@@ -231,29 +232,29 @@ fn row_of(text: &[u8], e: Ends, code: usize, a: i64, b: i64, c: i64) -> Row
 }
 
 // A line of a known kind with five fields, other than label 1's.
-fn read_row(text: &[u8], from: usize, e: Ends, code: usize, n: usize) -> Line
-    requires { ⌜ FiveAt (now text) from e × (code ≡ kindCode (slice from (e .kind) (now text))) × (1 ≤ code) × (n ≤ 1024) × (length (now text) ≤ 65536) ⌝ }
-    ensures { λ r. ⌜ r ≡ rowRead n (now (text .entry)) from ⌝ }
+fn read_cells(text: &[u8], from: usize, e: Ends, code: usize, n: usize) -> LineJudged
+    requires { ⌜ FiveAt (now text) from e × (code ≡ kindCode (slice from (e .kind) (now text))) × (1 ≤ code) × (n ≤ labelLimit) × (length (now text) ≤ sizeLimit) ⌝ }
+    ensures { λ r. ⌜ r ≡ otherRead n (now (text .entry)) from ⌝ }
 {
     let kind = kinds::fields_of(code);
     let form = kind.name;
     let Field::Holds(_) = read_field(text, e.kind + 1, e.name, form, n) else {
-        return Line::Fails(refusals::FORM);
+        return LineJudged::Fails(refusals::FORM);
     };
     let Operands::Hold(a, b, c) = read_operands(text, e, kind, n) else {
-        return Line::Fails(refusals::FORM);
+        return LineJudged::Fails(refusals::FORM);
     };
-    Line::Passes(row_of(text, e, code, a, b, c))
+    LineJudged::Passes(cells_of(text, e, code, a, b, c))
 }
 
 // The line of label 1, which is always `G - 0 - -`.
-fn read_root(text: &[u8], from: usize, e: Ends) -> Line
+fn read_root(text: &[u8], from: usize, e: Ends) -> LineJudged
     requires { ⌜ FiveAt (now text) from e ⌝ }
     ensures { λ r. ⌜ r ≡ rootRead (now (text .entry)) from ⌝ }
 {
     let end = e.c;
     if text::same_bytes(text, from, end, b"G - 0 - -") {
-        return Line::Passes(Row {
+        return LineJudged::Passes(LineCells {
             code: kinds::GROUP as i64,
             start: 0,
             length: 0,
@@ -263,42 +264,42 @@ fn read_root(text: &[u8], from: usize, e: Ends) -> Line
             end,
         });
     }
-    Line::Fails(refusals::FORM)
+    LineJudged::Fails(refusals::FORM)
 }
 
 // A line with five fields: rows 6 and 7.
-fn read_five(text: &[u8], from: usize, e: Ends, n: usize, label: usize) -> Line
-    requires { ⌜ FiveAt (now text) from e × (n ≤ 1024) × (length (now text) ≤ 65536) ⌝ }
+fn read_five(text: &[u8], from: usize, e: Ends, n: usize, label: usize) -> LineJudged
+    requires { ⌜ FiveAt (now text) from e × (n ≤ labelLimit) × (length (now text) ≤ sizeLimit) ⌝ }
     ensures { λ r. ⌜ r ≡ lineRead n label (now (text .entry)) from ⌝ }
 {
     let kind = e.kind;
     let code = kind_code(text, from, kind);
     if code == 0 {
-        return Line::Fails(refusals::KIND);
+        return LineJudged::Fails(refusals::KIND);
     }
     if label == 1 {
         return read_root(text, from, e);
     }
-    read_row(text, from, e, code, n)
+    read_cells(text, from, e, code, n)
 }
 
 // The line that begins at `from`: rows 5 to 7, lowest number first.
-fn read_line(text: &[u8], from: usize, n: usize, label: usize) -> Line
-    requires { ⌜ (from < length (now text)) × (n ≤ 1024) × (length (now text) ≤ 65536) × endsLines (now text) × (all isAllowed (now text) ≡ true) ⌝ }
+fn read_line(text: &[u8], from: usize, n: usize, label: usize) -> LineJudged
+    requires { ⌜ (from < length (now text)) × (n ≤ labelLimit) × (length (now text) ≤ sizeLimit) × endsLines (now text) × (all isAllowed (now text) ≡ true) ⌝ }
     ensures { λ r. ⌜ r ≡ lineRead n label (now (text .entry)) from ⌝ }
 {
     match split_line(text, from) {
         Split::Five(e) => read_five(text, from, e, n, label),
-        Split::Other => Line::Fails(refusals::FIELDS),
+        Split::Other => LineJudged::Fails(refusals::FIELDS),
     }
 }
 
 // ---- the pass down the lines
 
-// The eight cells of a row, written from index `base` on; owner and target are left 0 for later passes.
-fn put_row(table: &mut [i64], base: usize, row: Row)
+// The eight cells of a row, lineWritten from index `base` on; owner and target are left 0 for later passes.
+fn put_cells(table: &mut [i64], base: usize, row: LineCells)
     requires { ⌜ base + 8 ≤ length (now table) ⌝ }
-    ensures { λ _. ⌜ now (table .exit) ≡ sets (now (table .entry)) base (cellsOf row) ⌝ }
+    ensures { λ _. ⌜ now (table .exit) ≡ sets (now (table .entry)) base (eightCells row) ⌝ }
 {
     let code = row.code;
     let start = row.start;
@@ -324,22 +325,22 @@ pub enum Next {
 
 // The line of a label, which begins at `at`: checked, and its cells written.
 fn step(text: &[u8], at: usize, n: usize, label: usize, table: &mut [i64]) -> Next
-    requires { ⌜ (at < length (now text)) × (n ≤ 1024) × (length (now text) ≤ 65536) × endsLines (now text) × (all isAllowed (now text) ≡ true) ⌝ }
-    requires { ⌜ (1 ≤ label) × (label ≤ 1024) × (8 * label ≤ length (now table)) ⌝ }
+    requires { ⌜ (at < length (now text)) × (n ≤ labelLimit) × (length (now text) ≤ sizeLimit) × endsLines (now text) × (all isAllowed (now text) ≡ true) ⌝ }
+    requires { ⌜ (1 ≤ label) × (label ≤ labelLimit) × (8 * label ≤ length (now table)) ⌝ }
     ensures { λ r. ⌜ r ≡ stepOf (lineRead n label (now (text .entry)) at) ⌝ }
-    ensures { λ r. ⌜ now (table .exit) ≡ written (lineRead n label (now (text .entry)) at) (8 * (label - 1)) (now (table .entry)) ⌝ }
+    ensures { λ r. ⌜ now (table .exit) ≡ lineWritten (lineRead n label (now (text .entry)) at) (8 * (label - 1)) (now (table .entry)) ⌝ }
 {
     match read_line(text, at, n, label) {
-        Line::Fails(row) => Next::Stop(row),
-        Line::Passes(row) => {
+        LineJudged::Fails(row) => Next::Stop(row),
+        LineJudged::Passes(row) => {
             let next = row.end + 1;
-            put_row(table, 8 * (label - 1), row);
+            put_cells(table, 8 * (label - 1), row);
             Next::At(next)
         }
     }
 }
 
-// Rows 5 to 7, one pass down the lines. The cells of each line that passes are written; the others of the table stay.
+// Rows 5 to 7, one pass down the lines. The cells of each line that passes are lineWritten; the others of the table stay.
 pub fn read_lines(text: &[u8], n: usize, table: &mut [i64]) -> Verdict
     requires { ⌜ (headBad (now text) ≡ Verdict.Fine) × (n ≡ labels (now text)) × (8 * n ≤ length (now table)) ⌝ }
     ensures { λ r. ⌜ r ≡ linesBad (now (text .entry)) n ⌝ }
@@ -369,7 +370,7 @@ fn text_lines(text: &[u8]) -> usize
     if size < 1 {
         return 0;
     }
-    if 65536 < size {
+    if cells::SIZE_LIMIT < size {
         return 0;
     }
     if text[size - 1] != b'\n' {
@@ -405,7 +406,7 @@ pub fn check_head(text: &[u8]) -> Reply
         if lines < 2 {
             return Reply::Refused(refusals::LABELS, 0);
         }
-        if 1025 < lines {
+        if cells::LINE_LIMIT < lines {
             return Reply::Refused(refusals::LABELS, 0);
         }
         return Reply::Answered((lines - 1) as u64);

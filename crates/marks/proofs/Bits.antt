@@ -13,7 +13,7 @@ use lib.Bits as Bits
 use lib.Bits.{bitAnd, bitOr, bitXor, and-step, or-step, xor-step, and-self}
 use lib.Count.{trailingZeros}
 use borrow.Author.Tests.{eq-eqb, ne-eqb}
-use Rattle.order.specs.Lists.{one, count}
+use Rattle.order.specs.LabelLists.{one, count}
 use Rattle.order.proofs.Lists.{count-here, count-there}
 use Rattle.marks.specs.Marks.{bit, places}
 

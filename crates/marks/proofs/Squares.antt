@@ -14,7 +14,7 @@ use lib.ListN.{length, getD, set}
 use lib.Seq.{getD-set-same, getD-set-other}
 use borrow.Author.Count.{below-more}
 use borrow.Author.Tests.{lt-ltb, le-ltb}
-use Rattle.order.specs.Lists.{one, count}
+use Rattle.order.specs.LabelLists.{one, count}
 use Rattle.order.proofs.Tests.{clash, or-cases, or-left, or-right}
 use Rattle.order.proofs.Lists.{count-append}
 use Rattle.marks.specs.Marks.{bit, mark, InSquare, Added, Dropped, places, First}

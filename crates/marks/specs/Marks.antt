@@ -7,7 +7,7 @@ use mathlib.Core.Bool.{Bool, true, false, cond, _&&_}
 use Prim.Native.Nat.{ℕ, zero, suc, _+_, _*_, _/_, _%_, _≤_, _<_}
 use lib.Dec.{eqb, ltb}
 use lib.ListN.{length, getD, take}
-use Rattle.order.specs.Lists.{one, count}
+use Rattle.order.specs.LabelLists.{one, count}
 
 -- bit j of x, from 0
 abbrev pub bit : ℕ → ℕ → Bool

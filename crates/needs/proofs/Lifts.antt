@@ -19,7 +19,7 @@ use Rattle.order.proofs.Needs.{holds, holds-intro, holds-v, holds-in, needs-int
 use Rattle.marks.specs.Marks.{mark, Added, Dropped}
 use Rattle.marks.proofs.Squares.{mark-in}
 use Rattle.reach.specs.Links.{Around, Touches}
-use Rattle.reach.specs.Rows.{width, AllRows}
+use Rattle.reach.specs.MarkRows.{width, AllMarkRows}
 use Rattle.reach.proofs.Links.{body-group, links-body, back-exact}
 use Rattle.needs.specs.Needs.{Holder, Wanted, Lifting, Cut, NeedRows}
 
@@ -39,7 +39,7 @@ module _ (t : List ℤ) (n : ℕ) (ok : Accepted t n) where
   wanted-up : (m p : ℕ) → Wanted t m p → Wanted t (owner t m) p
   wanted-up m p x = record { value = x .value; is = x .is; within = within-owner t n ok m (x .value) (x .within); touches = x .touches }
 
-  pub lifting-start : (s : List ℕ) → AllRows t n 6 s → Lifting t n n s
+  pub lifting-start : (s : List ℕ) → AllMarkRows t n 6 s → Lifting t n n s
   lifting-start s r = record { sound = sound; own = λ v p k h. r .values v k p .1 h; up = λ m p a b c. absurd (omega arith) }
     where
       sound : (q p : ℕ) → Holder t q → mark s (width n) q p ≡ true → Wanted t q p
@@ -161,7 +161,8 @@ module _ (t : List ℤ) (n : ℕ) (ok : Accepted t n) where
     pub rows-need : (s′ : List ℕ) → Cut n (n + 1) s s′ → NeedRows t n s′
     rows-need s′ c p q hp hq = go (ℕ-discrete q p) (so-or-not (needs t n p q)) (so-or-not (mark s′ (width n) q p))
       where
-        go : Dec (q ≡ p) → (needs t n p q ≡ true) ⊎ (needs t n p q ≡ false) → (mark s′ (width n) q p ≡ true) ⊎ (mark s′ (width n) q p ≡ false) → mark s′ (width n) q p ≡ needs t n p q
+        go : Dec (q ≡ p) → (needs t n p q ≡ true) ⊎ (needs t n p q ≡ false) → (mark s′ (width n) q p ≡ true) ⊎ (mark s′ (width n) q p ≡ false)
+            → mark s′ (width n) q p ≡ needs t n p q
         go (yes z) (inl e) _ = absurd (wanted p q hp e .0 (sym z))
         go (yes z) (inr e) _ = let b = holder-label p hp in ap (λ (x : ℕ). mark s′ (width n) x p) z ∙ c .gone p (b .0) (omega (arith, b)) ∙ sym e
         go (no z) (inl e) _ = c .kept q p z ∙ all q p hq (wanted p q hp e .1) ∙ sym e

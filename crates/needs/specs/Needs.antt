@@ -10,7 +10,7 @@ use Rattle.cells.specs.Table.{kind, owner}
 use Rattle.order.specs.Order.{Within, needs}
 use Rattle.marks.specs.Marks.{mark}
 use Rattle.reach.specs.Links.{Touches}
-use Rattle.reach.specs.Rows.{width}
+use Rattle.reach.specs.MarkRows.{width}
 
 -- a Group or a value: what may have values in it
 abbrev pub Holder : List ℤ → ℕ → Type 0

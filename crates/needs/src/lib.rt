@@ -3,15 +3,16 @@
 
 ghost use Prim.Native.Nat.{_+_, _*_, _≤_};
 ghost use lib.ListN.{length};
+ghost use Rattle.cells.specs.Limits.{labelLimit};
 ghost use Rattle.cells.specs.Accepted.{Accepted};
-ghost use Rattle.reach.specs.Rows.{width, AllRows};
+ghost use Rattle.reach.specs.MarkRows.{width, AllMarkRows};
 ghost use Rattle.needs.specs.Needs.{Lifting, Cut, NeedRows};
 
 // Members lie above their Group: going down, a Group's row is complete when it is met.
 fn lift(table: &[i64], n: usize, square: &mut [u64])
     requires { ⌜ Accepted (now table) n ⌝ }
     requires { ⌜ (n + 1) * width n ≤ length (now square) ⌝ }
-    requires { ⌜ AllRows (now table) n 6 (now square) ⌝ }
+    requires { ⌜ AllMarkRows (now table) n 6 (now square) ⌝ }
     ensures { λ _. ⌜ Lifting (now (table .entry)) n 1 (now (square .exit)) ⌝ }
 {
     let mut k = n;
@@ -26,7 +27,7 @@ fn lift(table: &[i64], n: usize, square: &mut [u64])
 
 // No row keeps the mark of its own label: a member needs another one.
 fn cut_diagonal(n: usize, square: &mut [u64])
-    requires { ⌜ (n ≤ 1024) × ((n + 1) * width n ≤ length (now square)) ⌝ }
+    requires { ⌜ (n ≤ labelLimit) × ((n + 1) * width n ≤ length (now square)) ⌝ }
     ensures { λ _. ⌜ Cut n (n + 1) (now (square .entry)) (now (square .exit)) ⌝ }
 {
     let w = n / 64 + 1;
@@ -43,7 +44,7 @@ fn cut_diagonal(n: usize, square: &mut [u64])
 pub fn needs_of(table: &[i64], n: usize, square: &mut [u64])
     requires { ⌜ Accepted (now table) n ⌝ }
     requires { ⌜ (n + 1) * width n ≤ length (now square) ⌝ }
-    requires { ⌜ AllRows (now table) n 6 (now square) ⌝ }
+    requires { ⌜ AllMarkRows (now table) n 6 (now square) ⌝ }
     ensures { λ _. ⌜ NeedRows (now (table .entry)) n (now (square .exit)) ⌝ }
 {
     lift(table, n, square);

@@ -11,7 +11,8 @@ use mir.Syntax.{w64}
 use mir.Val.{toZ, ofZ, SFits}
 use mir.Facts.{toZ-ofZ}
 use Rattle.cells.proofs.Signed.{clash, natAbs-neg, fits-by}
-use Rattle.numbers.specs.Range.{limit, inRange}
+use Rattle.numbers.specs.Range.{inRange}
+use Rattle.cells.specs.Limits.{numberLimit}
 use Rattle.numbers.specs.Arithmetic.{rangedOf, dividesByZero, result, calculated}
 use Rattle.numbers.specs.declared.Tie.{Tie}
 use Rattle.kinds.specs.declared.Operation.{Operation}
@@ -22,11 +23,11 @@ use Rattle.numbers.proofs.Sizes.{add-size, mul-size}
 use Rattle.numbers.proofs.Rounding.{quotient-size}
 
 -- every result of two numbers of a sheet fits a cell
-pub result-fits : (tie : Tie) (op : Operation) (a b : ℤ) → natAbs a ≤ limit → natAbs b ≤ limit → SFits w64 (result tie op a b)
+pub result-fits : (tie : Tie) (op : Operation) (a b : ℤ) → natAbs a ≤ numberLimit → natAbs b ≤ numberLimit → SFits w64 (result tie op a b)
 unfolding result
-result-fits tie op a b ha hb = fits-by (result tie op a b) (limit * limit) (small op) tt
+result-fits tie op a b ha hb = fits-by (result tie op a b) (numberLimit * numberLimit) (small op) tt
   where
-    small : (op : Operation) → natAbs (result tie op a b) ≤ limit * limit
+    small : (op : Operation) → natAbs (result tie op a b) ≤ numberLimit * numberLimit
     small Sum = omega (arith, add-size a b)
     small Difference = omega (arith, add-size a (negℤ b), natAbs-neg b)
     small Product = rw mul-size (mul-le-mul ha hb)
@@ -37,22 +38,22 @@ result-fits tie op a b ha hb = fits-by (result tie op a b) (limit * limit) (smal
 pub range-low : (x : ℤ) → ltZ x (negsuc 999999999) ≡ true → OutOfRange ≡ rangedOf x
 unfolding rangedOf
 range-low (pos n) e = clash (sym e)
-range-low (negsuc n) e = rw (lt-leb (suc n) limit (omega (arith, ltb-true 999999999 n e)))
+range-low (negsuc n) e = rw (lt-leb (suc n) numberLimit (omega (arith, ltb-true 999999999 n e)))
 
 pub range-high : (x : ℤ) → ltZ (pos 1000000000) x ≡ true → OutOfRange ≡ rangedOf x
 unfolding rangedOf
-range-high (pos n) e = rw (lt-leb n limit (ltb-true 1000000000 n e))
+range-high (pos n) e = rw (lt-leb n numberLimit (ltb-true 1000000000 n e))
 range-high (negsuc n) e = clash (sym e)
 
 pub range-in : (x : ℤ) → ltZ x (negsuc 999999999) ≡ false → ltZ (pos 1000000000) x ≡ false → Number x ≡ rangedOf x
 unfolding rangedOf
-range-in (pos n) e f = rw (le-leb n limit (ltb-false 1000000000 n f))
-range-in (negsuc n) e f = rw (le-leb (suc n) limit (omega (arith, ltb-false 999999999 n e)))
+range-in (pos n) e f = rw (le-leb n numberLimit (ltb-false 1000000000 n f))
+range-in (negsuc n) e f = rw (le-leb (suc n) numberLimit (omega (arith, ltb-false 999999999 n e)))
 
 -- ---- a calculated number is in range
 
 abbrev Bounded : Calculated → Type 0
-Bounded (Number z) = natAbs z ≤ limit
+Bounded (Number z) = natAbs z ≤ numberLimit
 Bounded OutOfRange = Unit {0}
 Bounded ZeroDivisor = Unit {0}
 
@@ -61,7 +62,7 @@ unfolding rangedOf
 ranged-bounded x = go (inRange x) refl
   where
     go : (t : Bool) → inRange x ≡ t → Bounded (cond t (Number x) OutOfRange)
-    go true e = leb-true (natAbs x) limit e
+    go true e = leb-true (natAbs x) numberLimit e
     go false e = tt
 
 bounded : (tie : Tie) (op : Operation) (a b : ℤ) → Bounded (calculated tie op a b)
@@ -72,7 +73,7 @@ bounded tie op a b = go (dividesByZero op b)
     go true = tt
     go false = ranged-bounded (result tie op a b)
 
-pub calculated-size : (tie : Tie) (op : Operation) (a b z : ℤ) → calculated tie op a b ≡ Number z → natAbs z ≤ limit
+pub calculated-size : (tie : Tie) (op : Operation) (a b z : ℤ) → calculated tie op a b ≡ Number z → natAbs z ≤ numberLimit
 calculated-size tie op a b z e = subst Bounded e (bounded tie op a b)
 
 -- ---- an arm of the code, whatever its operation: it ranges a number z that is the result
@@ -83,7 +84,7 @@ unfolding calculated
 calculated-by tie op arm a b z p q e f = rw (p, q, ← e) f
 
 -- the operands and the result are read back from their bits
-module _ (tie : Tie) (arm : Operation) (a b : ℤ) (fa : SFits w64 a) (fb : SFits w64 b) (ha : natAbs a ≤ limit) (hb : natAbs b ≤ limit) where
+module _ (tie : Tie) (arm : Operation) (a b : ℤ) (fa : SFits w64 a) (fb : SFits w64 b) (ha : natAbs a ≤ numberLimit) (hb : natAbs b ≤ numberLimit) where
   pub arm-fits : SFits w64 (result tie arm (toZ w64 (ofZ w64 a)) (toZ w64 (ofZ w64 b)))
   arm-fits = rw (toZ-ofZ fa, toZ-ofZ fb) (result-fits tie arm a b ha hb)
 

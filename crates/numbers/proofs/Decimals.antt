@@ -12,7 +12,7 @@ use lib.Seq.{slice, slice-cons, slice-empty}
 use lib.IntN.{ℤ, pos, natAbs}
 use Rattle.cells.specs.Cells.{withSign}
 use Rattle.cells.proofs.Signed.{clash, withSign-size}
-use Rattle.numbers.specs.Range.{limit}
+use Rattle.cells.specs.Limits.{numberLimit}
 use Rattle.numbers.specs.Decimal.{isDigit, allDigits, value, noLeadingZero, digitsOf, decimalOf, signedOf, numberOf}
 use Rattle.numbers.specs.Bounds.{AtMost}
 use Rattle.numbers.specs.declared.Decimal.{Decimal}
@@ -92,11 +92,11 @@ module _ (from to : ℕ) (s : List ℕ) where
     unfolding decimalOf
     decimal-plain max z = rw (slice-next from to s h k, first-nonzero (getD s from 0) (slice (from + 1) to s) z)
 
-    pub number-negative : getD s from 0 ≡ 45 → signedOf true (decimalOf limit (slice (from + 1) to s)) ≡ numberOf (slice from to s)
+    pub number-negative : getD s from 0 ≡ 45 → signedOf true (decimalOf numberLimit (slice (from + 1) to s)) ≡ numberOf (slice from to s)
     unfolding numberOf
     number-negative z = rw (slice-next from to s h k, z)
 
-    pub number-plain : (getD s from 0 ≡ 45 → ⊥) → signedOf false (decimalOf limit (slice from to s)) ≡ numberOf (slice from to s)
+    pub number-plain : (getD s from 0 ≡ 45 → ⊥) → signedOf false (decimalOf numberLimit (slice from to s)) ≡ numberOf (slice from to s)
     unfolding numberOf
     number-plain z = rw (slice-next from to s h k, ne-eqb (getD s from 0) 45 z)
 
@@ -128,7 +128,7 @@ pub decimal-is : (max : ℕ) (f : List ℕ) (v : ℕ) → Written max f v → de
 unfolding decimalOf digitsOf
 decimal-is max f v w = rw (w .plain, w .digits, w .is, le-leb v max (w .most))
 
--- ---- what the definitions give is at most the limit
+-- ---- what the definitions give is at most the numberLimit
 
 pub decimal-size : (max : ℕ) (f : List ℕ) (v : ℕ) → decimalOf max f ≡ decimal.Is v → v ≤ max
 decimal-size max f v e = written max f v e .most
@@ -141,10 +141,10 @@ decimal-most max f = go (decimalOf max f) refl
     go decimal.Not e = tt
 
 abbrev Bounded : Number → Type 0
-Bounded (number.Is z) = natAbs z ≤ limit
+Bounded (number.Is z) = natAbs z ≤ numberLimit
 Bounded number.Not = Unit {0}
 
-signed-bounded : (negative : Bool) (d : Decimal) → AtMost limit d → Bounded (signedOf negative d)
+signed-bounded : (negative : Bool) (d : Decimal) → AtMost numberLimit d → Bounded (signedOf negative d)
 signed-bounded negative decimal.Not h = tt
 signed-bounded negative (decimal.Is v) h = go (negative && eqb v 0)
   where
@@ -157,14 +157,14 @@ unfolding numberOf
 bounded [] = tt
 bounded (c ∷ f) = go (eqb c 45)
   where
-    go : (x : Bool) → Bounded (cond x (signedOf true (decimalOf limit f)) (signedOf false (decimalOf limit (c ∷ f))))
-    go true = signed-bounded true (decimalOf limit f) (decimal-most limit f)
-    go false = signed-bounded false (decimalOf limit (c ∷ f)) (decimal-most limit (c ∷ f))
+    go : (x : Bool) → Bounded (cond x (signedOf true (decimalOf numberLimit f)) (signedOf false (decimalOf numberLimit (c ∷ f))))
+    go true = signed-bounded true (decimalOf numberLimit f) (decimal-most numberLimit f)
+    go false = signed-bounded false (decimalOf numberLimit (c ∷ f)) (decimal-most numberLimit (c ∷ f))
 
-pub number-size : (f : List ℕ) (z : ℤ) → numberOf f ≡ number.Is z → natAbs z ≤ limit
+pub number-size : (f : List ℕ) (z : ℤ) → numberOf f ≡ number.Is z → natAbs z ≤ numberLimit
 number-size f z e = subst Bounded e (bounded f)
 
--- ---- a larger limit gives the same decimal, and a decimal is a number
+-- ---- a larger numberLimit gives the same decimal, and a decimal is a number
 
 pub decimal-more : (max more : ℕ) (f : List ℕ) (v : ℕ) → max ≤ more → decimalOf max f ≡ decimal.Is v → decimalOf more f ≡ decimal.Is v
 decimal-more max more f v h e =
@@ -179,9 +179,9 @@ first-digit c f = go (leb 48 c) refl
     go true a e = leb-true 48 c a
     go false a e = clash (sym e)
 
-pub decimal-number : (max : ℕ) (f : List ℕ) (v : ℕ) → max ≤ limit → decimalOf max f ≡ decimal.Is v → numberOf f ≡ number.Is (pos v)
+pub decimal-number : (max : ℕ) (f : List ℕ) (v : ℕ) → max ≤ numberLimit → decimalOf max f ≡ decimal.Is v → numberOf f ≡ number.Is (pos v)
 unfolding numberOf
 decimal-number max [] v h e = clash (sym (written max [] v e .plain))
 decimal-number max (c ∷ f) v h e =
     let d : 48 ≤ c = first-digit c f (written max (c ∷ f) v e .digits) in
-    rw (ne-eqb c 45 (λ (p : c ≡ 45). omega arith), decimal-more max limit (c ∷ f) v h e)
+    rw (ne-eqb c 45 (λ (p : c ≡ 45). omega arith), decimal-more max numberLimit (c ∷ f) v h e)

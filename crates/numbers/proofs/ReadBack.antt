@@ -8,7 +8,7 @@ use borrow.Author.Tests.{ne-eqb, eqb-true, eqb-false}
 use lib.Dec.{eqb}
 use lib.IntN.{ℤ, pos, negsuc, natAbs}
 use Rattle.cells.proofs.Signed.{clash}
-use Rattle.numbers.specs.Range.{limit}
+use Rattle.cells.specs.Limits.{numberLimit}
 use Rattle.numbers.specs.Decimal.{isDigit, allDigits, value, noLeadingZero, decimalOf, numberOf}
 use Rattle.numbers.specs.declared.Decimal.the-variants as read
 use Rattle.numbers.specs.declared.Number.the-variants as number
@@ -83,7 +83,7 @@ decimal-written max (suc n) h =
 pub decimal-reads : (max n : ℕ) → n ≤ max → decimalOf max (decimal n) ≡ read.Is n
 decimal-reads max n h = decimal-is max (decimal n) n (decimal-written max n h)
 
-pub integer-reads : (x : ℤ) → natAbs x ≤ limit → numberOf (integer x) ≡ number.Is x
+pub integer-reads : (x : ℤ) → natAbs x ≤ numberLimit → numberOf (integer x) ≡ number.Is x
 unfolding numberOf
-integer-reads (pos n) h = decimal-number limit (decimal n) n (omega arith) (decimal-reads limit n h)
-integer-reads (negsuc n) h = rw (decimal-reads limit (suc n) h, ne-eqb (suc n) 0 (λ e. omega arith))
+integer-reads (pos n) h = decimal-number numberLimit (decimal n) n (omega arith) (decimal-reads numberLimit n h)
+integer-reads (negsuc n) h = rw (decimal-reads numberLimit (suc n) h, ne-eqb (suc n) 0 (λ e. omega arith))

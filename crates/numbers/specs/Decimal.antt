@@ -4,7 +4,7 @@ use mathlib.Core.Bool.{Bool, true, false, cond, not, _&&_}
 use mathlib.Core.List.{List, [], _∷_}
 use lib.Dec.{leb, eqb}
 use Rattle.cells.specs.Cells.{withSign}
-use Rattle.numbers.specs.Range.{limit}
+use Rattle.cells.specs.Limits.{numberLimit}
 use Rattle.numbers.specs.declared.Decimal.{Decimal}
 use Rattle.numbers.specs.declared.Decimal.the-variants as decimal
 use Rattle.numbers.specs.declared.Number.{Number}
@@ -44,4 +44,4 @@ signedOf negative decimal.Not = number.Not
 -- a *number* of document 01: decimal, -1000000000 to 1000000000, no leading zero, no `-0`, no plus sign
 unfoldable pub numberOf : List ℕ → Number
 numberOf [] = number.Not
-numberOf (c ∷ f) = cond (eqb c 45) (signedOf true (decimalOf limit f)) (signedOf false (decimalOf limit (c ∷ f)))
+numberOf (c ∷ f) = cond (eqb c 45) (signedOf true (decimalOf numberLimit f)) (signedOf false (decimalOf numberLimit (c ∷ f)))

@@ -5,12 +5,21 @@ ghost use Prim.Native.Nat.{_^_, _≤_, _<_};
 ghost use lib.ListN.{length};
 ghost use lib.Seq.{slice};
 ghost use lib.IntN.{natAbs};
-ghost use Rattle.numbers.specs.Range.{limit};
+ghost use Rattle.cells.specs.Limits.{numberLimit};
 ghost use Rattle.numbers.specs.Rounding.{roundUp, quotient};
 ghost use Rattle.numbers.specs.Arithmetic.{rangedOf, calculated};
 ghost use Rattle.numbers.specs.Decimal.{digitsOf, decimalOf, signedOf, numberOf};
 ghost use Rattle.numbers.specs.Bounds.{AtMost};
 use kinds::Operation;
+
+// ---- the range of a sheet's numbers
+
+const SMALLEST: i64 = -1000000000;
+
+const LARGEST: i64 = 1000000000;
+
+// The size of both.
+const LARGEST_SIZE: u64 = 1000000000;
 
 // ---- rounding
 
@@ -40,7 +49,7 @@ fn round_up(tie: Tie, q: u64, r: u64, d: u64) -> u64
 
 // a / b to the nearest whole number. Signed division rounds toward zero; its remainder tells the rest.
 pub fn nearest(tie: Tie, a: i64, b: i64) -> i64
-    requires { ⌜ (natAbs a ≤ limit) × (natAbs b ≤ limit) × (0 < natAbs b) ⌝ }
+    requires { ⌜ (natAbs a ≤ numberLimit) × (natAbs b ≤ numberLimit) × (0 < natAbs b) ⌝ }
     ensures { λ r. ⌜ r ≡ quotient tie a b ⌝ }
 {
     let q = a / b;
@@ -63,10 +72,10 @@ pub enum Calculated {
 fn ranged(x: i64) -> Calculated
     ensures { λ r. ⌜ r ≡ rangedOf x ⌝ }
 {
-    if x < -1000000000 {
+    if x < SMALLEST {
         return Calculated::OutOfRange;
     }
-    if 1000000000 < x {
+    if LARGEST < x {
         return Calculated::OutOfRange;
     }
     Calculated::Number(x)
@@ -74,7 +83,7 @@ fn ranged(x: i64) -> Calculated
 
 // a and b under an operation. A zero divisor comes before the range.
 pub fn calculate(tie: Tie, op: Operation, a: i64, b: i64) -> Calculated
-    requires { ⌜ (natAbs a ≤ limit) × (natAbs b ≤ limit) ⌝ }
+    requires { ⌜ (natAbs a ≤ numberLimit) × (natAbs b ≤ numberLimit) ⌝ }
     ensures { λ r. ⌜ r ≡ calculated tie op a b ⌝ }
 {
     match op {
@@ -107,7 +116,7 @@ pub enum Number {
 
 // The value of the digits text[from..to], where it is at most max. The loop stops at the first byte that rules it out.
 fn digits(text: &[u8], from: usize, to: usize, max: u64) -> Decimal
-    requires { ⌜ (from ≤ to) × (to ≤ length (now text)) × (max ≤ 1000000000) ⌝ }
+    requires { ⌜ (from ≤ to) × (to ≤ length (now text)) × (max ≤ numberLimit) ⌝ }
     ensures { λ r. ⌜ r ≡ digitsOf max 0 (slice from to (now (text .entry))) ⌝ }
 {
     let mut v: u64 = 0;
@@ -131,7 +140,7 @@ fn digits(text: &[u8], from: usize, to: usize, max: u64) -> Decimal
 
 // The decimal number text[from..to] with no leading zero, where it is at most max.
 pub fn read_decimal(text: &[u8], from: usize, to: usize, max: u64) -> Decimal
-    requires { ⌜ (from ≤ to) × (to ≤ length (now text)) × (max ≤ 1000000000) ⌝ }
+    requires { ⌜ (from ≤ to) × (to ≤ length (now text)) × (max ≤ numberLimit) ⌝ }
     ensures { λ r. ⌜ r ≡ decimalOf max (slice from to (now (text .entry))) ⌝ }
 {
     if from == to {
@@ -148,7 +157,7 @@ pub fn read_decimal(text: &[u8], from: usize, to: usize, max: u64) -> Decimal
 
 // A decimal after its sign.
 fn signed(negative: bool, d: Decimal) -> Number
-    requires { ⌜ AtMost limit d ⌝ }
+    requires { ⌜ AtMost numberLimit d ⌝ }
     ensures { λ r. ⌜ r ≡ signedOf negative d ⌝ }
 {
     let Decimal::Is(v) = d else {
@@ -172,7 +181,7 @@ pub fn read_number(text: &[u8], from: usize, to: usize) -> Number
         return Number::Not;
     }
     if text[from] == b'-' {
-        return signed(true, read_decimal(text, from + 1, to, 1000000000));
+        return signed(true, read_decimal(text, from + 1, to, LARGEST_SIZE));
     }
-    signed(false, read_decimal(text, from, to, 1000000000))
+    signed(false, read_decimal(text, from, to, LARGEST_SIZE))
 }

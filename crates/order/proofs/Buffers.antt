@@ -12,19 +12,19 @@ use Rattle.kinds.specs.Kinds.{valueCode}
 use Rattle.cells.specs.Table.{kind}
 use Rattle.cells.proofs.Stores.{sets-before, sets-past}
 use Rattle.order.specs.Order.{Proper}
-use Rattle.order.specs.Evaluating.{Evaluation, down, Solves, row}
+use Rattle.order.specs.Evaluating.{Evaluation, down, Solves, labelCells}
 use Rattle.order.proofs.Evaluating.{order-free, run-solution, run-rest}
 
 -- ---- rows after a store of label k + 1's
 
-pub row-own : (w k : ℕ) (r vs : List ℤ) → length vs ≡ w → w * suc k ≤ length r → row w (sets r (w * k) vs) (suc k) ≡ vs
+pub row-own : (w k : ℕ) (r vs : List ℤ) → length vs ≡ w → w * suc k ≤ length r → labelCells w (sets r (w * k) vs) (suc k) ≡ vs
 row-own w k r vs e h =
     let room : w * k + length vs ≤ length r = omega (arith, mul-suc w k) in
     ap (λ (x : List ℤ). take w (drop (w * k) x)) (sets-eq vs r (w * k) room ∙ append-assoc (take (w * k) r) vs (drop (w * k + length vs) r))
     ∙ ap (take w) (drop-at (take (w * k) r) (vs ++ drop (w * k + length vs) r) (w * k) (length-take-le (w * k) r (omega arith)))
     ∙ take-at vs (drop (w * k + length vs) r) w e
 
-pub row-other : (w k l : ℕ) (r vs : List ℤ) → length vs ≡ w → (l ≡ suc k → ⊥) → row w (sets r (w * k) vs) l ≡ row w r l
+pub row-other : (w k l : ℕ) (r vs : List ℤ) → length vs ≡ w → (l ≡ suc k → ⊥) → labelCells w (sets r (w * k) vs) l ≡ labelCells w r l
 row-other w k zero r vs e d = refl
 row-other w k (suc j) r vs e d = ext-getD (pos 0) (take w (drop (w * j) (sets r (w * k) vs))) (take w (drop (w * j) r)) long each
   where
@@ -50,7 +50,7 @@ row-other w k (suc j) r vs e d = ext-getD (pos 0) (take w (drop (w * j) (sets r 
         let m : i < w = omega (arith, size (sets r (w * k) vs)) in
         at (sets r (w * k) vs) i m ∙ side i m (decLt j k) ∙ sym (at r i m)
 
--- ---- two buffers of one length are one list if they agree in each row
+-- ---- two buffers of one length are one list if they agree in each labelCells
 
 rows-same : (w : ℕ) → 0 < w → (k : ℕ) (a b : List ℤ) → length a ≤ k → length a ≡ length b
     → ((j : ℕ) → take w (drop (w * j) a) ≡ take w (drop (w * j) b)) → a ≡ b
@@ -71,12 +71,12 @@ rows-same w h (suc k) a b l e f =
     tail : (j : ℕ) → take w (drop (w * j) (drop w a)) ≡ take w (drop (w * j) (drop w b))
     tail j = ap (take w) (sym (next a j)) ∙ f (suc j) ∙ ap (take w) (next b j)
 
-pub buffers-same : (w : ℕ) → 0 < w → (a b : List ℤ) → length a ≡ length b → ((l : ℕ) → row w a l ≡ row w b l) → a ≡ b
+pub buffers-same : (w : ℕ) → 0 < w → (a b : List ℤ) → length a ≡ length b → ((l : ℕ) → labelCells w a l ≡ labelCells w b l) → a ≡ b
 buffers-same w h a b e f = rows-same w h (length a) a b (omega arith) e (λ j. f (suc j))
 
--- ---- (f), where a label's result is its row and evaluation keeps the buffer's length
+-- ---- (f), where a label's result is its labelCells and evaluation keeps the buffer's length
 
-module _ (t : List ℤ) (w : ℕ) (some : 0 < w) (E : Evaluation t (List ℤ) (List ℤ)) (rows : (r : List ℤ) (l : ℕ) → E .stored r l ≡ row w r l)
+module _ (t : List ℤ) (w : ℕ) (some : 0 < w) (E : Evaluation t (List ℤ) (List ℤ)) (rows : (r : List ℤ) (l : ℕ) → E .stored r l ≡ labelCells w r l)
     (kept : (r : List ℤ) (v : ℕ) → length (E .evaluate r v) ≡ length r) where
   run-length : (o : List ℕ) (r : List ℤ) → length (down (E .evaluate) o r) ≡ length r
   run-length [] r = refl
@@ -90,9 +90,9 @@ module _ (t : List ℤ) (w : ℕ) (some : 0 < w) (E : Evaluation t (List ℤ) (L
 
   -- and they are those of the one buffer that satisfies the evaluation at every value and is as it was at the other labels
   pub only-cells : (o : List ℕ) → Proper t o → (r s : List ℤ) → E .Fits r → E .Fits s → length s ≡ length r → Solves t E s
-      → ((l : ℕ) → (kind t l ≡ valueCode → ⊥) → row w s l ≡ row w r l) → down (E .evaluate) o r ≡ s
+      → ((l : ℕ) → (kind t l ≡ valueCode → ⊥) → labelCells w s l ≡ labelCells w r l) → down (E .evaluate) o r ≡ s
   only-cells o p r s f g e h rest = buffers-same w some (down (E .evaluate) o r) s (run-length o r ∙ sym e) (λ l. go l (ℕ-discrete (kind t l) 2))
     where
-      go : (l : ℕ) → Dec (kind t l ≡ valueCode) → row w (down (E .evaluate) o r) l ≡ row w s l
+      go : (l : ℕ) → Dec (kind t l ≡ valueCode) → labelCells w (down (E .evaluate) o r) l ≡ labelCells w s l
       go l (yes k) = sym (rows (down (E .evaluate) o r) l) ∙ run-solution t E o p r s f g h l k ∙ rows s l
       go l (no k) = sym (rows (down (E .evaluate) o r) l) ∙ run-rest t E o p r f l k ∙ rows r l ∙ sym (rest l k)

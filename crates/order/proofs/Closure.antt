@@ -7,7 +7,7 @@ use Prim.Native.Nat.{ℕ, zero, suc, _+_, _<_}
 use native.Mathlib.Omega.{arith}
 use lib.ListN.{length}
 use borrow.Author.Tests.{not-true}
-use Rattle.order.specs.Lists.{_∈_, mem, any, filter}
+use Rattle.order.specs.LabelLists.{_∈_, mem, any, filter}
 use Rattle.order.specs.Closure.{grow, spread, closure}
 use Rattle.order.proofs.Tests.{and-left, and-right, or-cases, or-left, or-right, not-and}
 use Rattle.order.proofs.Lists.{mem-of, of-mem, in-here, any-true, any-none, any-intro, in-filter, in-filter-of, filter-le, filter-in, tally-lt}

@@ -8,7 +8,7 @@ use native.Mathlib.Decide.{ℕ-discrete}
 use lib.IntN.{ℤ}
 use Rattle.kinds.specs.Kinds.{valueCode}
 use Rattle.cells.specs.Table.{kind}
-use Rattle.order.specs.Lists.{_∈_}
+use Rattle.order.specs.LabelLists.{_∈_}
 use Rattle.order.specs.Order.{Proper}
 use Rattle.order.specs.Evaluating.{Evaluation, down, Solves}
 use Rattle.order.proofs.Lists.{count-parts, count-here, split, in-here, in-there, in-left, in-right, in-cons, in-single, in-append}
@@ -93,7 +93,8 @@ module _ {S R : Type 0} (t : List ℤ) (E : Evaluation t S R) where
           agree-next w (inr i) = rw (in-single w x i) next
 
           pick : (v ≡ x) ⊎ (v ∈ b)
-              → (((w : ℕ) → w ∈ a ++ x ∷ [] → E .stored s₁ w ≡ E .stored s₂ w) → (v : ℕ) → v ∈ b → E .stored s₁ v ≡ E .stored s₂ v) → E .stored s₁ v ≡ E .stored s₂ v
+              → (((w : ℕ) → w ∈ a ++ x ∷ [] → E .stored s₁ w ≡ E .stored s₂ w) → (v : ℕ) → v ∈ b → E .stored s₁ v ≡ E .stored s₂ v)
+              → E .stored s₁ v ≡ E .stored s₂ v
           pick (inl q) r = rw q next
           pick (inr i) r = r (λ w j. agree-next w (in-append w a (x ∷ []) j)) v i
 

@@ -13,7 +13,7 @@ use Rattle.cells.specs.Cells.{natOf}
 use Rattle.cells.specs.Table.{kind}
 use Rattle.cells.specs.Accepted.{Accepted}
 use Rattle.cells.specs.Reaches.{Reaches}
-use Rattle.order.specs.Lists.{one, count, _∈_, mem}
+use Rattle.order.specs.LabelLists.{one, count, _∈_, mem}
 use Rattle.order.specs.Order.{isV, values, reaches, Proper}
 use Rattle.order.specs.Following.{ProperList, labelsOf, firstPosition, notNew, missing, early, place17, place18, NotNew, Missing, Early, NoneBad, Found, Row17, Row18}
 use Rattle.order.proofs.Tests.{clash, so-or-not, not-so, and-left, and-right, and-intro, or-cases, or-left, or-right}

@@ -9,8 +9,8 @@ use native.Mathlib.Decide.{ℕ-discrete}
 use lib.IntN.{ℤ}
 use Rattle.cells.specs.Table.{owner, isDefinition}
 use Rattle.cells.specs.Accepted.{Accepted}
-use Rattle.order.specs.Lists.{count, _∈_}
-use Rattle.order.specs.Order.{isG, isV, labels, members, Within, within, reaches, Proper, Consecutive, Whole, needs, groupStuck, someStuck}
+use Rattle.order.specs.LabelLists.{count, _∈_}
+use Rattle.order.specs.Order.{isG, isV, allLabels, members, Within, within, reaches, Proper, Consecutive, Whole, needs, groupStuck, someStuck}
 use Rattle.order.proofs.Tests.{clash, not-so, and-right}
 use Rattle.order.proofs.Lists.{any-true, count-parts, count-here, split, in-there, in-left, in-right, in-append, in-single}
 use Rattle.order.proofs.Placing.{not-stuck}
@@ -98,6 +98,6 @@ module _ (t : List ℤ) (n : ℕ) (ok : Accepted t n) (o : List ℕ) (p : Proper
   -- (d) a proper order that is whole leaves no Group stuck: a member's rank is where its values begin
   pub whole-free : Whole t o → someStuck t n ≡ false
   whole-free w = not-so (someStuck t n) (λ h.
-      let g = any-true (λ g. isG t g && groupStuck t n g) (labels n) h in
+      let g = any-true (λ g. isG t g && groupStuck t n g) (allLabels n) h in
       clash (groupStuck t n (g .0)) (and-right (isG t (g .0)) (groupStuck t n (g .0)) (g .2))
       (not-stuck (needs t n) (members t n (g .0)) (members-once t n ok (g .0)) (λ q. ahead (within t q) o) (begins-behind w (g .0))))

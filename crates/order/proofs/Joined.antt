@@ -7,7 +7,7 @@ use Prim.Native.Nat.{ℕ, suc, _+_, _≤_, _<_}
 use native.Mathlib.Omega.{arith}
 use native.Mathlib.Decide.{ℕ-discrete}
 use lib.ListN.{length}
-use Rattle.order.specs.Lists.{count, _∈_, joined}
+use Rattle.order.specs.LabelLists.{count, _∈_, joined}
 use Rattle.order.specs.Order.{Consecutive}
 use Rattle.order.proofs.Tests.{so-or-not, not-so, clash}
 use Rattle.order.proofs.Lists.{count-append, count-here, count-there, in-here, in-there, in-left, in-right, in-cons, in-append, count-parts, split}

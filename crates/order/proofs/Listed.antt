@@ -8,7 +8,7 @@ use native.Mathlib.Decide.{ℕ-discrete}
 use lib.IntN.{ℤ}
 use Rattle.cells.specs.Table.{isDefinition}
 use Rattle.cells.specs.Accepted.{Accepted}
-use Rattle.order.specs.Lists.{one, count}
+use Rattle.order.specs.LabelLists.{one, count}
 use Rattle.order.specs.Order.{isG, isV, reaches, NoCycle, listed}
 use Rattle.order.proofs.Tests.{clash, so-or-not, not-so, one-true, one-false}
 use Rattle.order.proofs.Lists.{count-here, count-there, in-single}

@@ -10,7 +10,7 @@ use native.Mathlib.Decide.{ℕ-discrete}
 use lib.Dec.{eqb, ltb}
 use lib.ListN.{length}
 use borrow.Author.Tests.{eqb-true, eqb-false, eq-eqb, ne-eqb, ltb-true, ltb-false, lt-ltb}
-use Rattle.order.specs.Lists.{one, count, _∈_, mem, upFrom, filter, any, first}
+use Rattle.order.specs.LabelLists.{one, count, _∈_, mem, upFrom, filter, any, first}
 use Rattle.order.proofs.Tests.{clash, or-cases, or-none-left, or-none-right, not-so, so-or-not}
 
 -- ---- counting

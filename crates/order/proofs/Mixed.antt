@@ -11,7 +11,7 @@ use Rattle.kinds.specs.Kinds.{valueCode}
 use Rattle.cells.specs.Table.{kind}
 use Rattle.cells.specs.Accepted.{Accepted}
 use Rattle.cells.specs.Reaches.{Reaches}
-use Rattle.order.specs.Lists.{one, count, _∈_, filter}
+use Rattle.order.specs.LabelLists.{one, count, _∈_, filter}
 use Rattle.order.specs.Placing.{stuck}
 use Rattle.order.specs.Order.{isV, values, reaches, NoCycle, Proper, mixedPlan}
 use Rattle.order.proofs.Tests.{clash, not-so, one-true, one-in}

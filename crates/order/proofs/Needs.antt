@@ -9,7 +9,7 @@ use lib.IntN.{ℤ}
 use borrow.Author.Tests.{eqb-false, ne-eqb, not-true}
 use Rattle.cells.specs.Table.{isDefinition}
 use Rattle.cells.specs.Accepted.{Accepted}
-use Rattle.order.specs.Lists.{any}
+use Rattle.order.specs.LabelLists.{any}
 use Rattle.order.specs.Order.{isG, isV, values, Within, within, reaches, reachesInto, needs}
 use Rattle.order.proofs.Tests.{clash, and-left, and-right, and-intro}
 use Rattle.order.proofs.Lists.{any-true, any-intro}

@@ -11,10 +11,11 @@ use native.Mathlib.Omega.{arith}
 use lib.Dec.{eqb}
 use lib.ListN.{length, length-append}
 use borrow.Author.Tests.{eqb-true, eqb-false, eq-eqb, not-true, not-false}
-use Rattle.order.specs.Lists.{count, _∈_, mem, any}
+use Rattle.order.specs.LabelLists.{count, _∈_, mem, any}
 use Rattle.order.specs.Placing.{waits, next, rounds, placed, stuck}
 use Rattle.order.proofs.Tests.{and-left, and-right, and-not, not-so}
-use Rattle.order.proofs.Lists.{zero-or-in, of-mem, of-not-mem, mem-of, length-mono, count-same, count-there, count-append, count-here, in-here, in-there, in-left, in-single, in-append, first-some, first-none, first-refute, any-true, any-none}
+use Rattle.order.proofs.Lists.{zero-or-in, of-mem, of-not-mem, mem-of, length-mono, count-same, count-there, count-append, count-here, in-here, in-there, in-left, in-single}
+use Rattle.order.proofs.Lists.{in-append, first-some, first-none, first-refute, any-true, any-none}
 
 -- No label of the list needs itself or a later one.
 abbrev pub Late : (ℕ → ℕ → Bool) → List ℕ → Type 0
@@ -116,7 +117,8 @@ module _ (R : ℕ → ℕ → Bool) (items : List ℕ) where
   rounds-done zero done h p = first-refute (λ p. not (mem p done) && not (waits R items done p)) items (λ x m. rw (mem-of x done (omega (arith, count-same done items (p .of) (omega arith) x))))
   rounds-done (suc k) done h p = go (next R items done) refl (λ x. rounds-done k (done ++ x ∷ []))
     where
-      go : (o : Option ℕ) → next R items done ≡ o → ((x : ℕ) → length (done ++ x ∷ []) + k ≡ length items → Placed R items (done ++ x ∷ []) → next R items (rounds R items k (done ++ x ∷ [])) ≡ none)
+      go : (o : Option ℕ) → next R items done ≡ o → ((x : ℕ) → length (done ++ x ∷ []) + k ≡ length items → Placed R items (done ++ x ∷ [])
+          → next R items (rounds R items k (done ++ x ∷ [])) ≡ none)
           → next R items (rounds R items (suc k) done) ≡ none
       go none e r = rw e e
       go (some x) e r = rw e (r x (omega (arith, length-append done (x ∷ []))) (step-placed done x e p))

@@ -10,9 +10,9 @@ use native.Mathlib.Decide.{decLt}
 use lib.IntN.{ℤ}
 use lib.ListN.{length}
 use Rattle.cells.specs.Accepted.{Accepted}
-use Rattle.order.specs.Lists.{count, _∈_}
-use Rattle.order.specs.Order.{isV, labels, values, reaches, NoCycle, Proper, Whole, firstCycle, someStuck, Answer, cycle, whole, mixed, plan, orderOf, place16}
-use Rattle.order.specs.Demand.{SmallestCycle, Row16, Planned}
+use Rattle.order.specs.LabelLists.{count, _∈_}
+use Rattle.order.specs.Order.{isV, allLabels, values, reaches, NoCycle, Proper, Whole, firstCycle, someStuck, Answer, cycle, whole, mixed, plan, orderOf, place16}
+use Rattle.order.specs.PlanMeans.{SmallestCycle, Row16, PlanMeans}
 use Rattle.order.proofs.Tests.{clash}
 use Rattle.order.proofs.Lists.{zero-or-in, first-some, first-none, first-least, length-mono, length-upFrom}
 use Rattle.order.proofs.Tables.{v-kind, kind-v, v-def, kind-label, pos-of, in-labels, in-values, value-of, reaches-exact}
@@ -64,10 +64,10 @@ module _ (t : List ℤ) (n : ℕ) (ok : Accepted t n) where
   place16-exactly k = (λ e. subst (Row16 t) e row-16, λ r. row16-one t (place16 t n) k row-16 r)
 
   -- Plan's answer means what it has to
-  pub planned : Planned t (plan t n)
+  pub planned : PlanMeans t (plan t n)
   planned = go (firstCycle t n) refl (someStuck t n) refl
     where
-      go : (c : Option ℕ) → firstCycle t n ≡ c → (s : Bool) → someStuck t n ≡ s → Planned t (plan t n)
+      go : (c : Option ℕ) → firstCycle t n ≡ c → (s : Bool) → someStuck t n ≡ s → PlanMeans t (plan t n)
       go (some v) e s f = let c = cycle-smallest v e in rw e (c, cycle-improper t v (c .value) (c .itself))
       go none e true f = rw (e, f) (mixed-proper t n ok (cycle-none e), λ o p w. clash (someStuck t n) f (whole-free t n ok o p w))
       go none e false f = rw (e, f) (whole-proper t n ok f (cycle-none e), whole-whole t n ok f)
@@ -76,17 +76,17 @@ module _ (t : List ℤ) (n : ℕ) (ok : Accepted t n) where
   pub plan-proper : NoCycle t → Proper t (orderOf (plan t n))
   plan-proper nc = go (plan t n) planned
     where
-      go : (a : Answer) → Planned t a → Proper t (orderOf a)
+      go : (a : Answer) → PlanMeans t a → Proper t (orderOf a)
       go (cycle v) p = absurd (nc v (p .0 .value) (p .0 .itself))
       go (whole o) p = p .0
       go (mixed o) p = p .0
 
   pub order-short : (o : List ℕ) → Proper t o → length o ≤ n
   order-short o p =
-      let h = length-mono o (labels n) (λ v. at v (zero-or-in (count v o))) in
+      let h = length-mono o (allLabels n) (λ v. at v (zero-or-in (count v o))) in
       omega (arith, length-upFrom 1 n)
     where
-      at : (v : ℕ) → (count v o ≡ 0) ⊎ (v ∈ o) → count v o ≤ count v (labels n)
+      at : (v : ℕ) → (count v o ≡ 0) ⊎ (v ∈ o) → count v o ≤ count v (allLabels n)
       at v (inl e) = omega arith
       at v (inr m) =
           let k = listed-value p v m in
@@ -100,33 +100,33 @@ module _ (t : List ℤ) (n : ℕ) (ok : Accepted t n) where
   refuses-exactly = (there, λ h. back (plan t n) refl h)
     where
       there : (v : ℕ) × (plan t n ≡ cycle v) → (o : List ℕ) → Proper t o → ⊥
-      there (v, e) = let p : Planned t (cycle v) = rw e at planned in p .1
+      there (v, e) = let p : PlanMeans t (cycle v) = rw e at planned in p .1
 
       back : (a : Answer) → plan t n ≡ a → ((o : List ℕ) → Proper t o → ⊥) → (v : ℕ) × (plan t n ≡ cycle v)
       back (cycle v) e h = (v, e)
-      back (whole o) e h = let p : Planned t (whole o) = rw e at planned in absurd (h o (p .0))
-      back (mixed o) e h = let p : Planned t (mixed o) = rw e at planned in absurd (h o (p .0))
+      back (whole o) e h = let p : PlanMeans t (whole o) = rw e at planned in absurd (h o (p .0))
+      back (mixed o) e h = let p : PlanMeans t (mixed o) = rw e at planned in absurd (h o (p .0))
 
   -- "if some proper order is whole, a whole one with the answer whole"
   pub whole-exactly : ((o : List ℕ) × (plan t n ≡ whole o)) ↔ ((o : List ℕ) × Proper t o × Whole t o)
   whole-exactly = (there, λ h. back (plan t n) refl h)
     where
       there : (o : List ℕ) × (plan t n ≡ whole o) → (o : List ℕ) × Proper t o × Whole t o
-      there (o, e) = let p : Planned t (whole o) = rw e at planned in (o, p .0, p .1)
+      there (o, e) = let p : PlanMeans t (whole o) = rw e at planned in (o, p .0, p .1)
 
       back : (a : Answer) → plan t n ≡ a → (o : List ℕ) × Proper t o × Whole t o → (o : List ℕ) × (plan t n ≡ whole o)
-      back (cycle v) e (o, p, w) = let q : Planned t (cycle v) = rw e at planned in absurd (q .1 o p)
+      back (cycle v) e (o, p, w) = let q : PlanMeans t (cycle v) = rw e at planned in absurd (q .1 o p)
       back (whole o) e h = (o, e)
-      back (mixed q) e (o, p, w) = let r : Planned t (mixed q) = rw e at planned in absurd (r .1 o p w)
+      back (mixed q) e (o, p, w) = let r : PlanMeans t (mixed q) = rw e at planned in absurd (r .1 o p w)
 
   -- "if none is, one with the answer mixed"
   pub mixed-exactly : ((o : List ℕ) × (plan t n ≡ mixed o)) ↔ (((o : List ℕ) × Proper t o) × ((o : List ℕ) → Proper t o → Whole t o → ⊥))
   mixed-exactly = (there, λ h. back (plan t n) refl h)
     where
       there : (o : List ℕ) × (plan t n ≡ mixed o) → ((o : List ℕ) × Proper t o) × ((o : List ℕ) → Proper t o → Whole t o → ⊥)
-      there (o, e) = let p : Planned t (mixed o) = rw e at planned in ((o, p .0), p .1)
+      there (o, e) = let p : PlanMeans t (mixed o) = rw e at planned in ((o, p .0), p .1)
 
       back : (a : Answer) → plan t n ≡ a → ((o : List ℕ) × Proper t o) × ((o : List ℕ) → Proper t o → Whole t o → ⊥) → (o : List ℕ) × (plan t n ≡ mixed o)
-      back (cycle v) e ((o, p), h) = let q : Planned t (cycle v) = rw e at planned in absurd (q .1 o p)
-      back (whole o) e (_, h) = let r : Planned t (whole o) = rw e at planned in absurd (h o (r .0) (r .1))
+      back (cycle v) e ((o, p), h) = let q : PlanMeans t (cycle v) = rw e at planned in absurd (q .1 o p)
+      back (whole o) e (_, h) = let r : PlanMeans t (whole o) = rw e at planned in absurd (h o (r .0) (r .1))
       back (mixed o) e h = (o, e)

@@ -16,8 +16,8 @@ use Rattle.kinds.proofs.Codes.{group-definition, value-definition}
 use Rattle.cells.specs.Table.{cell, kind, isDefinition, hasPath, owner, target}
 use Rattle.cells.specs.Accepted.{Accepted}
 use Rattle.cells.specs.Reaches.{HasPath, Mentions, Reaches, once, then}
-use Rattle.order.specs.Lists.{one, count, _∈_}
-use Rattle.order.specs.Order.{isG, isV, labels, values, isMember, members, isMention, mentions, reached, reaches}
+use Rattle.order.specs.LabelLists.{one, count, _∈_}
+use Rattle.order.specs.Order.{isG, isV, allLabels, values, isMember, members, isMention, mentions, reached, reaches}
 use Rattle.order.proofs.Tests.{so-or-not, and-left, and-right, and-intro}
 use Rattle.order.proofs.Lists.{mem-of, of-mem, any-true, any-intro, in-filter, count-filter-pass, count-filter-fail, count-filter-le, count-upFrom, upFrom-once}
 use Rattle.order.proofs.Closure.{Chain, step, then as on, closure-exact}
@@ -52,7 +52,7 @@ reaches-trans r (once m) = then r m
 reaches-trans r (then q m) = then (reaches-trans r q) m
 
 module _ (t : List ℤ) (n : ℕ) (ok : Accepted t n) where
-  -- ---- labels are 1 to n
+  -- ---- allLabels are 1 to n
 
   cell-out : (l j : ℕ) → n < l → cell t l j ≡ 0
   cell-out zero j h = refl
@@ -73,7 +73,7 @@ module _ (t : List ℤ) (n : ℕ) (ok : Accepted t n) where
   pub pos-of : (l : ℕ) → isDefinition t l ≡ true → 1 ≤ l
   pos-of l d = def-label l d .0
 
-  pub in-labels : (l : ℕ) → 1 ≤ l → l ≤ n → l ∈ labels n
+  pub in-labels : (l : ℕ) → 1 ≤ l → l ≤ n → l ∈ allLabels n
   in-labels l a b = omega (arith, count-upFrom l 1 n a (omega arith))
 
   -- ---- owners
@@ -99,31 +99,31 @@ module _ (t : List ℤ) (n : ℕ) (ok : Accepted t n) where
       go : (isV t v ≡ true) ⊎ (isV t v ≡ false) → count v (values t n) ≡ one (isV t v)
       go (inl e) =
           let b = def-label v (v-def t v e) in
-          count-filter-pass (isV t) v (labels n) e ∙ count-upFrom v 1 n (b .0) (omega arith) ∙ rw e
-      go (inr e) = count-filter-fail (isV t) v (labels n) e ∙ rw e
+          count-filter-pass (isV t) v (allLabels n) e ∙ count-upFrom v 1 n (b .0) (omega arith) ∙ rw e
+      go (inr e) = count-filter-fail (isV t) v (allLabels n) e ∙ rw e
 
   pub in-values : (v : ℕ) → isV t v ≡ true → v ∈ values t n
   in-values v e = let h : count v (values t n) ≡ 1 = rw e at (count-values v) in omega arith
 
   pub value-of : (v : ℕ) → v ∈ values t n → isV t v ≡ true
-  value-of v m = in-filter (isV t) v (labels n) m .1
+  value-of v m = in-filter (isV t) v (allLabels n) m .1
 
   pub values-once : (v : ℕ) → count v (values t n) ≤ 1
-  values-once v = omega (arith, count-filter-le (isV t) v (labels n), upFrom-once v 1 n)
+  values-once v = omega (arith, count-filter-le (isV t) v (allLabels n), upFrom-once v 1 n)
 
   pub member-of : (g p : ℕ) → p ∈ members t n g → (isDefinition t p ≡ true) × (owner t p ≡ g)
   member-of g p m =
-      let h = in-filter (isMember t g) p (labels n) m .1 in
+      let h = in-filter (isMember t g) p (allLabels n) m .1 in
       (and-left (isDefinition t p) (eqb (owner t p) g) h, eqb-true (owner t p) g (and-right (isDefinition t p) (eqb (owner t p) g) h))
 
   pub count-member : (g p : ℕ) → isDefinition t p ≡ true → owner t p ≡ g → count p (members t n g) ≡ 1
   count-member g p d e =
       let b = def-label p d in
-      count-filter-pass (isMember t g) p (labels n) (and-intro (isDefinition t p) (eqb (owner t p) g) d (eq-eqb (owner t p) g e))
+      count-filter-pass (isMember t g) p (allLabels n) (and-intro (isDefinition t p) (eqb (owner t p) g) d (eq-eqb (owner t p) g e))
       ∙ count-upFrom p 1 n (b .0) (omega arith)
 
   pub members-once : (g p : ℕ) → count p (members t n g) ≤ 1
-  members-once g p = omega (arith, count-filter-le (isMember t g) p (labels n), upFrom-once p 1 n)
+  members-once g p = omega (arith, count-filter-le (isMember t g) p (allLabels n), upFrom-once p 1 n)
 
   -- ---- the tests of mentioning and reaching are the relations
 
@@ -138,7 +138,7 @@ module _ (t : List ℤ) (n : ℕ) (ok : Accepted t n) where
   target-label x e = def-label (target t x) (target-definition x e)
 
   pub mentions-exact : (d e : ℕ) → (mentions t n d e ≡ true) ↔ Mentions t d e
-  mentions-exact d e = (λ h. let w = any-true (isMention t d e) (labels n) h in found (w .0) (w .2), seen)
+  mentions-exact d e = (λ h. let w = any-true (isMention t d e) (allLabels n) h in found (w .0) (w .2), seen)
     where
       found : (x : ℕ) → isMention t d e x ≡ true → Mentions t d e
       found x h =
@@ -154,15 +154,15 @@ module _ (t : List ℤ) (n : ℕ) (ok : Accepted t n) where
       seen m =
           let x = m .line in
           let b = path-label x (m .path) in
-          any-intro (isMention t d e) (labels n) x (in-labels x (b .0) (b .1))
+          any-intro (isMention t d e) (allLabels n) x (in-labels x (b .0) (b .1))
           (and-intro (hasPath t x && eqb (owner t x) d) (eqb (target t x) e)
           (and-intro (hasPath t x) (eqb (owner t x) d) (m .path) (eq-eqb (owner t x) d (m .owned)))
           (eq-eqb (target t x) e (m .aimed)))
 
-  mention-label : (d e : ℕ) → mentions t n d e ≡ true → e ∈ labels n
+  mention-label : (d e : ℕ) → mentions t n d e ≡ true → e ∈ allLabels n
   mention-label d e h = at (mentions-exact d e .0 h)
     where
-      at : Mentions t d e → e ∈ labels n
+      at : Mentions t d e → e ∈ allLabels n
       at m = let b = target-label (m .line) (m .path) in in-labels e (omega (arith, m .aimed, b .0)) (omega (arith, m .aimed, b .1))
 
   -- `reached t n d` holds exactly what d reaches, each once
@@ -170,7 +170,7 @@ module _ (t : List ℤ) (n : ℕ) (ok : Accepted t n) where
   reached-exact d e = (λ i. onto (x .0 i), λ r. x .1 (back r))
     where
       x : (e ∈ reached t n d) ↔ Chain (mentions t n) d e
-      x = closure-exact (mentions t n) (labels n) mention-label d e
+      x = closure-exact (mentions t n) (allLabels n) mention-label d e
 
       onto : {e : ℕ} → Chain (mentions t n) d e → Reaches t d e
       onto {e} (step m) = once (mentions-exact d e .0 m)

@@ -111,7 +111,8 @@ module _ (t : List ℤ) (n : ℕ) (ok : Accepted t n) where
               big (suc (suc v)) h e = omega arith
 
           step : Dec (owner t v ≡ g)
-              → (isDefinition t (owner t v) ≡ true → up t j (owner t v) ≡ g → (owner t v ≡ g → ⊥) → (p : ℕ) × (isDefinition t p ≡ true) × (owner t p ≡ g) × (Within t p (owner t v)))
+              → (isDefinition t (owner t v) ≡ true → up t j (owner t v) ≡ g → (owner t v ≡ g → ⊥) → (p : ℕ) × (isDefinition t p ≡ true) × (owner t p ≡ g)
+              × (Within t p (owner t v)))
               → (p : ℕ) × (isDefinition t p ≡ true) × (owner t p ≡ g) × (Within t p v)
           step (yes z) r = (v, dv, z, (0, refl))
           step (no z) r =

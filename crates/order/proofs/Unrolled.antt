@@ -6,7 +6,7 @@ use Prim.Native.Nat.{ℕ, zero, suc, _+_, _≤_, _<_}
 use native.Mathlib.Omega.{arith}
 use lib.IntN.{ℤ}
 use Rattle.cells.specs.Accepted.{Accepted}
-use Rattle.order.specs.Lists.{_∈_, joined}
+use Rattle.order.specs.LabelLists.{_∈_, joined}
 use Rattle.order.specs.Order.{isG, isV, members, needs, ordered, listed, groupPlan}
 use Rattle.order.proofs.Placing.{placed-sub}
 use Rattle.order.proofs.Joined.{joined-same}
@@ -23,7 +23,8 @@ module _ (t : List ℤ) (n : ℕ) (ok : Accepted t n) where
   plans-same (suc j) zero g l a b = absurd (omega arith)
   plans-same (suc j) (suc k) g l a b = joined-same (listed t (λ p. groupPlan t n j p)) (listed t (λ p. groupPlan t n k p)) (ordered t n g) (λ p m. same p (member-later g p m) (plans-same j k p))
     where
-      same : (p : ℕ) → (g < p) × (p ≤ n) → (p ≤ n → n < p + j → n < p + k → groupPlan t n j p ≡ groupPlan t n k p) → listed t (λ p. groupPlan t n j p) p ≡ listed t (λ p. groupPlan t n k p) p
+      same : (p : ℕ) → (g < p) × (p ≤ n) → (p ≤ n → n < p + j → n < p + k → groupPlan t n j p ≡ groupPlan t n k p)
+          → listed t (λ p. groupPlan t n j p) p ≡ listed t (λ p. groupPlan t n k p) p
       same p (later, label) r = ap (λ (a : List ℕ). cond (isV t p) (p ∷ []) (cond (isG t p) a [])) (r label (omega arith) (omega arith))
 
   pub group-unrolled : (g : ℕ) → 1 ≤ g → g ≤ n → groupPlan t n n g ≡ joined (listed t (λ p. groupPlan t n n p)) (ordered t n g)

@@ -9,8 +9,8 @@ use native.Mathlib.Decide.{ℕ-discrete}
 use lib.IntN.{ℤ}
 use Rattle.cells.specs.Table.{owner, isDefinition}
 use Rattle.cells.specs.Accepted.{Accepted}
-use Rattle.order.specs.Lists.{one, count, _∈_}
-use Rattle.order.specs.Order.{isG, isV, labels, members, Within, reaches, NoCycle, Proper, Consecutive, Whole, needs, ordered, listed, groupPlan, wholePlan, groupStuck, someStuck}
+use Rattle.order.specs.LabelLists.{one, count, _∈_}
+use Rattle.order.specs.Order.{isG, isV, allLabels, members, Within, reaches, NoCycle, Proper, Consecutive, Whole, needs, ordered, listed, groupPlan, wholePlan, groupStuck, someStuck}
 use Rattle.order.proofs.Tests.{clash, so-or-not, not-so, and-intro, one-true, one-false, one-in}
 use Rattle.order.proofs.Lists.{zero-or-in, any-intro}
 use Rattle.order.proofs.Placing.{Late, placed-late, placed-sub, placed-all}
@@ -27,7 +27,7 @@ module _ (t : List ℤ) (n : ℕ) (ok : Accepted t n) (free : someStuck t n ≡ 
   pub group-free : (g : ℕ) → isG t g ≡ true → groupStuck t n g ≡ false
   group-free g ig = not-so (groupStuck t n g) (λ h.
       let b = def-label t n ok g (g-def t g ig) in
-      clash (someStuck t n) (any-intro (λ g. isG t g && groupStuck t n g) (labels n) g (in-labels t n ok g (b .0) (b .1)) (and-intro (isG t g) (groupStuck t n g) ig h)) free)
+      clash (someStuck t n) (any-intro (λ g. isG t g && groupStuck t n g) (allLabels n) g (in-labels t n ok g (b .0) (b .1)) (and-intro (isG t g) (groupStuck t n g) ig h)) free)
 
   pub ordered-member : (g p : ℕ) → p ∈ ordered t n g → (isDefinition t p ≡ true) × (owner t p ≡ g)
   ordered-member g p m = member-of t n ok g p (placed-sub (needs t n) (members t n g) p m)
@@ -76,7 +76,8 @@ module _ (t : List ℤ) (n : ℕ) (ok : Accepted t n) (free : someStuck t n ≡ 
           nothing p m =
               let w = ordered-member g p m in
               each p m
-              ∙ one-false (holds t p v) (λ i. clash (holds t g v) (holds-intro t n ok g v hg (holds-v t n ok p v i) (subst (λ (z : ℕ). Within t z v) (w .1) (within-owner t n ok p v (holds-in t n ok p v i)))) h)
+              ∙ one-false (holds t p v) (λ i. clash (holds t g v) (holds-intro t n ok g v hg (holds-v t n ok p v i)
+              (subst (λ (z : ℕ). Within t z v) (w .1) (within-owner t n ok p v (holds-in t n ok p v i)))) h)
 
   pub group-count : (k g v : ℕ) → isG t g ≡ true → n < g + k → count v (groupPlan t n k g) ≡ one (holds t g v)
   group-count zero g v ig h = absurd (omega (arith, def-label t n ok g (g-def t g ig) .1))

@@ -3,7 +3,7 @@ use mathlib.Core.List.{List}
 use mathlib.Core.Bool.{Bool, _||_}
 use Prim.Native.Nat.{ℕ, zero, suc}
 use lib.ListN.{length}
-use Rattle.order.specs.Lists.{mem, any, filter}
+use Rattle.order.specs.LabelLists.{mem, any, filter}
 
 -- those of S, and those to which one of S has a step
 abbrev pub grow : (ℕ → ℕ → Bool) → List ℕ → List ℕ → List ℕ

@@ -35,6 +35,6 @@ abbrev pub Solves : {S R : Type 0} (t : List ℤ) → Evaluation t S R → S →
 Solves t E s = (v : ℕ) → kind t v ≡ valueCode → E .stored s v ≡ E .result s v
 
 -- label l's cells in a buffer of w cells a label; none of label 0
-abbrev pub row : ℕ → List ℤ → ℕ → List ℤ
-row w r zero = []
-row w r (suc k) = take w (drop (w * k) r)
+abbrev pub labelCells : ℕ → List ℤ → ℕ → List ℤ
+labelCells w r zero = []
+labelCells w r (suc k) = take w (drop (w * k) r)

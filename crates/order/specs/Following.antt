@@ -12,7 +12,7 @@ use Rattle.cells.specs.Cells.{natOf}
 use Rattle.cells.specs.Lists.{orIfZero}
 use Rattle.cells.specs.Table.{kind}
 use Rattle.cells.specs.Reaches.{Reaches}
-use Rattle.order.specs.Lists.{_∈_, mem, any}
+use Rattle.order.specs.LabelLists.{_∈_, mem, any}
 use Rattle.order.specs.Order.{isV, values, reaches, Proper}
 
 -- a list of integers is a proper order if its cells are the labels of one

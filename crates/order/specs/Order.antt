@@ -11,7 +11,7 @@ use lib.IntN.{ℤ}
 use Rattle.kinds.specs.Kinds.{groupCode, valueCode}
 use Rattle.cells.specs.Table.{kind, isDefinition, hasPath, owner, target}
 use Rattle.cells.specs.Reaches.{Reaches}
-use Rattle.order.specs.Lists.{one, count, _∈_, mem, upFrom, filter, any, first, joined}
+use Rattle.order.specs.LabelLists.{one, count, _∈_, mem, upFrom, filter, any, first, joined}
 use Rattle.order.specs.Closure.{closure}
 use Rattle.order.specs.Placing.{placed, stuck}
 
@@ -23,19 +23,19 @@ isG t l = eqb (kind t l) groupCode
 abbrev pub isV : List ℤ → ℕ → Bool
 isV t l = eqb (kind t l) valueCode
 
-abbrev pub labels : ℕ → List ℕ
-labels n = upFrom 1 n
+abbrev pub allLabels : ℕ → List ℕ
+allLabels n = upFrom 1 n
 
--- the V labels, upward
+-- the V allLabels, upward
 abbrev pub values : List ℤ → ℕ → List ℕ
-values t n = filter (isV t) (labels n)
+values t n = filter (isV t) (allLabels n)
 
 -- "The members of a Group are the definitions whose a is its label", which is their owner; upward
 abbrev pub isMember : List ℤ → ℕ → ℕ → Bool
 isMember t g l = isDefinition t l && eqb (owner t l) g
 
 abbrev pub members : List ℤ → ℕ → ℕ → List ℕ
-members t n g = filter (isMember t g) (labels n)
+members t n g = filter (isMember t g) (allLabels n)
 
 -- where one comes to from v in j steps, each from a member to its Group
 abbrev pub up : List ℤ → ℕ → ℕ → ℕ
@@ -60,11 +60,11 @@ abbrev pub isMention : List ℤ → ℕ → ℕ → ℕ → Bool
 isMention t d e x = hasPath t x && eqb (owner t x) d && eqb (target t x) e
 
 abbrev pub mentions : List ℤ → ℕ → ℕ → ℕ → Bool
-mentions t n d e = any (isMention t d e) (labels n)
+mentions t n d e = any (isMention t d e) (allLabels n)
 
 -- what d reaches, upward
 abbrev pub reached : List ℤ → ℕ → ℕ → List ℕ
-reached t n d = closure (mentions t n) (labels n) d
+reached t n d = closure (mentions t n) (allLabels n) d
 
 abbrev pub reaches : List ℤ → ℕ → ℕ → ℕ → Bool
 reaches t n d e = mem e (reached t n d)
@@ -81,9 +81,9 @@ pub record Proper (t : List ℤ) (o : List ℕ) : Type 0 where
   -- wherever the order is split at a v, the values that v reaches stand before it
   pub after : (a : List ℕ) (v : ℕ) (b : List ℕ) → o ≡ a ++ v ∷ b → (w : ℕ) → kind t w ≡ valueCode → Reaches t v w → w ∈ a
 
--- ---- "whole if for every Group the V labels under it, at any depth, are consecutive"
+-- ---- "whole if for every Group the V allLabels under it, at any depth, are consecutive"
 
--- the labels of o that are so are consecutive: o is three lists, where all of the middle are so and none of the others
+-- the allLabels of o that are so are consecutive: o is three lists, where all of the middle are so and none of the others
 pub record Consecutive (So : ℕ → Type 0) (o : List ℕ) : Type 0 where
   pub front : List ℕ
   pub block : List ℕ
@@ -128,12 +128,12 @@ abbrev pub groupStuck : List ℤ → ℕ → ℕ → Bool
 groupStuck t n g = stuck (needs t n) (members t n g)
 
 abbrev pub someStuck : List ℤ → ℕ → Bool
-someStuck t n = any (λ g. isG t g && groupStuck t n g) (labels n)
+someStuck t n = any (λ g. isG t g && groupStuck t n g) (allLabels n)
 
 abbrev pub mixedPlan : List ℤ → ℕ → List ℕ
 mixedPlan t n = placed (reaches t n) (values t n)
 
--- ---- the plan; row 16, "V reaches itself", a pass upward through the labels, whose place is the label
+-- ---- the plan; row 16, "V reaches itself", a pass upward through the allLabels, whose place is the label
 
 abbrev pub firstCycle : List ℤ → ℕ → Option ℕ
 firstCycle t n = first (λ v. reaches t n v v) (values t n)

@@ -1,4 +1,4 @@
--- Rows 12 to 15 read of text and table the kinds, the owners and the bytes of the names alone: two texts with tables that agree in these
+-- Searchable 12 to 15 read of text and table the kinds, the owners and the bytes of the names alone: two texts with tables that agree in these
 -- give the same, wherever the names stand. Two tables over one text that are alike but for the targets are such.
 use mathlib.Core.Path.{_≡_, refl, ap, sym, _∙_}
 use mathlib.Core.List.{List, [], _∷_}
@@ -13,8 +13,8 @@ use Rattle.text.specs.Pieces.{firstOf}
 use Rattle.paths.specs.Names.{nameOf, isNamed, member}
 use Rattle.refusals.proofs.FirstBad.{first-same as same-found}
 use Rattle.paths.specs.Paths.{settled, headFrom, below, descended, namesOf, headOf, targetOf, targetCell, duplicateBad, pathHeadBad, laterBad, targetBad, pathsBad}
-use Rattle.paths.specs.Steps.{headCell, targetBy}
-use Rattle.paths.specs.Buckets.{Rows, Allotted, bucketAt, inBucket, lastBelow, LinkedBelow, Linked}
+use Rattle.paths.specs.TargetCells.{headCell, targetBy}
+use Rattle.paths.specs.Buckets.{Searchable, Allotted, bucketAt, inBucket, lastBelow, LinkedBelow, AllLinked}
 use Rattle.paths.specs.Leads.{NamesApart}
 use Rattle.paths.proofs.FirstLabel.{first-same}
 use Rattle.paths.proofs.LastBelow.{last-same}
@@ -138,7 +138,7 @@ module _ (s : List ℕ) (t u : List ℤ) (a : Alike t u) where
   pub paths-alike : (n : ℕ) → pathsBad s u n ≡ pathsBad s t n
   paths-alike = paths-like s t s u like
 
-  pub rows-alike : (n : ℕ) → length u ≡ length t → Rows s t n → Rows s u n
+  pub rows-alike : (n : ℕ) → length u ≡ length t → Searchable s t n → Searchable s u n
   rows-alike n e r = record {
     few = r .few;
     room = omega (arith, r .room);
@@ -170,7 +170,7 @@ module _ (s : List ℕ) (t u : List ℤ) (a : Alike t u) where
       h l k low less high (sym (definition-alike l) ∙ d) (sym (definition-alike k) ∙ e) (sym (a .owners l) ∙ o ∙ a .owners k)
       (rw (like .names l, like .names k) at q)
 
-  pub linked-alike : {n : ℕ} {starts links : List ℕ} → Linked s t n starts links → Linked s u n starts links
+  pub linked-alike : {n : ℕ} {starts links : List ℕ} → AllLinked s t n starts links → AllLinked s u n starts links
   linked-alike {n} {starts} {links} h = record { all = below (h .all); apart = apart-alike n (h .apart) }
     where
       below : LinkedBelow s t n (n + 1) starts links → LinkedBelow s u n (n + 1) starts links

@@ -12,9 +12,10 @@ use lib.IntN.{ℤ}
 use lib.ListN.{length, getD, set, length-set}
 use lib.Seq.{getD-set-same, getD-set-other}
 use borrow.Author.Tests.{eqb-true, eqb-false}
+use Rattle.cells.specs.Limits.{labelLimit}
 use Rattle.cells.specs.Table.{owner, isDefinition}
 use Rattle.text.proofs.Bytes.{true-false}
-use Rattle.paths.specs.Buckets.{countedAt, sumTo, Counted, Allotted}
+use Rattle.paths.specs.Buckets.{countedAt, sumTo, MembersCounted, Allotted}
 
 -- ---- sums
 
@@ -60,7 +61,7 @@ module _ (c : List ℕ) (i : ℕ) (inside : i < length c) where
 -- ---- the counts
 
 module _ (t : List ℤ) (n : ℕ) where
-  pub count-start : (c : List ℕ) → n + 1 < length c → ((i : ℕ) → getD c i 0 ≡ 0) → Counted t n 1 (set c 0 (n + 1))
+  pub count-start : (c : List ℕ) → n + 1 < length c → ((i : ℕ) → getD c i 0 ≡ 0) → MembersCounted t n 1 (set c 0 (n + 1))
   count-start c h z =
       let first = getD-set-same c 0 (n + 1) 0 (omega arith) in
       record {
@@ -70,15 +71,15 @@ module _ (t : List ℤ) (n : ℕ) where
         some = λ l a b d. absurd (omega arith);
       }
 
-  module _ {k : ℕ} {c : List ℕ} (h : Counted t n k c) (most : k ≤ n) (falls : owner t k < k) where
+  module _ {k : ℕ} {c : List ℕ} (h : MembersCounted t n k c) (most : k ≤ n) (falls : owner t k < k) where
     pub count-room : owner t k + 1 < length c
     count-room = omega (arith, h .long)
 
-    pub count-small : n ≤ 1024 → getD c (owner t k + 1) 0 ≤ 4096
+    pub count-small : n ≤ labelLimit → getD c (owner t k + 1) 0 ≤ 4096
     count-small few =
         omega (arith, h .total, sum-part c (owner t k + 1), sum-rises c (owner t k + 1) (n + 1) (omega arith))
 
-    count-own : isDefinition t k ≡ true → Counted t n (k + 1) (set c (owner t k + 1) (getD c (owner t k + 1) 0 + 2))
+    count-own : isDefinition t k ≡ true → MembersCounted t n (k + 1) (set c (owner t k + 1) (getD c (owner t k + 1) 0 + 2))
     count-own d = record {
       long = omega (arith, h .long, length-set c (owner t k + 1) (getD c (owner t k + 1) 0 + 2));
       base = getD-set-other c (owner t k + 1) 0 (getD c (owner t k + 1) 0 + 2) 0 (λ e. omega arith) ∙ h .base;
@@ -89,7 +90,7 @@ module _ (t : List ℤ) (n : ℕ) where
         at : (l : ℕ) → l ≡ k → 1 ≤ getD (set c (owner t k + 1) (getD c (owner t k + 1) 0 + 2)) (owner t l + 1) 0
         at l q = rw (q, getD-set-same c (owner t k + 1) (getD c (owner t k + 1) 0 + 2) 0 count-room) (omega arith)
 
-    count-other : isDefinition t k ≡ false → Counted t n (k + 1) c
+    count-other : isDefinition t k ≡ false → MembersCounted t n (k + 1) c
     count-other d = record {
       long = h .long;
       base = h .base;
@@ -97,10 +98,10 @@ module _ (t : List ℤ) (n : ℕ) where
       some = λ l a b e. ⊎-elim (λ (q : l ≡ k). absurd (true-false (sym e ∙ ap (isDefinition t) q ∙ d))) (λ q. h .some l a q e) (eq-or-lt-of-le {n = l} {m = k} (omega arith));
     }
 
-    pub count-turn : {c′ : List ℕ} → c′ ≡ countedAt t k c → Counted t n (k + 1) c′
+    pub count-turn : {c′ : List ℕ} → c′ ≡ countedAt t k c → MembersCounted t n (k + 1) c′
     count-turn e = rw e (go (isDefinition t k) refl)
       where
-        go : (b : Bool) → isDefinition t k ≡ b → Counted t n (k + 1) (cond b (set c (owner t k + 1) (getD c (owner t k + 1) 0 + 2)) c)
+        go : (b : Bool) → isDefinition t k ≡ b → MembersCounted t n (k + 1) (cond b (set c (owner t k + 1) (getD c (owner t k + 1) 0 + 2)) c)
         go true d = count-own d
         go false d = count-other d
 
@@ -109,9 +110,9 @@ pub record Counting (t : List ℤ) (n : ℕ) (c₀ c : List ℕ) (k : ℕ) : Typ
   pub low : 1 ≤ k
   pub high : k ≤ n + 1
   pub size : length c ≡ length c₀
-  pub counts : Counted t n k c
+  pub counts : MembersCounted t n k c
 
-pub counting-start : {t : List ℤ} {n : ℕ} {c : List ℕ} → Counted t n 1 c → Counting t n c c 1
+pub counting-start : {t : List ℤ} {n : ℕ} {c : List ℕ} → MembersCounted t n 1 c → Counting t n c c 1
 counting-start h = record { low = omega arith; high = omega arith; size = refl; counts = h }
 
 module _ {t : List ℤ} {n : ℕ} {c₀ c : List ℕ} {k : ℕ} (g : Counting t n c₀ c k) where
@@ -119,7 +120,7 @@ module _ {t : List ℤ} {n : ℕ} {c₀ c : List ℕ} {k : ℕ} (g : Counting t 
   counting-turn m falls s e =
       record { low = omega arith; high = omega arith; size = s ∙ g .size; counts = count-turn t n (g .counts) m falls e }
 
-  pub counting-done : n < k → Counted t n (n + 1) c
+  pub counting-done : n < k → MembersCounted t n (n + 1) c
   counting-done l = let q : k ≡ n + 1 = omega (arith, g .high) in rw (← q) (g .counts)
 
 -- ---- the sums of the counts c, up to place g
@@ -149,7 +150,7 @@ module _ (c : List ℕ) where
 
 -- ---- the buckets
 
-pub allotted : {t : List ℤ} {n : ℕ} {c starts : List ℕ} → ((l : ℕ) → 1 ≤ l → l ≤ n → owner t l < l) → Counted t n (n + 1) c
+pub allotted : {t : List ℤ} {n : ℕ} {c starts : List ℕ} → ((l : ℕ) → 1 ≤ l → l ≤ n → owner t l < l) → MembersCounted t n (n + 1) c
     → length starts ≡ length c → ((g : ℕ) → g ≤ n + 1 → getD starts g 0 ≡ sumTo c g) → Allotted t n starts
 allotted {t} {n} {c} {starts} falls h size sums = record {
   long = omega (arith, h .long);

@@ -12,11 +12,12 @@ use lib.IntN.{ℤ}
 use lib.ListN.{length, getD, set, replicate, length-set, length-replicate}
 use lib.Seq.{slice, getD-set-same, getD-set-other}
 use borrow.Author.Tests.{eq-eqb, eqb-true, eqb-false, ltb-true, ltb-false}
+use Rattle.cells.specs.Limits.{labelLimit}
 use Rattle.cells.specs.Table.{nameStart, nameLength, owner, isDefinition}
 use Rattle.cells.proofs.Scratch.{zero-at}
 use Rattle.text.proofs.Bytes.{true-false, and-left, and-right}
 use Rattle.paths.specs.Names.{nameOf, sameName, isNamed, member}
-use Rattle.paths.specs.Buckets.{Rows, hashes, hashOf, startOf, Stretch, Allotted, bucketOf, bucketAt, inBucket, lastBelow, LinkedBelow, Linked, Fresh, firstIn, Walkable, walkBy, walk}
+use Rattle.paths.specs.Buckets.{Searchable, hashes, hashOf, startOf, Stretch, Allotted, bucketOf, bucketAt, inBucket, lastBelow, LinkedBelow, AllLinked, Fresh, firstIn, Walkable, walkBy, walk}
 use Rattle.paths.proofs.SameName.{same-hash, hash-small}
 use Rattle.paths.proofs.LastBelow.{last-hit, last-miss, last-one, last-small, last-passes, none-last, last-skip}
 use Rattle.paths.proofs.Members.{named-parts, member-named, member-last}
@@ -34,7 +35,7 @@ bucket-fits {starts} {g} {hash} h small =
     omega (arith, h .order, h .few, mul-le-mul-right {m = hash} {n = hashes} (startOf starts (g + 1) - startOf starts g) (omega arith))
 
 module _ {t : List ℤ} {n : ℕ} {starts : List ℕ} (a : Allotted t n starts) where
-  pub stretch : (g : ℕ) → g ≤ n → n ≤ 1024 → Stretch starts g
+  pub stretch : (g : ℕ) → g ≤ n → n ≤ labelLimit → Stretch starts g
   stretch g h few = record {
     long = omega (arith, a .long);
     order = a .rising g (g + 1) (omega arith) (omega arith);
@@ -50,7 +51,7 @@ module _ {t : List ℤ} {n : ℕ} {starts : List ℕ} (a : Allotted t n starts) 
       go false true e f = let m = ltb-true h g f in absurd (omega (arith, a .rising (h + 1) g (omega arith) (omega arith)))
       go false false e f = omega (arith, ltb-false g h e, ltb-false h g f)
 
-module _ {s : List ℕ} {t : List ℤ} {n : ℕ} {starts : List ℕ} (rows : Rows s t n) (a : Allotted t n starts) where
+module _ {s : List ℕ} {t : List ℤ} {n : ℕ} {starts : List ℕ} (rows : Searchable s t n) (a : Allotted t n starts) where
   -- the bucket of a definition
   bucket-at-high : (l : ℕ) → 1 ≤ l → l ≤ n → isDefinition t l ≡ true → bucketAt s t starts l < startOf starts (owner t l + 1)
   bucket-at-high l h g d =
@@ -84,7 +85,7 @@ link-fresh s t {starts = starts} a f = record {
   falls = λ l h g. omega (arith, f .clear l .1);
 }
 
-module _ {s : List ℕ} {t : List ℤ} {n k : ℕ} {starts links : List ℕ} (rows : Rows s t n) (h : LinkedBelow s t n k starts links) (low : 1 ≤ k) (high : k ≤ n) where
+module _ {s : List ℕ} {t : List ℤ} {n k : ℕ} {starts links : List ℕ} (rows : Searchable s t n) (h : LinkedBelow s t n k starts links) (low : 1 ≤ k) (high : k ≤ n) where
   -- a label that is not in the bucket changes nothing for it
   past : (b : ℕ) → inBucket s t starts b k ≡ false → lastBelow (inBucket s t starts b) k ≡ lastBelow (inBucket s t starts b) (k + 1)
   past b e = rw (add-one k) (sym (last-miss (inBucket s t starts b) k e))
@@ -224,7 +225,7 @@ walking-start s t w {starts} {links} {g} {x} hash h e =
 
 -- ---- what a lookup in Group g finds: the last member with the name, of the labels that are linked
 
-module _ {s : List ℕ} {t : List ℤ} {n k : ℕ} {starts links : List ℕ} (rows : Rows s t n) (h : LinkedBelow s t n k starts links) (low : 1 ≤ k) (g : ℕ) (in-table : g ≤ n) where
+module _ {s : List ℕ} {t : List ℤ} {n k : ℕ} {starts links : List ℕ} (rows : Searchable s t n) (h : LinkedBelow s t n k starts links) (low : 1 ≤ k) (g : ℕ) (in-table : g ≤ n) where
   pub walkable : Walkable starts links g
   walkable =
       let a = h .allotted in
@@ -316,7 +317,7 @@ pub own-read : (s : List ℕ) (t : List ℤ) (l : ℕ) {from size hash group : �
     → hash ≡ hashOf (slice from (from + size) s) → group ≡ owner t l → Own s t l from (from + size) hash group
 own-read s t l p q e f = record { name = rw (p, q); hashed = e; owned = f }
 
-module _ {s : List ℕ} {t : List ℤ} {n l : ℕ} {starts links : List ℕ} (rows : Rows s t n) (h : LinkedBelow s t n l starts links) (low : 1 ≤ l) (high : l ≤ n)
+module _ {s : List ℕ} {t : List ℤ} {n l : ℕ} {starts links : List ℕ} (rows : Searchable s t n) (h : LinkedBelow s t n l starts links) (low : 1 ≤ l) (high : l ≤ n)
     {from to hash group : ℕ} (o : Own s t l from to hash group) where
   pub own-group : group ≤ n
   own-group = omega (arith, o .owned, rows .falls l low high)
@@ -336,7 +337,7 @@ module _ {s : List ℕ} {t : List ℤ} {n l : ℕ} {starts links : List ℕ} (ro
     own-linked p = rw (p, own-bucket) (link-own rows h low high d)
 
 -- all are linked, and names are apart: the member
-module _ {s : List ℕ} {t : List ℤ} {n : ℕ} {starts links : List ℕ} (rows : Rows s t n) (h : Linked s t n starts links) (g : ℕ) (in-table : g ≤ n) where
+module _ {s : List ℕ} {t : List ℤ} {n : ℕ} {starts links : List ℕ} (rows : Searchable s t n) (h : AllLinked s t n starts links) (g : ℕ) (in-table : g ≤ n) where
   pub linked-walkable : Walkable starts links g
   linked-walkable = walkable rows (h .all) (omega arith) g in-table
 

@@ -12,7 +12,7 @@ use Rattle.cells.proofs.Columns.{column-own, column-same, column-over, column-l
 use Rattle.refusals.specs.Refusal.{firstBad}
 use Rattle.refusals.proofs.FirstBad.{first-same}
 use Rattle.paths.specs.Paths.{targetOf, targetCell, wanted, laterBad, targetBad, laterRows}
-use Rattle.paths.specs.Steps.{headCell, wrongTarget}
+use Rattle.paths.specs.TargetCells.{headCell, wrongTarget}
 use Rattle.paths.proofs.Alike.{Alike, column-alike, path-alike, head-cell-alike, target-alike, target-cell-alike}
 
 -- ---- row 15, once the targets stand in their cells

@@ -6,7 +6,7 @@ use native.Mathlib.Omega.{arith}
 use lib.IntN.{ℤ}
 use lib.ListN.{length}
 use Rattle.paths.specs.Paths.{duplicateBad}
-use Rattle.paths.specs.Buckets.{LinkedBelow, Linked}
+use Rattle.paths.specs.Buckets.{LinkedBelow, AllLinked}
 use Rattle.paths.proofs.Passes.{Pass, pass-start, pass-turn, pass-done}
 use Rattle.paths.proofs.Leads.{fine-apart}
 
@@ -23,7 +23,7 @@ module _ {s : List ℕ} {t : List ℤ} {n : ℕ} {starts links₀ links : List �
       → Linking s t n starts links₀ links′ (label + 1)
   linking-turn m z h p = record { pass = pass-turn (g .pass) m z; linked = h; size = p ∙ g .size }
 
-  pub linking-done : n < label → Linked s t n starts links
+  pub linking-done : n < label → AllLinked s t n starts links
   linking-done m =
       let e : label ≡ n + 1 = omega (arith, g .pass .high) in
       record { all = rw (← e) (g .linked); apart = fine-apart s t n (sym (pass-done (g .pass) m)) }

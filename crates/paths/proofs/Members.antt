@@ -14,7 +14,7 @@ use Rattle.order.specs.Order.{isMember}
 use Rattle.text.proofs.Bytes.{and-left, and-right}
 use Rattle.paths.specs.Names.{nameOf, sameName, isNamed, member}
 use Rattle.paths.specs.Leads.{NamesApart}
-use Rattle.paths.specs.Buckets.{Placed, lastBelow}
+use Rattle.paths.specs.Buckets.{NameInText, lastBelow}
 use Rattle.paths.proofs.SameName.{same-sym, same-trans, other-size}
 use Rattle.paths.proofs.LastBelow.{last-first}
 
@@ -55,7 +55,7 @@ module _ (s : List ℕ) (t : List ℤ) (n : ℕ) (apart : NamesApart s t n) (g :
 -- ---- a definition's name beside a part of the text
 
 module _ (s : List ℕ) (t : List ℤ) (m from to : ℕ) (inside : to ≤ length s) where
-  pub name-differs : Placed s t m → (nameLength t m ≡ to - from → ⊥) → false ≡ sameName (nameOf s t m) (slice from to s)
+  pub name-differs : NameInText s t m → (nameLength t m ≡ to - from → ⊥) → false ≡ sameName (nameOf s t m) (slice from to s)
   name-differs p f =
       let a : length (nameOf s t m) ≡ nameLength t m = length-slice (nameStart t m) (nameStart t m + nameLength t m) s p ∙ size in
       let b : length (slice from to s) ≡ to - from = length-slice from to s inside in

@@ -16,7 +16,7 @@ use Rattle.refusals.specs.declared.Verdict.the-variants.{Fine, Refused}
 use Rattle.refusals.proofs.FirstBad.{first-start, first-fine, first-bad, first-end}
 use Rattle.text.specs.Pieces.{firstOf}
 use Rattle.paths.specs.Paths.{descended, namesOf, headOf, targetOf, targetCell, pathHeadBad, laterBad}
-use Rattle.paths.specs.Steps.{headCell, targetBy}
+use Rattle.paths.specs.TargetCells.{headCell, targetBy}
 use Rattle.paths.proofs.Alike.{Alike, column-alike, path-alike, target-by-alike}
 use Rattle.paths.proofs.Resolving.{head-high}
 

@@ -7,6 +7,7 @@ use Prim.Native.Nat.{ℕ, zero, suc, _+_, _*_, _/_, _%_, _-_, _≤_, _<_}
 use lib.Dec.{eqb}
 use lib.IntN.{ℤ, pos}
 use lib.ListN.{length, getD, set}
+use Rattle.cells.specs.Limits.{labelLimit}
 use Rattle.cells.specs.Cells.{intAt}
 use Rattle.cells.specs.Table.{kind, nameStart, nameLength, owner, isDefinition}
 use Rattle.paths.specs.Names.{nameOf, sameName}
@@ -17,14 +18,14 @@ abbrev pub notDot : ℕ → Bool
 notDot x = not (eqb x 46)
 
 -- the name field of label l lies in the text
-abbrev pub Placed : List ℕ → List ℤ → ℕ → Type 0
-Placed s t l = nameStart t l + nameLength t l ≤ length s
+abbrev pub NameInText : List ℕ → List ℤ → ℕ → Type 0
+NameInText s t l = nameStart t l + nameLength t l ≤ length s
 
 -- of the table's n labels: their name fields lie in the text, owners are natural numbers, and owners' labels fall
-pub record Rows (s : List ℕ) (t : List ℤ) (n : ℕ) : Type 0 where
-  pub few : n ≤ 1024
+pub record Searchable (s : List ℕ) (t : List ℤ) (n : ℕ) : Type 0 where
+  pub few : n ≤ labelLimit
   pub room : 8 * n ≤ length t
-  pub names : (l : ℕ) → Placed s t l
+  pub names : (l : ℕ) → NameInText s t l
   pub owners : (l : ℕ) → 1 ≤ l → l ≤ n → intAt t (8 * (l - 1) + 6) ≡ pos (owner t l)
   pub falls : (l : ℕ) → 1 ≤ l → l ≤ n → owner t l < l
   pub beyond : (l : ℕ) → n < l → kind t l ≡ 0
@@ -82,7 +83,7 @@ sumTo c zero = getD c 0 0
 sumTo c (suc g) = sumTo c g + getD c (suc g) 0
 
 -- the definitions below label k are counted
-pub record Counted (t : List ℤ) (n k : ℕ) (c : List ℕ) : Type 0 where
+pub record MembersCounted (t : List ℤ) (n k : ℕ) (c : List ℕ) : Type 0 where
   pub long : n + 1 < length c
   pub base : getD c 0 0 ≡ n + 1
   pub total : sumTo c (n + 1) + 2 ≤ n + 1 + 2 * k
@@ -117,7 +118,7 @@ pub record LinkedBelow (s : List ℕ) (t : List ℤ) (n k : ℕ) (starts links :
   pub falls : (l : ℕ) → 1 ≤ l → l ≤ n → getD links l 0 < l
 
 -- all definitions are linked, and row 12 finds nothing
-pub record Linked (s : List ℕ) (t : List ℤ) (n : ℕ) (starts links : List ℕ) : Type 0 where
+pub record AllLinked (s : List ℕ) (t : List ℤ) (n : ℕ) (starts links : List ℕ) : Type 0 where
   pub all : LinkedBelow s t n (n + 1) starts links
   pub apart : NamesApart s t n
 

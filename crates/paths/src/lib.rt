@@ -8,16 +8,17 @@ ghost use lib.Dec.{eqb};
 ghost use lib.IntN.{pos};
 ghost use lib.ListN.{length, getD, set, drop};
 ghost use lib.Seq.{slice};
+ghost use Rattle.cells.specs.Limits.{labelLimit};
 ghost use Rattle.cells.specs.Table.{owner, target, withColumn, isDefinition, hasPath};
 ghost use Rattle.refusals.specs.Refusal.{firstBad};
 ghost use Rattle.text.specs.Pieces.{cut};
 ghost use Rattle.text.specs.Scans.{runEnd};
 ghost use Rattle.paths.specs.Names.{nameOf, sameName, isNamed};
-ghost use Rattle.paths.specs.Buckets.{notDot, Placed, Rows, comparedByte, hashOf, hashes};
-ghost use Rattle.paths.specs.Buckets.{startOf, Stretch, Allotted, countedAt, sumTo, Counted, bucketOf};
-ghost use Rattle.paths.specs.Buckets.{lastBelow, LinkedBelow, Linked, Fresh, firstIn, Walkable, walk};
+ghost use Rattle.paths.specs.Buckets.{notDot, NameInText, Searchable, comparedByte, hashOf, hashes};
+ghost use Rattle.paths.specs.Buckets.{startOf, Stretch, Allotted, countedAt, sumTo, MembersCounted, bucketOf};
+ghost use Rattle.paths.specs.Buckets.{lastBelow, LinkedBelow, AllLinked, Fresh, firstIn, Walkable, walk};
 ghost use Rattle.paths.specs.Paths.{headFrom, descended, targetCell, duplicateBad, pathHeadBad, laterBad, laterRows, headRows, pathsBad};
-ghost use Rattle.paths.specs.Steps.{headCell, targetBy, wrongTarget};
+ghost use Rattle.paths.specs.TargetCells.{headCell, targetBy, wrongTarget};
 use refusals::Verdict;
 
 // A hash is below 2^32. The factor, odd and near 2^32 divided by the golden ratio, spreads names that differ in one byte over its high bits.
@@ -80,7 +81,7 @@ fn same_name(text: &[u8], a: usize, b: usize, size: usize) -> bool
 
 // Whether definition m has the name text[from..to].
 fn has_name(text: &[u8], table: &[i64], m: usize, from: usize, to: usize) -> bool
-    requires { ⌜ (from ≤ to) × (to ≤ length (now text)) × Placed (now text) (now table) m ⌝ }
+    requires { ⌜ (from ≤ to) × (to ≤ length (now text)) × NameInText (now text) (now table) m ⌝ }
     ensures { λ r. ⌜ r ≡ sameName (nameOf (now (text .entry)) (now (table .entry)) m) (slice from to (now (text .entry))) ⌝ }
 {
     let size = cells::cell_at(table, m, cells::NAME_LENGTH);
@@ -139,8 +140,8 @@ fn count_label(table: &[i64], label: usize, starts: &mut [u16])
 
 // Each Group's buckets are counted, at the place behind its own.
 fn count_buckets(table: &[i64], n: usize, starts: &mut [u16])
-    requires { ⌜ (n ≤ 1024) × ((l : ℕ) → 1 ≤ l → l ≤ n → owner (now table) l < l) × Counted (now table) n 1 (now starts) ⌝ }
-    ensures { λ _. ⌜ Counted (now (table .entry)) n (n + 1) (now (starts .exit)) ⌝ }
+    requires { ⌜ (n ≤ labelLimit) × ((l : ℕ) → 1 ≤ l → l ≤ n → owner (now table) l < l) × MembersCounted (now table) n 1 (now starts) ⌝ }
+    ensures { λ _. ⌜ MembersCounted (now (table .entry)) n (n + 1) (now (starts .exit)) ⌝ }
 {
     let mut label: usize = 1;
     while label <= n {
@@ -163,7 +164,7 @@ fn add_up(n: usize, starts: &mut [u16])
 
 // Each Group gets two buckets for each of its members, numbered from n + 1 on.
 fn allot(table: &[i64], n: usize, starts: &mut [u16])
-    requires { ⌜ (n ≤ 1024) × ((l : ℕ) → 1 ≤ l → l ≤ n → owner (now table) l < l) ⌝ }
+    requires { ⌜ (n ≤ labelLimit) × ((l : ℕ) → 1 ≤ l → l ≤ n → owner (now table) l < l) ⌝ }
     requires { ⌜ (n + 1 < length (now starts)) × ((i : ℕ) → getD (now starts) i 0 ≡ 0) ⌝ }
     ensures { λ _. ⌜ Allotted (now (table .entry)) n (now (starts .exit)) ⌝ }
 {
@@ -186,7 +187,7 @@ fn member_in(
     to: usize,
 ) -> usize
     requires { ⌜ Walkable (now starts) (now links) group × (hash < hashes) ⌝ }
-    requires { ⌜ (from ≤ to) × (to ≤ length (now text)) × ((l : ℕ) → Placed (now text) (now table) l) ⌝ }
+    requires { ⌜ (from ≤ to) × (to ≤ length (now text)) × ((l : ℕ) → NameInText (now text) (now table) l) ⌝ }
     ensures { λ r. ⌜ r ≡ walk (now (text .entry)) (now (table .entry)) (now (links .entry)) (slice from to (now (text .entry))) (firstIn (now (starts .entry)) (now (links .entry)) group hash) ⌝ }
 {
     let mut m = first_in(starts, links, group, hash);
@@ -201,7 +202,7 @@ fn member_in(
 
 // A label goes to the front of the bucket's chain.
 fn push(links: &mut [u16], b: usize, label: usize)
-    requires { ⌜ (b < length (now links)) × (label < b) × (label ≤ 1024) ⌝ }
+    requires { ⌜ (b < length (now links)) × (label < b) × (label ≤ labelLimit) ⌝ }
     ensures { λ _. ⌜ now (links .exit) ≡ set (set (now (links .entry)) label (getD (now (links .entry)) b 0)) b label ⌝ }
 {
     links[label] = links[b];
@@ -217,7 +218,7 @@ fn link_definition(
     links: &mut [u16],
     label: usize,
 ) -> usize
-    requires { ⌜ Rows (now text) (now table) n × LinkedBelow (now text) (now table) n label (now starts) (now links) ⌝ }
+    requires { ⌜ Searchable (now text) (now table) n × LinkedBelow (now text) (now table) n label (now starts) (now links) ⌝ }
     requires { ⌜ (1 ≤ label) × (label ≤ n) × (isDefinition (now table) label ≡ true) ⌝ }
     ensures { λ r. ⌜ r ≡ lastBelow (isNamed (now (text .entry)) (now (table .entry)) (owner (now (table .entry)) label) (nameOf (now (text .entry)) (now (table .entry)) label)) label ⌝ }
     ensures { λ _. ⌜ LinkedBelow (now (text .entry)) (now (table .entry)) n (label + 1) (now (starts .entry)) (now (links .exit)) ⌝ }
@@ -240,7 +241,7 @@ fn link_label(
     links: &mut [u16],
     label: usize,
 ) -> u64
-    requires { ⌜ Rows (now text) (now table) n × LinkedBelow (now text) (now table) n label (now starts) (now links) ⌝ }
+    requires { ⌜ Searchable (now text) (now table) n × LinkedBelow (now text) (now table) n label (now starts) (now links) ⌝ }
     requires { ⌜ (1 ≤ label) × (label ≤ n) ⌝ }
     ensures { λ r. ⌜ r ≡ duplicateBad (now (text .entry)) (now (table .entry)) label ⌝ }
     ensures { λ _. ⌜ LinkedBelow (now (text .entry)) (now (table .entry)) n (label + 1) (now (starts .entry)) (now (links .exit)) ⌝ }
@@ -256,9 +257,9 @@ fn link_label(
 
 // Row 12. Where it finds nothing, every definition is linked.
 fn link(text: &[u8], table: &[i64], n: usize, starts: &[u16], links: &mut [u16]) -> Verdict
-    requires { ⌜ Rows (now text) (now table) n × LinkedBelow (now text) (now table) n 1 (now starts) (now links) ⌝ }
+    requires { ⌜ Searchable (now text) (now table) n × LinkedBelow (now text) (now table) n 1 (now starts) (now links) ⌝ }
     ensures { λ r. ⌜ r ≡ firstBad (duplicateBad (now (text .entry)) (now (table .entry))) 1 n ⌝ }
-    ensures { λ r. ⌜ (r ≡ Verdict.Fine → Linked (now (text .entry)) (now (table .entry)) n (now (starts .entry)) (now (links .exit))) ⌝ }
+    ensures { λ r. ⌜ (r ≡ Verdict.Fine → AllLinked (now (text .entry)) (now (table .entry)) n (now (starts .entry)) (now (links .exit))) ⌝ }
 {
     let mut label: usize = 1;
     while label <= n {
@@ -282,7 +283,7 @@ fn search(
     from: usize,
     to: usize,
 ) -> usize
-    requires { ⌜ Rows (now text) (now table) n × Linked (now text) (now table) n (now starts) (now links) ⌝ }
+    requires { ⌜ Searchable (now text) (now table) n × AllLinked (now text) (now table) n (now starts) (now links) ⌝ }
     requires { ⌜ (group ≤ n) × (from ≤ to) × (to ≤ length (now text)) ⌝ }
     ensures { λ r. ⌜ r ≡ headFrom (now (text .entry)) (now (table .entry)) n (slice from to (now (text .entry))) group ⌝ }
 {
@@ -316,7 +317,7 @@ fn descend(
     from: usize,
     to: usize,
 ) -> usize
-    requires { ⌜ Rows (now text) (now table) n × Linked (now text) (now table) n (now starts) (now links) ⌝ }
+    requires { ⌜ Searchable (now text) (now table) n × AllLinked (now text) (now table) n (now starts) (now links) ⌝ }
     requires { ⌜ (head ≤ n) × (from ≤ to) × (to ≤ length (now text)) ⌝ }
     ensures { λ r. ⌜ (r ≡ descended (now (text .entry)) (now (table .entry)) n head (drop 1 (cut 46 (slice from to (now (text .entry)))))) × (r ≤ n) ⌝ }
 {
@@ -350,7 +351,7 @@ fn head_at(
     links: &[u16],
     label: usize,
 ) -> usize
-    requires { ⌜ Rows (now text) (now table) n × Linked (now text) (now table) n (now starts) (now links) ⌝ }
+    requires { ⌜ Searchable (now text) (now table) n × AllLinked (now text) (now table) n (now starts) (now links) ⌝ }
     requires { ⌜ (1 ≤ label) × (label ≤ n) ⌝ }
     ensures { λ r. ⌜ (r ≡ headCell (now (text .entry)) (now (table .entry)) n label) × (r ≤ n) ⌝ }
 {
@@ -381,7 +382,7 @@ fn target_at(
     label: usize,
     head: usize,
 ) -> usize
-    requires { ⌜ Rows (now text) (now table) n × Linked (now text) (now table) n (now starts) (now links) ⌝ }
+    requires { ⌜ Searchable (now text) (now table) n × AllLinked (now text) (now table) n (now starts) (now links) ⌝ }
     requires { ⌜ (head ≤ n) ⌝ }
     ensures { λ r. ⌜ (r ≡ targetBy (now (text .entry)) (now (table .entry)) n label head) × (r ≤ n) ⌝ }
 {
@@ -426,7 +427,7 @@ fn settle_head(
     links: &[u16],
     label: usize,
 ) -> usize
-    requires { ⌜ Rows (now text) (now table) n × Linked (now text) (now table) n (now starts) (now links) ⌝ }
+    requires { ⌜ Searchable (now text) (now table) n × AllLinked (now text) (now table) n (now starts) (now links) ⌝ }
     requires { ⌜ (1 ≤ label) × (label ≤ n) ⌝ }
     ensures { λ r. ⌜ r ≡ headCell (now (text .entry)) (now (table .entry)) n label ⌝ }
     ensures { λ _. ⌜ now (table .exit) ≡ set (now (table .entry)) (8 * (label - 1) + 7) (pos (headCell (now (text .entry)) (now (table .entry)) n label)) ⌝ }
@@ -445,7 +446,7 @@ fn settle_target(
     links: &[u16],
     label: usize,
 ) -> usize
-    requires { ⌜ Rows (now text) (now table) n × Linked (now text) (now table) n (now starts) (now links) ⌝ }
+    requires { ⌜ Searchable (now text) (now table) n × AllLinked (now text) (now table) n (now starts) (now links) ⌝ }
     requires { ⌜ (1 ≤ label) × (label ≤ n) × (target (now table) label ≤ n) ⌝ }
     ensures { λ r. ⌜ r ≡ targetBy (now (text .entry)) (now (table .entry)) n label (target (now (table .entry)) label) ⌝ }
     ensures { λ _. ⌜ now (table .exit) ≡ set (now (table .entry)) (8 * (label - 1) + 7) (pos (targetBy (now (text .entry)) (now (table .entry)) n label (target (now (table .entry)) label))) ⌝ }
@@ -468,7 +469,7 @@ fn is_unresolved(table: &[i64], label: usize, found: usize) -> bool
 
 // Row 13. The heads stand in the target cells.
 fn settle_heads(text: &[u8], table: &mut [i64], n: usize, starts: &[u16], links: &[u16]) -> Verdict
-    requires { ⌜ Rows (now text) (now table) n × Linked (now text) (now table) n (now starts) (now links) ⌝ }
+    requires { ⌜ Searchable (now text) (now table) n × AllLinked (now text) (now table) n (now starts) (now links) ⌝ }
     ensures { λ r. ⌜ r ≡ firstBad (pathHeadBad (now (text .entry)) (now (table .entry)) n) 1 n ⌝ }
     ensures { λ r. ⌜ (r ≡ Verdict.Fine → now (table .exit) ≡ withColumn 7 (headCell (now (text .entry)) (now (table .entry)) n) n (now (table .entry))) ⌝ }
 {
@@ -491,7 +492,7 @@ fn settle_targets(
     starts: &[u16],
     links: &[u16],
 ) -> Verdict
-    requires { ⌜ Rows (now text) (now table) n × Linked (now text) (now table) n (now starts) (now links) ⌝ }
+    requires { ⌜ Searchable (now text) (now table) n × AllLinked (now text) (now table) n (now starts) (now links) ⌝ }
     requires { ⌜ ((l : ℕ) → 1 ≤ l → l ≤ n → target (now table) l ≡ headCell (now text) (now table) n l) ⌝ }
     ensures { λ r. ⌜ r ≡ firstBad (laterBad (now (text .entry)) (now (table .entry)) n) 1 n ⌝ }
     ensures { λ r. ⌜ (r ≡ Verdict.Fine → now (table .exit) ≡ withColumn 7 (targetCell (now (text .entry)) (now (table .entry)) n) n (now (table .entry))) ⌝ }
@@ -509,7 +510,7 @@ fn settle_targets(
 
 // Row 15.
 fn check_targets(table: &[i64], n: usize) -> Verdict
-    requires { ⌜ n ≤ 1024 ⌝ }
+    requires { ⌜ n ≤ labelLimit ⌝ }
     ensures { λ r. ⌜ r ≡ firstBad (wrongTarget (now (table .entry))) 1 n ⌝ }
 {
     let mut label: usize = 1;
@@ -523,9 +524,9 @@ fn check_targets(table: &[i64], n: usize) -> Verdict
     Verdict::Fine
 }
 
-// Rows 14 and 15, with the heads in the target cells.
+// Searchable 14 and 15, with the heads in the target cells.
 fn resolve_later(text: &[u8], table: &mut [i64], n: usize, starts: &[u16], links: &[u16]) -> Verdict
-    requires { ⌜ Rows (now text) (now table) n × Linked (now text) (now table) n (now starts) (now links) ⌝ }
+    requires { ⌜ Searchable (now text) (now table) n × AllLinked (now text) (now table) n (now starts) (now links) ⌝ }
     requires { ⌜ ((l : ℕ) → 1 ≤ l → l ≤ n → target (now table) l ≡ headCell (now text) (now table) n l) ⌝ }
     ensures { λ r. ⌜ r ≡ laterRows (now (text .entry)) (now (table .entry)) n ⌝ }
     ensures { λ r. ⌜ (r ≡ Verdict.Fine → now (table .exit) ≡ withColumn 7 (targetCell (now (text .entry)) (now (table .entry)) n) n (now (table .entry))) ⌝ }
@@ -536,9 +537,9 @@ fn resolve_later(text: &[u8], table: &mut [i64], n: usize, starts: &[u16], links
     }
 }
 
-// Rows 13 to 15.
+// Searchable 13 to 15.
 fn resolve_heads(text: &[u8], table: &mut [i64], n: usize, starts: &[u16], links: &[u16]) -> Verdict
-    requires { ⌜ Rows (now text) (now table) n × Linked (now text) (now table) n (now starts) (now links) ⌝ }
+    requires { ⌜ Searchable (now text) (now table) n × AllLinked (now text) (now table) n (now starts) (now links) ⌝ }
     ensures { λ r. ⌜ r ≡ headRows (now (text .entry)) (now (table .entry)) n ⌝ }
     ensures { λ r. ⌜ (r ≡ Verdict.Fine → now (table .exit) ≡ withColumn 7 (targetCell (now (text .entry)) (now (table .entry)) n) n (now (table .entry))) ⌝ }
 {
@@ -548,9 +549,9 @@ fn resolve_heads(text: &[u8], table: &mut [i64], n: usize, starts: &[u16], links
     }
 }
 
-// Rows 12 to 15, once each Group has its buckets.
+// Searchable 12 to 15, once each Group has its buckets.
 fn resolve(text: &[u8], table: &mut [i64], n: usize, starts: &[u16], links: &mut [u16]) -> Verdict
-    requires { ⌜ Rows (now text) (now table) n × LinkedBelow (now text) (now table) n 1 (now starts) (now links) ⌝ }
+    requires { ⌜ Searchable (now text) (now table) n × LinkedBelow (now text) (now table) n 1 (now starts) (now links) ⌝ }
     ensures { λ r. ⌜ r ≡ pathsBad (now (text .entry)) (now (table .entry)) n ⌝ }
     ensures { λ r. ⌜ (r ≡ Verdict.Fine → now (table .exit) ≡ withColumn 7 (targetCell (now (text .entry)) (now (table .entry)) n) n (now (table .entry))) ⌝ }
 {
@@ -560,7 +561,7 @@ fn resolve(text: &[u8], table: &mut [i64], n: usize, starts: &[u16], links: &mut
     }
 }
 
-// Rows 12 to 15, with scratch that is all zeros.
+// Searchable 12 to 15, with scratch that is all zeros.
 fn read_with(
     text: &[u8],
     table: &mut [i64],
@@ -568,7 +569,7 @@ fn read_with(
     starts: &mut [u16],
     links: &mut [u16],
 ) -> Verdict
-    requires { ⌜ Rows (now text) (now table) n × Fresh n (now starts) (now links) ⌝ }
+    requires { ⌜ Searchable (now text) (now table) n × Fresh n (now starts) (now links) ⌝ }
     ensures { λ r. ⌜ r ≡ pathsBad (now (text .entry)) (now (table .entry)) n ⌝ }
     ensures { λ r. ⌜ (r ≡ Verdict.Fine → now (table .exit) ≡ withColumn 7 (targetCell (now (text .entry)) (now (table .entry)) n) n (now (table .entry))) ⌝ }
 {
@@ -578,7 +579,7 @@ fn read_with(
 
 // The same with scratch for up to 127 labels: most sheets are small, and scratch is zeroed at each call.
 fn read_small(text: &[u8], table: &mut [i64], n: usize) -> Verdict
-    requires { ⌜ Rows (now text) (now table) n × (n < 128) ⌝ }
+    requires { ⌜ Searchable (now text) (now table) n × (n < 128) ⌝ }
     ensures { λ r. ⌜ r ≡ pathsBad (now (text .entry)) (now (table .entry)) n ⌝ }
     ensures { λ r. ⌜ (r ≡ Verdict.Fine → now (table .exit) ≡ withColumn 7 (targetCell (now (text .entry)) (now (table .entry)) n) n (now (table .entry))) ⌝ }
 {
@@ -589,7 +590,7 @@ fn read_small(text: &[u8], table: &mut [i64], n: usize) -> Verdict
 
 // The same with scratch for up to 1,024 labels.
 fn read_large(text: &[u8], table: &mut [i64], n: usize) -> Verdict
-    requires { ⌜ Rows (now text) (now table) n ⌝ }
+    requires { ⌜ Searchable (now text) (now table) n ⌝ }
     ensures { λ r. ⌜ r ≡ pathsBad (now (text .entry)) (now (table .entry)) n ⌝ }
     ensures { λ r. ⌜ (r ≡ Verdict.Fine → now (table .exit) ≡ withColumn 7 (targetCell (now (text .entry)) (now (table .entry)) n) n (now (table .entry))) ⌝ }
 {
@@ -598,10 +599,10 @@ fn read_large(text: &[u8], table: &mut [i64], n: usize) -> Verdict
     read_with(text, table, n, &mut starts, &mut links)
 }
 
-// Rows 12 to 15. Where they find nothing, the target of each R and C stands in its cell; where they refuse, the table is for the
+// Searchable 12 to 15. Where they find nothing, the target of each R and C stands in its cell; where they refuse, the table is for the
 // caller to clear.
 pub fn read_paths(text: &[u8], table: &mut [i64], n: usize) -> Verdict
-    requires { ⌜ Rows (now text) (now table) n ⌝ }
+    requires { ⌜ Searchable (now text) (now table) n ⌝ }
     ensures { λ r. ⌜ r ≡ pathsBad (now (text .entry)) (now (table .entry)) n ⌝ }
     ensures { λ r. ⌜ (r ≡ Verdict.Fine → now (table .exit) ≡ withColumn 7 (targetCell (now (text .entry)) (now (table .entry)) n) n (now (table .entry))) ⌝ }
 {

@@ -10,11 +10,11 @@ use lib.Dec.{eqb}
 use lib.ListN.{length, getD, set, take}
 use lib.Seq.{getD-set-same, getD-set-other, length-take-le}
 use borrow.Author.Tests.{eq-eqb, ne-eqb}
-use Rattle.order.specs.Lists.{one, count, _∈_, filter}
+use Rattle.order.specs.LabelLists.{one, count, _∈_, filter}
 use Rattle.order.proofs.Tests.{and-right, one-in}
 use Rattle.order.proofs.Lists.{filter-le}
 use Rattle.marks.specs.Marks.{mark, Added}
-use Rattle.placing.specs.Placing.{needed, Fits, Lowered}
+use Rattle.placing.specs.UnmetCounts.{needed, Fits, Lowered}
 use Rattle.placing.proofs.Lists.{one-le, count-more, in-more, count-take-le, filter-more}
 
 pub eq-one : (x p : ℕ) → x ≡ p → one (eqb x p) ≡ 1
@@ -39,7 +39,8 @@ module _ (square mask : List ℕ) (w p q : ℕ) where
   needed-none e = rw e
 
 -- those listed as needing q are items
-pub need-item : (items square mask unmet : List ℕ) (w q : ℕ) → Fits items square mask unmet w → (l : List ℕ) → ((p : ℕ) → count p l ≡ one (needed square mask w p q)) → (p : ℕ) → p ∈ l → p ∈ items
+pub need-item : (items square mask unmet : List ℕ) (w q : ℕ) → Fits items square mask unmet w → (l : List ℕ) → ((p : ℕ) → count p l ≡ one (needed square mask w p q)) → (p : ℕ)
+    → p ∈ l → p ∈ items
 need-item items square mask unmet w q f l e p m = f .masked p (needed-right square mask w p q (needed-in square mask w p q (count p l) (e p) m))
 
 pub need-once : (square mask : List ℕ) (w q : ℕ) (l : List ℕ) → ((p : ℕ) → count p l ≡ one (needed square mask w p q)) → (p : ℕ) → count p l ≤ 1

@@ -10,13 +10,13 @@ use native.Mathlib.Numerals.{add-one}
 use native.Mathlib.Decide.{ℕ-discrete}
 use lib.ListN.{length, getD, set, take}
 use lib.Seq.{take-suc-set}
-use Rattle.order.specs.Lists.{one, count, _∈_, mem, filter}
+use Rattle.order.specs.LabelLists.{one, count, _∈_, mem, filter}
 use Rattle.order.specs.Placing.{waits, next, rounds, placed}
 use Rattle.order.proofs.Tests.{clash, so-or-not}
 use Rattle.order.proofs.Lists.{in-append, in-single, of-mem, zero-or-in}
 use Rattle.marks.specs.Marks.{mark, Dropped, First}
 use Rattle.marks.proofs.Squares.{mark-in}
-use Rattle.placing.specs.Placing.{Rising, blocks, State, Lowered, Placed}
+use Rattle.placing.specs.UnmetCounts.{Rising, blocks, State, Lowered, Placed}
 use Rattle.placing.proofs.Lists.{filter-ext, any-zero, zero-any, rising-once, first-least-is, first-none-is, mem-same, mem-other, and-on, one-less}
 
 pub record Going (R : ℕ → ℕ → Bool) (items unmet ready order : List ℕ) (w k : ℕ) : Type 0 where

@@ -11,10 +11,10 @@ use native.Mathlib.Decide.{ℕ-discrete}
 use lib.Dec.{eqb, ltb}
 use lib.ListN.{length, getD, take, drop, take-append-drop}
 use lib.Seq.{take-suc, getD-take, length-take-le, take-take}
-use Rattle.order.specs.Lists.{one, count, _∈_, mem, filter, any, first}
+use Rattle.order.specs.LabelLists.{one, count, _∈_, mem, filter, any, first}
 use Rattle.order.proofs.Tests.{clash, so-or-not}
 use Rattle.order.proofs.Lists.{count-append, count-here, count-there, in-here, in-there, in-right, in-cons, in-append, in-single, mem-of, zero-or-in}
-use Rattle.placing.specs.Placing.{Rising, blocks}
+use Rattle.placing.specs.UnmetCounts.{Rising, blocks}
 
 pub one-le : (t : Bool) → one t ≤ 1
 one-le true = omega arith
@@ -163,4 +163,11 @@ module _ (R : ℕ → ℕ → Bool) (done : List ℕ) (p : ℕ) (out : mem p don
           let b : blocks R done x y ≡ R x p = ap (λ (z : ℕ). blocks R done x z) e ∙ blocks-before in
           omega (arith, filter-cons (blocks R (done ++ p ∷ []) x) y l, filter-cons (blocks R done x) y l, ap one a, ap one b, same-without l (omega (arith, count-here p l)))
       go (no e) r =
-          omega (arith, filter-cons (blocks R (done ++ p ∷ []) x) y l, filter-cons (blocks R done x) y l, ap one (blocks-other y e), r (omega (arith, count-there p y l (λ (z : p ≡ y). e (sym z)))))
+          omega (
+            arith,
+            filter-cons (blocks R (done ++ p ∷ []) x) y l,
+            filter-cons (blocks R done x) y l,
+            ap one (blocks-other y e),
+            r
+                (omega (arith, count-there p y l (λ (z : p ≡ y). e (sym z)))),
+          )

@@ -7,9 +7,9 @@ ghost use mathlib.Core.List.{[]};
 ghost use mathlib.Core.Logic.{_↔_};
 ghost use Prim.Native.Nat.{ℕ, _+_, _*_, _≤_, _<_};
 ghost use lib.ListN.{length, getD, take};
-ghost use Rattle.order.specs.Lists.{one, count, _∈_, filter};
+ghost use Rattle.order.specs.LabelLists.{one, count, _∈_, filter};
 ghost use Rattle.marks.specs.Marks.{mark};
-ghost use Rattle.placing.specs.Placing.{needed, Fits, State, Lowered, Placed};
+ghost use Rattle.placing.specs.UnmetCounts.{needed, Fits, State, Lowered, Placed};
 
 // Those that need q.
 fn needed_by(square: &[u64], w: usize, mask: &[u64], q: usize, list: &mut [u16]) -> usize

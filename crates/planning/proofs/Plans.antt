@@ -13,16 +13,16 @@ use Rattle.order.proofs.Planned.{cycle-smallest, cycle-none, order-short}
 use Rattle.order.proofs.Whole.{whole-proper}
 use Rattle.reach.specs.Chains.{Empty}
 use Rattle.reach.proofs.Scratch.{long, zero-chain}
-use Rattle.reach.specs.Rows.{width}
+use Rattle.reach.specs.MarkRows.{width}
 use Rattle.groups.specs.Members.{Scratch}
 use Rattle.planning.specs.declared.Planned.the-variants.{Cycle, Whole, Mixed}
-use Rattle.planning.specs.Listing.{listOf, Put}
+use Rattle.planning.specs.Listing.{listOf, PutAt}
 use Rattle.planning.specs.Plans.{PlanIs}
 use Rattle.planning.proofs.Listing.{whole-list}
 
 -- ---- the plan's cells
 
-put-cells : (l : List ℕ) (plan plan′ : List ℤ) (r : ℕ) → Put l 0 plan plan′ r → plan′ ≡ map pos l ++ drop (length l) plan
+put-cells : (l : List ℕ) (plan plan′ : List ℤ) (r : ℕ) → PutAt l 0 plan plan′ r → plan′ ≡ map pos l ++ drop (length l) plan
 put-cells l plan plan′ r p =
     let e : r ≡ length l = omega (arith, p .end) in
     sym (take-append-drop r plan′) ∙ ap (λ (x : List ℤ). x ++ drop r plan′) (p .cells) ∙ ap (λ (x : List ℤ). map pos l ++ x) (p .rest) ∙ ap (λ (k : ℕ). map pos l ++ drop k plan) e
@@ -57,16 +57,16 @@ module _ (t : List ℤ) (n : ℕ) (ok : Accepted t n) where
   pub whole-short : place16 t n ≡ 0 → someStuck t n ≡ false → length (listOf t n 1) ≤ n
   whole-short z f = omega (arith, ap length (whole-list t n ok), order-short t n ok (wholePlan t n) (whole-proper t n ok f (cycle-none t n ok (no-cycle z))))
 
-  pub plan-whole : (p p′ : List ℤ) (r : ℕ) → place16 t n ≡ 0 → someStuck t n ≡ false → Put (listOf t n 1) 0 p p′ r → PlanIs (plan t n) p p′ (Whole r)
+  pub plan-whole : (p p′ : List ℤ) (r : ℕ) → place16 t n ≡ 0 → someStuck t n ≡ false → PutAt (listOf t n 1) 0 p p′ r → PlanIs (plan t n) p p′ (Whole r)
   plan-whole p p′ r z f put =
       let e : plan t n ≡ whole (wholePlan t n) = rw (no-cycle z, f) in
-      let q = subst (λ (l : List ℕ). Put l 0 p p′ r) (whole-list t n ok) put in
+      let q = subst (λ (l : List ℕ). PutAt l 0 p p′ r) (whole-list t n ok) put in
       let k : r ≡ length (wholePlan t n) = omega (arith, q .end) in
       rw e (record { reply = ap Whole k; cells = put-cells (wholePlan t n) p p′ r q })
 
   -- ---- mixed
 
-  pub plan-mixed : (p p′ : List ℤ) (r : ℕ) → place16 t n ≡ 0 → someStuck t n ≡ true → Put (mixedPlan t n) 0 p p′ r → PlanIs (plan t n) p p′ (Mixed r)
+  pub plan-mixed : (p p′ : List ℤ) (r : ℕ) → place16 t n ≡ 0 → someStuck t n ≡ true → PutAt (mixedPlan t n) 0 p p′ r → PlanIs (plan t n) p p′ (Mixed r)
   plan-mixed p p′ r z f put =
       let e : plan t n ≡ mixed (mixedPlan t n) = rw (no-cycle z, f) in
       let k : r ≡ length (mixedPlan t n) = omega (arith, put .end) in
@@ -77,7 +77,9 @@ module _ (t : List ℤ) (n : ℕ) (ok : Accepted t n) where
 -- what `list_in` asks of it, for n labels below k and rows of b words
 module _ (n k b : ℕ) where
   abbrev pub Fresh : Type 0
-  Fresh = ((2 * n < length (replicate {0} {A = ℕ} (2 * k - 1) 0)) × Empty n (replicate (2 * k - 1) 0)) × ((n < length (replicate {0} {A = ℕ} k 0)) × Scratch n (replicate b 0) (replicate k 0) (replicate b 0) (replicate (64 * b) 0) (replicate k 0))
+  Fresh =
+      ((2 * n < length (replicate {0} {A = ℕ} (2 * k - 1) 0)) × Empty n (replicate (2 * k - 1) 0))
+      × ((n < length (replicate {0} {A = ℕ} k 0)) × Scratch n (replicate b 0) (replicate k 0) (replicate b 0) (replicate (64 * b) 0) (replicate k 0))
 
   pub zero-lists : n < k → width n ≤ b → Fresh
   zero-lists h g = (

@@ -11,7 +11,7 @@ abbrev pub listOf : List ℤ → ℕ → ℕ → List ℕ
 listOf t n g = groupPlan t n (n + 1 - g) g
 
 -- l stands in the plan from `at` up to r, and the rest is as it was
-pub record Put (l : List ℕ) (at : ℕ) (plan plan′ : List ℤ) (r : ℕ) : Type 0 where
+pub record PutAt (l : List ℕ) (at : ℕ) (plan plan′ : List ℤ) (r : ℕ) : Type 0 where
   pub end : r ≡ at + length l
   pub cells : take r plan′ ≡ take at plan ++ map pos l
   pub rest : drop r plan′ ≡ drop r plan

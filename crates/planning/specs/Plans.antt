@@ -8,15 +8,15 @@ use Rattle.planning.specs.declared.Planned.{Planned}
 use Rattle.planning.specs.declared.Planned.the-variants.{Cycle, Whole, Mixed}
 
 -- the place of row 16, or the plan's length
-abbrev pub replyOf : Answer → Planned
-replyOf (cycle v) = Cycle v
-replyOf (whole o) = Whole (length o)
-replyOf (mixed o) = Mixed (length o)
+abbrev pub plannedBy : Answer → Planned
+plannedBy (cycle v) = Cycle v
+plannedBy (whole o) = Whole (length o)
+plannedBy (mixed o) = Mixed (length o)
 
 -- the order's labels, and then the cells as they were
-abbrev pub written : Answer → List ℤ → List ℤ
-written a plan = map pos (orderOf a) ++ drop (length (orderOf a)) plan
+abbrev pub planWritten : Answer → List ℤ → List ℤ
+planWritten a plan = map pos (orderOf a) ++ drop (length (orderOf a)) plan
 
 pub record PlanIs (a : Answer) (plan plan′ : List ℤ) (r : Planned) : Type 0 where
-  pub reply : r ≡ replyOf a
-  pub cells : plan′ ≡ written a plan
+  pub reply : r ≡ plannedBy a
+  pub cells : plan′ ≡ planWritten a plan

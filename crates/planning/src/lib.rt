@@ -9,11 +9,11 @@ ghost use Rattle.cells.specs.Table.{kind};
 ghost use Rattle.cells.specs.Accepted.{Accepted};
 ghost use Rattle.order.specs.Order.{mixedPlan, place16};
 ghost use Rattle.order.specs.Order as Order;
-ghost use Rattle.reach.specs.Rows.{width, Blank};
+ghost use Rattle.reach.specs.MarkRows.{width, Blank};
 ghost use Rattle.reach.specs.Chains.{Empty};
 ghost use Rattle.needs.specs.Needs.{NeedRows};
 ghost use Rattle.groups.specs.Members.{Ordered, Scratch};
-ghost use Rattle.planning.specs.Listing.{listOf, Put};
+ghost use Rattle.planning.specs.Listing.{listOf, PutAt};
 ghost use Rattle.planning.specs.Plans.{PlanIs};
 
 // What planning finds: the smallest value that reaches itself, or the length of a whole or a mixed plan.
@@ -36,7 +36,7 @@ fn list_group(
     requires { ⌜ (2 * n < length (now next)) × Ordered (now table) n (now next) ⌝ }
     requires { ⌜ (1 ≤ group) × (group ≤ n) × (kind (now table) group ≡ groupCode) ⌝ }
     requires { ⌜ at + length (listOf (now table) n group) ≤ length (now plan) ⌝ }
-    ensures { λ r. ⌜ Put (listOf (now (table .entry)) n group) at (now (plan .entry)) (now (plan .exit)) r ⌝ }
+    ensures { λ r. ⌜ PutAt (listOf (now (table .entry)) n group) at (now (plan .entry)) (now (plan .exit)) r ⌝ }
 {
     let mut to = at;
     let mut x = next[group];
@@ -57,7 +57,7 @@ fn list_group(
 // Puts the first r labels of the order into the plan.
 fn put_all(order: &[u16], r: usize, plan: &mut [i64])
     requires { ⌜ (r ≤ length (now order)) × (r ≤ length (now plan)) ⌝ }
-    ensures { λ _. ⌜ Put (take r (now (order .entry))) 0 (now (plan .entry)) (now (plan .exit)) r ⌝ }
+    ensures { λ _. ⌜ PutAt (take r (now (order .entry))) 0 (now (plan .entry)) (now (plan .exit)) r ⌝ }
 {
     let mut i = 0;
     while i < r {
@@ -83,7 +83,7 @@ fn list_mixed(
     requires { ⌜ (n ≤ length (now plan)) × (place16 (now table) n ≡ 0) ⌝ }
     requires { ⌜ ((n + 1) * width n ≤ length (now square)) × NeedRows (now table) n (now square) ⌝ }
     requires { ⌜ (n < length (now items)) × Scratch n (now mask) (now unmet) (now ready) (now list) (now order) ⌝ }
-    ensures { λ r. ⌜ Put (mixedPlan (now (table .entry)) n) 0 (now (plan .entry)) (now (plan .exit)) r ⌝ }
+    ensures { λ r. ⌜ PutAt (mixedPlan (now (table .entry)) n) 0 (now (plan .entry)) (now (plan .exit)) r ⌝ }
 {
     let m = groups::gather_values(table, n, items);
     let r = groups::place_items(

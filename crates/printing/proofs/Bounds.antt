@@ -6,11 +6,12 @@ use Prim.Native.Nat.{ℕ, _+_, _-_, _*_, _≤_}
 use native.Mathlib.Omega.{arith}
 use lib.IntN.{ℤ, natAbs}
 use lib.ListN.{length, take, length-append, length-take, length-drop}
+use Rattle.cells.specs.Limits.{labelLimit, numberLimit}
 use Rattle.kinds.specs.Kinds.{valueCode}
 use Rattle.cells.specs.Table.{kind, nameStart, nameLength}
 use Rattle.cells.specs.Accepted.{Accepted}
 use Rattle.lines.specs.Lines.{labels}
-use Rattle.order.specs.Lists.{_∈_}
+use Rattle.order.specs.LabelLists.{_∈_}
 use Rattle.order.specs.Order.{NoCycle}
 use Rattle.order.specs.Following.{labelsOf}
 use Rattle.order.proofs.Lists.{in-here, in-there}
@@ -23,11 +24,11 @@ use Rattle.reading.proofs.Accepted.{read-accepted, read-short}
 use Rattle.evaluation.specs.Results.{stateAt, numberAt, stepsAt, stored}
 use Rattle.evaluation.specs.Evaluation.{valueOutcome, evaluated}
 use Rattle.evaluation.specs.declared.Value.{Value}
-use Rattle.evaluation.proofs.Range.{Good, value-settled}
+use Rattle.evaluation.proofs.Range.{Good, value-recorded}
 use Rattle.figures.specs.Figures.{resultCells}
 use Rattle.figures.proofs.Working.{value-label, figures-value, figures-stored}
-use Rattle.figures.proofs.Early.{figures-settled}
-use Rattle.calls.specs.Plan.{numberOf, placeOf, lengthOf}
+use Rattle.figures.proofs.Early.{figures-recorded}
+use Rattle.calls.specs.Plan.{planRefusal, planPlace, lengthOf}
 use Rattle.calls.specs.Run.{runReply, runTable, runPlan, runResults}
 use Rattle.calls.specs.Leaves.{RunLeaves}
 use Rattle.calls.specs.declared.PlanReply.{PlanReply}
@@ -44,10 +45,10 @@ use Rattle.printing.proofs.Runs.{run-fine, reads, results-fit, table-is
 
 -- what stands in its line
 record Short (t r : List ℤ) (v : ℕ) : Type 0 where
-  label : v ≤ 1024
+  label : v ≤ labelLimit
   name : nameLength t v ≤ 16
   state : stateAt r v ≤ 5
-  number : natAbs (numberAt r v) ≤ 1000000000
+  number : natAbs (numberAt r v) ≤ numberLimit
   steps : stepsAt r v ≤ 20000
 
 name-length : (s : List ℕ) (t : List ℤ) (v : ℕ) → length (nameField s t v) ≤ nameLength t v
@@ -87,7 +88,7 @@ module _ (t : List ℤ) (n m : ℕ) (ok : Accepted t n) (nc : NoCycle t) (fit : 
   value-is v k = figures-stored t n ok m fit v ∙ figures-value t n ok m fit nc v k
 
   value-good : (v : ℕ) → kind t v ≡ valueCode → Good 1 (valueOutcome t (resultCells t n m) v)
-  value-good v k = value-settled t (resultCells t n m) n ok v k (λ x j _. figures-settled t n ok nc m fit x j)
+  value-good v k = value-recorded t (resultCells t n m) n ok v k (λ x j _. figures-recorded t n ok nc m fit x j)
 
   -- its name is in a table w
   value-short : (w : List ℤ) (v : ℕ) → kind t v ≡ valueCode → nameLength w v ≤ 16 → Short w (resultCells t n m) v
@@ -154,7 +155,7 @@ refusal-length row place h g =
 -- ---- any print, by Run's reply x, whose numbers have 64 bits
 
 module _ (s : List ℕ) (m p q : ℕ) where
-  print-short : (x : PlanReply) → runReply s m p q ≡ x → numberOf x ≤ lastIndex → placeOf x ≤ lastIndex → length (printWith s m p q) ≤ printBound
+  print-short : (x : PlanReply) → runReply s m p q ≡ x → planRefusal x ≤ lastIndex → planPlace x ≤ lastIndex → length (printWith s m p q) ≤ printBound
   unfolding wholeWord mixedWord
   print-short (reply.Whole k) e h g = rw e (rw e at (answer-length s m p q (ap answers e) wholeWord (omega arith)))
   print-short (reply.Mixed k) e h g = rw e (rw e at (answer-length s m p q (ap answers e) mixedWord (omega arith)))
@@ -162,8 +163,8 @@ module _ (s : List ℕ) (m p q : ℕ) where
 
   -- Run left the reply x, and its print was written
   module _ (r : PlanReply) (t o u : List ℤ) (left : RunLeaves s m p q r t o u) (x : PlanReply) (is : r ≡ x) where
-    pub print-written : (out : List ℕ) (a : Printed) (w : List ℕ) → numberOf x ≤ lastIndex → placeOf x ≤ lastIndex
-        → a .refusal ≡ numberOf x → a .place ≡ placeOf x → Wrote out 0 (printBy s x t o u) w (a .length) → PrintWritten s m p q out a w
+    pub print-written : (out : List ℕ) (a : Printed) (w : List ℕ) → planRefusal x ≤ lastIndex → planPlace x ≤ lastIndex
+        → a .refusal ≡ planRefusal x → a .place ≡ planPlace x → Wrote out 0 (printBy s x t o u) w (a .length) → PrintWritten s m p q out a w
     print-written out a w h g f i k =
         let e = replied s m p q r t o u left x is in
         record {

@@ -8,6 +8,7 @@ use borrow.Author.Tests.{leb-true, le-leb}
 use lib.Dec.{leb}
 use lib.IntN.{ℤ, pos}
 use lib.ListN.{length, take, length-append, length-map}
+use Rattle.cells.specs.Limits.{labelLimit}
 use Rattle.cells.specs.Cells.{zeros}
 use Rattle.refusals.specs.Refusal.{orElse}
 use Rattle.refusals.specs.declared.Verdict.{Verdict}
@@ -17,7 +18,7 @@ use Rattle.lines.specs.Lines.{labels, headBad}
 use Rattle.lines.proofs.Heads.{headed}
 use Rattle.order.specs.Order.{Proper, Answer, cycle, whole, mixed}
 use Rattle.order.specs.Following.{labelsOf}
-use Rattle.order.specs.Rows.{cycleBad}
+use Rattle.order.specs.Rows16to18.{cycleBad}
 use Rattle.order.proofs.Following.{proper-list}
 use Rattle.reading.specs.Read.{tableShort, sheetTable, Reads, readBad, tableOf}
 use Rattle.reading.specs.Name.{nameBegin, nameSize, namePart}
@@ -47,11 +48,11 @@ results-long s q e = go (leb (3 * labels s) q) refl e
     go false f g = let z : _≡_ {A = ℕ} 0 1 = cc in absurd (omega arith)
 
 -- the program's buffers are long enough for every sheet, so that row 4 finds nothing
-pub long-enough : (s : List ℕ) → headBad s ≡ Fine → runBuffers s 8192 1024 3072 ≡ Fine
+pub long-enough : (s : List ℕ) → headBad s ≡ Fine → runBuffers s (8 * labelLimit) labelLimit (3 * labelLimit) ≡ Fine
 unfolding tableShort planShort resultsShort
 long-enough s e =
     let h = headed s e .high in
-    rw (le-leb (8 * labels s) 8192 (omega arith), le-leb (labels s) 1024 (omega arith), le-leb (3 * labels s) 3072 (omega arith))
+    rw (le-leb (8 * labels s) (8 * labelLimit) (omega arith), le-leb (labels s) labelLimit (omega arith), le-leb (3 * labels s) (3 * labelLimit) (omega arith))
 
 -- ---- where it answers
 

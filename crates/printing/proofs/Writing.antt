@@ -2,13 +2,14 @@
 use mathlib.Core.Path.{_≡_, refl, sym, ap, _∙_}
 use mathlib.Core.Bool.{Bool, true, false}
 use mathlib.Core.List.{List, [], _∷_, _++_, append-assoc}
-use Prim.Native.Nat.{ℕ, suc, _+_, _-_, _≤_, _<_, min}
+use Prim.Native.Nat.{ℕ, suc, _+_, _-_, _*_, _≤_, _<_, min}
 use native.Mathlib.Nat.{add-zero, add-suc, suc-add}
 use native.Mathlib.Omega.{arith}
 use borrow.Author.Tests.{leb-true, leb-false}
 use lib.Dec.{leb}
 use lib.ListN.{length, set, take, length-append, replicate-append-replicate}
 use lib.Seq.{sets, length-sets, set-out}
+use Rattle.cells.specs.Limits.{labelLimit}
 use Rattle.printing.specs.Print.{printWith, printReply, printOf, zeroBytes, PrintLeaves}
 use Rattle.printing.specs.Writing.{lastIndex, Wrote, PrintWritten}
 use Rattle.printing.specs.declared.Printed.{Printed}
@@ -103,11 +104,11 @@ module _ (o x p : List ℕ) (b : ℕ) (w : Wrote o 0 x p b) (short : length x �
 
 -- ---- the print
 
-pub zeros-left : (s o : List ℕ) (a : Printed) (p : List ℕ) → PrintWritten s 8192 1024 3072 o a p
+pub zeros-left : (s o : List ℕ) (a : Printed) (p : List ℕ) → PrintWritten s (8 * labelLimit) labelLimit (3 * labelLimit) o a p
     → (q : List ℕ) (c : ℕ) → Wrote p (a .length) (zeroBytes (length p - a .length)) q c → PrintLeaves s (length o) a q
 unfolding printReply printOf
 zeros-left s o a p w q c v =
-    let x = printWith s 8192 1024 3072 in
+    let x = printWith s (8 * labelLimit) labelLimit (3 * labelLimit) in
     let h : length x ≤ lastIndex = omega (arith, w .short) in
     record {
       refusal = w .refusal;

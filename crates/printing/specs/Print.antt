@@ -5,11 +5,12 @@ use Prim.Native.Nat.{ℕ, _+_, _-_, _*_, _≤_}
 use lib.IntN.{ℤ}
 use lib.ListN.{length, take, replicate}
 use lib.Seq.{slice}
+use Rattle.cells.specs.Limits.{labelLimit}
 use Rattle.cells.specs.Table.{nameStart, nameLength}
 use Rattle.text.specs.Quoted.{bytesOf}
 use Rattle.order.specs.Following.{labelsOf}
 use Rattle.evaluation.specs.Results.{stateAt, numberAt, stepsAt}
-use Rattle.calls.specs.Plan.{numberOf, placeOf}
+use Rattle.calls.specs.Plan.{planRefusal, planPlace}
 use Rattle.calls.specs.Run.{runReply, runTable, runPlan, runResults}
 use Rattle.calls.specs.declared.PlanReply.{PlanReply}
 use Rattle.calls.specs.declared.PlanReply.the-variants as reply
@@ -78,14 +79,14 @@ printWith s m p q = printBy s (runReply s m p q) (runTable s m p q) (runPlan s m
 
 -- the program's print of the text s: with buffers for 1,024 labels, the most that a sheet has, so that they are long enough for every sheet
 unfoldable pub printReply : List ℕ → PlanReply
-printReply s = runReply s 8192 1024 3072
+printReply s = runReply s (8 * labelLimit) labelLimit (3 * labelLimit)
 
 unfoldable pub printOf : List ℕ → List ℕ
-printOf s = printWith s 8192 1024 3072
+printOf s = printWith s (8 * labelLimit) labelLimit (3 * labelLimit)
 
 -- a bound on its bytes: 36 for the column names, and 48 for each of 1,024 labels
 abbrev pub printBound : ℕ
-printBound = 36 + 48 * 1024
+printBound = 36 + 48 * labelLimit
 
 -- ---- what a call that is lent a buffer of m bytes leaves
 
@@ -94,8 +95,8 @@ zeroBytes n = replicate n 0
 
 pub record PrintLeaves (s : List ℕ) (m : ℕ) (answer : Printed) (out : List ℕ) : Type 0 where
   -- Run's refusal and its place, 0 and 0 where it answers
-  pub refusal : answer .refusal ≡ numberOf (printReply s)
-  pub place : answer .place ≡ placeOf (printReply s)
+  pub refusal : answer .refusal ≡ planRefusal (printReply s)
+  pub place : answer .place ≡ planPlace (printReply s)
   -- the length of the whole print, however much of it there is room for
   pub whole : answer .length ≡ length (printOf s)
   pub short : length (printOf s) ≤ printBound

@@ -7,7 +7,7 @@ use lib.ListN.{length}
 use lib.Seq.{sets}
 use Rattle.cells.specs.Cells.{intAt}
 use Rattle.cells.specs.Table.{nameStart, nameLength}
-use Rattle.calls.specs.Plan.{numberOf, placeOf}
+use Rattle.calls.specs.Plan.{planRefusal, planPlace}
 use Rattle.calls.specs.Run.{runReply}
 use Rattle.printing.specs.Print.{printWith, printBound}
 use Rattle.printing.specs.declared.Printed.{Printed}
@@ -34,7 +34,7 @@ resultAt r (suc k) j = intAt r (3 * k + j)
 
 -- the print of the text s that is run with a table of m cells, a plan of p and results of q, written from the start of `out` on
 pub record PrintWritten (s : List ℕ) (m p q : ℕ) (out : List ℕ) (answer : Printed) (left : List ℕ) : Type 0 where
-  pub refusal : answer .refusal ≡ numberOf (runReply s m p q)
-  pub place : answer .place ≡ placeOf (runReply s m p q)
+  pub refusal : answer .refusal ≡ planRefusal (runReply s m p q)
+  pub place : answer .place ≡ planPlace (runReply s m p q)
   pub short : length (printWith s m p q) ≤ printBound
   pub wrote : Wrote out 0 (printWith s m p q) left (answer .length)

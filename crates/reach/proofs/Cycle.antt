@@ -12,12 +12,12 @@ use Rattle.cells.specs.Table.{kind}
 use Rattle.cells.specs.Accepted.{Accepted}
 use Rattle.cells.specs.Reaches.{Reaches}
 use Rattle.order.specs.Order.{place16}
-use Rattle.order.specs.Demand.{SmallestCycle, Row16}
+use Rattle.order.specs.PlanMeans.{SmallestCycle, Row16}
 use Rattle.order.proofs.Tests.{clash}
 use Rattle.order.proofs.Planned.{place16-exactly}
 use Rattle.marks.specs.Marks.{mark}
 use Rattle.reach.specs.Links.{Column}
-use Rattle.reach.specs.Rows.{width, AllRows}
+use Rattle.reach.specs.MarkRows.{width, AllMarkRows}
 use Rattle.reach.proofs.Links.{touch-body, itself-exact}
 
 row16-at : (t : List ℤ) (v : ℕ) → 1 ≤ v → SmallestCycle t v → Row16 t v
@@ -31,7 +31,7 @@ module _ (t : List ℤ) (n : ℕ) (ok : Accepted t n) where
   pub none-is : ((v : ℕ) → kind t v ≡ valueCode → Reaches t v v → ⊥) → 0 ≡ place16 t n
   none-is f = sym (place16-exactly t n ok 0 .1 f)
 
-  module _ (j : ℕ) (col : Column j) (square : List ℕ) (rows : AllRows t n j square) (v : ℕ) (k : kind t v ≡ valueCode) where
+  module _ (j : ℕ) (col : Column j) (square : List ℕ) (rows : AllMarkRows t n j square) (v : ℕ) (k : kind t v ≡ valueCode) where
     pub cycle-marked : mark square (width n) v v ≡ true → Reaches t v v
     cycle-marked m = itself-exact t j v col .0 (touch-body t n ok j col (rows .values v k v .0 m) (rw k value-body))
 

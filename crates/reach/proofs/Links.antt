@@ -17,7 +17,7 @@ use Rattle.order.proofs.Tests.{clash}
 use Rattle.order.proofs.Tables.{g-kind, kind-v, v-def, kind-label}
 use Rattle.order.proofs.Tree.{within-owner, leaf}
 use Rattle.reach.specs.Links.{Column, Link, Links, once, then, Around, Touches}
-use Rattle.reach.specs.Rows.{width}
+use Rattle.reach.specs.MarkRows.{width}
 
 pub column-range : (j : ℕ) → Column j → (6 ≤ j) × (j ≤ 7)
 column-range j (inl e) = (omega arith, omega arith)

@@ -113,7 +113,8 @@ module _ (t : List ℤ) (n : ℕ) (ok : Accepted t n) where
           climb (suc i) x a b k e h = go (ℕ-discrete (owner t x) 0) (climb i (owner t x))
             where
               go : Dec (owner t x ≡ 0)
-                  → (1 ≤ owner t x → owner t x ≤ n → kind t (owner t x) ≡ groupCode → mark s w d (owner t x) ≡ true → 1 ≤ up t i (owner t x) → mark s w d (up t i (owner t x)) ≡ true)
+                  → (1 ≤ owner t x → owner t x ≤ n → kind t (owner t x) ≡ groupCode → mark s w d (owner t x) ≡ true → 1 ≤ up t i (owner t x)
+                  → mark s w d (up t i (owner t x)) ≡ true)
                   → mark s w d (up t (suc i) x) ≡ true
               go (yes y) r =
                   let y₁ : up t i (owner t x) ≡ 0 = ap (up t i) y ∙ up-zero t i in
@@ -188,7 +189,8 @@ added-then P Q s s₁ s₂ w d a b = record {
     only q (inr y) = inr (inl y)
 
 -- a row with all that is above it, added to another
-pub row-raised : (t : List ℤ) (s s₁ : List ℕ) (w d f : ℕ) → Raised t (mark s w d) → Raised t (mark s w f) → Added (λ (q : ℕ). mark s w f q ≡ true) s s₁ w d → Raised t (mark s₁ w d)
+pub row-raised : (t : List ℤ) (s s₁ : List ℕ) (w d f : ℕ) → Raised t (mark s w d) → Raised t (mark s w f) → Added (λ (q : ℕ). mark s w f q ≡ true) s s₁ w d
+    → Raised t (mark s₁ w d)
 row-raised t s s₁ w d f r r′ a g k m h = go (a .only g m)
   where
     go : (mark s w d g ≡ true) ⊎ (mark s w f g ≡ true) → mark s₁ w d (owner t g) ≡ true

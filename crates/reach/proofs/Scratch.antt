@@ -7,7 +7,7 @@ use native.Mathlib.Nat.{mul-le-mul}
 use lib.ListN.{length, getD, replicate, length-replicate}
 pub use Rattle.cells.proofs.Scratch.{zero-at}
 use Rattle.marks.proofs.Squares.{marks-none}
-use Rattle.reach.specs.Rows.{width, Blank, Room}
+use Rattle.reach.specs.MarkRows.{width, Blank, MarksRoom}
 use Rattle.reach.specs.Chains.{Empty}
 
 pub long : (k : ℕ) → length (replicate {0} {A = ℕ} k 0) ≡ k
@@ -24,11 +24,13 @@ zero-chain n k h = (omega (arith, long k), λ d g. zero-at k d)
 
 -- what `cycle_in` asks of scratch, for n labels below k
 module _ (n k : ℕ) (square : List ℕ) where
-  zero-room : n < k → (n + 1) * width n ≤ length square → Room n (replicate k 0) square (replicate k 0)
+  zero-room : n < k → (n + 1) * width n ≤ length square → MarksRoom n (replicate k 0) square (replicate k 0)
   zero-room h r = record { states = omega (arith, long k); rows = r; heights = omega (arith, long k) }
 
   abbrev pub Fresh : ℕ → Type 0
-  Fresh c = ((2 * n < length (replicate {0} {A = ℕ} c 0)) × Empty n (replicate c 0)) × (Room n (replicate k 0) square (replicate k 0) × (((d : ℕ) → getD (replicate {0} {A = ℕ} k 0) d 0 ≡ 0) × ((d : ℕ) → Blank n square d)))
+  Fresh c =
+      ((2 * n < length (replicate {0} {A = ℕ} c 0)) × Empty n (replicate c 0))
+      × (MarksRoom n (replicate k 0) square (replicate k 0) × (((d : ℕ) → getD (replicate {0} {A = ℕ} k 0) d 0 ≡ 0) × ((d : ℕ) → Blank n square d)))
 
   pub zero-cycle : (c : ℕ) → 2 * n < c → n < k → ((n + 1) * width n ≤ length square) × ((d : ℕ) → Blank n square d) → Fresh c
   zero-cycle c g h b = (zero-chain n c g, (zero-room h (b .0), (zero-at k, b .1)))

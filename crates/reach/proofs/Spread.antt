@@ -13,14 +13,14 @@ use lib.Seq.{take-suc, take-suc-set, length-take-le}
 use Rattle.kinds.specs.Kinds.{groupCode}
 use Rattle.cells.specs.Table.{cell, kind, owner}
 use Rattle.cells.specs.Accepted.{Accepted, HasBody}
-use Rattle.order.specs.Lists.{one, count, _∈_}
-use Rattle.order.specs.Order.{labels}
+use Rattle.order.specs.LabelLists.{one, count, _∈_}
+use Rattle.order.specs.Order.{allLabels}
 use Rattle.order.proofs.Tests.{clash, one-in}
 use Rattle.order.proofs.Lists.{count-append, count-here, count-there, in-append, in-single, in-left, in-right, in-here, length-mono, length-upFrom, filter-le, tally-lt, zero-or-in}
 use Rattle.order.proofs.Tables.{in-labels}
 use Rattle.marks.specs.Marks.{mark, Added}
 use Rattle.reach.specs.Links.{Column, Link, Links, once, then, Around, Touches}
-use Rattle.reach.specs.Rows.{width, Row, Blank}
+use Rattle.reach.specs.MarkRows.{width, MarkRow, Blank}
 use Rattle.reach.specs.Chains.{Hangs, Last}
 use Rattle.reach.specs.Turns.{Raised, Met, marked, added, pushed, Spread, markCount, Grown, Filled}
 use Rattle.reach.proofs.Links.{body-label, links-body, in-row, path-label, around-body, around-owner, around-label, touch-label, touch-body, touch-on, touch-around, touch-owner}
@@ -43,15 +43,15 @@ pub record Growing (t : List ℤ) (n j d e : ℕ) (s₀ : List ℕ) (top₀ : �
 
 count-few : (n : ℕ) (M : ℕ → Bool) → markCount n M ≤ n
 unfolding markCount
-count-few n M = omega (arith, filter-le M (labels n), length-upFrom 1 n)
+count-few n M = omega (arith, filter-le M (allLabels n), length-upFrom 1 n)
 
 module _ (t : List ℤ) (n : ℕ) (ok : Accepted t n) (j : ℕ) (col : Column j) where
-  -- ---- the stack is no higher than there are labels
+  -- ---- the stack is no higher than there are allLabels
 
   pub stack-short : (d e : ℕ) (M : ℕ → Bool) (S : List ℕ) → Spread t j d e M S → length S ≤ n
-  stack-short d e M S h = let m = length-mono S (labels n) (λ x. at x (zero-or-in (count x S))) in omega (arith, length-upFrom 1 n)
+  stack-short d e M S h = let m = length-mono S (allLabels n) (λ x. at x (zero-or-in (count x S))) in omega (arith, length-upFrom 1 n)
     where
-      at : (x : ℕ) → (count x S ≡ 0) ⊎ (x ∈ S) → count x S ≤ count x (labels n)
+      at : (x : ℕ) → (count x S ≡ 0) ⊎ (x ∈ S) → count x S ≤ count x (allLabels n)
       at x (inl z) = omega arith
       at x (inr m) =
           let b = body-label t n ok x (h .bodies x m) in
@@ -60,9 +60,10 @@ module _ (t : List ℤ) (n : ℕ) (ok : Accepted t n) (j : ℕ) (col : Column j)
   -- ---- what a row meets
 
   -- a definition that is newly marked
-  more-marked : (M M′ : ℕ → Bool) → ((q : ℕ) → M q ≡ true → M′ q ≡ true) → (f : ℕ) → (1 ≤ f) × (f ≤ n) → M f ≡ false → M′ f ≡ true → markCount n M < markCount n M′
+  more-marked : (M M′ : ℕ → Bool) → ((q : ℕ) → M q ≡ true → M′ q ≡ true) → (f : ℕ) → (1 ≤ f) × (f ≤ n) → M f ≡ false → M′ f ≡ true
+      → markCount n M < markCount n M′
   unfolding markCount
-  more-marked M M′ up f b p q = tally-lt M M′ (labels n) (λ q i. up q) f (in-labels t n ok f (b .0) (b .1)) p q
+  more-marked M M′ up f b p q = tally-lt M M′ (allLabels n) (λ q i. up q) f (in-labels t n ok f (b .0) (b .1)) p q
 
   module _ (d e : ℕ) (M M′ : ℕ → Bool) (S S′ : List ℕ) (h : Spread t j d e M S) (X : ℕ → Type 0)
       (up : (q : ℕ) → M q ≡ true → M′ q ≡ true) (new : (q : ℕ) → X q → M′ q ≡ true) (only : (q : ℕ) → M′ q ≡ true → (M q ≡ true) ⊎ X q)
@@ -120,7 +121,7 @@ module _ (t : List ℤ) (n : ℕ) (ok : Accepted t n) (j : ℕ) (col : Column j)
     held-more up x = omega (arith, h .held x, one-mono (M x) (M′ x) (up x))
 
     -- f's row is made: it is added
-    pub meet-made : Row t n j s f → Added (λ (q : ℕ). Around t f q ⊎ (mark s (width n) f q ≡ true)) s s′ (width n) d → Spread t j d e M′ S
+    pub meet-made : MarkRow t n j s f → Added (λ (q : ℕ). Around t f q ⊎ (mark s (width n) f q ≡ true)) s s′ (width n) d → Spread t j d e M′ S
     meet-made row add = spread-more d e M M′ S S h (λ q. Around t f q ⊎ Touches t j f q) (add .kept) new only sound around own closed (λ x i. i) (held-more (add .kept)) (h .bodies)
       where
         label : (q : ℕ) → Around t f q ⊎ Touches t j f q → q ≤ n
@@ -215,7 +216,8 @@ module _ (t : List ℤ) (n : ℕ) (ok : Accepted t n) (j : ℕ) (col : Column j)
   -- the top of the stack
   pub popped : (d : ℕ) (M : ℕ → Bool) (stack : List ℕ) (top e : ℕ) → e ≡ getD stack (top - 1) 0 → 0 < top → top ≤ length stack → Spread t j d 0 M (take top stack)
       → Spread t j d e M (take (top - 1) stack) × HasBody t e × Links t j d e
-  popped d M stack top e z some room h = let g = subst (λ (S : List ℕ). Spread t j d 0 M S) split h in let l = top-links d e M (take (top - 1) stack) g in (spread-pop d e M (take (top - 1) stack) g, l .0, l .1)
+  popped d M stack top e z some room h =
+      let g = subst (λ (S : List ℕ). Spread t j d 0 M S) split h in let l = top-links d e M (take (top - 1) stack) g in (spread-pop d e M (take (top - 1) stack) g, l .0, l .1)
     where
       split : take top stack ≡ take (top - 1) stack ++ e ∷ []
       split =
@@ -264,7 +266,7 @@ module _ (t : List ℤ) (n : ℕ) (ok : Accepted t n) (j : ℕ) (col : Column j)
           met l a p (no z) (no b) = absurd (last .none l a (omega arith) p)
 
       module _ (state stack : List ℕ) (top : ℕ) (is : S ≡ take top stack) (room : top < length stack)
-          (way : Links t j d (cell t x j)) (rows : getD state (cell t x j) 0 ≡ 2 → Row t n j s (cell t x j)) (s′ stack′ : List ℕ) (r : ℕ) where
+          (way : Links t j d (cell t x j)) (rows : getD state (cell t x j) 0 ≡ 2 → MarkRow t n j s (cell t x j)) (s′ stack′ : List ℕ) (r : ℕ) where
         f-label : (1 ≤ cell t x j) × (cell t x j ≤ n)
         f-label = body-label t n ok (cell t x j) (links-body t n ok j col way)
 
@@ -306,7 +308,8 @@ module _ (t : List ℤ) (n : ℕ) (ok : Accepted t n) (j : ℕ) (col : Column j)
             let g′ = turn (subst (λ (v : ℕ). Met t n state d v s stack top s′ stack′ r) z m) in
             (g′ .0, omega (arith, stack-short d e (mark s′ (width n) d) (take r stack′) (g′ .0 .spread), length-take-le r stack′ (omega (arith, g′ .1))))
 
-    pub growing-end : (s S : List ℕ) (x : ℕ) → x ≡ 0 → Growing t n j d e s₀ top₀ s S x → (stack : List ℕ) (r : ℕ) → S ≡ take r stack → r ≤ length stack → Grown t n j d e s₀ top₀ s stack r
+    pub growing-end : (s S : List ℕ) (x : ℕ) → x ≡ 0 → Growing t n j d e s₀ top₀ s S x → (stack : List ℕ) (r : ℕ) → S ≡ take r stack → r ≤ length stack
+        → Grown t n j d e s₀ top₀ s stack r
     growing-end s S x z g stack r is room = record {
       spread = subst (λ (w : List ℕ). Spread t j d 0 (mark s (width n) d) w) is (spread-end d e (mark s (width n) d) S (g .spread) all);
       links = all;
@@ -328,12 +331,12 @@ module _ (t : List ℤ) (n : ℕ) (ok : Accepted t n) (j : ℕ) (col : Column j)
   -- ---- rows that are made
 
   -- with a Group, they have the Groups around it
-  pub row-above : (f : ℕ) (s : List ℕ) → Row t n j s f → Raised t (mark s (width n) f)
+  pub row-above : (f : ℕ) (s : List ℕ) → MarkRow t n j s f → Raised t (mark s (width n) f)
   row-above f s row g k m h = row (owner t g) .1 (touch-owner t n ok j col (row g .0 m) k h)
 
   -- rows that are made stay so while row d grows
-  pub rows-kept : (d : ℕ) (state s s′ : List ℕ) → (getD state d 0 ≡ 2 → ⊥) → ((f : ℕ) → getD state f 0 ≡ 2 → Row t n j s f)
-      → ((a q : ℕ) → (a ≡ d → ⊥) → mark s′ (width n) a q ≡ mark s (width n) a q) → (f : ℕ) → getD state f 0 ≡ 2 → Row t n j s′ f
+  pub rows-kept : (d : ℕ) (state s s′ : List ℕ) → (getD state d 0 ≡ 2 → ⊥) → ((f : ℕ) → getD state f 0 ≡ 2 → MarkRow t n j s f)
+      → ((a q : ℕ) → (a ≡ d → ⊥) → mark s′ (width n) a q ≡ mark s (width n) a q) → (f : ℕ) → getD state f 0 ≡ 2 → MarkRow t n j s′ f
   rows-kept d state s s′ not-made rows same f two q =
       let e = same f q (λ z. not-made (subst (λ (x : ℕ). getD state x 0 ≡ 2) z two)) in
       (λ m. rows f two q .0 (sym e ∙ m), λ h. e ∙ rows f two q .1 h)
@@ -356,7 +359,7 @@ module _ (t : List ℤ) (n : ℕ) (ok : Accepted t n) (j : ℕ) (col : Column j)
           go (inr (inr i)) = absurd (omega (arith, body-label t n ok e (links-body t n ok j col r) .0))
 
   -- a row taken from one that is linked to and links back
-  pub shared : (d e : ℕ) (s s′ : List ℕ) → HasBody t d → Link t j d e → Row t n j s e → mark s (width n) e d ≡ true → Blank n s d
+  pub shared : (d e : ℕ) (s s′ : List ℕ) → HasBody t d → Link t j d e → MarkRow t n j s e → mark s (width n) e d ≡ true → Blank n s d
       → Added (λ (q : ℕ). mark s (width n) e q ≡ true) s s′ (width n) d → Filled t n j d s s′
   shared d e s s′ b l row m blank add = record { row = λ q x. here q (add .only q x); all = all; others = add .others }
     where

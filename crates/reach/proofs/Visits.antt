@@ -14,11 +14,11 @@ use Rattle.kinds.proofs.Codes.{value-body}
 use Rattle.kinds.specs.Kinds.{valueCode}
 use Rattle.cells.specs.Table.{kind}
 use Rattle.cells.specs.Accepted.{Accepted, HasBody}
-use Rattle.order.specs.Lists.{filter}
-use Rattle.order.specs.Order.{labels}
+use Rattle.order.specs.LabelLists.{filter}
+use Rattle.order.specs.Order.{allLabels}
 use Rattle.order.proofs.Lists.{tally-lt}
 use Rattle.order.proofs.Tables.{in-labels}
-use Rattle.reach.specs.Rows.{Row, Blank, AllRows, Rows, Room}
+use Rattle.reach.specs.MarkRows.{MarkRow, Blank, AllMarkRows, MarkRows, MarksRoom}
 use Rattle.reach.specs.Turns.{Filled, Since, Visited}
 use Rattle.reach.proofs.Links.{body-label, body-group}
 
@@ -33,12 +33,12 @@ pub record Going (t : List ℤ) (n j : ℕ) (state₀ square₀ stack₀ state s
   pub states : length state ≡ length state₀
   pub squares : length square ≡ length square₀
   pub stacks : length stack ≡ length stack₀
-  pub rows : Rows t n j state square
+  pub rows : MarkRows t n j state square
   pub since : Since state₀ state
 
--- how many labels are not begun
+-- how many allLabels are not begun
 abbrev pub unbegun : ℕ → List ℕ → ℕ
-unbegun n state = length (filter (λ e. eqb (getD state e 0) 0) (labels n))
+unbegun n state = length (filter (λ e. eqb (getD state e 0) 0) (allLabels n))
 
 -- a state set
 module _ (state : List ℕ) (d v : ℕ) (room : d < length state) where
@@ -50,8 +50,8 @@ module _ (state : List ℕ) (d v : ℕ) (room : d < length state) where
 
 module _ (t : List ℤ) (n : ℕ) (ok : Accepted t n) (j : ℕ) where
   -- d is begun
-  module _ (state square : List ℕ) (d : ℕ) (room : d < length state) (new : getD state d 0 ≡ 0) (body : HasBody t d) (r : Rows t n j state square) where
-    pub begin : Rows t n j (set state d 1) square
+  module _ (state square : List ℕ) (d : ℕ) (room : d < length state) (new : getD state d 0 ≡ 0) (body : HasBody t d) (r : MarkRows t n j state square) where
+    pub begin : MarkRows t n j (set state d 1) square
     begin = record {
       small = λ e. small e (ℕ-discrete e d);
       begun = λ e f. begun e f (ℕ-discrete e d);
@@ -67,7 +67,7 @@ module _ (t : List ℤ) (n : ℕ) (ok : Accepted t n) (j : ℕ) where
         begun e f (yes z) = subst (HasBody t) (sym z) body
         begun e f (no z) = r .begun e (λ y. f (other state d 1 room e z ∙ y))
 
-        made : (e : ℕ) → getD (set state d 1) e 0 ≡ 2 → Dec (e ≡ d) → Row t n j square e
+        made : (e : ℕ) → getD (set state d 1) e 0 ≡ 2 → Dec (e ≡ d) → MarkRow t n j square e
         made e two (yes z) = absurd (omega (arith, own state d 1 room, subst (λ (x : ℕ). getD (set state d 1) x 0 ≡ 2) z two))
         made e two (no z) = r .made e (sym (other state d 1 room e z) ∙ two)
 
@@ -79,7 +79,7 @@ module _ (t : List ℤ) (n : ℕ) (ok : Accepted t n) (j : ℕ) where
     pub fewer : (state′ : List ℕ) → Since (set state d 1) state′ → unbegun n state′ < unbegun n state
     fewer state′ s =
         let b = body-label t n ok d body in
-        tally-lt (λ e. eqb (getD state′ e 0) 0) (λ e. eqb (getD state e 0) 0) (labels n) (λ e i h. eq-eqb (getD state e 0) 0 (old e (eqb-true (getD state′ e 0) 0 h) (ℕ-discrete e d)))
+        tally-lt (λ e. eqb (getD state′ e 0) 0) (λ e. eqb (getD state e 0) 0) (allLabels n) (λ e i h. eq-eqb (getD state e 0) 0 (old e (eqb-true (getD state′ e 0) 0 h) (ℕ-discrete e d)))
         d (in-labels t n ok d (b .0) (b .1)) (ne-eqb (getD state′ d 0) 0 (λ z. omega (arith, s .held d (own state d 1 room)))) (eq-eqb (getD state d 0) 0 new)
       where
         old : (e : ℕ) → getD state′ e 0 ≡ 0 → Dec (e ≡ d) → getD state e 0 ≡ 0
@@ -91,7 +91,8 @@ module _ (t : List ℤ) (n : ℕ) (ok : Accepted t n) (j : ℕ) where
             go (no y) = absurd (s .kept e (λ x. y (sym (other state d 1 room e z) ∙ x)) h)
 
     -- and made
-    pub finish : (square₀ stack₀ state₁ square₁ stack₁ square₂ : List ℕ) → Going t n j (set state d 1) square₀ stack₀ state₁ square₁ stack₁ → Filled t n j d square₁ square₂
+    pub finish : (square₀ stack₀ state₁ square₁ stack₁ square₂ : List ℕ) → Going t n j (set state d 1) square₀ stack₀ state₁ square₁ stack₁
+        → Filled t n j d square₁ square₂
         → Visited t n j d state (set state₁ d 2) square₂
     finish square₀ stack₀ state₁ square₁ stack₁ square₂ g f = record {
       rows = record {
@@ -107,7 +108,7 @@ module _ (t : List ℤ) (n : ℕ) (ok : Accepted t n) (j : ℕ) where
         s : Since (set state d 1) state₁
         s = g .since
 
-        r₁ : Rows t n j state₁ square₁
+        r₁ : MarkRows t n j state₁ square₁
         r₁ = g .rows
 
         room₁ : d < length state₁
@@ -121,8 +122,8 @@ module _ (t : List ℤ) (n : ℕ) (ok : Accepted t n) (j : ℕ) where
         begun e y (yes z) = subst (HasBody t) (sym z) body
         begun e y (no z) = r₁ .begun e (λ x. y (other state₁ d 2 room₁ e z ∙ x))
 
-        made : (e : ℕ) → getD (set state₁ d 2) e 0 ≡ 2 → Dec (e ≡ d) → Row t n j square₂ e
-        made e two (yes z) = subst (Row t n j square₂) (sym z) (λ q. (f .row q, f .all q))
+        made : (e : ℕ) → getD (set state₁ d 2) e 0 ≡ 2 → Dec (e ≡ d) → MarkRow t n j square₂ e
+        made e two (yes z) = subst (MarkRow t n j square₂) (sym z) (λ q. (f .row q, f .all q))
         made e two (no z) = λ q.
             let o = r₁ .made e (sym (other state₁ d 2 room₁ e z) ∙ two) q in
             let m = f .others e q z in
@@ -145,22 +146,23 @@ module _ (t : List ℤ) (n : ℕ) (ok : Accepted t n) (j : ℕ) where
         unmade e y (no z) = sym (other state d 1 room e z) ∙ s .unmade e (sym (other state₁ d 2 room₁ e z) ∙ y)
 
   -- d was begun already
-  pub stay : (state square : List ℕ) (d : ℕ) → (getD state d 0 ≡ 0 → ⊥) → Rows t n j state square → Visited t n j d state state square
+  pub stay : (state square : List ℕ) (d : ℕ) → (getD state d 0 ≡ 0 → ⊥) → MarkRows t n j state square → Visited t n j d state state square
   stay state square d f r = record { rows = r; here = f; since = since-same state }
 
   -- ---- between visits
 
-  pub going-start : (state square stack : List ℕ) → Rows t n j state square → Going t n j state square stack state square stack
+  pub going-start : (state square stack : List ℕ) → MarkRows t n j state square → Going t n j state square stack state square stack
   going-start state square stack r = record { states = refl; squares = refl; stacks = refl; rows = r; since = since-same state }
 
   module _ (state₀ square₀ stack₀ state square stack : List ℕ) (g : Going t n j state₀ square₀ stack₀ state square stack) where
-    pub going-room : Room n state₀ square₀ stack₀ → Room n state square stack
+    pub going-room : MarksRoom n state₀ square₀ stack₀ → MarksRoom n state square stack
     going-room r = record { states = omega (arith, r .states, g .states); rows = omega (arith, r .rows, g .squares); heights = omega (arith, r .heights, g .stacks) }
 
     pub going-still : (square′ : List ℕ) → square′ ≡ square → Going t n j state₀ square₀ stack₀ state square′ stack
     going-still square′ e = subst (λ (s : List ℕ). Going t n j state₀ square₀ stack₀ state s stack) (sym e) g
 
-    pub going-more : (state′ square′ stack′ : List ℕ) (d : ℕ) → Visited t n j d state state′ square′ → length state′ ≡ length state → length square′ ≡ length square → length stack′ ≡ length stack
+    pub going-more : (state′ square′ stack′ : List ℕ) (d : ℕ) → Visited t n j d state state′ square′ → length state′ ≡ length state → length square′ ≡ length square
+        → length stack′ ≡ length stack
         → Going t n j state₀ square₀ stack₀ state′ square′ stack′
     going-more state′ square′ stack′ d v a b c = record {
       states = a ∙ g .states;
@@ -172,12 +174,13 @@ module _ (t : List ℤ) (n : ℕ) (ok : Accepted t n) (j : ℕ) where
 
   -- ---- all rows
 
-  pub begun-more : (v : ℕ) (state state′ square′ : List ℕ) → ((u : ℕ) → u < v → 1 ≤ u → kind t u ≡ valueCode → getD state u 0 ≡ 0 → ⊥) → Visited t n j v state state′ square′
+  pub begun-more : (v : ℕ) (state state′ square′ : List ℕ) → ((u : ℕ) → u < v → 1 ≤ u → kind t u ≡ valueCode → getD state u 0 ≡ 0 → ⊥)
+      → Visited t n j v state state′ square′
       → (u : ℕ) → u < v + 1 → 1 ≤ u → kind t u ≡ valueCode → getD state′ u 0 ≡ 0 → ⊥
   begun-more v state state′ square′ old h =
       below-more (λ (u : ℕ). 1 ≤ u → kind t u ≡ valueCode → getD state′ u 0 ≡ 0 → ⊥) v (λ u l i k. h .since .kept u (old u l i k)) (λ i k. h .here)
 
-  pub rows-none : (state square : List ℕ) → ((d : ℕ) → getD state d 0 ≡ 0) → ((d : ℕ) → Blank n square d) → Rows t n j state square
+  pub rows-none : (state square : List ℕ) → ((d : ℕ) → getD state d 0 ≡ 0) → ((d : ℕ) → Blank n square d) → MarkRows t n j state square
   rows-none state square z b = record {
     small = λ d. omega (arith, z d);
     begun = λ d f. absurd (f (z d));
@@ -185,8 +188,8 @@ module _ (t : List ℤ) (n : ℕ) (ok : Accepted t n) (j : ℕ) where
     blank = λ d f. b d;
   }
 
-  pub rows-all : (state₀ state square : List ℕ) → ((d : ℕ) → getD state₀ d 0 ≡ 0) → Since state₀ state → Rows t n j state square
-      → ((v : ℕ) → 1 ≤ v → v ≤ n → kind t v ≡ valueCode → getD state v 0 ≡ 0 → ⊥) → AllRows t n j square
+  pub rows-all : (state₀ state square : List ℕ) → ((d : ℕ) → getD state₀ d 0 ≡ 0) → Since state₀ state → MarkRows t n j state square
+      → ((v : ℕ) → 1 ≤ v → v ≤ n → kind t v ≡ valueCode → getD state v 0 ≡ 0 → ⊥) → AllMarkRows t n j square
   rows-all state₀ state square z s r all = record {
     values = λ v k. r .made v (two v (body-label t n ok v (rw k value-body)) k);
     groups = λ g k. r .blank g (λ y. body-group t n ok g (r .begun g (λ x. omega arith)) k);

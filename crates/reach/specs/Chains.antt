@@ -20,7 +20,7 @@ pub record Last (t : List ℤ) (j d k x : ℕ) : Type 0 where
   pub none : (l : ℕ) → x < l → l ≤ k → Hangs t j d l → ⊥
 
 -- the chains of the lines up to k
-pub record Linked (t : List ℤ) (n j k : ℕ) (chains : List ℕ) : Type 0 where
+pub record ChainedTo (t : List ℤ) (n j k : ℕ) (chains : List ℕ) : Type 0 where
   pub heads : (d : ℕ) → d ≤ n → Last t j d k (getD chains d 0)
   pub links : (l d : ℕ) → l ≤ k → Hangs t j d l → Last t j d (l - 1) (getD chains (n + l) 0)
 

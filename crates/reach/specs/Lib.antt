@@ -1,4 +1,4 @@
 pub mod Links
-pub mod Rows
+pub mod MarkRows
 pub mod Chains
 pub mod Turns

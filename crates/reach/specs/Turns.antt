@@ -9,11 +9,11 @@ use lib.ListN.{length, getD, set, take}
 use Rattle.kinds.specs.Kinds.{groupCode}
 use Rattle.cells.specs.Table.{kind, owner}
 use Rattle.cells.specs.Accepted.{HasBody}
-use Rattle.order.specs.Lists.{one, count, _∈_, filter}
-use Rattle.order.specs.Order.{labels}
+use Rattle.order.specs.LabelLists.{one, count, _∈_, filter}
+use Rattle.order.specs.Order.{allLabels}
 use Rattle.marks.specs.Marks.{mark, Added}
 use Rattle.reach.specs.Links.{Link, Around, Touches}
-use Rattle.reach.specs.Rows.{width, Rows}
+use Rattle.reach.specs.MarkRows.{width, MarkRows}
 
 -- with a Group, the Groups around it are marked
 abbrev pub Raised : List ℤ → (ℕ → Bool) → Type 0
@@ -38,9 +38,9 @@ pub record Spread (t : List ℤ) (j d e : ℕ) (M : ℕ → Bool) (S : List ℕ)
   pub held : (x : ℕ) → count x S ≤ one (M x)
   pub bodies : (x : ℕ) → x ∈ S → HasBody t x
 
--- how many labels are marked: it grows by what is put on the stack, so that a row comes to an end
+-- how many allLabels are marked: it grows by what is put on the stack, so that a row comes to an end
 unfoldable pub markCount : ℕ → (ℕ → Bool) → ℕ
-markCount n M = length (filter M (labels n))
+markCount n M = length (filter M (allLabels n))
 
 -- all that e links to is marked in row d; what is new on the stack is newly marked
 pub record Grown (t : List ℤ) (n j d e : ℕ) (s : List ℕ) (top : ℕ) (s′ stack′ : List ℕ) (r : ℕ) : Type 0 where
@@ -69,6 +69,6 @@ pub record Since (state state′ : List ℕ) : Type 0 where
 
 -- d is begun
 pub record Visited (t : List ℤ) (n j d : ℕ) (state state′ square′ : List ℕ) : Type 0 where
-  pub rows : Rows t n j state′ square′
+  pub rows : MarkRows t n j state′ square′
   pub here : getD state′ d 0 ≡ 0 → ⊥
   pub since : Since state state′

@@ -5,15 +5,16 @@ ghost use mathlib.Core.Path.{_≡_};
 ghost use mathlib.Core.Logic.{_⊎_};
 ghost use Prim.Native.Nat.{ℕ, _+_, _*_, _≤_, _<_};
 ghost use lib.ListN.{length, getD, take};
+ghost use Rattle.cells.specs.Limits.{labelLimit};
 ghost use Rattle.kinds.specs.Kinds.{valueCode};
-ghost use Rattle.kinds.specs.Plans.{givesValues};
+ghost use Rattle.kinds.specs.GivesValues.{givesValues};
 ghost use Rattle.cells.specs.Table.{cell, kind, isDefinition, hasPath, owner};
 ghost use Rattle.cells.specs.Accepted.{Accepted, HasBody};
 ghost use Rattle.order.specs.Order.{Within, place16};
 ghost use Rattle.marks.specs.Marks.{mark, Added};
 ghost use Rattle.reach.specs.Links.{Column, Links, Around};
-ghost use Rattle.reach.specs.Rows.{width, Row, Blank, AllRows, Rows, Room};
-ghost use Rattle.reach.specs.Chains.{Linked, Empty};
+ghost use Rattle.reach.specs.MarkRows.{width, MarkRow, Blank, AllMarkRows, MarkRows, MarksRoom};
+ghost use Rattle.reach.specs.Chains.{ChainedTo, Empty};
 ghost use Rattle.reach.specs.Turns.{Raised, Met, Spread, Grown, Filled, Shared, Visited};
 
 // ---- cells of an accepted table
@@ -71,7 +72,7 @@ fn link(table: &[i64], n: usize, j: usize, chains: &mut [u16])
     requires { ⌜ Column j ⌝ }
     requires { ⌜ 2 * n < length (now chains) ⌝ }
     requires { ⌜ Empty n (now chains) ⌝ }
-    ensures { λ _. ⌜ Linked (now (table .entry)) n j n (now (chains .exit)) ⌝ }
+    ensures { λ _. ⌜ ChainedTo (now (table .entry)) n j n (now (chains .exit)) ⌝ }
 {
     let mut l = 1;
     while l <= n {
@@ -131,7 +132,7 @@ fn meet(
     top: usize,
 ) -> usize
     requires { ⌜ Accepted (now table) n ⌝ }
-    requires { ⌜ Room n (now state) (now square) (now stack) ⌝ }
+    requires { ⌜ MarksRoom n (now state) (now square) (now stack) ⌝ }
     requires { ⌜ (d ≤ n) × (top ≤ n) ⌝ }
     requires { ⌜ HasBody (now table) f ⌝ }
     requires { ⌜ Raised (now table) (mark (now square) (width n) d) ⌝ }
@@ -153,7 +154,7 @@ fn meet(
     top + 1
 }
 
-// Row d meets all that e links to. Answers the stack's height.
+// MarkRow d meets all that e links to. Answers the stack's height.
 fn grow(
     table: &[i64],
     n: usize,
@@ -168,10 +169,10 @@ fn grow(
 ) -> usize
     requires { ⌜ Accepted (now table) n ⌝ }
     requires { ⌜ Column j ⌝ }
-    requires { ⌜ (2 * n < length (now chains)) × Linked (now table) n j n (now chains) ⌝ }
-    requires { ⌜ Room n (now state) (now square) (now stack) ⌝ }
+    requires { ⌜ (2 * n < length (now chains)) × ChainedTo (now table) n j n (now chains) ⌝ }
+    requires { ⌜ MarksRoom n (now state) (now square) (now stack) ⌝ }
     requires { ⌜ (d ≤ n) × (getD (now state) d 0 ≡ 2 → ⊥) × HasBody (now table) e × ((e ≡ d) ⊎ Links (now table) j d e) ⌝ }
-    requires { ⌜ ((f : ℕ) → getD (now state) f 0 ≡ 2 → Row (now table) n j (now square) f) ⌝ }
+    requires { ⌜ ((f : ℕ) → getD (now state) f 0 ≡ 2 → MarkRow (now table) n j (now square) f) ⌝ }
     requires { ⌜ Spread (now table) j d e (mark (now square) (width n) d) (take top (now stack)) × (top ≤ n) ⌝ }
     ensures { λ r. ⌜ Grown (now (table .entry)) n j d e (now (square .entry)) top (now (square .exit)) (now (stack .exit)) r × (r ≤ n) ⌝ }
 {
@@ -198,10 +199,10 @@ fn fill(
 )
     requires { ⌜ Accepted (now table) n ⌝ }
     requires { ⌜ Column j ⌝ }
-    requires { ⌜ (2 * n < length (now chains)) × Linked (now table) n j n (now chains) ⌝ }
-    requires { ⌜ Room n (now state) (now square) (now stack) ⌝ }
+    requires { ⌜ (2 * n < length (now chains)) × ChainedTo (now table) n j n (now chains) ⌝ }
+    requires { ⌜ MarksRoom n (now state) (now square) (now stack) ⌝ }
     requires { ⌜ (getD (now state) d 0 ≡ 2 → ⊥) × HasBody (now table) d ⌝ }
-    requires { ⌜ ((f : ℕ) → getD (now state) f 0 ≡ 2 → Row (now table) n j (now square) f) × Blank n (now square) d ⌝ }
+    requires { ⌜ ((f : ℕ) → getD (now state) f 0 ≡ 2 → MarkRow (now table) n j (now square) f) × Blank n (now square) d ⌝ }
     ensures { λ _. ⌜ Filled (now (table .entry)) n j d (now (square .entry)) (now (square .exit)) ⌝ }
 {
     let mut top = grow(table, n, j, chains, state, square, stack, d, d, 0);
@@ -213,7 +214,7 @@ fn fill(
 
 // If row e is made and has d, which links to e, both reach the same: d has the same row. Answers whether it is so.
 fn share_row(n: usize, state: &[u8], square: &mut [u64], d: usize, e: usize) -> bool
-    requires { ⌜ (n ≤ 1024) × (d ≤ n) × (e ≤ n) × (n < length (now state)) × ((n + 1) * width n ≤ length (now square)) ⌝ }
+    requires { ⌜ (n ≤ labelLimit) × (d ≤ n) × (e ≤ n) × (n < length (now state)) × ((n + 1) * width n ≤ length (now square)) ⌝ }
     ensures { λ r. ⌜ Shared n (now (state .entry)) d e (now (square .entry)) (now (square .exit)) r ⌝ }
 {
     let w = n / 64 + 1;
@@ -240,9 +241,9 @@ fn visit(
 )
     requires { ⌜ Accepted (now table) n ⌝ }
     requires { ⌜ Column j ⌝ }
-    requires { ⌜ (2 * n < length (now chains)) × Linked (now table) n j n (now chains) ⌝ }
-    requires { ⌜ Room n (now state) (now square) (now stack) ⌝ }
-    requires { ⌜ Rows (now table) n j (now state) (now square) × HasBody (now table) d ⌝ }
+    requires { ⌜ (2 * n < length (now chains)) × ChainedTo (now table) n j n (now chains) ⌝ }
+    requires { ⌜ MarksRoom n (now state) (now square) (now stack) ⌝ }
+    requires { ⌜ MarkRows (now table) n j (now state) (now square) × HasBody (now table) d ⌝ }
     ensures { λ _. ⌜ Visited (now (table .entry)) n j d (now (state .entry)) (now (state .exit)) (now (square .exit)) ⌝ }
 {
     if state[d] != 0 {
@@ -279,10 +280,10 @@ fn reach_rows(
 )
     requires { ⌜ Accepted (now table) n ⌝ }
     requires { ⌜ Column j ⌝ }
-    requires { ⌜ (2 * n < length (now chains)) × Linked (now table) n j n (now chains) ⌝ }
-    requires { ⌜ Room n (now state) (now square) (now stack) ⌝ }
+    requires { ⌜ (2 * n < length (now chains)) × ChainedTo (now table) n j n (now chains) ⌝ }
+    requires { ⌜ MarksRoom n (now state) (now square) (now stack) ⌝ }
     requires { ⌜ ((d : ℕ) → getD (now state) d 0 ≡ 0) × ((d : ℕ) → Blank n (now square) d) ⌝ }
-    ensures { λ _. ⌜ AllRows (now (table .entry)) n j (now (square .exit)) ⌝ }
+    ensures { λ _. ⌜ AllMarkRows (now (table .entry)) n j (now (square .exit)) ⌝ }
 {
     let mut v = 1;
     while v <= n {
@@ -293,12 +294,12 @@ fn reach_rows(
     }
 }
 
-// Row 16: the smallest V that reaches itself, or 0.
+// MarkRow 16: the smallest V that reaches itself, or 0.
 fn first_cycle(table: &[i64], n: usize, j: usize, square: &[u64]) -> usize
     requires { ⌜ Accepted (now table) n ⌝ }
     requires { ⌜ Column j ⌝ }
     requires { ⌜ (n + 1) * width n ≤ length (now square) ⌝ }
-    requires { ⌜ AllRows (now table) n j (now square) ⌝ }
+    requires { ⌜ AllMarkRows (now table) n j (now square) ⌝ }
     ensures { λ r. ⌜ r ≡ place16 (now (table .entry)) n ⌝ }
 {
     let mut v = 1;
@@ -313,7 +314,7 @@ fn first_cycle(table: &[i64], n: usize, j: usize, square: &[u64]) -> usize
     0
 }
 
-// Row 16 and the row of every V, in a blank square, with scratch that is all 0.
+// MarkRow 16 and the row of every V, in a blank square, with scratch that is all 0.
 fn cycle_in(
     table: &[i64],
     n: usize,
@@ -326,9 +327,9 @@ fn cycle_in(
     requires { ⌜ Accepted (now table) n ⌝ }
     requires { ⌜ Column j ⌝ }
     requires { ⌜ (2 * n < length (now chains)) × Empty n (now chains) ⌝ }
-    requires { ⌜ Room n (now state) (now square) (now stack) ⌝ }
+    requires { ⌜ MarksRoom n (now state) (now square) (now stack) ⌝ }
     requires { ⌜ ((d : ℕ) → getD (now state) d 0 ≡ 0) × ((d : ℕ) → Blank n (now square) d) ⌝ }
-    ensures { λ r. ⌜ (r ≡ place16 (now (table .entry)) n) × AllRows (now (table .entry)) n j (now (square .exit)) ⌝ }
+    ensures { λ r. ⌜ (r ≡ place16 (now (table .entry)) n) × AllMarkRows (now (table .entry)) n j (now (square .exit)) ⌝ }
 {
     link(table, n, j, chains);
     reach_rows(table, n, j, chains, state, square, stack);
@@ -340,7 +341,7 @@ pub fn find_cycle(table: &[i64], n: usize, j: usize, square: &mut [u64]) -> usiz
     requires { ⌜ Accepted (now table) n ⌝ }
     requires { ⌜ Column j ⌝ }
     requires { ⌜ ((n + 1) * width n ≤ length (now square)) × ((d : ℕ) → Blank n (now square) d) ⌝ }
-    ensures { λ r. ⌜ (r ≡ place16 (now (table .entry)) n) × AllRows (now (table .entry)) n j (now (square .exit)) ⌝ }
+    ensures { λ r. ⌜ (r ≡ place16 (now (table .entry)) n) × AllMarkRows (now (table .entry)) n j (now (square .exit)) ⌝ }
 {
     if n <= 127 {
         let mut chains = [0u16; 255];

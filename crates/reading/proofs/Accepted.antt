@@ -11,11 +11,12 @@ use lib.Dec.{eqb, leb}
 use lib.IntN.{ℤ, pos}
 use lib.ListN.{length}
 use borrow.Author.Tests.{eqb-true, leb-true, leb-false}
+use Rattle.cells.specs.Limits.{labelLimit}
 use Rattle.kinds.specs.Kinds.{valueCode, numberCode}
 use Rattle.kinds.specs.Kinds as kinds
 use Rattle.kinds.proofs.Laws.{kind-low, definition-kind, expression-kind, not-expression, body-definition, path-expression, path-body}
 use Rattle.cells.specs.Cells.{natOf, intAt}
-use Rattle.cells.specs.Table.{cell, kind, isDefinition, isExpression, hasPath, nameStart, nameLength, fieldA, fieldB, fieldC, owner, target, numberOf}
+use Rattle.cells.specs.Table.{cell, kind, isDefinition, isExpression, hasPath, nameStart, nameLength, fieldA, fieldB, fieldC, owner, target, lineNumber}
 use Rattle.cells.specs.Accepted.{Part, Accepted}
 use Rattle.cells.proofs.Table.{cell-at}
 use Rattle.cells.proofs.Columns.{column-length, column-keeps, column-has, column-own, column-other, column-number}
@@ -36,7 +37,7 @@ use Rattle.paths.proofs.Leads.{paths-kept, target-leads, leads-unique}
 use Rattle.paths.proofs.Alike.{Alike, column-alike, paths-alike, target-alike}
 use Rattle.lines.specs.Lined.{Lined}
 use Rattle.lines.proofs.Pass.{rows-length}
-use Rattle.reading.specs.Read.{tableShort, ownedTable, resolvedTable, resolvedBad, sheetRows, sheetBad, sheetTable, Reads, readBad}
+use Rattle.reading.specs.Read.{tableShort, ownedTable, resolvedTable, resolvedBad, sheetCells, sheetBad, sheetTable, Reads, readBad}
 use Rattle.lines.proofs.Heads.{headed}
 use Rattle.lines.proofs.Lined.{lined, names-short}
 use Rattle.reading.proofs.Resolved.{formed, accepted}
@@ -219,7 +220,7 @@ module _ (s : List ℕ) (t : List ℤ) (n : ℕ) (is : Lined s t n) (tree : tree
           target-own (suc k) (omega arith) (leb-true (suc k) n q) ∙ rw none
       go (suc k) false q e = ap natOf (unused (8 * k + 7) (omega (arith, leb-false (suc k) n q)))
 
-  number-same : (l : ℕ) → numberOf w l ≡ numberOf t l
+  number-same : (l : ℕ) → lineNumber w l ≡ lineNumber t l
   unfolding resolvedTable ownedTable
   number-same l = column-number 7 (targetCell s u n) (omega arith) n u l (λ e. omega arith) ∙ column-number 6 (ownerOf t n) (omega arith) n t l (λ e. omega arith)
 
@@ -264,12 +265,12 @@ read-fine s m e =
     reads s (h .0) (both-fine (tableShort s m) (sheetBad s) (h .1) .1)
 
 -- rows 5 to 15 find nothing in a sheet of 1 to 1,024 labels, of whatever length
-module _ (s : List ℕ) (low : 1 ≤ labels s) (high : labels s ≤ 1024) (e : sheetBad s ≡ Fine) where
+module _ (s : List ℕ) (low : 1 ≤ labels s) (high : labels s ≤ labelLimit) (e : sheetBad s ≡ Fine) where
   abbrev n : ℕ
   n = labels s
 
   abbrev rows : List ℤ
-  rows = sheetRows s
+  rows = sheetCells s
 
   lines-fine : (linesBad s n ≡ Fine) × (resolvedBad s rows n ≡ Fine)
   unfolding sheetBad
@@ -299,7 +300,7 @@ module _ (s : List ℕ) (low : 1 ≤ labels s) (high : labels s ≤ 1024) (e : s
       rw (same 2 (omega arith)) (short (sym (same 0 (omega arith)) ∙ k))
 
   pub any-length : length (sheetTable s) ≡ 8 * labels s
-  unfolding sheetTable sheetRows
+  unfolding sheetTable sheetCells
   any-length = resolved-length s rows n is-lined (tree-fine .0) (tree-fine .1) ∙ rows-length s n n
 
   -- the target of an R or C is where its path leads by "Paths", and that is one definition
@@ -333,7 +334,7 @@ module _ (s : List ℕ) (e : Reads s) where
   least : 1 ≤ labels s
   least = headed s (both .0) .low
 
-  most : labels s ≤ 1024
+  most : labels s ≤ labelLimit
   most = headed s (both .0) .high
 
   pub read-accepted : Accepted (sheetTable s) (labels s)

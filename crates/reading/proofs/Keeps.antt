@@ -8,7 +8,8 @@ use lib.Dec.{leb, eqb}
 use lib.IntN.{ℤ}
 use lib.ListN.{length, getD}
 use borrow.Author.Tests.{leb-true, le-leb, lt-ltb, le-ltb, eqb-true, eqb-false, eq-eqb, ne-eqb}
-use Rattle.kinds.specs.Kinds.{groupCode, fieldsAt, takes, placeOf}
+use Rattle.cells.specs.Limits.{labelLimit, sizeLimit, levelLimit}
+use Rattle.kinds.specs.Kinds.{groupCode, fieldsAt, takes, argumentPlace}
 use Rattle.kinds.proofs.Laws.{not-expression}
 use Rattle.kinds.proofs.Codes.{other-place}
 use Rattle.cells.specs.Lists.{count, all}
@@ -25,14 +26,14 @@ use Rattle.lines.proofs.Heads.{headed}
 use Rattle.lines.proofs.Lined.{lined, fine-fields, fine-forms, known, root-is}
 use Rattle.tree.specs.Tree.{parts, groupRight, partRight, structureBad, usesBad, Level, ownerOf, levelOf, argumentBad, levelBad, treeBad}
 use Rattle.tree.specs.Treed.{Formed, Treed}
-use Rattle.tree.specs.Steps.{UsedOnce}
+use Rattle.tree.specs.TreeSteps.{UsedOnce}
 use Rattle.tree.proofs.Codes.{expression-kind, label-low, label-high}
 use Rattle.tree.proofs.Owners.{owned, levelled, level-own, owner-group}
 use Rattle.tree.proofs.Treed.{treed}
 use Rattle.paths.specs.Leads.{PathsKept}
 use Rattle.paths.specs.Paths.{pathsBad}
 use Rattle.paths.proofs.Leads.{paths-kept, kept-paths}
-use Rattle.reading.specs.Read.{ownedTable, resolvedBad, sheetRows, sheetBad, Reads}
+use Rattle.reading.specs.Read.{ownedTable, resolvedBad, sheetCells, sheetBad, Reads}
 use Rattle.reading.specs.Keeps.{TextKept, LineKept, TreeKept, Keeps}
 use Rattle.reading.proofs.Resolved.{formed, accepted}
 use Rattle.refusals.proofs.OrElse.{both-fine}
@@ -49,7 +50,7 @@ kept-text : (s : List ℕ) → TextKept s → headBad s ≡ Fine
 unfolding headBad isText firstLine
 kept-text s k =
     let ends = eq-eqb (getD s (length s - 1) 0) 10 (k .ends) in
-    rw (le-leb 1 (length s) (k .some), le-leb (length s) 65536 (k .size), ends, k .allowed, k .first, le-leb 1 (labels s) (k .low), le-leb (labels s) 1024 (k .high))
+    rw (le-leb 1 (length s) (k .some), le-leb (length s) sizeLimit (k .size), ends, k .allowed, k .first, le-leb 1 (labels s) (k .low), le-leb (labels s) labelLimit (k .high))
 
 -- ---- the lines
 
@@ -127,14 +128,14 @@ module _ (t : List ℤ) (n : ℕ) (s : Formed t n) where
         go false e = rw e
 
     kept-argument : (x : ℕ) → argumentBad t n x ≡ 0
-    kept-argument x = rw (le-ltb (takes (kind t (ownerOf t n x))) (placeOf (kind t x)) (go (isExpression t x) refl))
+    kept-argument x = rw (le-ltb (takes (kind t (ownerOf t n x))) (argumentPlace (kind t x)) (go (isExpression t x) refl))
       where
-        go : (b : Bool) → isExpression t x ≡ b → placeOf (kind t x) ≤ takes (kind t (ownerOf t n x))
+        go : (b : Bool) → isExpression t x ≡ b → argumentPlace (kind t x) ≤ takes (kind t (ownerOf t n x))
         go true e = k .argument (ownerOf t n x) x (owned t n used x e)
         go false e = omega (arith, other-place (kind t x) e)
 
     kept-level : (x : ℕ) → levelBad t n x ≡ 0
-    kept-level x = rw (le-ltb 32 (levelOf t n x) (go (isExpression t x) refl))
+    kept-level x = rw (le-ltb levelLimit (levelOf t n x) (go (isExpression t x) refl))
       where
         go : (b : Bool) → isExpression t x ≡ b → levelOf t n x ≤ 32
         go true e = k .level x (levelOf t n x) (levelled t n used x e)
@@ -165,7 +166,7 @@ module _ (s : List ℕ) (t : List ℤ) (n : ℕ) (is : Lined s t n) where
 -- ---- the sheet
 
 module _ (s : List ℕ) where
-  rows-are : headBad s ≡ Fine → linesBad s (labels s) ≡ Fine → Lined s (sheetRows s) (labels s)
+  rows-are : headBad s ≡ Fine → linesBad s (labels s) ≡ Fine → Lined s (sheetCells s) (labels s)
   rows-are h e = rw (rows-lined s) at (lined s (8 * labels s) (headed s h .low) (headed s h .high) e (omega arith))
 
   kept-lines : Keeps s → linesBad s (labels s) ≡ Fine
@@ -182,13 +183,13 @@ module _ (s : List ℕ) where
   keeps-read k =
       let h = kept-text s (k .text) in
       let e = kept-lines k in
-      rw (h, e) (kept-resolved s (sheetRows s) (labels s) (rows-are h e) (k .tree) (k .paths))
+      rw (h, e) (kept-resolved s (sheetCells s) (labels s) (rows-are h e) (k .tree) (k .paths))
 
   -- and one that reads keeps them
   pub read-keeps : Reads s → Keeps s
   unfolding sheetBad
   read-keeps e =
       let a = both-fine (headBad s) (sheetBad s) e in
-      let b = both-fine (linesBad s (labels s)) (resolvedBad s (sheetRows s) (labels s)) (a .1) in
-      let c = resolved-kept s (sheetRows s) (labels s) (rows-are (a .0) (b .0)) (b .1) in
+      let b = both-fine (linesBad s (labels s)) (resolvedBad s (sheetCells s) (labels s)) (a .1) in
+      let c = resolved-kept s (sheetCells s) (labels s) (rows-are (a .0) (b .0)) (b .1) in
       record { text = text-kept s (a .0); lines = lines-kept (b .0); tree = c .0; paths = c .1 }

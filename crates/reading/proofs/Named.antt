@@ -16,7 +16,7 @@ use Rattle.refusals.specs.declared.Reply.the-variants as reply
 use Rattle.lines.specs.Lines.{labels}
 use Rattle.reading.specs.Read.{sheetTable, readBad, readReply, readTable, tableOf, ReadLeaves}
 use Rattle.reading.specs.Name.{labelIn, nameBegin, nameSize, namePart, PartLeaves, NameLeaves}
-use Rattle.reading.specs.declared.Part.{Part}
+use Rattle.reading.specs.declared.TextPart.{TextPart}
 use Rattle.reading.proofs.Padding.{cell-padded}
 use Rattle.reading.proofs.Accepted.{read-fine, read-names}
 use Rattle.reading.proofs.Stage.{answered, refused}
@@ -36,7 +36,7 @@ module _ (n : ℕ) (z : ℤ) (r : ℕ) (e : r ≡ natOf z) where
 
 module _ (s : List ℕ) (m : ℕ) (z : ℤ) where
   -- of a sheet that Read accepted, by the cells of the label l in the table w
-  pub part-answered : (n l : ℕ) (p : Part) (w : List ℤ) → ReadLeaves s m (reply.Answered n) w → l ≡ labelIn n z → p .start ≡ cell w l 1 → p .length ≡ cell w l 2
+  pub part-answered : (n l : ℕ) (p : TextPart) (w : List ℤ) → ReadLeaves s m (reply.Answered n) w → l ≡ labelIn n z → p .start ≡ cell w l 1 → p .length ≡ cell w l 2
       → PartLeaves s m z p w
   unfolding readReply readTable nameBegin nameSize
   part-answered n l p w k q a b =
@@ -53,14 +53,14 @@ module _ (s : List ℕ) (m : ℕ) (z : ℤ) where
         table = k .table;
       }
 
-  pub part-refused : (r l : ℕ) (p : Part) (w : List ℤ) → ReadLeaves s m (reply.Refused r l) w → p .start ≡ 0 → p .length ≡ 0 → PartLeaves s m z p w
+  pub part-refused : (r l : ℕ) (p : TextPart) (w : List ℤ) → ReadLeaves s m (reply.Refused r l) w → p .start ≡ 0 → p .length ≡ 0 → PartLeaves s m z p w
   unfolding readReply nameBegin nameSize
   part-refused r l p w k a b =
       let f = refused (readBad s m) (labels s) r l (sym (k .reply)) in
       record { begins = rw (f) a; size = rw (f) b; within = omega arith; table = k .table }
 
   -- the part from its start to its end, of the text at `text`
-  pub part-handed : (p : Part) (w : List ℤ) (text : ℕ × ℕ) → PartLeaves s m z p w
+  pub part-handed : (p : TextPart) (w : List ℤ) (text : ℕ × ℕ) → PartLeaves s m z p w
       → NameLeaves s m z text (take (p .start + p .length - p .start) (drop (p .start) s)) (text .0, p .start + text .1) w
   unfolding namePart
   part-handed p w text k =

@@ -1,4 +1,4 @@
--- Zeros behind the rows of a table change nothing: rows 8 to 15 find what they find in the rows alone, and leave the same zeros behind.
+-- Zeros behind the linesCells of a table change nothing: linesCells 8 to 15 find what they find in the linesCells alone, and leave the same zeros behind.
 use mathlib.Core.Path.{_≡_, refl, ap, _∙_}
 use mathlib.Core.List.{List, [], _∷_, _++_, append-nil}
 use Prim.Native.Nat.{ℕ, zero, suc, _+_, _-_, _*_, _≤_, _<_}
@@ -12,7 +12,7 @@ use Rattle.cells.specs.Table.{cell, withColumn}
 use Rattle.cells.proofs.Stores.{intAt-zeros}
 use Rattle.cells.proofs.Columns.{column-length, column-same}
 use Rattle.refusals.specs.Refusal.{orElse}
-use Rattle.lines.specs.Lines.{labels, headBad, rows}
+use Rattle.lines.specs.Lines.{labels, headBad, linesCells}
 use Rattle.lines.specs.Lined.{linedTable}
 use Rattle.lines.proofs.Pass.{rows-length}
 use Rattle.tree.specs.Tree.{ownerOf}
@@ -21,7 +21,7 @@ use Rattle.tree.proofs.Owners.{like-owner}
 use Rattle.tree.proofs.Likes.{tree-like}
 use Rattle.paths.specs.Paths.{targetCell}
 use Rattle.paths.proofs.Alike as paths
-use Rattle.reading.specs.Read.{tableShort, ownedTable, resolvedTable, resolvedBad, sheetRows, sheetBad, readBad}
+use Rattle.reading.specs.Read.{tableShort, ownedTable, resolvedTable, resolvedBad, sheetCells, sheetBad, readBad}
 
 -- ---- cells and columns
 
@@ -40,7 +40,7 @@ column-padded j a f (suc n) t z room =
     ap (λ (w : List ℤ). set w (8 * n + j) (pos (f (suc n)))) (column-padded j a f n t z (omega arith))
     ∙ set-append-left (withColumn j f n t) z (8 * n + j) (pos (f (suc n))) (omega (arith, column-length j f n t))
 
--- ---- rows 8 to 15, owners and targets, of a table t of n labels and k zeros
+-- ---- linesCells 8 to 15, owners and targets, of a table t of n labels and k zeros
 
 module _ (t : List ℤ) (k n : ℕ) (room : 8 * n ≤ length t) where
   abbrev w : List ℤ
@@ -82,24 +82,24 @@ module _ (t : List ℤ) (k n : ℕ) (room : 8 * n ≤ length t) where
 -- ---- of a sheet
 
 module _ (s : List ℕ) where
-  pub rows-lined : linedTable s (8 * labels s) ≡ sheetRows s
-  unfolding linedTable sheetRows
-  rows-lined = let q : 8 * labels s - 8 * labels s ≡ 0 = omega arith in rw q (append-nil (rows s (labels s) (labels s)))
+  pub rows-lined : linedTable s (8 * labels s) ≡ sheetCells s
+  unfolding linedTable sheetCells
+  rows-lined = let q : 8 * labels s - 8 * labels s ≡ 0 = omega arith in rw q (append-nil (linesCells s (labels s) (labels s)))
 
-  rows-long : 8 * labels s ≤ length (sheetRows s)
-  unfolding sheetRows
+  rows-long : 8 * labels s ≤ length (sheetCells s)
+  unfolding sheetCells
   rows-long = omega (arith, rows-length s (labels s) (labels s))
 
   module _ (m : ℕ) where
-    pub sheet-bad : resolvedBad s (linedTable s m) (labels s) ≡ resolvedBad s (sheetRows s) (labels s)
-    unfolding linedTable sheetRows
-    sheet-bad = bad-padded (sheetRows s) (m - 8 * labels s) (labels s) rows-long s
+    pub sheet-bad : resolvedBad s (linedTable s m) (labels s) ≡ resolvedBad s (sheetCells s) (labels s)
+    unfolding linedTable sheetCells
+    sheet-bad = bad-padded (sheetCells s) (m - 8 * labels s) (labels s) rows-long s
 
-    pub sheet-table : resolvedTable s (linedTable s m) (labels s) ≡ resolvedTable s (sheetRows s) (labels s) ++ zeros (m - 8 * labels s)
-    unfolding linedTable sheetRows
-    sheet-table = resolved-padded (sheetRows s) (m - 8 * labels s) (labels s) rows-long s
+    pub sheet-table : resolvedTable s (linedTable s m) (labels s) ≡ resolvedTable s (sheetCells s) (labels s) ++ zeros (m - 8 * labels s)
+    unfolding linedTable sheetCells
+    sheet-table = resolved-padded (sheetCells s) (m - 8 * labels s) (labels s) rows-long s
 
-  -- with a table long enough, row 4 finds nothing, and Read what the other rows find
+  -- with a table long enough, row 4 finds nothing, and Read what the other linesCells find
   pub read-long : (m : ℕ) → 8 * labels s ≤ m → readBad s m ≡ orElse (headBad s) (sheetBad s)
   unfolding readBad tableShort
   read-long m room = rw (le-leb (8 * labels s) m room)

@@ -8,7 +8,7 @@ use native.Mathlib.Omega.{arith}
 use native.Mathlib.Nat.{eq-or-lt-of-le}
 use lib.IntN.{ℤ, pos}
 use lib.ListN.{length}
-use Rattle.kinds.specs.Kinds.{groupCode, isOperand}
+use Rattle.kinds.specs.Kinds.{groupCode, isOperandForm}
 use Rattle.kinds.specs.Kinds as kinds
 use Rattle.kinds.proofs.Laws.{kind-low, definition-kind}
 use Rattle.cells.specs.Cells.{natOf, intAt}
@@ -23,14 +23,14 @@ use Rattle.tree.specs.Treed.{Formed, Plain, Written}
 use Rattle.tree.proofs.Codes.{label-low, label-high}
 use Rattle.tree.proofs.Parts.{parts-zero}
 use Rattle.tree.proofs.Treed.{treed, TreeAccepted, tree-accepted}
-use Rattle.paths.specs.Buckets.{Rows}
+use Rattle.paths.specs.Buckets.{Searchable}
 use Rattle.paths.specs.Paths.{targetCell, pathsBad}
 use Rattle.lines.specs.Lined.{Lined}
 use Rattle.reading.specs.Read.{ownedTable, resolvedBad, resolvedTable}
-use Rattle.reading.specs.Stages.{Resolves}
+use Rattle.reading.specs.ReadStages.{Resolves}
 use Rattle.reading.proofs.Stage.{refused-judged}
 
-operand : (f : Form) → isOperand f ≡ true → f ≡ Operand
+operand : (f : Form) → isOperandForm f ≡ true → f ≡ Operand
 operand Missing e = let z : _≡_ {A = Bool} false true = e in cc
 operand Name e = let z : _≡_ {A = Bool} false true = e in cc
 operand Path e = let z : _≡_ {A = Bool} false true = e in cc
@@ -94,7 +94,7 @@ module _ (s : List ℕ) (t : List ℤ) (n : ℕ) (is : Lined s t n) where
         outside : kind (ownedTable t n) (owner (ownedTable t n) l) ≡ groupCode → ⊥
         outside e = let z : _≡_ {A = ℕ} 0 1 = rw o at e in omega arith
 
-    pub rows : Rows s (ownedTable t n) n
+    pub rows : Searchable s (ownedTable t n) n
     rows = record {
       few = is .few;
       room = omega (arith, owned-length, is .room);
@@ -113,7 +113,7 @@ owned-is t n Fine w f h = h
 owned-is t n (Refused r p) w f h = let z : _≡_ {A = ℕ} 0 1 = cc in absurd (omega arith)
 
 module _ (s : List ℕ) (t : List ℤ) (n : ℕ) (v : Verdict) (w : List ℤ) (found : v ≡ treeBad t n) where
-  pub paths-rows : Lined s t n → v ≡ Fine → Written v t n w → Rows s w n
+  pub paths-rows : Lined s t n → v ≡ Fine → Written v t n w → Searchable s w n
   paths-rows is f h = rw (owned-is t n v w f h) (rows s t n is (sym found ∙ f))
 
   pub resolved-fine : (r : Verdict) (x : List ℤ) → v ≡ Fine → Written v t n w → r ≡ pathsBad s w n

@@ -15,12 +15,12 @@ use Rattle.refusals.specs.declared.Verdict.{Verdict}
 use Rattle.refusals.specs.declared.Verdict.the-variants.{Fine, Refused}
 use Rattle.refusals.specs.declared.Reply.{Reply}
 use Rattle.refusals.specs.declared.Reply.the-variants as reply
-use Rattle.lines.specs.Lines.{labels, headBad, linesBad, rows}
-use Rattle.lines.specs.Steps.{passed, linesWritten}
+use Rattle.lines.specs.Lines.{labels, headBad, linesBad, linesCells}
+use Rattle.lines.specs.LineSteps.{passed, linesWritten}
 use Rattle.lines.proofs.Pass.{rows-length, written-length}
 use Rattle.lines.specs.Lined.{linedTable, Lined}
 use Rattle.reading.specs.Read.{tableShort, sheetBad, sheetTable, readBad, readReply, readTable, tableOf, ReadLeaves}
-use Rattle.reading.specs.Stages.{Passed, Judged, Resolves, SheetReads}
+use Rattle.reading.specs.ReadStages.{Passed, Judged, Resolves, SheetReads}
 use Rattle.lines.proofs.Heads.{headed}
 use Rattle.lines.proofs.Lined.{lined}
 use Rattle.reading.proofs.Padding.{sheet-bad, sheet-table}
@@ -35,21 +35,21 @@ pub refused : (v : Verdict) (n r p : ℕ) → replyOf v n ≡ reply.Refused r p 
 refused Fine n r p e = let z : _≡_ {A = ℕ} 0 1 = cc in absurd (omega arith)
 refused (Refused x y) n r p e = cc
 
--- rows that refuse leave the table to the caller
+-- linesCells that refuse leave the table to the caller
 pub refused-judged : (wanted : Verdict) (made : List ℤ) (r p : ℕ) (t : List ℤ) → Refused r p ≡ wanted → Judged wanted made (Refused r p) t
 refused-judged wanted made r p t e = record {
   found = e;
   left = λ q. let z : _≡_ {A = ℕ} 0 1 = cc in absurd (omega arith);
 }
 
--- ---- rows 5 to 15, after the lines of a table t found v and left u
+-- ---- linesCells 5 to 15, after the lines of a table t found v and left u
 
--- the rows of all labels, and zeros behind them
-cleared : (s : List ℕ) (n : ℕ) (t : List ℤ) → 8 * n ≤ length t → clearFrom (8 * n) (linesWritten s n n t) ≡ rows s n n ++ zeros (length t - 8 * n)
+-- the linesCells of all labels, and zeros behind them
+cleared : (s : List ℕ) (n : ℕ) (t : List ℤ) → 8 * n ≤ length t → clearFrom (8 * n) (linesWritten s n n t) ≡ linesCells s n n ++ zeros (length t - 8 * n)
 cleared s n t h =
     let l = written-length s n n t h in
     clear-split (linesWritten s n n t) (8 * n) (omega arith)
-    ∙ rw (take-at (rows s n n) (drop (8 * n) t) (8 * n) (rows-length s n n), l)
+    ∙ rw (take-at (linesCells s n n) (drop (8 * n) t) (8 * n) (rows-length s n n), l)
 
 module _ (s : List ℕ) (n : ℕ) (t u : List ℤ) (v : Verdict) (is : n ≡ labels s) (room : 8 * n ≤ length t) (found : v ≡ linesBad s n) where
   lines-are : linesBad s (labels s) ≡ v
@@ -76,9 +76,9 @@ module _ (s : List ℕ) (n : ℕ) (t u : List ℤ) (v : Verdict) (is : n ≡ lab
   unfolding sheetBad
   sheet-refused r p y f = refused-judged _ _ r p y (rw (lines-are ∙ f))
 
--- ---- rows 1 to 3, and row 4
+-- ---- linesCells 1 to 3, and row 4
 
--- rows 1 to 3 replied q
+-- linesCells 1 to 3 replied q
 module _ (s : List ℕ) (q : Reply) (e : q ≡ replyOf (headBad s) (labels s)) where
   pub head-passed : (k : ℕ) → q ≡ reply.Answered k → Passed s k
   head-passed k f =
@@ -86,7 +86,7 @@ module _ (s : List ℕ) (q : Reply) (e : q ≡ replyOf (headBad s) (labels s)) w
       record { head = a .0; count = a .1; few = omega (arith, a .1, headed s (a .0) .high) }
 
 module _ (s : List ℕ) (m : ℕ) where
-  -- reply r and table t of what rows 1 to 15 found
+  -- reply r and table t of what linesCells 1 to 15 found
   leaves : (v : Verdict) (r : Reply) (t : List ℤ) → readBad s m ≡ v → r ≡ replyOf v (labels s) → t ≡ tableOf v s m → ReadLeaves s m r t
   unfolding readReply readTable
   leaves v r t e f g = record { reply = rw e f; table = rw e g }
@@ -101,7 +101,7 @@ module _ (s : List ℕ) (m : ℕ) where
     unfolding readBad tableShort
     table-short t g e = leaves (Refused 4 1) _ t (rw (h .head, lt-leb (8 * labels s) m (omega (arith, h .count)))) refl e
 
-    -- the table is long enough; rows 5 to 15 found v and left t
+    -- the table is long enough; linesCells 5 to 15 found v and left t
     module _ (room : 8 * n ≤ m) (v : Verdict) (t : List ℤ) (b : SheetReads s m v t) where
       rows-are : readBad s m ≡ v
       unfolding readBad tableShort

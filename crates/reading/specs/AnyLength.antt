@@ -4,6 +4,7 @@ use mathlib.Core.Bool.{true}
 use mathlib.Core.List.{List}
 use Prim.Native.Nat.{ℕ, _≤_}
 use lib.ListN.{length}
+use Rattle.cells.specs.Limits.{labelLimit}
 use Rattle.text.specs.Bytes.{all, isAllowed, endsLines}
 use Rattle.refusals.specs.declared.Verdict.the-variants.{Fine}
 use Rattle.lines.specs.Lines.{line, labels, firstLine}
@@ -16,7 +17,7 @@ pub record HeadRight (s : List ℕ) : Type 0 where
   pub allowed : all isAllowed s ≡ true
   pub first : line s 0 ≡ firstLine
   pub low : 1 ≤ labels s
-  pub high : labels s ≤ 1024
+  pub high : labels s ≤ labelLimit
 
 -- "A sheet reads when rows 1 to 15, row 4 aside, find nothing in it", row 1's length limit left aside
 pub record ReadsAtAnyLength (s : List ℕ) : Type 0 where

@@ -5,7 +5,8 @@ use mathlib.Core.List.{List}
 use Prim.Native.Nat.{ℕ, _≤_, _<_}
 use lib.IntN.{ℤ}
 use lib.ListN.{length}
-use Rattle.kinds.specs.Kinds.{groupCode, fieldsAt, takes, placeOf}
+use Rattle.cells.specs.Limits.{labelLimit, sizeLimit, levelLimit}
+use Rattle.kinds.specs.Kinds.{groupCode, fieldsAt, takes, argumentPlace}
 use Rattle.cells.specs.Table.{kind, isDefinition, isExpression, fieldA}
 use Rattle.text.specs.Bytes.{all, isAllowed, endsLines}
 use Rattle.text.specs.Pieces.{cut, fieldsAre}
@@ -13,20 +14,20 @@ use Rattle.lines.specs.Fields.{kindCode}
 use Rattle.lines.specs.Lines.{line, labels, firstLine, rootLine, field, formsRight}
 use Rattle.tree.specs.Tree.{uses, IsPart, Owned, Level}
 use Rattle.paths.specs.Leads.{PathsKept}
-use Rattle.reading.specs.Read.{ownedTable, sheetRows}
+use Rattle.reading.specs.Read.{ownedTable, sheetCells}
 
 -- "The sheet"
 pub record TextKept (s : List ℕ) : Type 0 where
   -- "A sheet is 1 to 65,536 bytes of lines, each ended by byte 10; all others are 32 to 126"
   pub some : 1 ≤ length s
-  pub size : length s ≤ 65536
+  pub size : length s ≤ sizeLimit
   pub ends : endsLines s
   pub allowed : all isAllowed s ≡ true
   -- "Line one holds the column names, exactly `kind name a b c`"
   pub first : line s 0 ≡ firstLine
   -- "Then come 1 to 1,024 lines", which have the labels
   pub low : 1 ≤ labels s
-  pub high : labels s ≤ 1024
+  pub high : labels s ≤ labelLimit
 
 -- the line of label l, in a sheet of n labels
 pub record LineKept (s : List ℕ) (n l : ℕ) : Type 0 where
@@ -48,13 +49,13 @@ pub record TreeKept (t : List ℤ) (n : ℕ) : Type 0 where
   -- an expression is used by one field, once
   pub once : (x : ℕ) → isExpression t x ≡ true → uses t n x ≡ 1
   -- no P is owned by a V: "owned by the definition whose body it is or stands in", an argument is one that this body is given
-  pub argument : (d x : ℕ) → Owned t d x → placeOf (kind t x) ≤ takes (kind t d)
+  pub argument : (d x : ℕ) → Owned t d x → argumentPlace (kind t x) ≤ takes (kind t d)
   -- "A body has level 1, its operands level 2, and so on": up to 32
-  pub level : (x k : ℕ) → Level t x k → k ≤ 32
+  pub level : (x k : ℕ) → Level t x k → k ≤ levelLimit
 
 pub record Keeps (s : List ℕ) : Type 0 where
   pub text : TextKept s
   pub lines : (l : ℕ) → 1 ≤ l → l ≤ labels s → LineKept s (labels s) l
-  pub tree : TreeKept (sheetRows s) (labels s)
+  pub tree : TreeKept (sheetCells s) (labels s)
   -- the names in a Group differ, and each path leads to what its line needs: "R needs a V, C needs an F"
-  pub paths : PathsKept s (ownedTable (sheetRows s) (labels s)) (labels s)
+  pub paths : PathsKept s (ownedTable (sheetCells s) (labels s)) (labels s)

@@ -13,7 +13,7 @@ use Rattle.refusals.specs.declared.Verdict.{Verdict}
 use Rattle.refusals.specs.declared.Verdict.the-variants.{Fine, Refused}
 use Rattle.lines.specs.Lines.{labels}
 use Rattle.reading.specs.Read.{sheetTable, readBad, readTable}
-use Rattle.reading.specs.declared.Part.{Part}
+use Rattle.reading.specs.declared.TextPart.{TextPart}
 
 -- the label that z is; 0, which has no cells, where z is outside 1 to n
 abbrev pub labelIn : ℕ → ℤ → ℕ
@@ -38,7 +38,7 @@ namePart s m z = slice (nameBegin s m z) (nameBegin s m z + nameSize s m z) s
 -- ---- all that Name leaves
 
 -- the part by its start and its length, and the table t
-pub record PartLeaves (s : List ℕ) (m : ℕ) (z : ℤ) (p : Part) (t : List ℤ) : Type 0 where
+pub record PartLeaves (s : List ℕ) (m : ℕ) (z : ℤ) (p : TextPart) (t : List ℤ) : Type 0 where
   pub begins : p .start ≡ nameBegin s m z
   pub size : p .length ≡ nameSize s m z
   -- it lies in the text

@@ -12,7 +12,7 @@ use Rattle.refusals.specs.Refusal.{orElse, replyOf}
 use Rattle.refusals.specs.declared.Verdict.{Verdict}
 use Rattle.refusals.specs.declared.Verdict.the-variants.{Fine, Refused}
 use Rattle.refusals.specs.declared.Reply.{Reply}
-use Rattle.lines.specs.Lines.{labels, headBad, linesBad, rows}
+use Rattle.lines.specs.Lines.{labels, headBad, linesBad, linesCells}
 use Rattle.tree.specs.Tree.{ownerOf, treeBad}
 use Rattle.paths.specs.Paths.{targetCell, pathsBad}
 
@@ -27,26 +27,26 @@ ownedTable t n = withColumn 6 (ownerOf t n) n t
 unfoldable pub resolvedTable : List ℕ → List ℤ → ℕ → List ℤ
 resolvedTable s t n = withColumn 7 (targetCell s (ownedTable t n) n) n (ownedTable t n)
 
--- rows 8 to 15, of a table t of n lines
+-- linesCells 8 to 15, of a table t of n lines
 unfoldable pub resolvedBad : List ℕ → List ℤ → ℕ → Verdict
 resolvedBad s t n = orElse (treeBad t n) (pathsBad s (ownedTable t n) n)
 
 -- what the fields of all lines hold, label by label: kind code, name field, a, b, c
-unfoldable pub sheetRows : List ℕ → List ℤ
-sheetRows s = rows s (labels s) (labels s)
+unfoldable pub sheetCells : List ℕ → List ℤ
+sheetCells s = linesCells s (labels s) (labels s)
 
--- rows 5 to 15, and the table of a sheet that they let pass: eight cells a label
+-- linesCells 5 to 15, and the table of a sheet that they let pass: eight cells a label
 unfoldable pub sheetBad : List ℕ → Verdict
-sheetBad s = orElse (linesBad s (labels s)) (resolvedBad s (sheetRows s) (labels s))
+sheetBad s = orElse (linesBad s (labels s)) (resolvedBad s (sheetCells s) (labels s))
 
 unfoldable pub sheetTable : List ℕ → List ℤ
-sheetTable s = resolvedTable s (sheetRows s) (labels s)
+sheetTable s = resolvedTable s (sheetCells s) (labels s)
 
--- "A sheet reads when rows 1 to 15, row 4 aside, find nothing in it"
+-- "A sheet reads when linesCells 1 to 15, row 4 aside, find nothing in it"
 abbrev pub Reads : List ℕ → Type 0
 Reads s = orElse (headBad s) (sheetBad s) ≡ Fine
 
--- rows 1 to 15, in the order of the paper's table
+-- linesCells 1 to 15, in the order of the paper's table
 abbrev pub bodyBad : List ℕ → ℕ → Verdict
 bodyBad s m = orElse (tableShort s m) (sheetBad s)
 

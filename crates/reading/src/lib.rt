@@ -6,7 +6,7 @@ ghost use lib.ListN.{length};
 ghost use Rattle.lines.specs.Lined.{Lined};
 ghost use Rattle.reading.specs.Read.{ReadLeaves};
 ghost use Rattle.reading.specs.Name.{labelIn, PartLeaves, NameLeaves};
-ghost use Rattle.reading.specs.Stages.{Passed, Resolves, SheetReads};
+ghost use Rattle.reading.specs.ReadStages.{Passed, Resolves, SheetReads};
 use refusals::Reply;
 use refusals::Verdict;
 
@@ -70,7 +70,7 @@ pub fn read(text: &[u8], table: &mut [i64]) -> Reply
 
 // A part of the text: its start and its length, 0 and 0 where it is empty. C sees it as it is.
 #[repr(C)]
-pub struct Part {
+pub struct TextPart {
     pub start: u64,
     pub length: u64,
 }
@@ -84,18 +84,18 @@ fn label_in(label: i64, n: usize) -> usize
 }
 
 // Where the name field of a label stands in the text, and the table as Read writes it.
-pub fn name_part(text: &[u8], table: &mut [i64], label: i64) -> Part
+pub fn name_part(text: &[u8], table: &mut [i64], label: i64) -> TextPart
     ensures { λ r. ⌜ PartLeaves (now (text .entry)) (length (now (table .entry))) label r (now (table .exit)) ⌝ }
 {
     match read(text, table) {
         Reply::Answered(n) => {
             let l = label_in(label, n as usize);
-            Part {
+            TextPart {
                 start: cells::cell_at(table, l, cells::NAME_START) as u64,
                 length: cells::cell_at(table, l, cells::NAME_LENGTH) as u64,
             }
         }
-        Reply::Refused(_, _) => Part {
+        Reply::Refused(_, _) => TextPart {
             start: 0,
             length: 0,
         },

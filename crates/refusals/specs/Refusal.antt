@@ -6,9 +6,9 @@ use Rattle.refusals.specs.declared.Reply.{Reply}
 use Rattle.refusals.specs.declared.Reply.the-variants as reply
 
 -- document 01's number and place of a reply, 0 and 0 where it is an answer; and the count that it answers, 0 where it refuses
-abbrev pub numberOf : Reply → ℕ
-numberOf (reply.Answered n) = 0
-numberOf (reply.Refused r p) = r
+abbrev pub refusalOf : Reply → ℕ
+refusalOf (reply.Answered n) = 0
+refusalOf (reply.Refused r p) = r
 
 abbrev pub placeOf : Reply → ℕ
 placeOf (reply.Answered n) = 0

@@ -33,7 +33,7 @@ pub data Fact : Type 0 where
   calls : (d e : ℕ) → Fact
 
 -- a line of the program's print, "label name order state number steps", but for the order
-pub record Line : Type 0 where
+pub record PrintLine : Type 0 where
   pub label : ℕ
   pub name : String
   pub state : ℕ
@@ -41,10 +41,10 @@ pub record Line : Type 0 where
   pub steps : ℕ
 
 -- a refusal with its number and place; or a whole or a mixed plan, with a line for each value in plan order
-pub data Outcome : Type 0 where
-  refusal : (number place : ℕ) → Outcome
-  whole : List Line → Outcome
-  mixed : List Line → Outcome
+pub data Expected : Type 0 where
+  refusal : (number place : ℕ) → Expected
+  whole : List PrintLine → Expected
+  mixed : List PrintLine → Expected
 
 pub record Sample : Type 0 where
   -- the sheet, line by line
@@ -53,7 +53,7 @@ pub record Sample : Type 0 where
   pub read : Reply
   pub table : List Fact
   -- what Plan and Run come to
-  pub outcome : Outcome
+  pub outcome : Expected
   -- what the program prints, line by line
   pub print : List String
 
@@ -77,13 +77,13 @@ pub record Given : Type 0 where
   -- the program's print
   pub print : List ℕ
 
-abbrev pub linesOf : Outcome → List Line
-linesOf (refusal r p) = []
-linesOf (whole ls) = ls
-linesOf (mixed ls) = ls
+abbrev pub printLinesOf : Expected → List PrintLine
+printLinesOf (refusal r p) = []
+printLinesOf (whole ls) = ls
+printLinesOf (mixed ls) = ls
 
-abbrev pub orderOf : List Line → List ℤ
-orderOf ls = map (λ x. pos (x .label)) ls
+abbrev pub labelsListed : List PrintLine → List ℤ
+labelsListed ls = map (λ x. pos (x .label)) ls
 
 -- what label l tells, with this kind code, owner o and target e
 abbrev pub factOf : ℕ → ℕ → ℕ → ℕ → List Fact
@@ -95,12 +95,12 @@ abbrev pub factsFrom : List ℤ → ℕ → ℕ → List Fact
 factsFrom t l zero = []
 factsFrom t l (suc k) = factOf (kind t l) l (owner t l) (target t l) ++ factsFrom t (suc l) k
 
-abbrev pub namesIn : List ℕ → ℕ → List Line → List (List ℕ)
+abbrev pub namesIn : List ℕ → ℕ → List PrintLine → List (List ℕ)
 namesIn s m [] = []
 namesIn s m (x ∷ ls) = namePart s m (pos (x .label)) ∷ namesIn s m ls
 
 -- of a text s with n labels, where each call is lent just enough: a table of 8n cells, a plan of n and results of 3n
-abbrev pub givenFor : List ℕ → ℕ → List Line → Given
+abbrev pub givenFor : List ℕ → ℕ → List PrintLine → Given
 givenFor s n ls = record {
   readReply = readReply s (8 * n);
   table = factsFrom (readTable s (8 * n)) 2 (n - 1);
@@ -109,42 +109,42 @@ givenFor s n ls = record {
   runReply = runReply s (8 * n) n (3 * n);
   runPlan = runPlan s (8 * n) n (3 * n);
   runResults = runResults s (8 * n) n (3 * n);
-  followReply = followReply s (orderOf ls) (8 * n) (3 * n);
-  followResults = followResults s (orderOf ls) (8 * n) (3 * n);
+  followReply = followReply s (labelsListed ls) (8 * n) (3 * n);
+  followResults = followResults s (labelsListed ls) (8 * n) (3 * n);
   names = namesIn s (8 * n) ls;
   print = printOf s;
 }
 
 abbrev pub given : Sample → Given
-given x = givenFor (textOf (x .sheet)) (labels (textOf (x .sheet))) (linesOf (x .outcome))
+given x = givenFor (textOf (x .sheet)) (labels (textOf (x .sheet))) (printLinesOf (x .outcome))
 
 -- ---- what the sample says that they give
 
-abbrev pub planReplyBy : Outcome → PlanReply
+abbrev pub planReplyBy : Expected → PlanReply
 planReplyBy (refusal r p) = planned.Refused r p
 planReplyBy (whole ls) = planned.Whole (length ls)
 planReplyBy (mixed ls) = planned.Mixed (length ls)
 
-abbrev pub followReplyBy : Outcome → Reply
+abbrev pub followReplyBy : Expected → Reply
 followReplyBy (refusal r p) = Refused r p
 followReplyBy (whole ls) = Answered (length ls)
 followReplyBy (mixed ls) = Answered (length ls)
 
 -- n cells of a plan: the labels, then zeros
-abbrev pub planBy : ℕ → List Line → List ℤ
-planBy n ls = orderOf ls ++ zeros (n - length ls)
+abbrev pub planBy : ℕ → List PrintLine → List ℤ
+planBy n ls = labelsListed ls ++ zeros (n - length ls)
 
 -- m cells of results: zeros, but for the state, number and steps of each line at its label
-abbrev pub resultsBy : ℕ → List Line → List ℤ
-resultsBy m [] = zeros m
-resultsBy m (x ∷ ls) = store (resultsBy m ls) (x .label) (record { number = x .number; state = x .state; steps = x .steps })
+abbrev pub resultsSaid : ℕ → List PrintLine → List ℤ
+resultsSaid m [] = zeros m
+resultsSaid m (x ∷ ls) = store (resultsSaid m ls) (x .label) (record { number = x .number; state = x .state; steps = x .steps })
 
-abbrev pub namesBy : List Line → List (List ℕ)
+abbrev pub namesBy : List PrintLine → List (List ℕ)
 namesBy [] = []
 namesBy (x ∷ ls) = bytesOf (x .name) ∷ namesBy ls
 
 -- of a sheet with n labels, where the lines are ls
-abbrev pub saidOf : Sample → ℕ → List Line → Given
+abbrev pub saidOf : Sample → ℕ → List PrintLine → Given
 saidOf x n ls = record {
   readReply = x .read;
   table = x .table;
@@ -152,13 +152,13 @@ saidOf x n ls = record {
   planCells = planBy n ls;
   runReply = planReplyBy (x .outcome);
   runPlan = planBy n ls;
-  runResults = resultsBy (3 * n) ls;
+  runResults = resultsSaid (3 * n) ls;
   followReply = followReplyBy (x .outcome);
-  followResults = resultsBy (3 * n) ls;
+  followResults = resultsSaid (3 * n) ls;
   names = namesBy ls;
   print = textOf (x .print);
 }
 
 -- every line of the sheet but the first has a label
 abbrev pub said : Sample → Given
-said x = saidOf x (length (x .sheet) - 1) (linesOf (x .outcome))
+said x = saidOf x (length (x .sheet) - 1) (printLinesOf (x .outcome))

@@ -5,10 +5,10 @@ use Prim.Native.Nat.{ℕ}
 use Prim.Native.String.{String}
 use lib.IntN.{ℤ, pos, negℤ}
 use Rattle.refusals.specs.declared.Reply.the-variants.{Answered, Refused}
-use Rattle.samples.specs.Sample.{group, value, function, reads, calls, Line, refusal, whole, mixed, Sample}
+use Rattle.samples.specs.Sample.{group, value, function, reads, calls, PrintLine, refusal, whole, mixed, Sample}
 
-abbrev line : ℕ → String → ℕ → ℤ → ℕ → Line
-line label name state number steps = record { label = label; name = name; state = state; number = number; steps = steps }
+abbrev printLine : ℕ → String → ℕ → ℤ → ℕ → PrintLine
+printLine label name state number steps = record { label = label; name = name; state = state; number = number; steps = steps }
 
 abbrev minus : ℕ → ℤ
 minus n = negℤ (pos n)
@@ -36,9 +36,9 @@ example = record {
   read = Answered 14;
   table = value 2 1 ∷ group 3 1 ∷ value 4 3 ∷ value 5 3 ∷ reads 2 4 ∷ reads 4 5 ∷ [];
   outcome = whole
-      (line 5 "sphere" 1 (minus 325) 1
-      ∷ line 4 "prism" 1 (minus 33) 5
-      ∷ line 2 "total" 1 (minus 28) 3
+      (printLine 5 "sphere" 1 (minus 325) 1
+      ∷ printLine 4 "prism" 1 (minus 33) 5
+      ∷ printLine 2 "total" 1 (minus 28) 3
       ∷ []);
   print =
       "label name order state number steps"
@@ -83,10 +83,10 @@ mixedOrder = record {
   read = Answered 11;
   table = group 2 1 ∷ group 3 1 ∷ value 4 2 ∷ value 5 2 ∷ value 6 3 ∷ value 7 3 ∷ reads 4 6 ∷ reads 7 5 ∷ [];
   outcome = mixed
-      (line 5 "sphere" 1 (pos 20) 1
-      ∷ line 6 "prism" 1 (pos 30) 1
-      ∷ line 4 "prism" 1 (pos 30) 1
-      ∷ line 7 "sphere" 1 (pos 20) 1
+      (printLine 5 "sphere" 1 (pos 20) 1
+      ∷ printLine 6 "prism" 1 (pos 30) 1
+      ∷ printLine 4 "prism" 1 (pos 30) 1
+      ∷ printLine 7 "sphere" 1 (pos 20) 1
       ∷ []);
   print =
       "label name order state number steps"
@@ -98,7 +98,7 @@ mixedOrder = record {
 }
 
 -- 4. "`even` (if the argument then `odd` of it less 1, else 1) and `odd` (likewise, else 0) in two Groups: `even` of 0 is 1 in 5 steps, of
--- 1 is 0 in 11": the sheet whose last line is the argument, where `even` of it is a number in some steps
+-- 1 is 0 in 11": the sheet whose last printLine is the argument, where `even` of it is a number in some steps
 abbrev pub evenOf : String → ℤ → ℕ → String → Sample
 evenOf argument number steps printed = record {
   sheet =
@@ -128,7 +128,7 @@ evenOf argument number steps printed = record {
       ∷ [];
   read = Answered 22;
   table = group 2 1 ∷ group 3 1 ∷ function 4 2 ∷ function 5 3 ∷ calls 4 5 ∷ calls 5 4 ∷ value 20 1 ∷ calls 20 4 ∷ [];
-  outcome = whole (line 20 "answer" 1 number steps ∷ []);
+  outcome = whole (printLine 20 "answer" 1 number steps ∷ []);
   print = "label name order state number steps" ∷ printed ∷ [];
 }
 
@@ -147,7 +147,7 @@ endlessCalls = record {
       ∷ [];
   read = Answered 7;
   table = function 2 1 ∷ value 3 1 ∷ calls 2 2 ∷ calls 3 2 ∷ [];
-  outcome = whole (line 3 "endless" 5 (pos 0) 130 ∷ []);
+  outcome = whole (printLine 3 "endless" 5 (pos 0) 130 ∷ []);
   print =
       "label name order state number steps"
       ∷ "3 endless whole 5 0 130"
@@ -171,7 +171,7 @@ nearest = record {
       ∷ [];
   read = Answered 9;
   table = value 2 1 ∷ value 3 1 ∷ [];
-  outcome = whole (line 2 "up" 1 (minus 33) 3 ∷ line 3 "down" 1 (pos 32) 3 ∷ []);
+  outcome = whole (printLine 2 "up" 1 (minus 33) 3 ∷ printLine 3 "down" 1 (pos 32) 3 ∷ []);
   print =
       "label name order state number steps"
       ∷ "2 up whole 1 -33 3"

@@ -30,7 +30,7 @@ abbrev pub withNumber : ℕ → ℤ → List ℤ → List ℤ
 withNumber l z t = set t (8 * (l - 1) + 3) z
 
 -- what holds of a text r that is s with z put in the N line of label l
-pub record Put (s : List ℕ) (l : ℕ) (z : ℤ) (r : List ℕ) : Type 0 where
+pub record NumberPut (s : List ℕ) (l : ℕ) (z : ℤ) (r : List ℕ) : Type 0 where
   pub reads : ReadsAtAnyLength r
   pub count : labels r ≡ labels s
   -- the sheet that it holds

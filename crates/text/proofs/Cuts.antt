@@ -12,7 +12,7 @@ use lib.Seq.{getD-drop, drop-drop}
 use borrow.Author.Tests.{eq-eqb, ne-eqb}
 use Rattle.text.specs.Bytes.{one, countBy, isNewline}
 use Rattle.text.specs.Scans.{run, oneMore, isGraphic}
-use Rattle.text.specs.Pieces.{cut, cutAt, onto, place, firstOf, fieldsAre}
+use Rattle.text.specs.Pieces.{cut, cutAt, onto, pieceStart, firstOf, fieldsAre}
 use Rattle.text.proofs.Bytes.{true-false}
 
 -- a byte that passes a test is not one that fails it
@@ -89,7 +89,8 @@ fields-newline l h g = rw (cut-more isGraphic 10 l refl h g) (cut-last isGraphic
 
 -- the line that begins the list, where its first field is ended by a space: the line after that field is q
 line-go : (x : ℕ) (xs q : List ℕ) (ps : List (List ℕ))
-    → (run isGraphic xs < length xs → getD xs (run isGraphic xs) 0 ≡ 32 → cut 10 (drop (suc (run isGraphic xs)) xs) ≡ q ∷ ps → cut 10 xs ≡ (take (suc (run isGraphic xs)) xs ++ q) ∷ ps)
+    → (run isGraphic xs < length xs → getD xs (run isGraphic xs) 0 ≡ 32 → cut 10 (drop (suc (run isGraphic xs)) xs) ≡ q ∷ ps
+    → cut 10 xs ≡ (take (suc (run isGraphic xs)) xs ++ q) ∷ ps)
     → (t : Bool) → isGraphic x ≡ t → oneMore t (run isGraphic xs) < suc (length xs) → getD (x ∷ xs) (oneMore t (run isGraphic xs)) 0 ≡ 32
     → cut 10 (drop (suc (oneMore t (run isGraphic xs))) (x ∷ xs)) ≡ q ∷ ps
     → cut 10 (x ∷ xs) ≡ (take (suc (oneMore t (run isGraphic xs))) (x ∷ xs) ++ q) ∷ ps
@@ -132,14 +133,14 @@ pieces (x ∷ xs) = go (eqb x 10) (pieces xs)
     go true e = omega arith
     go false e = omega (arith, length-onto x 10 xs)
 
-pub place-zero : (ps : List (List ℕ)) → place ps 0 ≡ 0
+pub place-zero : (ps : List (List ℕ)) → pieceStart ps 0 ≡ 0
 place-zero [] = refl
 place-zero (p ∷ ps) = refl
 
 nil-cons : (p : List ℕ) (ps : List (List ℕ)) → [] ≡ p ∷ ps → ⊥
 nil-cons p ps e = omega (arith, ap length e)
 
-place-suc : (ps : List (List ℕ)) (k : ℕ) (p : List ℕ) (qs : List (List ℕ)) → drop k ps ≡ p ∷ qs → place ps (suc k) ≡ place ps k + length p + 1
+place-suc : (ps : List (List ℕ)) (k : ℕ) (p : List ℕ) (qs : List (List ℕ)) → drop k ps ≡ p ∷ qs → pieceStart ps (suc k) ≡ pieceStart ps k + length p + 1
 place-suc [] zero p qs e = absurd (nil-cons p qs e)
 place-suc [] (suc k) p qs e = absurd (nil-cons p qs e)
 place-suc (q ∷ ps) zero p qs e =
@@ -155,19 +156,19 @@ module _ (ps : List (List ℕ)) (k : ℕ) (p : List ℕ) (qs : List (List ℕ)) 
   pub pieces-next : qs ≡ drop (k + 1) ps
   pieces-next = sym (ap (λ (l : List (List ℕ)). drop 1 l) e) ∙ drop-drop 1 k ps
 
-  pub place-next : place ps (k + 1) ≡ place ps k + length p + 1
+  pub place-next : pieceStart ps (k + 1) ≡ pieceStart ps k + length p + 1
   place-next = rw add-one (place-suc ps k p qs e)
 
 -- every piece lies in the list
-inside-go : (x : ℕ) (n : ℕ) (t : Bool) (ps : List (List ℕ)) → 1 ≤ length ps → ((k : ℕ) → k < length ps → place ps k + length (getD ps k []) ≤ n)
-    → (k : ℕ) → k < length (cutAt t x ps) → place (cutAt t x ps) k + length (getD (cutAt t x ps) k []) ≤ suc n
+inside-go : (x : ℕ) (n : ℕ) (t : Bool) (ps : List (List ℕ)) → 1 ≤ length ps → ((k : ℕ) → k < length ps → pieceStart ps k + length (getD ps k []) ≤ n)
+    → (k : ℕ) → k < length (cutAt t x ps) → pieceStart (cutAt t x ps) k + length (getD (cutAt t x ps) k []) ≤ suc n
 inside-go x n true ps h rest zero l = omega arith
 inside-go x n true ps h rest (suc k) l = omega (arith, rest k (le-of-suc-le-suc l))
 inside-go x n false [] h rest k l = absurd (not-suc-le-zero h)
 inside-go x n false (p ∷ ps) h rest zero l = omega (arith, rest 0 h)
 inside-go x n false (p ∷ ps) h rest (suc k) l = omega (arith, rest (suc k) l)
 
-pub piece-inside : (b : ℕ) (s : List ℕ) (k : ℕ) → k < length (cut b s) → place (cut b s) k + length (getD (cut b s) k []) ≤ length s
+pub piece-inside : (b : ℕ) (s : List ℕ) (k : ℕ) → k < length (cut b s) → pieceStart (cut b s) k + length (getD (cut b s) k []) ≤ length s
 piece-inside b [] zero l = omega arith
 piece-inside b [] (suc k) l = absurd (not-suc-le-zero (le-of-suc-le-suc l))
 piece-inside b (x ∷ xs) k l = inside-go x (length xs) (eqb x b) (cut b xs) (some b xs) (piece-inside b xs) k l

@@ -193,7 +193,8 @@ module _ (s : List ℕ) (from : ℕ) (h : from < length s) (ends : endsLines s) 
   unfolding fieldEnd
   end-empty stop e = rw (le-ltb from (runEnd isGraphic s from (length s)) (omega arith))
 
-  pub end-found : (stop : ℕ) → (runEnd isGraphic s from (length s) ≡ from → ⊥) → getD s (runEnd isGraphic s from (length s)) 0 ≡ stop → fieldEnd s from stop ≡ runEnd isGraphic s from (length s)
+  pub end-found : (stop : ℕ) → (runEnd isGraphic s from (length s) ≡ from → ⊥) → getD s (runEnd isGraphic s from (length s)) 0 ≡ stop
+      → fieldEnd s from stop ≡ runEnd isGraphic s from (length s)
   unfolding fieldEnd
   end-found stop f e = rw (lt-ltb from (runEnd isGraphic s from (length s)) (omega (arith, f, low)), eq-eqb (getD s (runEnd isGraphic s from (length s)) 0) stop e)
 
@@ -234,5 +235,6 @@ module _ (s : List ℕ) (from : ℕ) (h : from < length s) (ends : endsLines s) 
     pub last-none : fieldEnd s from 10 ≡ 0 → fieldsAre 1 (fieldsFrom s from) ≡ false
     last-none z =
         ⊎-elim (λ w. absurd (omega (arith, w .0, w .1)))
-        (λ w. ⊎-elim (empty 0) (λ f. ⊎-elim (λ g. absurd (f g)) (λ g. rw (by-space g) (too-many (take r l) (cut 32 (firstOf (cut 10 (drop (r + 1) l)))) (some 32 (firstOf (cut 10 (drop (r + 1) l)))))) gap) (w .1))
+        (λ w. ⊎-elim (empty 0) (λ f. ⊎-elim (λ g. absurd (f g)) (λ g. rw (by-space g)
+        (too-many (take r l) (cut 32 (firstOf (cut 10 (drop (r + 1) l)))) (some 32 (firstOf (cut 10 (drop (r + 1) l)))))) gap) (w .1))
         (cases 10)

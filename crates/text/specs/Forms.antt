@@ -4,6 +4,7 @@ use mathlib.Core.List.{List, [], _∷_}
 use Prim.Native.Nat.{ℕ, zero, suc}
 use lib.Dec.{leb}
 use lib.ListN.{length, getD}
+use Rattle.cells.specs.Limits.{nameLimit, pathLimit}
 use Rattle.numbers.specs.Decimal.{decimalOf}
 use Rattle.numbers.specs.declared.Decimal.{Decimal}
 use Rattle.numbers.specs.declared.Decimal.the-variants.{Is, Not}
@@ -12,7 +13,7 @@ use Rattle.text.specs.Pieces.{cut}
 
 -- a name is 1 to 16 ASCII letters or digits, a letter first
 unfoldable pub isName : List ℕ → Bool
-isName f = leb 1 (length f) && leb (length f) 16 && isLetter (getD f 0 0) && all isAlphanumeric f
+isName f = leb 1 (length f) && leb (length f) nameLimit && isLetter (getD f 0 0) && all isAlphanumeric f
 
 abbrev pub allNames : List (List ℕ) → Bool
 allNames [] = true
@@ -20,7 +21,7 @@ allNames (f ∷ fs) = isName f && allNames fs
 
 -- a path is 1 to 8 names joined by dots (byte 46); `cut` gives one piece at least
 unfoldable pub isPath : List ℕ → Bool
-isPath f = leb (length (cut 46 f)) 8 && allNames (cut 46 f)
+isPath f = leb (length (cut 46 f)) pathLimit && allNames (cut 46 f)
 
 abbrev pub fromOne : Decimal → Decimal
 fromOne (Is zero) = Not

@@ -20,16 +20,16 @@ cut b [] = [] ∷ []
 cut b (x ∷ xs) = cutAt (eqb x b) x (cut b xs)
 
 -- pieces with the byte b between neighbours
-abbrev pub joined : ℕ → List (List ℕ) → List ℕ
-joined b [] = []
-joined b (p ∷ []) = p
-joined b (p ∷ q ∷ ps) = p ++ b ∷ joined b (q ∷ ps)
+abbrev pub joinedWith : ℕ → List (List ℕ) → List ℕ
+joinedWith b [] = []
+joinedWith b (p ∷ []) = p
+joinedWith b (p ∷ q ∷ ps) = p ++ b ∷ joinedWith b (q ∷ ps)
 
 -- where piece k begins in the list: past each piece before it, and the separator after that; 0 past the last piece
-abbrev pub place : List (List ℕ) → ℕ → ℕ
-place [] k = 0
-place (p ∷ ps) zero = 0
-place (p ∷ ps) (suc k) = length p + 1 + place ps k
+abbrev pub pieceStart : List (List ℕ) → ℕ → ℕ
+pieceStart [] k = 0
+pieceStart (p ∷ ps) zero = 0
+pieceStart (p ∷ ps) (suc k) = length p + 1 + pieceStart ps k
 
 -- the first piece, which `cut` always gives
 abbrev pub firstOf : List (List ℕ) → List ℕ

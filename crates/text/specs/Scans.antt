@@ -5,6 +5,7 @@ use Prim.Native.Nat.{ℕ, suc, _+_, _-_}
 use lib.Dec.{leb, ltb, eqb}
 use lib.ListN.{length, getD}
 use lib.Seq.{slice}
+use Rattle.cells.specs.Limits.{nameLimit}
 use Rattle.text.specs.Bytes.{isAllowed, isLetter, isAlphanumeric}
 use Rattle.text.specs.Pieces.{cut, firstOf}
 
@@ -52,4 +53,4 @@ fieldEnd s from stop =
 unfoldable pub nameEnd : List ℕ → ℕ → ℕ → ℕ
 nameEnd s from to =
     let end = runEnd isAlphanumeric s from to in
-    cond (isLetter (getD s from 0) && leb (end - from) 16) end 0
+    cond (isLetter (getD s from 0) && leb (end - from) nameLimit) end 0

@@ -5,6 +5,7 @@ ghost use mathlib.Core.Path.{_≡_};
 ghost use Prim.Native.Nat.{_≤_, _<_};
 ghost use lib.ListN.{length};
 ghost use lib.Seq.{slice};
+ghost use Rattle.cells.specs.Limits.{labelLimit, sizeLimit};
 ghost use Rattle.text.specs.Bytes.{one, countBy, isNewline, isLetter, isAlphanumeric, same, endsLines};
 ghost use Rattle.text.specs.Forms.{isName, isPath, labelOf};
 ghost use Rattle.text.specs.Scans.{runEnd, fieldEnd, nameEnd, isBad, isGraphic};
@@ -43,7 +44,7 @@ pub struct Counts {
 
 // Row 1's bytes and the lines are counted in one pass. The counts are narrow, so that several bytes are counted at once.
 pub fn survey(text: &[u8]) -> Counts
-    requires { ⌜ length (now text) ≤ 65536 ⌝ }
+    requires { ⌜ length (now text) ≤ sizeLimit ⌝ }
     ensures { λ r. ⌜ (r .bad ≡ countBy isBad (now (text .entry))) × (r .lines ≡ countBy isNewline (now (text .entry))) ⌝ }
 {
     let mut bad: u32 = 0;
@@ -81,7 +82,7 @@ pub fn same_bytes(text: &[u8], from: usize, to: usize, want: &[u8]) -> bool
 
 // Where the bytes above 32 end that begin at `from`. After row 1 that is at a byte 32 or 10.
 fn graphic_end(text: &[u8], from: usize) -> usize
-    requires { ⌜ (from < length (now text)) × endsLines (now text) × (length (now text) ≤ 65536) ⌝ }
+    requires { ⌜ (from < length (now text)) × endsLines (now text) × (length (now text) ≤ sizeLimit) ⌝ }
     ensures { λ r. ⌜ r ≡ runEnd isGraphic (now (text .entry)) from (length (now (text .entry))) ⌝ }
 {
     let mut i = from;
@@ -94,7 +95,7 @@ fn graphic_end(text: &[u8], from: usize) -> usize
 
 // Where the field that begins at `from` ends, if it is not empty and the byte `stop` ends it; else 0.
 pub fn field_end(text: &[u8], from: usize, stop: u8) -> usize
-    requires { ⌜ (from < length (now text)) × endsLines (now text) × (length (now text) ≤ 65536) ⌝ }
+    requires { ⌜ (from < length (now text)) × endsLines (now text) × (length (now text) ≤ sizeLimit) ⌝ }
     ensures { λ r. ⌜ r ≡ fieldEnd (now (text .entry)) from stop ⌝ }
 {
     let end = graphic_end(text, from);
@@ -161,7 +162,7 @@ fn name_end(text: &[u8], from: usize, to: usize) -> usize
 {
     if is_letter(text[from]) {
         let end = alphanumeric_end(text, from, to);
-        if end - from <= 16 {
+        if end - from <= cells::NAME_LIMIT {
             return end;
         }
     }
@@ -186,7 +187,7 @@ pub fn is_path(text: &[u8], from: usize, to: usize) -> bool
     while at < to {
         let end = name_end(text, at, to);
         if end == to {
-            return names <= 8;
+            return names <= cells::PATH_LIMIT;
         }
         if end == 0 {
             return false;
@@ -204,7 +205,7 @@ pub fn is_path(text: &[u8], from: usize, to: usize) -> bool
 
 // The label of a label field, which is 1 to n.
 pub fn read_label(text: &[u8], from: usize, to: usize, n: u64) -> Decimal
-    requires { ⌜ (from ≤ to) × (to ≤ length (now text)) × (n ≤ 1024) ⌝ }
+    requires { ⌜ (from ≤ to) × (to ≤ length (now text)) × (n ≤ labelLimit) ⌝ }
     ensures { λ r. ⌜ r ≡ labelOf n (slice from to (now (text .entry))) ⌝ }
 {
     let Decimal::Is(v) = numbers::read_decimal(text, from, to, n) else {

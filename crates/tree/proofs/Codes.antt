@@ -7,7 +7,7 @@ use native.Mathlib.Omega.{arith}
 use borrow.Author.Tests.{leb-true, leb-false}
 use lib.Dec.{leb}
 use lib.IntN.{ℤ}
-use Rattle.kinds.specs.Kinds.{Kind, kindAt, fieldsAt, isKind, isOperand, hasBody, clauseOf, placeOf}
+use Rattle.kinds.specs.Kinds.{Kind, kindAt, fieldsAt, isKind, isOperandForm, hasBody, clauseOf, argumentPlace}
 use Rattle.kinds.proofs.Laws.{no-kind, kind-low, definition-a, definition-c}
 use Rattle.kinds.proofs.Laws as law
 use Rattle.cells.specs.Lists.{count}
@@ -51,13 +51,13 @@ module _ (t : List ℤ) (l : ℕ) where
 -- a definition's part is its body
 pub part-body : (t : List ℤ) (d x : ℕ) → isDefinition t d ≡ true → IsPart t d x → HasBody t d
 unfolding hasBody parts
-part-body t d x e p = rw e (go (isOperand (fieldsAt (kind t d) .b)) (rw (definition-a (kind t d) e, definition-c (kind t d) e) at p))
+part-body t d x e p = rw e (go (isOperandForm (fieldsAt (kind t d) .b)) (rw (definition-a (kind t d) e, definition-c (kind t d) e) at p))
   where
     go : (b : Bool) → 1 ≤ count x (cond b (fieldB t d ∷ []) [] ++ []) → b ≡ true
     go true h = refl
     go false h = absurd (omega arith)
 
 -- what has no kind stands for no argument
-pub no-place : placeOf 0 ≡ 0
+pub no-place : argumentPlace 0 ≡ 0
 unfolding clauseOf kindAt
 no-place = refl

@@ -7,9 +7,9 @@ use denote.Enum.Declared.{tagOf}
 use Rattle.kinds.specs.declared.Form.{Form}
 use Rattle.kinds.specs.declared.Form.the-variants.{Missing, Name, Path, Group, Operand, Number}
 use Rattle.kinds.proofs.Form as form
-use Rattle.kinds.specs.Kinds.{isOperand}
+use Rattle.kinds.specs.Kinds.{isOperandForm}
 
-pub no-operand : (f : Form) → OneOf (0 ∷ 1 ∷ 2 ∷ 3 ∷ 5 ∷ []) (tagOf form.the-type f) → isOperand f ≡ false
+pub no-operand : (f : Form) → OneOf (0 ∷ 1 ∷ 2 ∷ 3 ∷ 5 ∷ []) (tagOf form.the-type f) → isOperandForm f ≡ false
 no-operand Missing h = refl
 no-operand Name h = refl
 no-operand Path h = refl

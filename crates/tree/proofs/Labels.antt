@@ -8,15 +8,17 @@ use borrow.Author.Tests.{le-leb, lt-leb, lt-ltb, le-ltb, eqb-false, ne-eqb}
 use lib.Dec.{eqb}
 use lib.IntN.{ℤ, pos}
 use lib.ListN.{set}
+use Rattle.cells.specs.Limits.{levelLimit}
 use Rattle.cells.specs.Lists.{one, count, all}
 use Rattle.cells.specs.Table.{kind, isDefinition, isExpression, fieldA, fieldB, fieldC, owner, target}
+use Rattle.refusals.specs.Rows.{structureRow, usesRow, argumentRow, levelRow}
 use Rattle.kinds.specs.Kinds as kinds
-use Rattle.kinds.specs.Kinds.{groupCode, fieldsAt, isOperand, takes, placeOf}
+use Rattle.kinds.specs.Kinds.{groupCode, fieldsAt, isOperandForm, takes, argumentPlace}
 use Rattle.kinds.specs.declared.Fields.{Fields}
 use Rattle.kinds.specs.declared.Form.{Form}
-use Rattle.tree.specs.Tree.{operandIn, parts, partRight, structureBad, notOnce, argumentIn, tooDeep}
+use Rattle.tree.specs.Tree.{operandIn, parts, partRight, structureBad, notOnce, argumentIn, aboveLevels}
 use Rattle.tree.specs.Treed.{Formed}
-use Rattle.tree.specs.Steps.{partIn, nodeAt, Readable, groupFits, partFits, counted, assigned, assignedAll, propagated}
+use Rattle.tree.specs.TreeSteps.{partIn, nodeAt, Readable, groupFits, partFits, counted, assigned, assignedAll, propagated}
 use Rattle.tree.specs.declared.Node.{Node}
 use Rattle.tree.proofs.Parts.{count-parts, all-parts}
 
@@ -62,7 +64,7 @@ module _ (t : List ℤ) (l x : ℕ) where
 
 -- a field that holds no 0 as a body or operand
 pub field-all : (test : ℕ → Bool) (f : Form) (x : ℕ) → count 0 (operandIn f x) ≡ 0 → all test (operandIn f x) ≡ cond (eqb (partIn f x) 0) true (test (partIn f x))
-field-all test f x z = go (isOperand f) z
+field-all test f x z = go (isOperandForm f) z
   where
     zero-free : (b : Bool) → one b + 0 ≡ 0 → b ≡ false
     zero-free true e = absurd (omega arith)
@@ -74,7 +76,7 @@ field-all test f x z = go (isOperand f) z
 
 -- how often x, which is no 0, is the part in a field
 pub field-count : (f : Form) (x y : ℕ) → 1 ≤ x → count x (operandIn f y) ≡ one (eqb x (partIn f y))
-field-count f x y h = go (isOperand f)
+field-count f x y h = go (isOperandForm f)
   where
     go : (b : Bool) → count x (cond b (y ∷ []) []) ≡ one (eqb x (cond b y 0))
     go true = omega arith
@@ -96,14 +98,20 @@ module _ (t : List ℤ) (l : ℕ) where
       let a : count 0 (operandIn (fieldsAt (kind t l) .a) (fieldA t l)) ≡ 0 = omega (arith, count-parts t l 0) in
       let b : count 0 (operandIn (fieldsAt (kind t l) .b) (fieldB t l)) ≡ 0 = omega (arith, count-parts t l 0) in
       let c : count 0 (operandIn (fieldsAt (kind t l) .c) (fieldC t l)) ≡ 0 = omega (arith, count-parts t l 0) in
-      rw (all-parts t l (partRight t l), field-all (partRight t l) (fieldsAt (kind t l) .a) (fieldA t l) a, field-all (partRight t l) (fieldsAt (kind t l) .b) (fieldB t l) b, field-all (partRight t l) (fieldsAt (kind t l) .c) (fieldC t l) c)
+      rw (
+        all-parts t l (partRight t l),
+        field-all (partRight t l) (fieldsAt (kind t l) .a) (fieldA t l) a,
+        field-all (partRight t l) (fieldsAt (kind t l) .b) (fieldB t l) b,
+        field-all (partRight t l)
+            (fieldsAt (kind t l) .c) (fieldC t l) c,
+      )
 
   pub parts-right : count 0 (parts t l) ≡ 0 → (p : Node) → p ≡ nodeAt t l → (x y z : Bool) → x ≡ partFits t l (p .a) → y ≡ partFits t l (p .b) → z ≡ partFits t l (p .c)
       → all (partRight t l) (parts t l) ≡ (x && y && z)
   parts-right w p e x y z f g h = rw (f, g, h, e) (parts-fit w)
 
   -- the row, by its two tests
-  pub structure-is : (d : Bool) (p q : Bool) → d ≡ isDefinition t l → p ≡ groupFits t l d → q ≡ all (partRight t l) (parts t l) → structureBad t l ≡ cond (p && q) 0 8
+  pub structure-is : (d : Bool) (p q : Bool) → d ≡ isDefinition t l → p ≡ groupFits t l d → q ≡ all (partRight t l) (parts t l) → structureBad t l ≡ cond (p && q) 0 structureRow
   unfolding structureBad
   structure-is d p q e f g = rw (← e, f, g)
 
@@ -113,29 +121,29 @@ module _ (e : Bool) (u : ℕ) where
   pub uses-once : u ≡ 1 → notOnce e u ≡ 0
   uses-once h = rw h (go e)
     where
-      go : (b : Bool) → _≡_ {A = ℕ} (cond (b && false) 9 0) 0
+      go : (b : Bool) → _≡_ {A = ℕ} (cond (b && false) usesRow 0) 0
       go true = refl
       go false = refl
 
-  pub uses-wrong : e ≡ true → (u ≡ 1 → ⊥) → notOnce e u ≡ 9
+  pub uses-wrong : e ≡ true → (u ≡ 1 → ⊥) → notOnce e u ≡ usesRow
   uses-wrong h d = rw (h, ne-eqb u 1 d)
 
 module _ (k d : ℕ) where
-  pub argument-none : placeOf k ≡ 0 → argumentIn k d ≡ 0
+  pub argument-none : argumentPlace k ≡ 0 → argumentIn k d ≡ 0
   argument-none h = rw (h, le-ltb (takes d) 0 (omega arith))
 
-  pub argument-fine : placeOf k ≤ takes d → argumentIn k d ≡ 0
-  argument-fine h = rw (le-ltb (takes d) (placeOf k) h)
+  pub argument-fine : argumentPlace k ≤ takes d → argumentIn k d ≡ 0
+  argument-fine h = rw (le-ltb (takes d) (argumentPlace k) h)
 
-  pub argument-wrong : takes d < placeOf k → argumentIn k d ≡ 10
-  argument-wrong h = rw (lt-ltb (takes d) (placeOf k) h)
+  pub argument-wrong : takes d < argumentPlace k → argumentIn k d ≡ argumentRow
+  argument-wrong h = rw (lt-ltb (takes d) (argumentPlace k) h)
 
 module _ (v : ℕ) where
-  pub level-wrong : 32 < v → tooDeep v ≡ 11
-  level-wrong h = rw (lt-ltb 32 v h)
+  pub level-wrong : levelLimit < v → aboveLevels v ≡ levelRow
+  level-wrong h = rw (lt-ltb levelLimit v h)
 
-  pub level-fine : v ≤ 32 → tooDeep v ≡ 0
-  level-fine h = rw (le-ltb 32 v h)
+  pub level-fine : v ≤ levelLimit → aboveLevels v ≡ 0
+  level-fine h = rw (le-ltb levelLimit v h)
 
 -- ---- what is written
 

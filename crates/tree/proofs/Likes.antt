@@ -58,4 +58,10 @@ module _ (t w : List ℤ) (same : Like t w) where
     pub tree-like : treeBad w n ≡ treeBad t n
     unfolding treeBad
     tree-like =
-        rw (first-same (structureBad w) (structureBad t) n 1 (λ x h g. structure-like x), first-same (usesBad w n) (usesBad t n) n 1 (λ x h g. uses-like x), first-same (argumentBad w n) (argumentBad t n) n 1 (λ x h g. argument-like x), first-same (levelBad w n) (levelBad t n) n 1 (λ x h g. level-like x))
+        rw (
+          first-same (structureBad w) (structureBad t) n 1 (λ x h g. structure-like x),
+          first-same (usesBad w n) (usesBad t n) n 1 (λ x h g. uses-like x),
+          first-same (argumentBad w n)
+              (argumentBad t n) n 1 (λ x h g. argument-like x),
+          first-same (levelBad w n) (levelBad t n) n 1 (λ x h g. level-like x),
+        )

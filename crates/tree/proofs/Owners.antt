@@ -14,7 +14,7 @@ use Rattle.cells.specs.Table.{kind, isDefinition, isExpression, fieldA}
 use Rattle.cells.specs.Accepted.{HasBody}
 use Rattle.cells.proofs.Signed.{clash}
 use Rattle.tree.specs.Tree.{IsPart, Owned, Level, userOf, climb, lastOf, definitionOf, ownerOf, levelOf}
-use Rattle.tree.specs.Steps.{UsedOnce}
+use Rattle.tree.specs.TreeSteps.{UsedOnce}
 use Rattle.tree.proofs.Codes.{part-kind, part-body, label-low, label-high}
 use Rattle.tree.proofs.Parts.{Like, Alike, like, like-expression}
 use Rattle.tree.proofs.Users.{User, user-some, user-only, like-user}

@@ -8,7 +8,7 @@ use borrow.Author.Tests.{ltb-true, eqb-true, eqb-false, le-leb, eq-eqb, ne-eqb}
 use lib.Dec.{leb, ltb, eqb}
 use lib.IntN.{ℤ}
 use Rattle.cells.specs.Lists.{one, count, all}
-use Rattle.kinds.specs.Kinds.{groupCode, numberCode, fieldsAt, isOperand}
+use Rattle.kinds.specs.Kinds.{groupCode, numberCode, fieldsAt, isOperandForm}
 use Rattle.kinds.specs.declared.Form.{Form}
 use Rattle.kinds.proofs.Tests.{and-left, and-right}
 use Rattle.kinds.proofs.Laws.{kind-low}
@@ -19,7 +19,7 @@ use Rattle.refusals.specs.Refusal.{firstBad}
 use Rattle.refusals.proofs.FirstBad.{first-none}
 use Rattle.tree.specs.Tree.{operandIn, parts, groupRight, partRight, lineRight, structureBad, IsPart}
 use Rattle.tree.specs.Treed.{Formed}
-use Rattle.tree.specs.Steps.{Structured}
+use Rattle.tree.specs.TreeSteps.{Structured}
 use Rattle.tree.proofs.Codes.{part-kind, label-low, label-high}
 
 -- ---- lists of labels
@@ -66,25 +66,26 @@ one-most true = omega arith
 one-most false = omega arith
 
 pub field-most : (f : Form) (x y : ℕ) → count x (operandIn f y) ≤ 1
-field-most f x y = go (isOperand f)
+field-most f x y = go (isOperandForm f)
   where
     go : (b : Bool) → count x (cond b (y ∷ []) []) ≤ 1
     go true = omega (arith, one-most (eqb x y))
     go false = omega arith
 
 -- a field that is an operand holds a part
-pub field-part : (f : Form) (y : ℕ) → isOperand f ≡ true → 1 ≤ count y (operandIn f y)
+pub field-part : (f : Form) (y : ℕ) → isOperandForm f ≡ true → 1 ≤ count y (operandIn f y)
 field-part f y e = rw (e, eq-eqb y y refl) (omega arith)
 
 -- fields that hold no 0 as a body or operand
-field-zero : (f : Form) (x : ℕ) → (isOperand f ≡ true → 1 ≤ x) → count 0 (operandIn f x) ≡ 0
-field-zero f x h = go (isOperand f) h
+field-zero : (f : Form) (x : ℕ) → (isOperandForm f ≡ true → 1 ≤ x) → count 0 (operandIn f x) ≡ 0
+field-zero f x h = go (isOperandForm f) h
   where
     go : (b : Bool) → (b ≡ true → 1 ≤ x) → count 0 (cond b (x ∷ []) []) ≡ 0
     go true g = rw (ne-eqb 0 x (λ e. omega (arith, g refl)))
     go false g = refl
 
-pub parts-zero : (t : List ℤ) (l : ℕ) → (isOperand (fieldsAt (kind t l) .a) ≡ true → 1 ≤ fieldA t l) → (isOperand (fieldsAt (kind t l) .b) ≡ true → 1 ≤ fieldB t l) → (isOperand (fieldsAt (kind t l) .c) ≡ true → 1 ≤ fieldC t l) → count 0 (parts t l) ≡ 0
+pub parts-zero : (t : List ℤ) (l : ℕ) → (isOperandForm (fieldsAt (kind t l) .a) ≡ true → 1 ≤ fieldA t l) → (isOperandForm (fieldsAt (kind t l) .b) ≡ true → 1 ≤ fieldB t l)
+    → (isOperandForm (fieldsAt (kind t l) .c) ≡ true → 1 ≤ fieldC t l) → count 0 (parts t l) ≡ 0
 parts-zero t l a b c =
     omega (arith, count-parts t l 0, field-zero (fieldsAt (kind t l) .a) (fieldA t l) a, field-zero (fieldsAt (kind t l) .b) (fieldB t l) b, field-zero (fieldsAt (kind t l) .c) (fieldC t l) c)
 
@@ -113,8 +114,11 @@ module _ (t : List ℤ) (n : ℕ) (s : Formed t n) (fine : firstBad (structureBa
   pub structured : Structured t n
   structured = record {
     formed = s;
-    group = λ l h g d.
-        (ltb-true (fieldA t l) l (and-left (ltb (fieldA t l) l) (eqb (kind t (fieldA t l)) groupCode) (right-group l h g d)), eqb-true (kind t (fieldA t l)) groupCode (and-right (ltb (fieldA t l) l) (eqb (kind t (fieldA t l)) groupCode) (right-group l h g d)));
+    group = λ l h g d. (
+      ltb-true (fieldA t l) l (and-left (ltb (fieldA t l) l) (eqb (kind t (fieldA t l)) groupCode) (right-group l h g d)),
+      eqb-true (kind t (fieldA t l)) groupCode
+          (and-right (ltb (fieldA t l) l) (eqb (kind t (fieldA t l)) groupCode) (right-group l h g d)),
+    );
     part = λ l x p.
         (ltb-true l x (and-left (ltb l x) (isExpression t x) (right-part l x p)), and-right (ltb l x) (isExpression t x) (right-part l x p));
   }

@@ -10,6 +10,7 @@ use borrow.Author.Tests.{eq-eqb, eqb-true, eqb-false}
 use lib.Dec.{eqb}
 use lib.IntN.{ℤ, pos}
 use lib.ListN.{length, set}
+use Rattle.cells.specs.Limits.{labelLimit}
 use Rattle.kinds.specs.Kinds.{isKind}
 use Rattle.kinds.proofs.Laws.{not-expression, either}
 use Rattle.cells.specs.Cells.{natOf}
@@ -19,13 +20,15 @@ use Rattle.cells.proofs.Signed.{clash}
 use Rattle.cells.proofs.Table.{cell-put, cell-other}
 use Rattle.tree.specs.Tree.{parts, uses, IsPart, userOf, ownerOf, levelOf}
 use Rattle.tree.specs.Treed.{Plain}
-use Rattle.tree.specs.Steps.{nodeAt, counted, countedAll, assigned, assignedAll, propagated, Inside, Countable, Propagable, Structured, UsedOnce, Natural, Over, Counted, turnOf, Propagated, Cleared}
+use Rattle.tree.specs.TreeSteps.{nodeAt, counted, countedAll, assigned, assignedAll, propagated, Inside, Countable, Propagable, Structured, UsedOnce, Natural, Over}
+use Rattle.tree.specs.TreeSteps.{UsesCounted, turnOf, Propagated, Cleared}
 use Rattle.tree.specs.declared.Node.{Node}
 use Rattle.tree.proofs.Codes.{expression-kind, label-high}
 use Rattle.tree.proofs.Users.{user-some, uses-most}
 use Rattle.tree.proofs.Labels.{node-definition, node-count, propagated-definition, propagated-expression}
 use Rattle.tree.proofs.Owners as own
-use Rattle.tree.proofs.Writes.{plain-natural, over-start, over-alike, alike-node, none-or-some, over-set, counted-length, counted-target, over-counted, assigned-length, assigned-other, assigned-owner, assigned-level, over-assigned}
+use Rattle.tree.proofs.Writes.{plain-natural, over-start, over-alike, alike-node, none-or-some, over-set, counted-length, counted-target, over-counted, assigned-length}
+use Rattle.tree.proofs.Writes.{assigned-other, assigned-owner, assigned-level, over-assigned}
 
 -- ---- the parts of a line are labels
 
@@ -66,7 +69,7 @@ module _ (t : List ℤ) (n : ℕ) (s : Structured t n) where
 
 -- ---- counting
 
-pub count-start : (t : List ℤ) (n : ℕ) → Plain t n → Counted t n 0 t
+pub count-start : (t : List ℤ) (n : ℕ) → Plain t n → UsesCounted t n 0 t
 count-start t n p = record { over = over-start t n (plain-natural t n p); uses = λ x h g. blank x h g }
   where
     blank : (x : ℕ) → 1 ≤ x → x ≤ n → target t x ≡ 0
@@ -77,7 +80,7 @@ uses-step : (t : List ℤ) (l x : ℕ) → 1 ≤ l → uses t l x ≡ uses t (l 
 uses-step t zero x h = absurd (omega arith)
 uses-step t (suc k) x h = let e : suc k - 1 ≡ k = omega arith in rw e
 
-module _ (t : List ℤ) (n : ℕ) (s : Structured t n) (w : List ℤ) (l : ℕ) (h : 1 ≤ l) (g : l ≤ n) (r : Counted t n (l - 1) w) where
+module _ (t : List ℤ) (n : ℕ) (s : Structured t n) (w : List ℤ) (l : ℕ) (h : 1 ≤ l) (g : l ≤ n) (r : UsesCounted t n (l - 1) w) where
   few-uses : (x : ℕ) → x ≤ n → target w x ≤ 3072
   few-uses x m = ⊎-elim (λ e. rw e (omega arith)) (λ a. omega (arith, r .uses x a m, uses-most t x (l - 1), s .formed .few)) (none-or-some x)
 
@@ -112,11 +115,13 @@ module _ (t : List ℤ) (n : ℕ) (s : Structured t n) (w : List ℤ) (l : ℕ) 
       let ic : 8 * node .c ≤ length two-more = omega (arith, i .c) in
       omega (arith, counted-target (node .c) two-more ic x a, counted-target (node .b) one-more ib x a, counted-target (node .a) w (i .a) x a, r .uses x a m, uses-step t l x h, node-count t l x a)
 
-  pub count-turn : Counted t n l (countedAll (nodeAt w l) w)
+  pub count-turn : UsesCounted t n l (countedAll (nodeAt w l) w)
   count-turn =
       let m = node-most t n s l in
       rw (node-over t n s w (r .over) l) (record {
-        over = over-counted t two-more n (s .formed .room) (over-counted t one-more n (s .formed .room) (over-counted t w n (s .formed .room) (r .over) (node .a) (m .0)) (node .b) (m .1)) (node .c) (m .2);
+        over =
+            over-counted t two-more n (s .formed .room) (over-counted t one-more n (s .formed .room) (over-counted t w n (s .formed .room) (r .over) (node .a) (m .0)) (node .b) (m .1)) (node .c)
+            (m .2);
         uses = counted-uses;
       })
 
@@ -167,7 +172,7 @@ module _ (t : List ℤ) (n : ℕ) (s : UsedOnce t n) (w : List ℤ) (l : ℕ) (h
   group-over : fieldA w l ≡ fieldA t l
   group-over = over-alike t w n (r .over) l 3 (omega arith)
 
-  group-few : isDefinition t l ≡ true → fieldA t l ≤ 1024
+  group-few : isDefinition t l ≡ true → fieldA t l ≤ labelLimit
   group-few d =
       ⊎-elim (λ e. omega (arith, ap (fieldA t) e, s .structure .formed .top)) (λ e. omega (arith, s .structure .group l e g d .0, s .structure .formed .few)) (eq-or-lt-of-le h)
 
@@ -259,10 +264,12 @@ module _ (t : List ℤ) (n : ℕ) (s : UsedOnce t n) (w : List ℤ) (l : ℕ) (h
       let room : 8 * l ≤ length w = omega (arith, r .over .size, s .structure .formed .room) in
       let f = not-expression (kind t l) d in
       let right : (1 ≤ l → (fieldA t l ≡ ownerOf t n l) × (0 ≡ levelOf t n l)) = λ z. (sym (own.owner-group t n l f), sym (own.level-own t n l f)) in
-      propagated-so l 1 (λ x q. (sym (own.body-owner t n s l x d q), sym (own.body-level t n s l x d q))) (assigned l (fieldA t l) 0 w) (over-assigned t w n (s .structure .formed .room) (r .over) l (fieldA t l) 0 g)
+      propagated-so l 1 (λ x q. (sym (own.body-owner t n s l x d q), sym (own.body-level t n s l x d q))) (assigned l (fieldA t l) 0 w)
+      (over-assigned t w n (s .structure .formed .room) (r .over) l (fieldA t l) 0 g)
       (λ y a b c. settled room right y a b c)
     where
-      settled : 8 * l ≤ length w → (1 ≤ l → (fieldA t l ≡ ownerOf t n l) × (0 ≡ levelOf t n l)) → (y : ℕ) → 1 ≤ y → y ≤ n → (turnOf t n y ≤ l - 1) ⊎ ((y ≡ l) × (isExpression t y ≡ false)) → Right t n (assigned l (fieldA t l) 0 w) y
+      settled : 8 * l ≤ length w → (1 ≤ l → (fieldA t l ≡ ownerOf t n l) × (0 ≡ levelOf t n l)) → (y : ℕ) → 1 ≤ y → y ≤ n
+          → (turnOf t n y ≤ l - 1) ⊎ ((y ≡ l) × (isExpression t y ≡ false)) → Right t n (assigned l (fieldA t l) 0 w) y
       settled room right y a b c =
           ⊎-elim (λ z. z) (λ z. absurd (omega arith))
           (assigned-right t n w l (fieldA t l) 0 y 0 room right a (⊎-elim (λ z. inl (before-right y a b z)) (λ z. inr (this z)) c))

@@ -18,7 +18,7 @@ use Rattle.refusals.specs.declared.Verdict.{Verdict}
 use Rattle.refusals.specs.declared.Verdict.the-variants.{Fine, Refused}
 use Rattle.tree.specs.Tree.{usesBad, userOf, argumentBad, levelBad, ownerOf}
 use Rattle.tree.specs.Treed.{Formed, Plain, Written}
-use Rattle.tree.specs.Steps.{cellBad, UsedOnce, Over, Counted, turnOf, Propagated, Cleared, Owning}
+use Rattle.tree.specs.TreeSteps.{cellBad, UsedOnce, Over, UsesCounted, turnOf, Propagated, Cleared, Owning}
 use Rattle.tree.specs.declared.Rule.the-variants as rule
 use Rattle.tree.proofs.Parts.{Alike, alike-expression}
 use Rattle.tree.proofs.Owners as own
@@ -26,7 +26,7 @@ use Rattle.tree.proofs.Writes.{over-then, over-alike, alike-formed, ali
 
 -- ---- rows 9, 10 and 11
 
-pub uses-rows : (t : List ℤ) (n : ℕ) (w : List ℤ) → Counted t n n w → firstBad (cellBad rule.Uses w) 1 n ≡ firstBad (usesBad t n) 1 n
+pub uses-rows : (t : List ℤ) (n : ℕ) (w : List ℤ) → UsesCounted t n n w → firstBad (cellBad rule.Uses w) 1 n ≡ firstBad (usesBad t n) 1 n
 uses-rows t n w r =
     first-same (cellBad rule.Uses w) (usesBad t n) n 1
     (λ l h g. rw (alike-expression t w (over-alike t w n (r .over)) l, r .uses l h (omega arith)))

@@ -10,7 +10,8 @@ use native.Mathlib.Numerals.{add-one}
 use borrow.Author.Tests.{ltb-false, leb-true, leb-false}
 use lib.Dec.{leb, ltb}
 use lib.IntN.{ℤ}
-use Rattle.kinds.specs.Kinds.{groupCode, fieldsAt, isOperand, operandA, operandB, operandC, hasBody, takes, placeOf}
+use Rattle.cells.specs.Limits.{levelLimit}
+use Rattle.kinds.specs.Kinds.{groupCode, fieldsAt, isOperandForm, operandA, operandB, operandC, hasBody, takes, argumentPlace}
 use Rattle.kinds.proofs.Tests.{and-left, and-right}
 use Rattle.kinds.proofs.Laws.{not-expression, either}
 use Rattle.cells.specs.Table.{kind, isDefinition, isExpression, fieldA, fieldB, fieldC, owner, withColumn}
@@ -22,7 +23,7 @@ use Rattle.refusals.specs.Refusal.{firstBad}
 use Rattle.refusals.proofs.FirstBad.{first-none}
 use Rattle.tree.specs.Tree.{IsPart, usesBad, definitionOf, ownerOf, levelOf, argumentIn, argumentBad, levelBad, structureBad, treeBad}
 use Rattle.tree.specs.Treed.{Formed, PartOf, Treed}
-use Rattle.tree.specs.Steps.{UsedOnce}
+use Rattle.tree.specs.TreeSteps.{UsedOnce}
 use Rattle.tree.proofs.Codes.{expression-kind, no-place, label-low, label-high}
 use Rattle.tree.proofs.Parts.{Alike, structured, count-parts, field-part}
 use Rattle.tree.proofs.Users.{tree}
@@ -66,28 +67,28 @@ module _ (t : List ℤ) (n : ℕ) (s : Formed t n) (fine : treeBad t n ≡ Fine)
   has-body : (x : ℕ) → isExpression t x ≡ true → HasBody t (ownerOf t n x)
   has-body x e = own.owned-body t n is (ownerOf t n x) x (own.owned t n is x e)
 
-  argument-in : (x : ℕ) → placeOf (kind t x) ≤ takes (kind t (ownerOf t n x))
+  argument-in : (x : ℕ) → argumentPlace (kind t x) ≤ takes (kind t (ownerOf t n x))
   argument-in x = go (leb 1 (kind t x)) refl
     where
-      given : (k d : ℕ) → argumentIn k d ≡ 0 → (b : Bool) → ltb (takes d) (placeOf k) ≡ b → placeOf k ≤ takes d
+      given : (k d : ℕ) → argumentIn k d ≡ 0 → (b : Bool) → ltb (takes d) (argumentPlace k) ≡ b → argumentPlace k ≤ takes d
       given k d z true q = let y : _≡_ {A = ℕ} 10 0 = rw q at z in absurd (omega arith)
-      given k d z false q = ltb-false (takes d) (placeOf k) q
+      given k d z false q = ltb-false (takes d) (argumentPlace k) q
 
-      go : (b : Bool) → leb 1 (kind t x) ≡ b → placeOf (kind t x) ≤ takes (kind t (ownerOf t n x))
+      go : (b : Bool) → leb 1 (kind t x) ≡ b → argumentPlace (kind t x) ≤ takes (kind t (ownerOf t n x))
       go true q =
           let h = leb-true 1 (kind t x) q in
           let z : argumentBad t n x ≡ 0 = first-none (argumentBad t n) n 1 (rows .2) x (label-low t x n s h) (omega (arith, label-high t x n s h)) in
-          given (kind t x) (kind t (ownerOf t n x)) z (ltb (takes (kind t (ownerOf t n x))) (placeOf (kind t x))) refl
+          given (kind t x) (kind t (ownerOf t n x)) z (ltb (takes (kind t (ownerOf t n x))) (argumentPlace (kind t x))) refl
       go false q =
           let z : kind t x ≡ 0 = omega (arith, leb-false 1 (kind t x) q) in
-          omega (arith, ap placeOf z ∙ no-place)
+          omega (arith, ap argumentPlace z ∙ no-place)
 
-  low-level : (x : ℕ) → 1 ≤ x → x ≤ n → levelOf t n x ≤ 32
-  low-level x h g = go (ltb 32 (levelOf t n x)) refl (first-none (levelBad t n) n 1 (rows .3) x h (omega arith))
+  low-level : (x : ℕ) → 1 ≤ x → x ≤ n → levelOf t n x ≤ levelLimit
+  low-level x h g = go (ltb levelLimit (levelOf t n x)) refl (first-none (levelBad t n) n 1 (rows .3) x h (omega arith))
     where
-      go : (b : Bool) → ltb 32 (levelOf t n x) ≡ b → levelBad t n x ≡ 0 → levelOf t n x ≤ 32
+      go : (b : Bool) → ltb levelLimit (levelOf t n x) ≡ b → levelBad t n x ≡ 0 → levelOf t n x ≤ levelLimit
       go true q z = let y : _≡_ {A = ℕ} 11 0 = rw q at z in absurd (omega arith)
-      go false q z = ltb-false 32 (levelOf t n x) q
+      go false q z = ltb-false levelLimit (levelOf t n x) q
 
   pub treed : Treed t n
   treed = record {
@@ -112,7 +113,7 @@ pub record TreeAccepted (w : List ℤ) (n : ℕ) : Type 0 where
   pub falls : (l : ℕ) → 1 ≤ l → l ≤ n → owner w l < l
   pub group : (l : ℕ) → 2 ≤ l → l ≤ n → isDefinition w l ≡ true → kind w (owner w l) ≡ groupCode
   pub owners : (l : ℕ) → isExpression w l ≡ true → HasBody w (owner w l)
-  pub argument : (l : ℕ) → placeOf (kind w l) ≤ takes (kind w (owner w l))
+  pub argument : (l : ℕ) → argumentPlace (kind w l) ≤ takes (kind w (owner w l))
   pub body : (l : ℕ) → HasBody w l → Part w n l l (fieldB w l)
   pub first : (l : ℕ) → operandA (kind w l) ≡ true → Part w n l (owner w l) (fieldA w l)
   pub second : (l : ℕ) → operandB (kind w l) ≡ true → Part w n l (owner w l) (fieldB w l)
@@ -150,48 +151,48 @@ module _ (t : List ℤ) (n : ℕ) (s : Formed t n) (r : Treed t n) where
   operand-placed : (l x y : ℕ) → y ≡ x → isExpression t l ≡ true → IsPart t l x → Part owned-table n l (owner owned-table l) y
   operand-placed l x y q e p = placed l (owner owned-table l) x y q p (r .standing l e ∙ sym (owner-at l (expression-kind t l e)))
 
-  first-part : (l : ℕ) → isOperand (fieldsAt (kind t l) .a) ≡ true → IsPart t l (fieldA t l)
+  first-part : (l : ℕ) → isOperandForm (fieldsAt (kind t l) .a) ≡ true → IsPart t l (fieldA t l)
   first-part l e = omega (arith, count-parts t l (fieldA t l), field-part (fieldsAt (kind t l) .a) (fieldA t l) e)
 
-  second-part : (l : ℕ) → isOperand (fieldsAt (kind t l) .b) ≡ true → IsPart t l (fieldB t l)
+  second-part : (l : ℕ) → isOperandForm (fieldsAt (kind t l) .b) ≡ true → IsPart t l (fieldB t l)
   second-part l e = omega (arith, count-parts t l (fieldB t l), field-part (fieldsAt (kind t l) .b) (fieldB t l) e)
 
-  third-part : (l : ℕ) → isOperand (fieldsAt (kind t l) .c) ≡ true → IsPart t l (fieldC t l)
+  third-part : (l : ℕ) → isOperandForm (fieldsAt (kind t l) .c) ≡ true → IsPart t l (fieldC t l)
   third-part l e = omega (arith, count-parts t l (fieldC t l), field-part (fieldsAt (kind t l) .c) (fieldC t l) e)
 
   body-placed : (l : ℕ) → HasBody t l → Part owned-table n l l (fieldB owned-table l)
   unfolding hasBody
   body-placed l h =
-      placed l l (fieldB t l) (fieldB owned-table l) (same l 4 (omega arith)) (second-part l (and-right (isDefinition t l) (isOperand (fieldsAt (kind t l) .b)) h))
-      (r .itself l (and-left (isDefinition t l) (isOperand (fieldsAt (kind t l) .b)) h))
+      placed l l (fieldB t l) (fieldB owned-table l) (same l 4 (omega arith)) (second-part l (and-right (isDefinition t l) (isOperandForm (fieldsAt (kind t l) .b)) h))
+      (r .itself l (and-left (isDefinition t l) (isOperandForm (fieldsAt (kind t l) .b)) h))
 
   first-placed : (l : ℕ) → operandA (kind t l) ≡ true → Part owned-table n l (owner owned-table l) (fieldA owned-table l)
   unfolding operandA
   first-placed l h =
-      operand-placed l (fieldA t l) (fieldA owned-table l) (same l 3 (omega arith)) (and-left (isExpression t l) (isOperand (fieldsAt (kind t l) .a)) h)
-      (first-part l (and-right (isExpression t l) (isOperand (fieldsAt (kind t l) .a)) h))
+      operand-placed l (fieldA t l) (fieldA owned-table l) (same l 3 (omega arith)) (and-left (isExpression t l) (isOperandForm (fieldsAt (kind t l) .a)) h)
+      (first-part l (and-right (isExpression t l) (isOperandForm (fieldsAt (kind t l) .a)) h))
 
   second-placed : (l : ℕ) → operandB (kind t l) ≡ true → Part owned-table n l (owner owned-table l) (fieldB owned-table l)
   unfolding operandB
   second-placed l h =
-      operand-placed l (fieldB t l) (fieldB owned-table l) (same l 4 (omega arith)) (and-left (isExpression t l) (isOperand (fieldsAt (kind t l) .b)) h)
-      (second-part l (and-right (isExpression t l) (isOperand (fieldsAt (kind t l) .b)) h))
+      operand-placed l (fieldB t l) (fieldB owned-table l) (same l 4 (omega arith)) (and-left (isExpression t l) (isOperandForm (fieldsAt (kind t l) .b)) h)
+      (second-part l (and-right (isExpression t l) (isOperandForm (fieldsAt (kind t l) .b)) h))
 
   third-placed : (l : ℕ) → operandC (kind t l) ≡ true → Part owned-table n l (owner owned-table l) (fieldC owned-table l)
   unfolding operandC
   third-placed l h =
-      operand-placed l (fieldC t l) (fieldC owned-table l) (same l 5 (omega arith)) (and-left (isExpression t l) (isOperand (fieldsAt (kind t l) .c)) h)
-      (third-part l (and-right (isExpression t l) (isOperand (fieldsAt (kind t l) .c)) h))
+      operand-placed l (fieldC t l) (fieldC owned-table l) (same l 5 (omega arith)) (and-left (isExpression t l) (isOperandForm (fieldsAt (kind t l) .c)) h)
+      (third-part l (and-right (isExpression t l) (isOperandForm (fieldsAt (kind t l) .c)) h))
 
   -- an argument's owner; what is no label stands for none
-  argument-given : (l : ℕ) → placeOf (kind owned-table l) ≤ takes (kind owned-table (owner owned-table l))
+  argument-given : (l : ℕ) → argumentPlace (kind owned-table l) ≤ takes (kind owned-table (owner owned-table l))
   argument-given l = rw (kind-same l) (go (leb 1 (kind t l)) refl)
     where
-      go : (b : Bool) → leb 1 (kind t l) ≡ b → placeOf (kind t l) ≤ takes (kind owned-table (owner owned-table l))
+      go : (b : Bool) → leb 1 (kind t l) ≡ b → argumentPlace (kind t l) ≤ takes (kind owned-table (owner owned-table l))
       go true q = rw (owner-at l (leb-true 1 (kind t l) q), kind-same (ownerOf t n l)) (r .argument l)
       go false q =
           let z : kind t l ≡ 0 = omega (arith, leb-false 1 (kind t l) q) in
-          omega (arith, ap placeOf z ∙ no-place)
+          omega (arith, ap argumentPlace z ∙ no-place)
 
   pub tree-accepted : TreeAccepted owned-table n
   tree-accepted = record {

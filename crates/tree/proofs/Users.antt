@@ -16,7 +16,7 @@ use Rattle.refusals.specs.declared.Verdict.the-variants.{Fine}
 use Rattle.refusals.specs.Refusal.{firstBad}
 use Rattle.refusals.proofs.FirstBad.{first-none}
 use Rattle.tree.specs.Tree.{parts, uses, usesBad, IsPart, userOf}
-use Rattle.tree.specs.Steps.{Structured, UsedOnce}
+use Rattle.tree.specs.TreeSteps.{Structured, UsedOnce}
 use Rattle.tree.proofs.Codes.{expression-kind, label-low, label-high}
 use Rattle.tree.proofs.Parts.{Like, Alike, like, count-parts, field-most, like-parts}
 

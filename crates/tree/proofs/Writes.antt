@@ -17,7 +17,7 @@ use Rattle.cells.proofs.Stores.{intAt-put, intAt-other}
 use Rattle.cells.proofs.Table.{cell-put, cell-other}
 use Rattle.tree.specs.Tree.{IsPart}
 use Rattle.tree.specs.Treed.{Formed, Plain}
-use Rattle.tree.specs.Steps.{nodeAt, counted, assigned, Inside, Countable, Structured, UsedOnce, Natural, Over}
+use Rattle.tree.specs.TreeSteps.{nodeAt, counted, assigned, Inside, Countable, Structured, UsedOnce, Natural, Over}
 use Rattle.tree.specs.declared.Node.{Node}
 use Rattle.tree.proofs.Parts.{Alike, alike-expression, alike-definition, alike-parts}
 use Rattle.tree.proofs.Users.{alike-uses}

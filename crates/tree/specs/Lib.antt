@@ -1,3 +1,3 @@
 pub mod Tree
 pub mod Treed
-pub mod Steps
+pub mod TreeSteps

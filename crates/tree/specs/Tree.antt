@@ -7,9 +7,10 @@ use Prim.Native.Nat.{ℕ, zero, suc, _+_, _≤_}
 use lib.Dec.{leb, ltb, eqb}
 use lib.IntN.{ℤ}
 use lib.ListN.{length}
+use Rattle.cells.specs.Limits.{levelLimit}
 use Rattle.cells.specs.Lists.{count, all}
 use Rattle.cells.specs.Table.{kind, isDefinition, isExpression, fieldA, fieldB, fieldC}
-use Rattle.kinds.specs.Kinds.{groupCode, fieldsAt, isOperand, takes, placeOf}
+use Rattle.kinds.specs.Kinds.{groupCode, fieldsAt, isOperandForm, takes, argumentPlace}
 use Rattle.kinds.specs.declared.Form.{Form}
 use Rattle.refusals.specs.Refusal.{firstBad, orElse}
 use Rattle.refusals.specs.declared.Verdict.{Verdict}
@@ -18,7 +19,7 @@ use Rattle.refusals.specs.Rows.{structureRow, usesRow, argumentRow, levelRow}
 -- ---- the parts of a line
 
 abbrev pub operandIn : Form → ℕ → List ℕ
-operandIn f x = cond (isOperand f) (x ∷ []) []
+operandIn f x = cond (isOperandForm f) (x ∷ []) []
 
 -- a definition's body, an expression's operands; arguments, tests and branches count as operands
 unfoldable pub parts : List ℤ → ℕ → List ℕ
@@ -107,16 +108,16 @@ levelOf t n x = length (climb t n x x)
 
 -- "P owned by a V": an argument that the body of its owner is not given; k and d are the codes of the two
 abbrev pub argumentIn : ℕ → ℕ → ℕ
-argumentIn k d = cond (ltb (takes d) (placeOf k)) argumentRow 0
+argumentIn k d = cond (ltb (takes d) (argumentPlace k)) argumentRow 0
 
 abbrev pub argumentBad : List ℤ → ℕ → ℕ → ℕ
 argumentBad t n x = argumentIn (kind t x) (kind t (ownerOf t n x))
 
-abbrev pub tooDeep : ℕ → ℕ
-tooDeep level = cond (ltb 32 level) levelRow 0
+abbrev pub aboveLevels : ℕ → ℕ
+aboveLevels level = cond (ltb levelLimit level) levelRow 0
 
 abbrev pub levelBad : List ℤ → ℕ → ℕ → ℕ
-levelBad t n x = tooDeep (levelOf t n x)
+levelBad t n x = aboveLevels (levelOf t n x)
 
 -- ---- rows 8 to 11, each its own pass upward through the labels
 

@@ -5,18 +5,19 @@ use mathlib.Core.List.{List}
 use Prim.Native.Nat.{ℕ, _+_, _*_, _≤_, _<_}
 use lib.IntN.{ℤ, pos}
 use lib.ListN.{length}
+use Rattle.cells.specs.Limits.{labelLimit, levelLimit}
 use Rattle.cells.specs.Cells.{intAt}
 use Rattle.cells.specs.Lists.{count}
 use Rattle.cells.specs.Table.{kind, isDefinition, isExpression, fieldA, withColumn}
 use Rattle.cells.specs.Accepted.{HasBody}
-use Rattle.kinds.specs.Kinds.{groupCode, isKind, takes, placeOf}
+use Rattle.kinds.specs.Kinds.{groupCode, isKind, takes, argumentPlace}
 use Rattle.refusals.specs.declared.Verdict.{Verdict}
 use Rattle.refusals.specs.declared.Verdict.the-variants.{Fine, Refused}
 use Rattle.tree.specs.Tree.{parts, uses, IsPart, Owned, Level, definitionOf, ownerOf, levelOf}
 
 -- the lines of a table of n labels that passed rows 1 to 7
 pub record Formed (t : List ℤ) (n : ℕ) : Type 0 where
-  pub few : n ≤ 1024
+  pub few : n ≤ labelLimit
   pub room : 8 * n ≤ length t
   pub kinds : (l : ℕ) → 1 ≤ l → l ≤ n → isKind (kind t l) ≡ true
   pub unused : (l : ℕ) → n < l → kind t l ≡ 0
@@ -54,8 +55,8 @@ pub record Treed (t : List ℤ) (n : ℕ) : Type 0 where
   -- an expression is used once, and owned by what has a body; an argument is given to its owner
   pub once : (x : ℕ) → isExpression t x ≡ true → uses t n x ≡ 1
   pub owners : (x : ℕ) → isExpression t x ≡ true → HasBody t (ownerOf t n x)
-  pub argument : (x : ℕ) → placeOf (kind t x) ≤ takes (kind t (ownerOf t n x))
-  pub level : (x : ℕ) → 1 ≤ x → x ≤ n → levelOf t n x ≤ 32
+  pub argument : (x : ℕ) → argumentPlace (kind t x) ≤ takes (kind t (ownerOf t n x))
+  pub level : (x : ℕ) → 1 ≤ x → x ≤ n → levelOf t n x ≤ levelLimit
   -- the computed owner and level are those of the relations, and the only ones
   pub owned : (x : ℕ) → isExpression t x ≡ true → Owned t (ownerOf t n x) x
   pub owned-only : (d x : ℕ) → Owned t d x → d ≡ ownerOf t n x

@@ -5,13 +5,14 @@ ghost use mathlib.Core.Path.{_≡_};
 ghost use mathlib.Core.Bool.{true};
 ghost use Prim.Native.Nat.{_*_, _≤_, _<_};
 ghost use lib.ListN.{length};
+ghost use Rattle.cells.specs.Limits.{labelLimit};
 ghost use Rattle.cells.specs.Lists.{all};
 ghost use Rattle.kinds.specs.Kinds.{isKind};
 ghost use Rattle.cells.specs.Table.{cell, kind, isExpression, target};
 ghost use Rattle.refusals.specs.Refusal.{firstBad, orElse};
 ghost use Rattle.tree.specs.Tree.{partRight, parts, structureBad, usesBad, argumentBad, levelBad, treeBad};
 ghost use Rattle.tree.specs.Treed.{Formed, Plain, Written};
-ghost use Rattle.tree.specs.Steps.{partIn, nodeAt, Readable, groupFits, partFits, cellBad, counted, countedAll, assigned, assignedAll, propagated, Inside, Countable, Propagable, Structured, UsedOnce, Natural, Counted, Propagated, Cleared, Owning};
+ghost use Rattle.tree.specs.TreeSteps.{partIn, nodeAt, Readable, groupFits, partFits, cellBad, counted, countedAll, assigned, assignedAll, propagated, Inside, Countable, Propagable, Structured, UsedOnce, Natural, UsesCounted, Propagated, Cleared, Owning};
 use kinds::Form;
 use refusals::Verdict;
 
@@ -163,7 +164,7 @@ fn argument_bad(table: &[i64], label: usize) -> u64
 fn level_bad(table: &[i64], label: usize) -> u64
     ensures { λ r. ⌜ r ≡ cellBad Rule.Level (now (table .entry)) label ⌝ }
 {
-    if 32 < cells::cell_at(table, label, cells::TARGET) {
+    if cells::LEVEL_LIMIT < cells::cell_at(table, label, cells::TARGET) {
         return refusals::LEVEL;
     }
     0
@@ -225,7 +226,7 @@ fn count_parts(table: &mut [i64], label: usize)
 // How often each label is used, in its target cell.
 fn count_uses(table: &mut [i64], n: usize)
     requires { ⌜ Plain (now table) n × Structured (now table) n ⌝ }
-    ensures { λ _. ⌜ Counted (now (table .entry)) n n (now (table .exit)) ⌝ }
+    ensures { λ _. ⌜ UsesCounted (now (table .entry)) n n (now (table .exit)) ⌝ }
 {
     let mut label: usize = 1;
     while label <= n {
@@ -238,7 +239,7 @@ fn count_uses(table: &mut [i64], n: usize)
 
 // Owner and level of x, if it is a label.
 fn assign(table: &mut [i64], x: usize, owner: usize, level: usize)
-    requires { ⌜ (8 * x ≤ length (now table)) × (owner ≤ 1024) × (level ≤ 1025) ⌝ }
+    requires { ⌜ (8 * x ≤ length (now table)) × (owner ≤ labelLimit) × (level ≤ 1025) ⌝ }
     ensures { λ _. ⌜ now (table .exit) ≡ assigned x owner level (now (table .entry)) ⌝ }
 {
     if x != 0 {
@@ -249,7 +250,7 @@ fn assign(table: &mut [i64], x: usize, owner: usize, level: usize)
 
 // Owner and level of the parts of a line.
 fn assign_parts(table: &mut [i64], node: Node, owner: usize, level: usize)
-    requires { ⌜ Inside (now table) node × (owner ≤ 1024) × (level ≤ 1025) ⌝ }
+    requires { ⌜ Inside (now table) node × (owner ≤ labelLimit) × (level ≤ 1025) ⌝ }
     ensures { λ _. ⌜ now (table .exit) ≡ assignedAll node owner level (now (table .entry)) ⌝ }
 {
     assign(table, node.a, owner, level);

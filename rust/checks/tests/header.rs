@@ -166,12 +166,12 @@ fn kinds() {
 fn limits() {
     let header = header();
     let places = [
-        ("TEXT_MOST", "lines", "isText"),
-        ("LABELS_MOST", "lines", "headBad"),
-        ("NAME_MOST", "text", "isName"),
-        ("PATH_MOST", "text", "isPath"),
-        ("NUMBER_MOST", "numbers", "limit"),
-        ("LEVELS_MOST", "tree", "tooDeep"),
+        ("TEXT_MOST", "cells", "sizeLimit"),
+        ("LABELS_MOST", "cells", "labelLimit"),
+        ("NAME_MOST", "cells", "nameLimit"),
+        ("PATH_MOST", "cells", "pathLimit"),
+        ("NUMBER_MOST", "cells", "numberLimit"),
+        ("LEVELS_MOST", "cells", "levelLimit"),
         ("STEPS_MOST", "evaluation", "stepLimit"),
         ("DEPTH_MOST", "evaluation", "depthLimit"),
         ("TABLE_CELLS", "cells", "cell"),
@@ -191,7 +191,7 @@ fn limits() {
 #[test]
 fn print() {
     let header = header();
-    let bound = format!("printBound = 36 + 48 * {}", header["LABELS_MOST"]);
+    let bound = "printBound = 36 + 48 * labelLimit";
     assert_eq!(definition("printing", "printBound"), bound);
     assert_eq!(header["PRINT_MOST"], 36 + 48 * header["LABELS_MOST"]);
 }

@@ -1,8 +1,8 @@
 //! Reads the Rattle crates of this repository: who uses whom.
 //!
 //! `uncited` finds what nothing cites, `mixed` the files that mix what readers
-//! believe with what functions promise each other, `page` writes what a reader has
-//! to believe.
+//! believe with what functions promise each other, `twice` the words that stand for
+//! two things, `page` writes what a reader has to believe.
 
 #![forbid(unsafe_code)]
 
@@ -22,5 +22,6 @@ pub mod rules;
 pub mod scope;
 pub mod tidy;
 pub mod tokens;
+pub mod twice;
 pub mod uncited;
 pub mod words;

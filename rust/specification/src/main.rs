@@ -14,6 +14,7 @@ const USAGE: &str = "\
 Usage: specification uncited [ROOT]
        specification tidy [ROOT]
        specification mixed [ROOT]
+       specification twice [ROOT]
        specification page [--check] [ROOT]
 
 Reads the Rattle crates of the repository at ROOT, or here.
@@ -22,6 +23,7 @@ Reads the Rattle crates of the repository at ROOT, or here.
   tidy      takes the imports that are not used out of the files
   mixed     lists the files of specs/ that hold both what readers believe and what
             functions promise each other
+  twice     lists the names that two definitions, types or files of specs/ have
   page      writes docs/SPECIFICATION.md, what a reader has to believe;
             with --check it only says whether the page there is that one
 
@@ -59,6 +61,7 @@ fn run(word: &str, root: &Path) -> Result<u8, String> {
         "uncited" => Ok(list(&Repository::read(root)?.uncited())),
         "tidy" => tidy(root),
         "mixed" => Ok(list(&Repository::read(root)?.mixed())),
+        "twice" => Ok(list(&Repository::read(root)?.twice())),
         "page" => write(root),
         _ => Err(format!("there is no word {word}\n{}", USAGE.trim_end())),
     }

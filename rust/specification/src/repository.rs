@@ -10,6 +10,7 @@ use crate::graph::Graph;
 use crate::page::Page;
 use crate::rules;
 use crate::tidy;
+use crate::twice;
 use crate::uncited;
 
 /// The documents whose quotes are roots, and the one of them that is the map.
@@ -48,6 +49,11 @@ impl Repository {
     /// The files of `specs/` that are mixed, a line each.
     pub fn mixed(&self) -> Vec<String> {
         belief::mixed(&self.graph, &belief::belief(&self.graph, &self.lines))
+    }
+
+    /// The names that stand for two things, a line each.
+    pub fn twice(&self) -> Vec<String> {
+        twice::twice(&self.graph)
     }
 
     /// The page of what a reader has to believe.

@@ -135,6 +135,23 @@ fn a_file_with_both_is_mixed() {
 }
 
 #[test]
+fn a_word_for_two_things_is_found() {
+    let copy = Copy::new("twice");
+    assert_eq!(copy.read().twice(), [""; 0]);
+    let text = |name: &str| format!("\nabbrev pub {name} : ℕ → ℕ\n{name} n = n\n");
+    copy.plant("crates/order/specs/Order.antt", &text("planted"));
+    copy.plant("crates/text/specs/Bytes.antt", &text("planted"));
+    // a type of the code counts, and a file
+    copy.plant("crates/text/specs/Bytes.antt", &text("PlanReply"));
+    fs::write(copy.root.join("crates/text/specs/Order.antt"), "").expect("a file");
+    let found = copy.read().twice();
+    assert!(found[0].starts_with("`PlanReply`: crates/calls/src/lib.rt:"));
+    assert!(found[1].starts_with("`planted`: crates/order/specs/Order.antt:"));
+    let files = "crates/order/specs/Order.antt, crates/text/specs/Order.antt";
+    assert_eq!(found[2..], [files]);
+}
+
+#[test]
 fn the_page_follows_the_definitions() {
     let copy = Copy::new("page");
     let before = copy.read().page();

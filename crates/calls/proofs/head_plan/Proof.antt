@@ -17,10 +17,14 @@ enum-known-row : tie.Need-enum-known-row
 enum-known-row c = search needs
 
 returns : tie.Need-returns
-returns c = plan-next _ _ _ (c .before .before .before .before .head-table .ensures) _ _ _ (c .before .before .n .given .1) (c .with-room .ensures)
+returns c =
+    let head-table = c .before .before .before .before .head-table in
+    plan-next _ _ _ (head-table .ensures) _ _ _ (c .before .before .n .given .1) (c .with-room .ensures)
 
 returns-2 : tie.Need-returns-2
-returns-2 c = buffer-stop _ _ _ (c .before .before .before .head-table .ensures) _ _ _ (c .before .row .given .1)
+returns-2 c =
+    let head-table = c .before .before .before .head-table in
+    buffer-stop _ _ _ (head-table .ensures) _ _ _ (c .before .row .given .1)
 
 pub head-plan-spec : {M : Type 1} → statement M
 head-plan-spec =

@@ -13,7 +13,10 @@ enum-known-n : tie.Need-enum-known-n
 enum-known-n c = search needs
 
 mul-with-room : tie.Need-mul-with-room
-mul-with-room c = let h = head-passed _ _ (c .before .before .before .check-head .ensures) _ (c .before .n .given .1) in omega (arith, h .few)
+mul-with-room c =
+    let check-head = c .before .before .before .check-head in
+    let h = head-passed _ _ (check-head .ensures) _ (c .before .n .given .1) in
+    omega (arith, h .few)
 
 with-room-requires : tie.Need-with-room-requires
 with-room-requires c κs = search needs
@@ -22,10 +25,14 @@ enum-known-row : tie.Need-enum-known-row
 enum-known-row c = search needs
 
 returns : tie.Need-returns
-returns c = table-next _ _ _ (c .before .before .before .before .check-head .ensures) _ _ (c .before .before .n .given .1) (c .with-room .ensures)
+returns c =
+    let check-head = c .before .before .before .before .check-head in
+    table-next _ _ _ (check-head .ensures) _ _ (c .before .before .n .given .1) (c .with-room .ensures)
 
 returns-2 : tie.Need-returns-2
-returns-2 c = table-stop _ _ _ (c .before .before .before .check-head .ensures) _ _ (c .before .row .given .1)
+returns-2 c =
+    let check-head = c .before .before .before .check-head in
+    table-stop _ _ _ (check-head .ensures) _ _ (c .before .row .given .1)
 
 pub head-table-spec : {M : Type 1} → statement M
 head-table-spec =

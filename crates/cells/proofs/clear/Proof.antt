@@ -11,7 +11,9 @@ same-length : tie.Need-same-length
 same-length c = search needs
 
 returns : tie.Need-returns
-returns c = c .before .clear-from .ensures ∙ clear-all (c .before .before .before .args .t .now)
+returns c =
+    let entry = c .before .before .before in
+    c .before .clear-from .ensures ∙ clear-all (entry .args .t .now)
 
 pub clear-spec : {M : Type 1} → statement M
 clear-spec = tie.close (tie.spec clear-from-requires same-length returns)

@@ -30,10 +30,16 @@ add-i : tie.Need-add-i Inv-loop μ-loop
 add-i c = search needs
 
 loop-less : tie.Need-loop-less Inv-loop μ-loop
-loop-less c = omega (arith, c .before .before .before .before .loop-test .taken)
+loop-less c =
+    let loop-test = c .before .before .before .before .loop-test in
+    omega (arith, loop-test .taken)
 
 loop-again : tie.Need-loop-again Inv-loop μ-loop
-loop-again c = turn _ _ _ _ (c .before .before .before .before .before .loop .inv) (c .before .before .before .before .loop-test .taken) (c .before .before .before .nat-at .ensures) (c .before .evaluate-into .ensures)
+loop-again c =
+    let inv = c .before .before .before .before .before .loop .inv in
+    let loop-test = c .before .before .before .before .loop-test in
+    let nat-at = c .before .before .before .nat-at in
+    turn _ _ _ _ (inv) (loop-test .taken) (nat-at .ensures) (c .before .evaluate-into .ensures)
 
 same-length : tie.Need-same-length Inv-loop μ-loop
 same-length c = c .before .loop .inv .long

@@ -7,13 +7,18 @@ clear-requires : tie.Need-clear-requires
 clear-requires c κs = search needs
 
 evaluate-down-requires : tie.Need-evaluate-down-requires
-evaluate-down-requires c κs = let p = c .before .before .before .before .pre in listed _ _ _ _ _ (p .0) (p .1) (p .2) (p .3) (c .before .before .clear .ensures)
+evaluate-down-requires c κs =
+    let p = c .before .before .before .before .pre in
+    listed _ _ _ _ _ (p .0) (p .1) (p .2) (p .3) (c .before .before .clear .ensures)
 
 same-length : tie.Need-same-length
 same-length c = search needs
 
 returns : tie.Need-returns
-returns c = let p = c .before .before .before .before .before .before .pre in settles _ _ _ _ _ (p .0) (p .1) (p .2) (p .3) (c .before .before .before .before .clear .ensures) (c .before .evaluate-down .ensures)
+returns c =
+    let clear = c .before .before .before .before .clear in
+    let p = c .before .before .before .before .before .before .pre in
+    settles _ _ _ _ _ (p .0) (p .1) (p .2) (p .3) (clear .ensures) (c .before .evaluate-down .ensures)
 
 pub run-down-spec : {M : Type 1} → statement M
 run-down-spec = tie.close (tie.spec clear-requires evaluate-down-requires same-length returns)

@@ -17,7 +17,9 @@ same-length : tie.Need-same-length
 same-length c = search needs
 
 returns : tie.Need-returns
-returns c = cycle-stop _ _ _ _ _ (c .before .before .before .before .find-cycle .ensures .0) (c .before .if1 .taken) (c .found-at .ensures)
+returns c =
+    let find-cycle = c .before .before .before .before .find-cycle in
+    cycle-stop _ _ _ _ _ (find-cycle .ensures .0) (c .before .if1 .taken) (c .found-at .ensures)
 
 slice-aggregate-check-list : tie.Need-slice-aggregate-check-list
 slice-aggregate-check-list c = search needs
@@ -33,7 +35,10 @@ same-length-2 : tie.Need-same-length-2
 same-length-2 c = search needs
 
 returns-2 : tie.Need-returns-2
-returns-2 c = cycle-on _ _ _ _ _ (c .before .before .before .before .before .before .before .find-cycle .ensures .0) (c .before .before .before .before .if1 .left) (c .before .check-list .ensures)
+returns-2 c =
+    let find-cycle = c .before .before .before .before .before .before .before .find-cycle in
+    let if1 = c .before .before .before .before .if1 in
+    cycle-on _ _ _ _ _ (find-cycle .ensures .0) (if1 .left) (c .before .check-list .ensures)
 
 pub check-in-spec : {M : Type 1} → statement M
 check-in-spec =

@@ -15,7 +15,9 @@ same-length : tie.Need-same-length
 same-length c = search needs
 
 returns : tie.Need-returns
-returns c = listed-stop _ _ _ _ _ (c .before .before .before .before .listed-place .ensures) (c .before .if1 .taken) (c .found-at .ensures)
+returns c =
+    let listed-place = c .before .before .before .before .listed-place in
+    listed-stop _ _ _ _ _ (listed-place .ensures) (c .before .if1 .taken) (c .found-at .ensures)
 
 early-place-requires : tie.Need-early-place-requires
 early-place-requires c κs =
@@ -30,7 +32,11 @@ same-length-2 : tie.Need-same-length-2
 same-length-2 c = search needs
 
 returns-2 : tie.Need-returns-2
-returns-2 c = listed-on _ _ _ _ _ (c .before .before .before .before .before .before .before .before .listed-place .ensures) (c .before .before .before .before .before .if1 .left) _ (c .before .before .before .early-place .ensures) (c .found-at2 .ensures)
+returns-2 c =
+    let listed-place = c .before .before .before .before .before .before .before .before .listed-place in
+    let if1 = c .before .before .before .before .before .if1 in
+    let early-place = c .before .before .before .early-place in
+    listed-on _ _ _ _ _ (listed-place .ensures) (if1 .left) _ (early-place .ensures) (c .found-at2 .ensures)
 
 pub check-list-spec : {M : Type 1} → statement M
 check-list-spec =

@@ -1,5 +1,6 @@
 use Prim.Native.Nat.{_≤_}
 use native.Mathlib.Omega.{arith}
+use Rattle.cells.specs.Limits.{labelLimit}
 use Rattle.reach.proofs.Scratch.{zero-square}
 use borrow.Author.Needs.{needs}
 use Rattle.following.proofs.check_order.Statement.{statement}
@@ -47,7 +48,7 @@ slice-aggregate-check-in-4 c = search needs
 check-in-requires-4 : tie.Need-check-in-requires-4
 check-in-requires-4 c κs =
     let a = c .before .before .before .before in
-    let h : a .args .n ≤ 1024 = a .pre .few in
+    let h : a .args .n ≤ labelLimit = a .pre .few in
     (a .pre, zero-square (a .args .n) 1025 17 (omega arith) (omega arith))
 
 returns-4 : tie.Need-returns-4

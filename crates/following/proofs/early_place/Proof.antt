@@ -13,18 +13,20 @@ add-first-early c = search needs
 
 first-early-requires : tie.Need-first-early-requires
 first-early-requires c κs =
-    let p = c .before .before .before .before .before .before .before .pre in
+    let entry = c .before .before .before .before .before .before .before in
+    let p = entry .pre in
     let v = c .before .before .before .mark-values in
-    (omega (arith, p .1 .1 .0, v .kept .1 .1 .0), (row-fits _ _ (p .0) _ (v .ensures) _ (p .1 .0 .0), none-wrong _ _ (p .0) _ (v .ensures) (c .before .before .before .before .before .before .before .args .order .now) (p .1 .1 .1)))
+    (omega (arith, p .1 .1 .0, v .kept .1 .1 .0), (row-fits _ _ (p .0) _ (v .ensures) _ (p .1 .0 .0), none-wrong _ _ (p .0) _ (v .ensures) (entry .args .order .now) (p .1 .1 .1)))
 
 same-length : tie.Need-same-length
 same-length c = search needs
 
 returns : tie.Need-returns
 returns c =
-    let p = c .before .before .before .before .before .before .before .before .before .before .pre in
+    let entry = c .before .before .before .before .before .before .before .before .before .before in
+    let p = entry .pre in
     let v = c .before .before .before .before .before .before .mark-values in
-    c .before .before .first-early .ensures ∙ place-early _ _ (p .0) _ (v .ensures) (c .before .before .before .before .before .before .before .before .before .before .args .order .now) (p .1 .1 .1) _ (p .1 .0 .1)
+    c .before .before .first-early .ensures ∙ place-early _ _ (p .0) _ (v .ensures) (entry .args .order .now) (p .1 .1 .1) _ (p .1 .0 .1)
 
 pub early-place-spec : {M : Type 1} → statement M
 early-place-spec =

@@ -25,8 +25,12 @@ abbrev μ-loop : tie.MeasureT-loop
 
 -- the label that is read has its mark still
 module _ (c : tie.After-nat-at Inv-loop μ-loop) where
-  held : mark (c .before .before .loop .left) (c .before .before .before .before .before .args .w) 0 (c .nat-at .result) ≡ true
-  held = label-held (c .before .before .before .before .before .args .order .now) _ _ _ _ (c .before .before .loop .inv .2) (c .before .loop-test .taken) _ (c .nat-at .ensures) (c .before .before .loop .inv .3)
+  held :
+      let entry = c .before .before .before .before .before in
+      mark (c .before .before .loop .left) (entry .args .w) 0 (c .nat-at .result) ≡ true
+  held =
+      let entry = c .before .before .before .before .before in
+      label-held (entry .args .order .now) _ _ _ _ (c .before .before .loop .inv .2) (c .before .loop-test .taken) _ (c .nat-at .ensures) (c .before .before .loop .inv .3)
 
 loop-holds : tie.Need-loop-holds Inv-loop μ-loop
 loop-holds c = (refl, omega arith, left-all _ _, c .before .before .pre .1 .1, refl)
@@ -44,17 +48,24 @@ add-result : tie.Need-add-result Inv-loop μ-loop
 add-result c = search needs
 
 same-length : tie.Need-same-length Inv-loop μ-loop
-same-length c = c .before .before .before .before .before .loop .inv .0
+same-length c =
+    let inv = c .before .before .before .before .before .loop .inv in
+    inv .0
 
 returns : tie.Need-returns Inv-loop μ-loop
 returns c =
+    let loop-test = c .before .before .before .before .loop-test in
+    let nat-at = c .before .before .before .nat-at in
     let l = c .before .before .before .before .before in
-    sym (early-here (l .before .before .before .args .order .now) _ _ _ _ (l .loop .inv .2) (c .before .before .before .before .loop-test .taken) _ (c .before .before .before .nat-at .ensures) _ (c .before .meets .ensures .0 (c .if1 .taken))) ∙ l .loop .inv .4
+    sym (early-here (l .before .before .before .args .order .now) _ _ _ _ (l .loop .inv .2) (loop-test .taken) _ (nat-at .ensures) _ (c .before .meets .ensures .0 (c .if1 .taken))) ∙ l .loop .inv .4
 
 drop-mark-requires : tie.Need-drop-mark-requires Inv-loop μ-loop
 drop-mark-requires c κs =
-    let m = held (c .before .before .before .before) in
-    ((mark-in _ _ _ _ m, omega (arith, c .before .before .before .before .before .before .loop .inv .0, c .before .before .before .before .before .before .before .before .before .pre .0)), m)
+    let entry = c .before .before .before .before .before .before .before .before .before in
+    let inv = c .before .before .before .before .before .before .loop .inv in
+    let point = c .before .before .before .before in
+    let m = held point in
+    ((mark-in _ _ _ _ m, omega (arith, inv .0, entry .pre .0)), m)
 
 add-k : tie.Need-add-k Inv-loop μ-loop
 add-k c = search needs
@@ -64,6 +75,8 @@ loop-less c = search needs
 
 loop-again : tie.Need-loop-again Inv-loop μ-loop
 loop-again c =
+    let meets = c .before .before .before .before .before .meets in
+    let if1 = c .before .before .before .before .if1 in
     let l = c .before .before .before .before .before .before .before .before .before in
     let o = l .before .before .before .args .order .now in
     let h = c .before .before .before .before .before .before .before .before .loop-test .taken in
@@ -73,7 +86,7 @@ loop-again c =
       omega (arith, h),
       left-turn o _ _ _ _ (l .loop .inv .2) h _ (v .nat-at .ensures) _ (d .ensures),
       wrong-turn o _ _ _ _ (l .loop .inv .2) h _ (v .nat-at .ensures) (held v) ∙ l .loop .inv .3,
-      early-turn o _ _ _ _ (l .loop .inv .2) h _ (v .nat-at .ensures) _ (λ m. clash _ (c .before .before .before .before .before .meets .ensures .1 m) (c .before .before .before .before .if1 .left)) ∙ l .loop .inv .4,
+      early-turn o _ _ _ _ (l .loop .inv .2) h _ (v .nat-at .ensures) _ (λ m. clash _ (meets .ensures .1 m) (if1 .left)) ∙ l .loop .inv .4,
     )
 
 same-length-2 : tie.Need-same-length-2 Inv-loop μ-loop

@@ -14,7 +14,8 @@ use Rattle.following.proofs.first_wrong.Tie as tie
 
 abbrev Inv-loop : tie.InvT-loop
 Inv-loop order left₀ w i₀ left i =
-    (length left ≡ length left₀) × (i ≤ length order) × Left left₀ w (take i (labelsOf order)) left × (onward (lacks left₀ w) (labelsOf order) i ≡ firstPosition (lacks left₀ w) [] 1 (labelsOf order))
+    (length left ≡ length left₀) × (i ≤ length order) × Left left₀ w (take i (labelsOf order)) left
+    × (onward (lacks left₀ w) (labelsOf order) i ≡ firstPosition (lacks left₀ w) [] 1 (labelsOf order))
 
 abbrev μ-loop : tie.MeasureT-loop
 μ-loop order left₀ w i₀ left i = length order - i
@@ -30,20 +31,26 @@ holds-requires c κs = search needs
 
 drop-mark-requires : tie.Need-drop-mark-requires Inv-loop μ-loop
 drop-mark-requires c κs =
+    let entry = c .before .before .before .before .before .before .before .before in
+    let inv = c .before .before .before .before .before .before .loop .inv in
     let m = sym (c .before .before .holds .ensures) ∙ c .before .if1 .taken in
-    ((mark-in _ _ _ _ m, omega (arith, c .before .before .before .before .before .before .loop .inv .0, c .before .before .before .before .before .before .before .before .pre .0)), m)
+    ((mark-in _ _ _ _ m, omega (arith, inv .0, entry .pre .0)), m)
 
 add-result : tie.Need-add-result Inv-loop μ-loop
 add-result c = search needs
 
 same-length : tie.Need-same-length Inv-loop μ-loop
-same-length c = c .before .before .before .before .before .loop .inv .0
+same-length c =
+    let inv = c .before .before .before .before .before .loop .inv in
+    inv .0
 
 returns : tie.Need-returns Inv-loop μ-loop
 returns c =
+    let loop-test = c .before .before .before .before .loop-test in
+    let nat-at = c .before .before .before .nat-at in
     let l = c .before .before .before .before .before in
     let o = l .before .before .args .order .now in (
-      sym (wrong-here o _ _ _ _ (l .loop .inv .2) (c .before .before .before .before .loop-test .taken) _ (c .before .before .before .nat-at .ensures) (sym (c .before .holds .ensures) ∙ c .if1 .left)) ∙ l .loop .inv .3,
+      sym (wrong-here o _ _ _ _ (l .loop .inv .2) (loop-test .taken) _ (nat-at .ensures) (sym (c .before .holds .ensures) ∙ c .if1 .left)) ∙ l .loop .inv .3,
       λ z. absurd (omega arith),
     )
 
@@ -55,6 +62,8 @@ loop-less c = search needs
 
 loop-again : tie.Need-loop-again Inv-loop μ-loop
 loop-again c =
+    let holds = c .before .before .before .before .before .holds in
+    let if1 = c .before .before .before .before .if1 in
     let l = c .before .before .before .before .before .before .before .before .before in
     let o = l .before .before .args .order .now in
     let h = c .before .before .before .before .before .before .before .before .loop-test .taken in
@@ -63,7 +72,7 @@ loop-again c =
       d .kept .0 ∙ l .loop .inv .0,
       omega (arith, h),
       left-turn o _ _ _ _ (l .loop .inv .2) h _ v _ (d .ensures),
-      wrong-turn o _ _ _ _ (l .loop .inv .2) h _ v (sym (c .before .before .before .before .before .holds .ensures) ∙ c .before .before .before .before .if1 .taken) ∙ l .loop .inv .3,
+      wrong-turn o _ _ _ _ (l .loop .inv .2) h _ v (sym (holds .ensures) ∙ if1 .taken) ∙ l .loop .inv .3,
     )
 
 same-length-2 : tie.Need-same-length-2 Inv-loop μ-loop

@@ -17,7 +17,11 @@ same-length : tie.Need-same-length
 same-length c = search needs
 
 returns : tie.Need-returns
-returns c = place-wrong _ _ (c .before .before .before .before .before .before .before .before .before .before .pre .0) _ (c .before .before .before .before .before .before .before .mark-values .ensures) (c .before .before .before .before .before .before .before .before .before .before .args .order .now) _ (c .before .before .before .first-wrong .ensures .0) (c .if1 .taken)
+returns c =
+    let entry = c .before .before .before .before .before .before .before .before .before .before in
+    let mark-values = c .before .before .before .before .before .before .before .mark-values in
+    let first-wrong = c .before .before .before .first-wrong in
+    place-wrong _ _ (entry .pre .0) _ (mark-values .ensures) (entry .args .order .now) _ (first-wrong .ensures .0) (c .if1 .taken)
 
 first-mark-requires : tie.Need-first-mark-requires
 first-mark-requires c κs = search needs
@@ -33,18 +37,22 @@ same-length-2 c = search needs
 
 returns-2 : tie.Need-returns-2
 returns-2 c =
+    let entry = c .before .before .before .before .before .before .before .before .before .before .before .before .before in
+    let mark-values = c .before .before .before .before .before .before .before .before .before .before .mark-values in
     let w = c .before .before .before .before .before .before .first-wrong in
     let z = c .before .before .before .if1 .left in
-    place-past _ _ (c .before .before .before .before .before .before .before .before .before .before .before .before .before .pre .0) _ (c .before .before .before .before .before .before .before .before .before .before .mark-values .ensures) (c .before .before .before .before .before .before .before .before .before .before .before .before .before .args .order .now) _ (w .ensures .0) z _ (w .ensures .1 z) _ (c .before .first-mark .ensures) (c .if2 .taken)
+    place-past _ _ (entry .pre .0) _ (mark-values .ensures) (entry .args .order .now) _ (w .ensures .0) z _ (w .ensures .1 z) _ (c .before .first-mark .ensures) (c .if2 .taken)
 
 same-length-3 : tie.Need-same-length-3
 same-length-3 c = search needs
 
 returns-3 : tie.Need-returns-3
 returns-3 c =
+    let entry = c .before .before .before .before .before .before .before .before .before .before .before .before .before in
+    let mark-values = c .before .before .before .before .before .before .before .before .before .before .mark-values in
     let w = c .before .before .before .before .before .before .first-wrong in
     let z = c .before .before .before .if1 .left in
-    place-full _ _ (c .before .before .before .before .before .before .before .before .before .before .before .before .before .pre .0) _ (c .before .before .before .before .before .before .before .before .before .before .mark-values .ensures) (c .before .before .before .before .before .before .before .before .before .before .before .before .before .args .order .now) _ (w .ensures .0) z _ (w .ensures .1 z) _ (c .before .first-mark .ensures) (omega (arith, c .if2 .left))
+    place-full _ _ (entry .pre .0) _ (mark-values .ensures) (entry .args .order .now) _ (w .ensures .0) z _ (w .ensures .1 z) _ (c .before .first-mark .ensures) (omega (arith, c .if2 .left))
 
 pub listed-place-spec : {M : Type 1} → statement M
 listed-place-spec =

@@ -8,7 +8,7 @@ use lib.Dec.{ltb}
 use lib.ListN.{length}
 use Rattle.order.specs.Order.{isV}
 use Rattle.marks.specs.Marks.{mark}
-use Rattle.reach.specs.Rows.{width}
+use Rattle.reach.specs.MarkRows.{width}
 use Rattle.following.proofs.Words.{values-start, values-skip, values-put, values-end}
 use Rattle.following.proofs.mark_values.Statement.{statement}
 use Rattle.following.proofs.mark_values.Tie as tie
@@ -26,15 +26,20 @@ clear-marks-requires : tie.Need-clear-marks-requires Inv-loop μ-loop
 clear-marks-requires c κs = search needs
 
 loop-holds : tie.Need-loop-holds Inv-loop μ-loop
-loop-holds c = (refl, omega arith, omega arith, values-start _ _ (c .before .before .before .before .before .pre .0) _ (c .before .before .clear-marks .ensures))
+loop-holds c =
+    let entry = c .before .before .before .before .before in
+    (refl, omega arith, omega arith, values-start _ _ (entry .pre .0) _ (c .before .before .clear-marks .ensures))
 
 kind-of-requires : tie.Need-kind-of-requires Inv-loop μ-loop
 kind-of-requires c κs = search needs
 
 put-mark-requires : tie.Need-put-mark-requires Inv-loop μ-loop
 put-mark-requires c κs =
+    let clear-marks = c .before .before .before .before .before .before .before .clear-marks in
+    let inv = c .before .before .before .before .loop .inv in
+    let loop-test = c .before .before .before .loop-test in
     let p = c .before .before .before .before .before .before .before .before .before .before .pre in
-    (omega (arith, c .before .before .before .loop-test .taken), omega (arith, p .1, c .before .before .before .before .before .before .before .clear-marks .kept .0, c .before .before .before .before .loop .inv .0))
+    (omega (arith, loop-test .taken), omega (arith, p .1, clear-marks .kept .0, inv .0))
 
 add-v : tie.Need-add-v Inv-loop μ-loop
 add-v c = search needs
@@ -58,10 +63,14 @@ loop-again c =
     (c .if1 .came)
 
 same-length : tie.Need-same-length Inv-loop μ-loop
-same-length c = c .before .loop .inv .0 ∙ c .before .before .before .before .clear-marks .kept .0
+same-length c =
+    let clear-marks = c .before .before .before .before .clear-marks in
+    c .before .loop .inv .0 ∙ clear-marks .kept .0
 
 returns : tie.Need-returns Inv-loop μ-loop
-returns c = values-end _ _ (c .before .before .before .before .before .before .before .pre .0) _ _ (omega (arith, c .loop-test .left)) (c .before .loop .inv .3)
+returns c =
+    let entry = c .before .before .before .before .before .before .before in
+    values-end _ _ (entry .pre .0) _ _ (omega (arith, c .loop-test .left)) (c .before .loop .inv .3)
 
 pub mark-values-spec : {M : Type 1} → statement M
 mark-values-spec =

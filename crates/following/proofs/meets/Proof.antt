@@ -40,11 +40,12 @@ shared-slice-read-if1-2 c = search needs
 
 returns : tie.Need-returns Inv-loop μ-loop
 returns c =
+    let loop-test = c .before .before .before .loop-test in
     let l = c .before .before .before .before in
     let a = c .before .before .before .before .before .args in
     let x = getD (a .square .now) (a .v * a .w + l .loop .j) 0 in
     let y = getD (a .left .now) (l .loop .j) 0 in
-    (λ _. meets-here _ _ _ _ _ (c .before .before .before .loop-test .taken) (bitAnd x y) refl (omega (arith, c .if1 .taken)) (omega (arith, and-le-r x y, c .before .shared-slice-known2 .given (l .loop .j))), λ _. refl)
+    (λ _. meets-here _ _ _ _ _ (loop-test .taken) (bitAnd x y) refl (omega (arith, c .if1 .taken)) (omega (arith, and-le-r x y, c .before .shared-slice-known2 .given (l .loop .j))), λ _. refl)
 
 add-j : tie.Need-add-j Inv-loop μ-loop
 add-j c = search needs
@@ -53,7 +54,10 @@ loop-less : tie.Need-loop-less Inv-loop μ-loop
 loop-less c = search needs
 
 loop-again : tie.Need-loop-again Inv-loop μ-loop
-loop-again c = (omega arith, apart-turn _ _ _ _ _ (c .before .before .before .loop-test .taken) (c .before .before .before .before .loop .inv .1) (c .if1 .left))
+loop-again c =
+    let inv = c .before .before .before .before .loop .inv in
+    let loop-test = c .before .before .before .loop-test in
+    (omega arith, apart-turn _ _ _ _ _ (loop-test .taken) (inv .1) (c .if1 .left))
 
 returns-2 : tie.Need-returns-2 Inv-loop μ-loop
 returns-2 c = (λ e. clash false e refl, λ m. absurd (meets-none _ _ _ _ (λ q h. c .before .loop .inv .1 q (omega (arith, c .loop-test .left))) m))

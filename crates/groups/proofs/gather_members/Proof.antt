@@ -17,13 +17,17 @@ abbrev μ-loop : tie.MeasureT-loop
 
 -- in a turn: there is room for the member at hand, which is a label
 module _ (c : tie.In-loop Inv-loop μ-loop) where
-  room : c .before .loop .m < length (c .before .before .before .before .before .args .items .now)
+  room :
+      let entry = c .before .before .before .before .before in
+      c .before .loop .m < length (entry .args .items .now)
   room =
       let a = c .before .before .before .before .before in
       let h : c .before .loop .m < length (members (a .args .table .now) (a .args .n) (a .args .group)) = walk-room _ _ _ _ _ _ (c .before .loop .inv .1) (c .loop-test .taken) in
       omega (arith, labels-few (isMember (a .args .table .now) (a .args .group)) (a .args .n), a .pre .1 .0 .2)
 
-  label : (1 ≤ c .before .loop .p) × (c .before .loop .p ≤ c .before .before .before .before .before .args .n)
+  label :
+      let entry = c .before .before .before .before .before in
+      (1 ≤ c .before .loop .p) × (c .before .loop .p ≤ entry .args .n)
   label =
       let a = c .before .before .before .before .before in
       let m = walk-in _ _ _ _ _ _ (c .before .loop .inv .1) (c .loop-test .taken) in
@@ -33,31 +37,45 @@ mul-p : tie.Need-mul-p Inv-loop μ-loop
 mul-p c = search needs
 
 shared-slice-read-p : tie.Need-shared-slice-read-p Inv-loop μ-loop
-shared-slice-read-p c = omega (arith, c .before .before .before .pre .1 .0)
+shared-slice-read-p c =
+    let entry = c .before .before .before in
+    omega (arith, entry .pre .1 .0)
 
 loop-holds : tie.Need-loop-holds Inv-loop μ-loop
-loop-holds c = let a = c .before .before .before in (refl, walk-start _ _ _ _ _ (a .pre .1 .1))
+loop-holds c =
+    let a = c .before .before .before in
+    (refl, walk-start _ _ _ _ _ (a .pre .1 .1))
 
 mul-items : tie.Need-mul-items Inv-loop μ-loop
-mul-items c = omega (arith, room c, c .before .before .before .before .before .good)
+mul-items c =
+    let good = c .before .before .before .before .before .good in
+    omega (arith, room c, good)
 
 slice-write-items : tie.Need-slice-write-items Inv-loop μ-loop
 slice-write-items c = omega (arith, room c, c .before .loop .inv .0)
 
 add-m : tie.Need-add-m Inv-loop μ-loop
-add-m c = omega (arith, room c, c .before .before .before .before .before .good)
+add-m c =
+    let good = c .before .before .before .before .before .good in
+    omega (arith, room c, good)
 
 widen-requires : tie.Need-widen-requires Inv-loop μ-loop
 widen-requires c κs = search needs
 
 add-p : tie.Need-add-p Inv-loop μ-loop
-add-p c = omega (arith, label (c .before), c .widen .ensures, c .before .before .before .before .before .before .pre .0 .few)
+add-p c =
+    let entry = c .before .before .before .before .before .before in
+    omega (arith, label (c .before), c .widen .ensures, entry .pre .0 .few)
 
 mul-p-2 : tie.Need-mul-p-2 Inv-loop μ-loop
-mul-p-2 c = omega (arith, label (c .before), c .widen .ensures, c .before .before .before .before .before .before .pre .0 .few)
+mul-p-2 c =
+    let entry = c .before .before .before .before .before .before in
+    omega (arith, label (c .before), c .widen .ensures, entry .pre .0 .few)
 
 shared-slice-read-p-2 : tie.Need-shared-slice-read-p-2 Inv-loop μ-loop
-shared-slice-read-p-2 c = omega (arith, label (c .before .before), c .before .widen .ensures, c .before .before .before .before .before .before .before .pre .1 .0 .1)
+shared-slice-read-p-2 c =
+    let entry = c .before .before .before .before .before .before .before in
+    omega (arith, label (c .before .before), c .before .widen .ensures, entry .pre .1 .0 .1)
 
 loop-less : tie.Need-loop-less Inv-loop μ-loop
 loop-less c = omega (arith, room (c .before .before))
@@ -65,7 +83,11 @@ loop-less c = omega (arith, room (c .before .before))
 loop-again : tie.Need-loop-again Inv-loop μ-loop
 loop-again c =
     let l = c .before .before .before in
-    rw (c .before .widen .ensures) (length-set (l .loop .items) _ _ ∙ l .loop .inv .0, walk-step _ _ _ _ _ _ (l .loop .inv .1) (c .before .before .loop-test .taken) (omega (arith, room (c .before .before), l .loop .inv .0)))
+    rw (c .before .widen .ensures) (
+      length-set (l .loop .items) _ _
+          ∙ l .loop .inv .0,
+      walk-step _ _ _ _ _ _ (l .loop .inv .1) (c .before .before .loop-test .taken) (omega (arith, room (c .before .before), l .loop .inv .0)),
+    )
 
 same-length : tie.Need-same-length Inv-loop μ-loop
 same-length c = c .before .loop .inv .0

@@ -7,18 +7,18 @@ use borrow.Author.Needs.{needs}
 use lib.ListN.{length, take, length-set}
 use Rattle.kinds.specs.Kinds.{valueCode}
 use Rattle.cells.specs.Table.{kind}
-use Rattle.order.specs.Lists.{filter, upFrom}
+use Rattle.order.specs.LabelLists.{filter, upFrom}
 use lib.Seq.{length-take-le}
 use lib.ListN.{length-append}
 use borrow.Author.Tests.{eq-eqb, ne-eqb}
-use Rattle.order.specs.Order.{isV, labels}
+use Rattle.order.specs.Order.{isV, allLabels}
 use Rattle.groups.proofs.Chains.{labels-few, take-label, skip-label, first-label, no-more}
 use Rattle.groups.proofs.gather_values.Statement.{statement}
 use Rattle.groups.proofs.gather_values.Tie as tie
 
 abbrev Inv-loop : tie.InvT-loop
 Inv-loop table n items₀ m₀ l₀ items m l =
-    (length items ≡ length items₀) × (1 ≤ l) × (l ≤ n + 1) × (m ≤ length items) × (take m items ++ filter (isV table) (upFrom l (n + 1 - l)) ≡ filter (isV table) (labels n))
+    (length items ≡ length items₀) × (1 ≤ l) × (l ≤ n + 1) × (m ≤ length items) × (take m items ++ filter (isV table) (upFrom l (n + 1 - l)) ≡ filter (isV table) (allLabels n))
 
 abbrev μ-loop : tie.MeasureT-loop
 μ-loop table n items₀ m₀ l₀ items m l = n + 1 - l
@@ -27,7 +27,14 @@ room : (l : tie.At-loop Inv-loop μ-loop) → l .loop .m ≤ l .before .before .
 room l =
     let a = l .before .before in
     let t = a .args .table .now in
-    omega (arith, ap length (l .loop .inv .4), length-append (take (l .loop .m) (l .loop .items)) (filter (isV t) (upFrom (l .loop .l) (a .args .n + 1 - l .loop .l))), length-take-le (l .loop .m) (l .loop .items) (l .loop .inv .3), labels-few (isV t) (a .args .n))
+    omega (
+      arith,
+      ap length (l .loop .inv .4),
+      length-append (take (l .loop .m) (l .loop .items)) (filter (isV t) (upFrom (l .loop .l) (a .args .n + 1 - l .loop .l))),
+      length-take-le (l .loop .m)
+          (l .loop .items) (l .loop .inv .3),
+      labels-few (isV t) (a .args .n),
+    )
 
 loop-holds : tie.Need-loop-holds Inv-loop μ-loop
 loop-holds c = (refl, omega arith, omega arith, omega arith, first-label (isV (c .before .args .table .now)) (c .before .args .n))
@@ -39,13 +46,23 @@ cast-items : tie.Need-cast-items Inv-loop μ-loop
 cast-items c = search needs
 
 mul-items : tie.Need-mul-items Inv-loop μ-loop
-mul-items c = omega (arith, room (c .before .before .before), c .before .before .before .before .before .pre .0 .few)
+mul-items c =
+    let entry = c .before .before .before .before .before in
+    let point = c .before .before .before in
+    omega (arith, room point, entry .pre .0 .few)
 
 slice-write-items : tie.Need-slice-write-items Inv-loop μ-loop
-slice-write-items c = omega (arith, room (c .before .before .before), c .before .before .before .before .before .pre .1, c .before .before .before .loop .inv .0)
+slice-write-items c =
+    let entry = c .before .before .before .before .before in
+    let point = c .before .before .before in
+    let inv = c .before .before .before .loop .inv in
+    omega (arith, room point, entry .pre .1, inv .0)
 
 add-m : tie.Need-add-m Inv-loop μ-loop
-add-m c = omega (arith, room (c .before .before .before), c .before .before .before .before .before .pre .0 .few)
+add-m c =
+    let entry = c .before .before .before .before .before in
+    let point = c .before .before .before in
+    omega (arith, room point, entry .pre .0 .few)
 
 add-l : tie.Need-add-l Inv-loop μ-loop
 add-l c = search needs
@@ -64,14 +81,16 @@ loop-again c =
       omega arith,
       omega arith,
       simp length-set (omega (arith, room l, a .pre .1, l .loop .inv .0)),
-      take-label (isV t) (a .args .n) (l .loop .items) (l .loop .l) (l .loop .m) (c .before .before .loop-test .taken) (l .loop .inv .4) (eq-eqb (kind t (l .loop .l)) valueCode (sym e ∙ w .0 .taken)) (omega (arith, room l, a .pre .1, l .loop .inv .0)),
+      take-label (isV t) (a .args .n) (l .loop .items) (l .loop .l) (l .loop .m) (c .before .before .loop-test .taken) (l .loop .inv .4)
+          (eq-eqb (kind t (l .loop .l)) valueCode (sym e ∙ w .0 .taken)) (omega (arith, room l, a .pre .1, l .loop .inv .0)),
     ))
     (λ w. rw (w .1, w .2) (
       l .loop .inv .0,
       omega arith,
       omega arith,
       l .loop .inv .3,
-      skip-label (isV t) (a .args .n) (l .loop .items) (l .loop .l) (l .loop .m) (c .before .before .loop-test .taken) (l .loop .inv .4) (ne-eqb (kind t (l .loop .l)) valueCode (λ z. w .0 .left (e ∙ z))),
+      skip-label (isV t) (a .args .n) (l .loop .items) (l .loop .l) (l .loop .m) (c .before .before .loop-test .taken) (l .loop .inv .4)
+          (ne-eqb (kind t (l .loop .l)) valueCode (λ z. w .0 .left (e ∙ z))),
     ))
     (c .if1 .came)
 
@@ -79,7 +98,10 @@ same-length : tie.Need-same-length Inv-loop μ-loop
 same-length c = c .before .loop .inv .0
 
 returns : tie.Need-returns Inv-loop μ-loop
-returns c = let l = c .before in no-more (isV (c .before .before .before .args .table .now)) (c .before .before .before .args .n) (l .loop .items) (l .loop .l) (l .loop .m) (omega (arith, c .loop-test .left)) (l .loop .inv .3) (l .loop .inv .4)
+returns c =
+    let entry = c .before .before .before in
+    let l = c .before in
+    no-more (isV (entry .args .table .now)) (entry .args .n) (l .loop .items) (l .loop .l) (l .loop .m) (omega (arith, c .loop-test .left)) (l .loop .inv .3) (l .loop .inv .4)
 
 pub gather-values-spec : {M : Type 1} → statement M
 gather-values-spec =

@@ -14,44 +14,75 @@ Inv-loop table n next₀ l₀ next l = (length next ≡ length next₀) × (l �
 abbrev μ-loop : tie.MeasureT-loop
 μ-loop table n next₀ l₀ next l = l
 
-low : (c : tie.After-cell-of Inv-loop μ-loop) → c .cell-of .result ≤ c .before .before .before .before .before .before .args .n
+low : (c : tie.After-cell-of Inv-loop μ-loop) →
+    let entry = c .before .before .before .before .before .before in
+    c .cell-of .result ≤ entry .args .n
 low c =
+    let entry = c .before .before .before .before .before .before in
+    let loop-test = c .before .before .before .loop-test in
     let l = c .before .before .before .before in
-    let h : 1 ≤ l .loop .l = omega (arith, c .before .before .before .loop-test .taken) in
-    omega (arith, c .cell-of .ensures, c .before .before .before .before .before .before .pre .0 .falls (l .loop .l) h (l .loop .inv .1), l .loop .inv .1)
+    let h : 1 ≤ l .loop .l = omega (arith, loop-test .taken) in
+    omega (arith, c .cell-of .ensures, entry .pre .0 .falls (l .loop .l) h (l .loop .inv .1), l .loop .inv .1)
 
 loop-holds : tie.Need-loop-holds Inv-loop μ-loop
 loop-holds c = let p = c .before .pre in (refl, omega arith, linked-none _ _ _ (p .1 .1))
 
 is-definition-requires : tie.Need-is-definition-requires Inv-loop μ-loop
-is-definition-requires c κs = (c .before .before .before .pre .0, (omega (arith, c .loop-test .taken), c .before .loop .inv .1))
+is-definition-requires c κs =
+    let entry = c .before .before .before in
+    (entry .pre .0, (omega (arith, c .loop-test .taken), c .before .loop .inv .1))
 
 cell-of-requires : tie.Need-cell-of-requires Inv-loop μ-loop
-cell-of-requires c κs = (c .before .before .before .before .before .pre .0, (omega (arith, c .before .before .loop-test .taken), c .before .before .before .loop .inv .1, omega arith, omega arith))
+cell-of-requires c κs =
+    let entry = c .before .before .before .before .before in
+    let inv = c .before .before .before .loop .inv in
+    (entry .pre .0, (omega (arith, c .before .before .loop-test .taken), inv .1, omega arith, omega arith))
 
 mul-next : tie.Need-mul-next Inv-loop μ-loop
-mul-next c = omega (arith, low c, c .before .before .before .before .before .before .pre .0 .few)
+mul-next c =
+    let entry = c .before .before .before .before .before .before in
+    omega (arith, low c, entry .pre .0 .few)
 
 slice-read-next : tie.Need-slice-read-next Inv-loop μ-loop
-slice-read-next c = omega (arith, low (c .before), c .before .before .before .before .before .before .before .pre .1 .0, c .before .before .before .before .before .loop .inv .0)
+slice-read-next c =
+    let entry = c .before .before .before .before .before .before .before in
+    let inv = c .before .before .before .before .before .loop .inv in
+    omega (arith, low (c .before), entry .pre .1 .0, inv .0)
 
 add-next : tie.Need-add-next Inv-loop μ-loop
-add-next c = omega (arith, c .before .before .before .before .before .before .before .pre .0 .few, c .before .before .before .before .before .loop .inv .1)
+add-next c =
+    let entry = c .before .before .before .before .before .before .before in
+    let inv = c .before .before .before .before .before .loop .inv in
+    omega (arith, entry .pre .0 .few, inv .1)
 
 mul-next-2 : tie.Need-mul-next-2 Inv-loop μ-loop
-mul-next-2 c = omega (arith, c .before .before .before .before .before .before .before .pre .0 .few, c .before .before .before .before .before .loop .inv .1)
+mul-next-2 c =
+    let entry = c .before .before .before .before .before .before .before in
+    let inv = c .before .before .before .before .before .loop .inv in
+    omega (arith, entry .pre .0 .few, inv .1)
 
 slice-write-next : tie.Need-slice-write-next Inv-loop μ-loop
-slice-write-next c = omega (arith, c .before .before .before .before .before .before .before .pre .1 .0, c .before .before .before .before .before .loop .inv .0, c .before .before .before .before .before .loop .inv .1)
+slice-write-next c =
+    let entry = c .before .before .before .before .before .before .before in
+    let inv = c .before .before .before .before .before .loop .inv in
+    omega (arith, entry .pre .1 .0, inv .0, inv .1)
 
 cast-next : tie.Need-cast-next Inv-loop μ-loop
-cast-next c = omega (arith, c .before .before .before .before .before .before .before .pre .0 .few, c .before .before .before .before .before .loop .inv .1)
+cast-next c =
+    let entry = c .before .before .before .before .before .before .before in
+    let inv = c .before .before .before .before .before .loop .inv in
+    omega (arith, entry .pre .0 .few, inv .1)
 
 mul-next-3 : tie.Need-mul-next-3 Inv-loop μ-loop
-mul-next-3 c = omega (arith, low (c .before), c .before .before .before .before .before .before .before .pre .0 .few)
+mul-next-3 c =
+    let entry = c .before .before .before .before .before .before .before in
+    omega (arith, low (c .before), entry .pre .0 .few)
 
 slice-write-next-2 : tie.Need-slice-write-next-2 Inv-loop μ-loop
-slice-write-next-2 c = simp length-set (omega (arith, low (c .before), c .before .before .before .before .before .before .before .pre .1 .0, c .before .before .before .before .before .loop .inv .0))
+slice-write-next-2 c =
+    let entry = c .before .before .before .before .before .before .before in
+    let inv = c .before .before .before .before .before .loop .inv in
+    simp length-set (omega (arith, low (c .before), entry .pre .1 .0, inv .0))
 
 sub-l : tie.Need-sub-l Inv-loop μ-loop
 sub-l c = search needs

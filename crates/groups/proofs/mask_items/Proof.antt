@@ -8,7 +8,7 @@ use borrow.Author.Needs.{needs}
 use lib.ListN.{length, take}
 use Rattle.kinds.proofs.Plans.{gives-cases}
 use Rattle.cells.specs.Table.{kind}
-use Rattle.order.specs.Lists.{_∈_}
+use Rattle.order.specs.LabelLists.{_∈_}
 use lib.Seq.{take-all}
 use Rattle.marks.specs.Marks.{mark}
 use Rattle.order.proofs.Tests.{clash}
@@ -25,17 +25,28 @@ abbrev μ-loop : tie.MeasureT-loop
 μ-loop table n items mask₀ w i₀ mask i = length items - i
 
 module _ (c : tie.After-widen Inv-loop μ-loop) where
-  here : c .widen .result ∈ c .before .before .before .before .before .before .before .before .before .before .args .items .now
-  here = subst (λ (x : ℕ). x ∈ c .before .before .before .before .before .before .before .before .before .before .args .items .now) (sym (c .widen .ensures)) (in-at (c .before .before .before .before .before .before .before .before .before .before .args .items .now) (c .before .before .before .loop .i) (c .before .before .loop-test .taken))
+  here :
+      let entry = c .before .before .before .before .before .before .before .before .before .before in
+      c .widen .result ∈ entry .args .items .now
+  here =
+      let entry = c .before .before .before .before .before .before .before .before .before .before in
+      let loop = c .before .before .before .loop in
+      subst (λ (x : ℕ). x ∈ entry .args .items .now) (sym (c .widen .ensures)) (in-at (entry .args .items .now) (loop .i) (c .before .before .loop-test .taken))
 
-  label : (1 ≤ c .widen .result) × (c .widen .result ≤ c .before .before .before .before .before .before .before .before .before .before .args .n)
-  label = item-label _ _ (c .before .before .before .before .before .before .before .before .before .before .pre .0) _ (c .before .before .before .before .before .before .before .before .before .before .pre .1 .0) (c .widen .result) here
+  label :
+      let entry = c .before .before .before .before .before .before .before .before .before .before in
+      (1 ≤ c .widen .result) × (c .widen .result ≤ entry .args .n)
+  label =
+      let entry = c .before .before .before .before .before .before .before .before .before .before in
+      item-label _ _ (entry .pre .0) _ (entry .pre .1 .0) (c .widen .result) here
 
 add-w : tie.Need-add-w Inv-loop μ-loop
 add-w c = search needs
 
 clear-marks-requires : tie.Need-clear-marks-requires Inv-loop μ-loop
-clear-marks-requires c κs = c .before .before .before .pre .1 .1
+clear-marks-requires c κs =
+    let entry = c .before .before .before in
+    entry .pre .1 .1
 
 loop-holds : tie.Need-loop-holds Inv-loop μ-loop
 loop-holds c =
@@ -51,10 +62,17 @@ widen-requires : tie.Need-widen-requires Inv-loop μ-loop
 widen-requires c κs = search needs
 
 gives-values-requires : tie.Need-gives-values-requires Inv-loop μ-loop
-gives-values-requires c κs = (c .before .before .before .before .before .before .before .before .before .before .pre .0, label c)
+gives-values-requires c κs =
+    let entry = c .before .before .before .before .before .before .before .before .before .before in
+    (entry .pre .0, label c)
 
 put-mark-requires : tie.Need-put-mark-requires Inv-loop μ-loop
-put-mark-requires c κs = (omega (arith, label (c .before .before .before)), omega (arith, c .before .before .before .before .before .before .before .before .before .before .before .before .before .pre .1 .1, c .before .before .before .before .before .before .loop .inv .0, c .before .before .before .before .before .before .before .before .before .clear-marks .kept .0))
+put-mark-requires c κs =
+    let entry = c .before .before .before .before .before .before .before .before .before .before .before .before .before in
+    let clear-marks = c .before .before .before .before .before .before .before .before .before .clear-marks in
+    let inv = c .before .before .before .before .before .before .loop .inv in
+    let point = c .before .before .before in
+    (omega (arith, label point), omega (arith, entry .pre .1 .1, inv .0, clear-marks .kept .0))
 
 add-i : tie.Need-add-i Inv-loop μ-loop
 add-i c = search needs
@@ -73,17 +91,21 @@ loop-again c =
     ⊎-elim (λ w. rw (w .5) (
       w .2 .kept .0 ∙ l .loop .inv .0,
       omega arith,
-      mask-put t (a .args .n) (a .args .items .now) (l .loop .mask) (l .loop .i) _ (q .widen .ensures) h (l .loop .inv .2) (omega (arith, b)) (gives-cases (kind t (q .widen .result)) (sym (c .before .gives-values .ensures) ∙ w .0 .taken)) _ (w .2 .ensures),
+      mask-put t (a .args .n) (a .args .items .now) (l .loop .mask) (l .loop .i) _ (q .widen .ensures) h (l .loop .inv .2) (omega (arith, b))
+          (gives-cases (kind t (q .widen .result)) (sym (c .before .gives-values .ensures) ∙ w .0 .taken)) _ (w .2 .ensures),
     ))
     (λ w. rw (w .1) (
       l .loop .inv .0,
       omega arith,
-      mask-skip t (a .args .n) (a .args .items .now) (l .loop .mask) (l .loop .i) _ (q .widen .ensures) h (l .loop .inv .2) (no-holder t (q .widen .result) (sym (c .before .gives-values .ensures) ∙ w .0 .left)),
+      mask-skip t (a .args .n) (a .args .items .now) (l .loop .mask) (l .loop .i) _ (q .widen .ensures) h (l .loop .inv .2)
+          (no-holder t (q .widen .result) (sym (c .before .gives-values .ensures) ∙ w .0 .left)),
     ))
     (c .if1 .came)
 
 same-length : tie.Need-same-length Inv-loop μ-loop
-same-length c = c .before .loop .inv .0 ∙ c .before .before .before .before .clear-marks .kept .0
+same-length c =
+    let clear-marks = c .before .before .before .before .clear-marks in
+    c .before .loop .inv .0 ∙ clear-marks .kept .0
 
 returns : tie.Need-returns Inv-loop μ-loop
 returns c =

@@ -11,11 +11,19 @@ use Rattle.groups.proofs.order_group.Tie as tie
 
 -- what was placed
 module _ (c : tie.After-place-items) where
-  room : c .before .before .before .before .before .before .before .before .before .before .before .before .before .before .before .before .before .before .before .before .before .args .n < length (c .place-items .last .1 .1 .1 .1 .1 .1 .1 .1 .0)
-  room = omega (arith, c .place-items .kept .1 .1 .1 .1 .1 .1 .1 .1 .0, c .before .before .before .before .before .before .before .before .before .before .before .before .before .before .before .before .before .before .before .before .before .pre .1 .0 .1 .orders)
+  room :
+      let back = c .before .before .before .before .before .before .before .before .before .before .before .before in
+      let entry = back .before .before .before .before .before .before .before .before .before in
+      entry .args .n < length (c .place-items .last .1 .1 .1 .1 .1 .1 .1 .1 .0)
+  room =
+      let back = c .before .before .before .before .before .before .before .before .before .before .before .before in
+      let entry = back .before .before .before .before .before .before .before .before .before in
+      omega (arith, c .place-items .kept .1 .1 .1 .1 .1 .1 .1 .1 .0, entry .pre .1 .0 .1 .orders)
 
 gather-members-requires : tie.Need-gather-members-requires
-gather-members-requires c κs = let p = c .before .before .before .before .before .before .before .before .before .before .pre in (p .0, ((p .1 .0 .0 .1, p .1 .0 .0 .2, p .1 .0 .0 .3), p .1 .1 .1))
+gather-members-requires c κs =
+    let p = c .before .before .before .before .before .before .before .before .before .before .pre in
+    (p .0, ((p .1 .0 .0 .1, p .1 .0 .0 .2, p .1 .0 .0 .3), p .1 .1 .1))
 
 sub-place-items : tie.Need-sub-place-items
 sub-place-items c = search needs
@@ -24,46 +32,74 @@ part-place-items-start : tie.Need-part-place-items-start
 part-place-items-start c = omega arith
 
 part-place-items-end : tie.Need-part-place-items-end
-part-place-items-end c = c .before .before .before .gather-members .ensures .within
+part-place-items-end c =
+    let gather-members = c .before .before .before .gather-members in
+    gather-members .ensures .within
 
 place-items-requires : tie.Need-place-items-requires
 place-items-requires c κs =
-    let p = c .before .before .before .before .before .before .before .before .before .before .before .before .before .before .before .before .before .before .before .before .pre in
-    (p .0, (member-items _ _ (p .0) _ _ _ (c .before .before .before .before .before .before .before .before .before .gather-members .ensures), (p .1 .1 .0, p .1 .0 .1)))
+    let back = c .before .before .before .before .before .before .before .before .before .before .before .before in
+    let entry = back .before .before .before .before .before .before .before .before in
+    let gather-members = c .before .before .before .before .before .before .before .before .before .gather-members in
+    let p = entry .pre in
+    (p .0, (member-items _ _ (p .0) _ _ _ (gather-members .ensures), (p .1 .1 .0, p .1 .0 .1)))
 
 same-length : tie.Need-same-length
 same-length c = refl
 
 same-length-2 : tie.Need-same-length-2
-same-length-2 c = c .before .before .before .before .before .before .before .before .before .before .before .before .before .before .before .before .before .before .before .before .before .gather-members .kept .1 .1 .1 .1 .0
+same-length-2 c =
+    let back = c .before .before .before .before .before .before .before .before .before .before .before .before in
+    let gather-members = back .before .before .before .before .before .before .before .before .before .gather-members in
+    gather-members .kept .1 .1 .1 .1 .0
 
 same-length-3 : tie.Need-same-length-3
-same-length-3 c = c .before .before .before .before .before .before .before .before .before .before .before .place-items .kept .1 .1 .1 .1 .0
+same-length-3 c =
+    let place-items = c .before .before .before .before .before .before .before .before .before .before .before .place-items in
+    place-items .kept .1 .1 .1 .1 .0
 
 same-length-4 : tie.Need-same-length-4
-same-length-4 c = c .before .before .before .before .before .before .before .before .before .before .before .place-items .kept .1 .1 .1 .1 .1 .0
+same-length-4 c =
+    let place-items = c .before .before .before .before .before .before .before .before .before .before .before .place-items in
+    place-items .kept .1 .1 .1 .1 .1 .0
 
 same-length-5 : tie.Need-same-length-5
-same-length-5 c = c .before .before .before .before .before .before .before .before .before .before .before .place-items .kept .1 .1 .1 .1 .1 .1 .0
+same-length-5 c =
+    let place-items = c .before .before .before .before .before .before .before .before .before .before .before .place-items in
+    place-items .kept .1 .1 .1 .1 .1 .1 .0
 
 same-length-6 : tie.Need-same-length-6
-same-length-6 c = c .before .before .before .before .before .before .before .before .before .before .before .place-items .kept .1 .1 .1 .1 .1 .1 .1 .0
+same-length-6 c =
+    let place-items = c .before .before .before .before .before .before .before .before .before .before .before .place-items in
+    place-items .kept .1 .1 .1 .1 .1 .1 .1 .0
 
 same-length-7 : tie.Need-same-length-7
-same-length-7 c = c .before .before .before .before .before .before .before .before .before .before .before .place-items .kept .1 .1 .1 .1 .1 .1 .1 .1 .0
+same-length-7 c =
+    let place-items = c .before .before .before .before .before .before .before .before .before .before .before .place-items in
+    place-items .kept .1 .1 .1 .1 .1 .1 .1 .1 .0
 
 returns : tie.Need-returns
 returns c =
-    let p = c .before .before .before .before .before .before .before .before .before .before .before .before .before .before .before .before .before .before .before .before .before .before .before .before .before .before .before .before .before .before .before .before .pre in
-    order-stuck _ _ (p .0) _ _ _ (c .before .before .before .before .before .before .before .before .before .before .before .before .before .before .before .before .before .before .before .before .before .gather-members .ensures) _ (room (c .before .before .before .before .before .before .before .before .before .before .before)) _ (c .before .before .before .before .before .before .before .before .before .before .before .place-items .ensures) (c .if1 .taken)
+    let back = c .before .before .before .before .before .before .before .before .before .before .before .before in
+    let back-2 = back .before .before .before .before .before .before .before .before .before .before .before .before in
+    let entry = back-2 .before .before .before .before .before .before .before .before in
+    let gather-members = back .before .before .before .before .before .before .before .before .before .gather-members in
+    let point = c .before .before .before .before .before .before .before .before .before .before .before in
+    let place-items = c .before .before .before .before .before .before .before .before .before .before .before .place-items in
+    let p = entry .pre in
+    order-stuck _ _ (p .0) _ _ _ (gather-members .ensures) _ (room point) _ (place-items .ensures) (c .if1 .taken)
 
 relink-requires : tie.Need-relink-requires
 relink-requires c κs =
-    let a = c .before .before .before .before .before .before .before .before .before .before .before .before .before .before .before .before .before .before .before .before .before .before .before .before .before .before .before .before .before .before .before .before .before .before in
+    let back = c .before .before .before .before .before .before .before .before .before .before .before .before in
+    let back-2 = back .before .before .before .before .before .before .before .before .before .before .before .before in
+    let a = back-2 .before .before .before .before .before .before .before .before .before .before in
+    let gather-members = back .before .before .before .before .before .before .before .before .before .before .before .gather-members in
+    let point-2 = c .before .before .before .before .before .before .before .before .before .before .before .before .before in
     let p = a .pre in
-    let g = c .before .before .before .before .before .before .before .before .before .before .before .before .before .before .before .before .before .before .before .before .before .before .before .gather-members .ensures in
+    let g = gather-members .ensures in
     let e = c .before .before .before .before .before .before .before .before .before .before .before .before .before .place-items .ensures in
-    let h = room (c .before .before .before .before .before .before .before .before .before .before .before .before .before) in (
+    let h = room point-2 in (
       (p .0 .few, p .1 .0 .0 .1, p .1 .0 .0 .2, omega (arith, order-short _ _ (p .0) _ _ _ g _ h _ e, h)),
       (order-labels _ _ (p .0) _ _ _ g _ h _ e (c .before .before .if1 .left), order-once _ _ (p .0) _ _ _ g _ h _ e (c .before .before .if1 .left)),
     )
@@ -72,32 +108,51 @@ same-length-8 : tie.Need-same-length-8
 same-length-8 c = c .before .before .relink .kept .1 .0
 
 same-length-9 : tie.Need-same-length-9
-same-length-9 c = c .before .before .before .before .before .before .before .before .before .before .before .before .before .before .before .before .before .before .before .before .before .before .before .before .before .before .gather-members .kept .1 .1 .1 .1 .0
+same-length-9 c =
+    let back = c .before .before .before .before .before .before .before .before .before .before .before .before in
+    let gather-members = back .before .before .before .before .before .before .before .before .before .before .before .before .before .before .gather-members in
+    gather-members .kept .1 .1 .1 .1 .0
 
 same-length-10 : tie.Need-same-length-10
-same-length-10 c = c .before .before .before .before .before .before .before .before .before .before .before .before .before .before .before .before .place-items .kept .1 .1 .1 .1 .0
+same-length-10 c =
+    let place-items = c .before .before .before .before .before .before .before .before .before .before .before .before .before .before .before .before .place-items in
+    place-items .kept .1 .1 .1 .1 .0
 
 same-length-11 : tie.Need-same-length-11
-same-length-11 c = c .before .before .before .before .before .before .before .before .before .before .before .before .before .before .before .before .place-items .kept .1 .1 .1 .1 .1 .0
+same-length-11 c =
+    let place-items = c .before .before .before .before .before .before .before .before .before .before .before .before .before .before .before .before .place-items in
+    place-items .kept .1 .1 .1 .1 .1 .0
 
 same-length-12 : tie.Need-same-length-12
-same-length-12 c = c .before .before .before .before .before .before .before .before .before .before .before .before .before .before .before .before .place-items .kept .1 .1 .1 .1 .1 .1 .0
+same-length-12 c =
+    let place-items = c .before .before .before .before .before .before .before .before .before .before .before .before .before .before .before .before .place-items in
+    place-items .kept .1 .1 .1 .1 .1 .1 .0
 
 same-length-13 : tie.Need-same-length-13
-same-length-13 c = c .before .before .before .before .before .before .before .before .before .before .before .before .before .before .before .before .place-items .kept .1 .1 .1 .1 .1 .1 .1 .0
+same-length-13 c =
+    let place-items = c .before .before .before .before .before .before .before .before .before .before .before .before .before .before .before .before .place-items in
+    place-items .kept .1 .1 .1 .1 .1 .1 .1 .0
 
 same-length-14 : tie.Need-same-length-14
-same-length-14 c = c .before .before .before .before .before .before .before .before .before .before .before .before .before .before .before .before .place-items .kept .1 .1 .1 .1 .1 .1 .1 .1 .0
+same-length-14 c =
+    let place-items = c .before .before .before .before .before .before .before .before .before .before .before .before .before .before .before .before .place-items in
+    place-items .kept .1 .1 .1 .1 .1 .1 .1 .1 .0
 
 returns-2 : tie.Need-returns-2
 returns-2 c =
-    let a = c .before .before .before .before .before .before .before .before .before .before .before .before .before .before .before .before .before .before .before .before .before .before .before .before .before .before .before .before .before .before .before .before .before .before .before .before .before in
+    let back = c .before .before .before .before .before .before .before .before .before .before .before .before in
+    let back-2 = back .before .before .before .before .before .before .before .before .before .before .before .before in
+    let a = back-2 .before .before .before .before .before .before .before .before .before .before .before .before .before in
+    let gather-members = back .before .before .before .before .before .before .before .before .before .before .before .before .before .before .gather-members in
+    let point-2 = c .before .before .before .before .before .before .before .before .before .before .before .before .before .before .before .before in
+    let if1 = c .before .before .before .before .before .if1 in
     let p = a .pre in
-    let g = c .before .before .before .before .before .before .before .before .before .before .before .before .before .before .before .before .before .before .before .before .before .before .before .before .before .before .gather-members .ensures in
+    let g = gather-members .ensures in
     let e = c .before .before .before .before .before .before .before .before .before .before .before .before .before .before .before .before .place-items .ensures in
-    let h = room (c .before .before .before .before .before .before .before .before .before .before .before .before .before .before .before .before) in (
-      subst (λ (l : List ℕ). Relinked (a .args .n) (a .args .group) l (a .args .next .now) (c .before .before .relink .last .1 .0)) (order-is _ _ (p .0) _ _ _ g _ h _ e) (c .before .before .relink .ensures),
-      order-free _ _ (p .0) _ _ _ g _ h _ e (c .before .before .before .before .before .if1 .left),
+    let h = room point-2 in (
+      subst (λ (l : List ℕ). Relinked (a .args .n) (a .args .group) l (a .args .next .now) (c .before .before .relink .last .1 .0)) (order-is _ _ (p .0) _ _ _ g _ h _ e)
+          (c .before .before .relink .ensures),
+      order-free _ _ (p .0) _ _ _ g _ h _ e (if1 .left),
     )
 
 pub order-group-spec : {M : Type 1} → statement M

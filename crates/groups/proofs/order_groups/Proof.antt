@@ -19,17 +19,23 @@ abbrev μ-loop : tie.MeasureT-loop
 μ-loop table n square next₀ items₀ mask₀ unmet₀ ready₀ list₀ order₀ g₀ next items mask unmet ready list order g = n + 1 - g
 
 loop-holds : tie.Need-loop-holds Inv-loop μ-loop
-loop-holds c = (omega arith, omega arith, refl, refl, refl, refl, refl, refl, refl, going-start _ _ (c .before .before .before .before .before .before .before .before .pre .0) _ (c .before .before .before .before .before .before .before .before .pre .1 .1 .1))
+loop-holds c =
+    let entry = c .before .before .before .before .before .before .before .before in
+    (omega arith, omega arith, refl, refl, refl, refl, refl, refl, refl, going-start _ _ (entry .pre .0) _ (entry .pre .1 .1 .1))
 
 mul-if1 : tie.Need-mul-if1 Inv-loop μ-loop
 mul-if1 c = search needs
 
 slice-read-if1 : tie.Need-slice-read-if1 Inv-loop μ-loop
-slice-read-if1 c = omega (arith, c .before .loop-test .taken, c .before .before .before .before .before .before .before .before .before .before .before .pre .1 .0 .0, c .before .before .loop .inv .2)
+slice-read-if1 c =
+    let entry = c .before .before .before .before .before .before .before .before .before .before .before in
+    omega (arith, c .before .loop-test .taken, entry .pre .1 .0 .0, c .before .before .loop .inv .2)
 
 order-group-requires : tie.Need-order-group-requires Inv-loop μ-loop
 order-group-requires c κs =
-    let p = c .before .before .before .before .before .before .before .before .before .before .before .before .before .before .before .before .before .before .before .pre in
+    let back = c .before .before .before .before .before .before .before .before .before .before .before .before in
+    let entry = back .before .before .before .before .before .before .before in
+    let p = entry .pre in
     let l = c .before .before .before .before .before .before .before .before .before .before in
     let h = c .before .before .before .before .before .before .before .before .before .loop-test .taken in (
       p .0,
@@ -43,32 +49,64 @@ order-group-requires c κs =
     )
 
 same-length : tie.Need-same-length Inv-loop μ-loop
-same-length c = c .before .before .before .before .before .before .before .before .before .before .before .before .before .before .before .order-group .kept .1 .1 .1 .0 ∙ c .before .before .before .before .before .before .before .before .before .before .before .before .before .before .before .before .before .before .before .before .before .before .before .before .before .before .loop .inv .2
+same-length c =
+    let back = c .before .before .before .before .before .before .before .before .before .before .before .before in
+    let inv = back .before .before .before .before .before .before .before .before .before .before .before .before .before .before .loop .inv in
+    let order-group = c .before .before .before .before .before .before .before .before .before .before .before .before .before .before .before .order-group in
+    order-group .kept .1 .1 .1 .0 ∙ inv .2
 
 same-length-2 : tie.Need-same-length-2 Inv-loop μ-loop
-same-length-2 c = c .before .before .before .before .before .before .before .before .before .before .before .before .before .before .before .order-group .kept .1 .1 .1 .1 .1 .0 ∙ c .before .before .before .before .before .before .before .before .before .before .before .before .before .before .before .before .before .before .before .before .before .before .before .before .before .before .loop .inv .3
+same-length-2 c =
+    let back = c .before .before .before .before .before .before .before .before .before .before .before .before in
+    let inv = back .before .before .before .before .before .before .before .before .before .before .before .before .before .before .loop .inv in
+    let order-group = c .before .before .before .before .before .before .before .before .before .before .before .before .before .before .before .order-group in
+    order-group .kept .1 .1 .1 .1 .1 .0 ∙ inv .3
 
 same-length-3 : tie.Need-same-length-3 Inv-loop μ-loop
-same-length-3 c = c .before .before .before .before .before .before .before .before .before .before .before .before .before .before .before .order-group .kept .1 .1 .1 .1 .1 .1 .0 ∙ c .before .before .before .before .before .before .before .before .before .before .before .before .before .before .before .before .before .before .before .before .before .before .before .before .before .before .loop .inv .4
+same-length-3 c =
+    let back = c .before .before .before .before .before .before .before .before .before .before .before .before in
+    let inv = back .before .before .before .before .before .before .before .before .before .before .before .before .before .before .loop .inv in
+    let order-group = c .before .before .before .before .before .before .before .before .before .before .before .before .before .before .before .order-group in
+    order-group .kept .1 .1 .1 .1 .1 .1 .0 ∙ inv .4
 
 same-length-4 : tie.Need-same-length-4 Inv-loop μ-loop
-same-length-4 c = c .before .before .before .before .before .before .before .before .before .before .before .before .before .before .before .order-group .kept .1 .1 .1 .1 .1 .1 .1 .0 ∙ c .before .before .before .before .before .before .before .before .before .before .before .before .before .before .before .before .before .before .before .before .before .before .before .before .before .before .loop .inv .5
+same-length-4 c =
+    let back = c .before .before .before .before .before .before .before .before .before .before .before .before in
+    let inv = back .before .before .before .before .before .before .before .before .before .before .before .before .before .before .loop .inv in
+    let order-group = c .before .before .before .before .before .before .before .before .before .before .before .before .before .before .before .order-group in
+    order-group .kept .1 .1 .1 .1 .1 .1 .1 .0 ∙ inv .5
 
 same-length-5 : tie.Need-same-length-5 Inv-loop μ-loop
-same-length-5 c = c .before .before .before .before .before .before .before .before .before .before .before .before .before .before .before .order-group .kept .1 .1 .1 .1 .1 .1 .1 .1 .0 ∙ c .before .before .before .before .before .before .before .before .before .before .before .before .before .before .before .before .before .before .before .before .before .before .before .before .before .before .loop .inv .6
+same-length-5 c =
+    let back = c .before .before .before .before .before .before .before .before .before .before .before .before in
+    let inv = back .before .before .before .before .before .before .before .before .before .before .before .before .before .before .loop .inv in
+    let order-group = c .before .before .before .before .before .before .before .before .before .before .before .before .before .before .before .order-group in
+    order-group .kept .1 .1 .1 .1 .1 .1 .1 .1 .0 ∙ inv .6
 
 same-length-6 : tie.Need-same-length-6 Inv-loop μ-loop
-same-length-6 c = c .before .before .before .before .before .before .before .before .before .before .before .before .before .before .before .order-group .kept .1 .1 .1 .1 .1 .1 .1 .1 .1 .0 ∙ c .before .before .before .before .before .before .before .before .before .before .before .before .before .before .before .before .before .before .before .before .before .before .before .before .before .before .loop .inv .7
+same-length-6 c =
+    let back = c .before .before .before .before .before .before .before .before .before .before .before .before in
+    let inv = back .before .before .before .before .before .before .before .before .before .before .before .before .before .before .loop .inv in
+    let order-group = c .before .before .before .before .before .before .before .before .before .before .before .before .before .before .before .order-group in
+    order-group .kept .1 .1 .1 .1 .1 .1 .1 .1 .1 .0 ∙ inv .7
 
 same-length-7 : tie.Need-same-length-7 Inv-loop μ-loop
-same-length-7 c = c .before .before .before .before .before .before .before .before .before .before .before .before .before .before .before .order-group .kept .1 .1 .1 .1 .1 .1 .1 .1 .1 .1 .0 ∙ c .before .before .before .before .before .before .before .before .before .before .before .before .before .before .before .before .before .before .before .before .before .before .before .before .before .before .loop .inv .8
+same-length-7 c =
+    let back = c .before .before .before .before .before .before .before .before .before .before .before .before in
+    let inv = back .before .before .before .before .before .before .before .before .before .before .before .before .before .before .loop .inv in
+    let order-group = c .before .before .before .before .before .before .before .before .before .before .before .before .before .before .before .order-group in
+    order-group .kept .1 .1 .1 .1 .1 .1 .1 .1 .1 .1 .0 ∙ inv .8
 
 returns : tie.Need-returns Inv-loop μ-loop
 returns c =
-    let a = c .before .before .before .before .before .before .before .before .before .before .before .before .before .before .before .before .before .before .before .before .before .before .before .before .before .before .before .before .before .before .before .before .before .before .before in
-    let l = c .before .before .before .before .before .before .before .before .before .before .before .before .before .before .before .before .before .before .before .before .before .before .before .before .before .before in
-    going-stuck _ _ (a .pre .0) _ _ (l .loop .inv .9) (l .loop .inv .0) (c .before .before .before .before .before .before .before .before .before .before .before .before .before .before .before .before .before .before .before .before .before .before .before .before .before .loop-test .taken)
-    (subst (GroupOrder (a .args .table .now) (a .args .n) (l .loop .g) (l .loop .next) _) (c .if2 .taken) (c .before .before .before .before .before .before .before .before .before .before .before .before .before .before .before .order-group .ensures))
+    let back = c .before .before .before .before .before .before .before .before .before .before .before .before in
+    let back-2 = back .before .before .before .before .before .before .before .before .before .before .before .before in
+    let a = back-2 .before .before .before .before .before .before .before .before .before .before .before in
+    let l = back .before .before .before .before .before .before .before .before .before .before .before .before .before .before in
+    let loop-test = back .before .before .before .before .before .before .before .before .before .before .before .before .before .loop-test in
+    let order-group = c .before .before .before .before .before .before .before .before .before .before .before .before .before .before .before .order-group in
+    going-stuck _ _ (a .pre .0) _ _ (l .loop .inv .9) (l .loop .inv .0) (loop-test .taken)
+    (subst (GroupOrder (a .args .table .now) (a .args .n) (l .loop .g) (l .loop .next) _) (c .if2 .taken) (order-group .ensures))
 
 add-g : tie.Need-add-g Inv-loop μ-loop
 add-g c = search needs
@@ -95,7 +133,18 @@ loop-again c =
       w .8 .kept .1 .1 .1 .1 .1 .1 .1 .1 .1 .1 .0 ∙ l .loop .inv .8,
       going-turn _ _ (a .pre .0) _ _ (l .loop .inv .9) (l .loop .inv .0) h _ (o .0) (o .1),
     ))
-    (λ w. rw (w .1, w .2, w .3, w .4, w .5, w .6, w .7) (omega arith, omega arith, l .loop .inv .2, l .loop .inv .3, l .loop .inv .4, l .loop .inv .5, l .loop .inv .6, l .loop .inv .7, l .loop .inv .8, going-skip _ _ (a .pre .0) _ _ (l .loop .inv .9) (l .loop .inv .0) h (w .0 .left)))
+    (λ w. rw (w .1, w .2, w .3, w .4, w .5, w .6, w .7) (
+      omega arith,
+      omega arith,
+      l .loop .inv .2,
+      l .loop .inv .3,
+      l .loop .inv .4,
+      l .loop .inv .5,
+      l .loop .inv .6,
+      l .loop .inv .7,
+      l .loop .inv .8,
+      going-skip _ _ (a .pre .0) _ _ (l .loop .inv .9) (l .loop .inv .0) h (w .0 .left),
+    ))
     (c .if1 .came)
 
 same-length-8 : tie.Need-same-length-8 Inv-loop μ-loop
@@ -120,7 +169,9 @@ same-length-14 : tie.Need-same-length-14 Inv-loop μ-loop
 same-length-14 c = c .before .loop .inv .8
 
 returns-2 : tie.Need-returns-2 Inv-loop μ-loop
-returns-2 c = going-end _ _ (c .before .before .before .before .before .before .before .before .before .before .pre .0) _ _ (c .before .loop .inv .9) (omega (arith, c .loop-test .left))
+returns-2 c =
+    let entry = c .before .before .before .before .before .before .before .before .before .before in
+    going-end _ _ (entry .pre .0) _ _ (c .before .loop .inv .9) (omega (arith, c .loop-test .left))
 
 pub order-groups-spec : {M : Type 1} → statement M
 order-groups-spec =

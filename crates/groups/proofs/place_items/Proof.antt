@@ -4,37 +4,58 @@ use Rattle.groups.proofs.place_items.Statement.{statement}
 use Rattle.groups.proofs.place_items.Tie as tie
 
 mask-items-requires : tie.Need-mask-items-requires
-mask-items-requires c κs = let p = c .before .before .before .before .before .before .before .before .pre in (p .0, (p .1 .0, p .1 .1 .1 .masks))
+mask-items-requires c κs =
+    let p = c .before .before .before .before .before .before .before .before .pre in
+    (p .0, (p .1 .0, p .1 .1 .1 .masks))
 
 add-place : tie.Need-add-place
-add-place c = omega (arith, c .before .before .before .before .before .before .before .before .before .before .before .pre .0 .few)
+add-place c =
+    let entry = c .before .before .before .before .before .before .before .before .before .before .before in
+    omega (arith, entry .pre .0 .few)
 
 place-requires : tie.Need-place-requires
 place-requires c κs =
-    let p = c .before .before .before .before .before .before .before .before .before .before .before .before .before .before .before .before .pre in
+    let entry = c .before .before .before .before .before .before .before .before .before .before .before .before .before .before .before .before in
+    let p = entry .pre in
     let s = p .1 .1 .1 in
     let k = c .before .before .before .before .before .before .before .mask-items in (
       fits _ _ (p .0) _ (p .1 .0) _ _ (k .ensures) _ (p .1 .1 .0 .0) (s .counts) (omega (arith, s .masks, k .kept .1 .1 .1 .0)),
-      (s .lists, s .readies, omega (arith, items-few _ _ (p .0) (c .before .before .before .before .before .before .before .before .before .before .before .before .before .before .before .before .args .items .now) (p .1 .0), s .orders)),
+      (s .lists, s .readies, omega (arith, items-few _ _ (p .0) (entry .args .items .now) (p .1 .0), s .orders)),
     )
 
 same-length : tie.Need-same-length
-same-length c = c .before .before .before .before .before .before .before .before .before .before .before .before .before .before .before .before .mask-items .kept .1 .1 .1 .0
+same-length c =
+    let mask-items = c .before .before .before .before .before .before .before .before .before .before .before .before .before .before .before .before .mask-items in
+    mask-items .kept .1 .1 .1 .0
 
 same-length-2 : tie.Need-same-length-2
-same-length-2 c = c .before .before .before .before .before .before .before .before .place .kept .1 .1 .1 .1 .0
+same-length-2 c =
+    let place = c .before .before .before .before .before .before .before .before .place in
+    place .kept .1 .1 .1 .1 .0
 
 same-length-3 : tie.Need-same-length-3
-same-length-3 c = c .before .before .before .before .before .before .before .before .place .kept .1 .1 .1 .1 .1 .0
+same-length-3 c =
+    let place = c .before .before .before .before .before .before .before .before .place in
+    place .kept .1 .1 .1 .1 .1 .0
 
 same-length-4 : tie.Need-same-length-4
-same-length-4 c = c .before .before .before .before .before .before .before .before .place .kept .1 .1 .1 .1 .1 .1 .0
+same-length-4 c =
+    let place = c .before .before .before .before .before .before .before .before .place in
+    place .kept .1 .1 .1 .1 .1 .1 .0
 
 same-length-5 : tie.Need-same-length-5
-same-length-5 c = c .before .before .before .before .before .before .before .before .place .kept .1 .1 .1 .1 .1 .1 .1 .0
+same-length-5 c =
+    let place = c .before .before .before .before .before .before .before .before .place in
+    place .kept .1 .1 .1 .1 .1 .1 .1 .0
 
 returns : tie.Need-returns
-returns c = let p = c .before .before .before .before .before .before .before .before .before .before .before .before .before .before .before .before .before .before .before .before .before .before .before .before .before .pre in placed-needs _ _ (p .0) _ (p .1 .0) _ _ (c .before .before .before .before .before .before .before .before .before .before .before .before .before .before .before .before .mask-items .ensures) (p .1 .1 .0 .1) _ _ (c .before .before .before .before .before .before .before .before .place .ensures)
+returns c =
+    let back = c .before .before .before .before .before .before .before .before .before .before .before .before in
+    let entry = back .before .before .before .before .before .before .before .before .before .before .before .before .before in
+    let mask-items = c .before .before .before .before .before .before .before .before .before .before .before .before .before .before .before .before .mask-items in
+    let place = c .before .before .before .before .before .before .before .before .place in
+    let p = entry .pre in
+    placed-needs _ _ (p .0) _ (p .1 .0) _ _ (mask-items .ensures) (p .1 .1 .0 .1) _ _ (place .ensures)
 
 pub place-items-spec : {M : Type 1} → statement M
 place-items-spec =

@@ -3,7 +3,7 @@ use Prim.Native.Nat.{ℕ, _+_, _-_, _≤_, _<_}
 use native.Mathlib.Omega.{arith}
 use borrow.Author.Needs.{needs}
 use lib.ListN.{length, take, set, length-set}
-use Rattle.order.specs.Lists.{_∈_}
+use Rattle.order.specs.LabelLists.{_∈_}
 use lib.Seq.{length-take-le, getD-take}
 use Rattle.placing.proofs.Lists.{in-take}
 use Rattle.groups.proofs.Chains.{Relinking, relinking-none, relinking-turn, relinked}
@@ -18,17 +18,32 @@ abbrev μ-loop : tie.MeasureT-loop
 
 -- in a turn: the label at hand
 module _ (c : tie.After-widen Inv-loop μ-loop) where
-  before : c .before .before .before .loop .i - 1 < c .before .before .before .before .before .before .args .r
-  before = omega (arith, c .before .before .loop-test .taken, c .before .before .before .loop .inv .1)
+  before :
+      let entry = c .before .before .before .before .before .before in
+      let loop = c .before .before .before .loop in
+      loop .i - 1 < entry .args .r
+  before =
+      let inv = c .before .before .before .loop .inv in
+      omega (arith, c .before .before .loop-test .taken, inv .1)
 
-  here : c .widen .result ∈ take (c .before .before .before .before .before .before .args .r) (c .before .before .before .before .before .before .args .order .now)
-  here = subst (λ (x : ℕ). x ∈ take (c .before .before .before .before .before .before .args .r) (c .before .before .before .before .before .before .args .order .now)) (sym (c .widen .ensures)) (in-take (c .before .before .before .before .before .before .args .order .now) _ (c .before .before .before .loop .i - 1) before (c .before .before .before .before .before .before .pre .0 .3))
+  here :
+      let entry = c .before .before .before .before .before .before in
+      c .widen .result ∈ take (entry .args .r) (entry .args .order .now)
+  here =
+      let entry = c .before .before .before .before .before .before in
+      let loop = c .before .before .before .loop in
+      subst (λ (x : ℕ). x ∈ take (entry .args .r) (entry .args .order .now)) (sym (c .widen .ensures)) (in-take (entry .args .order .now) _ (loop .i - 1) before (entry .pre .0 .3))
 
-  label : (1 ≤ c .widen .result) × (c .widen .result ≤ c .before .before .before .before .before .before .args .n)
-  label = c .before .before .before .before .before .before .pre .1 .0 (c .widen .result) here
+  label :
+      let entry = c .before .before .before .before .before .before in
+      (1 ≤ c .widen .result) × (c .widen .result ≤ entry .args .n)
+  label =
+      let entry = c .before .before .before .before .before .before in
+      entry .pre .1 .0 (c .widen .result) here
 
 loop-holds : tie.Need-loop-holds Inv-loop μ-loop
-loop-holds c = let p = c .before .before .pre in (refl, omega arith, relinking-none _ _ _ _ (omega (arith, length-take-le (c .before .before .args .r) (c .before .before .args .order .now) (p .0 .3))))
+loop-holds c =
+    let p = c .before .before .pre in (refl, omega arith, relinking-none _ _ _ _ (omega (arith, length-take-le (c .before .before .args .r) (c .before .before .args .order .now) (p .0 .3))))
 
 sub-i : tie.Need-sub-i Inv-loop μ-loop
 sub-i c = search needs
@@ -37,19 +52,28 @@ mul-x : tie.Need-mul-x Inv-loop μ-loop
 mul-x c = search needs
 
 shared-slice-read-x : tie.Need-shared-slice-read-x Inv-loop μ-loop
-shared-slice-read-x c = omega (arith, c .before .before .loop .inv .1, c .before .before .before .before .before .pre .0 .3, c .before .loop-test .taken)
+shared-slice-read-x c =
+    let entry = c .before .before .before .before .before in
+    omega (arith, c .before .before .loop .inv .1, entry .pre .0 .3, c .before .loop-test .taken)
 
 widen-requires : tie.Need-widen-requires Inv-loop μ-loop
 widen-requires c κs = search needs
 
 add-next : tie.Need-add-next Inv-loop μ-loop
-add-next c = omega (arith, label c, c .before .before .before .before .before .before .pre .0)
+add-next c =
+    let entry = c .before .before .before .before .before .before in
+    omega (arith, label c, entry .pre .0)
 
 mul-next : tie.Need-mul-next Inv-loop μ-loop
-mul-next c = omega (arith, label c, c .before .before .before .before .before .before .pre .0)
+mul-next c =
+    let entry = c .before .before .before .before .before .before in
+    omega (arith, label c, entry .pre .0)
 
 slice-write-next : tie.Need-slice-write-next Inv-loop μ-loop
-slice-write-next c = omega (arith, label c, c .before .before .before .before .before .before .pre .0 .2, c .before .before .before .loop .inv .0)
+slice-write-next c =
+    let entry = c .before .before .before .before .before .before in
+    let inv = c .before .before .before .loop .inv in
+    omega (arith, label c, entry .pre .0 .2, inv .0)
 
 loop-less : tie.Need-loop-less Inv-loop μ-loop
 loop-less c = search needs
@@ -62,8 +86,10 @@ loop-again c =
     let w = c .widen .ensures in (
       length-set (l .loop .next) _ _ ∙ l .loop .inv .0,
       omega arith,
-      subst (λ (x : ℕ). Relinking (a .args .n) (a .args .next .now) (take (a .args .r) (a .args .order .now)) (set (l .loop .next) (a .args .n + c .widen .result) (l .loop .head)) x (l .loop .i - 1)) w
-          (relinking-turn _ _ _ _ _ _ (l .loop .inv .2) (c .widen .result) (c .before .before .loop-test .taken) (omega (arith, l .loop .inv .1, length-take-le (a .args .r) (a .args .order .now) (a .pre .0 .3)))
+      subst (λ (x : ℕ). Relinking (a .args .n) (a .args .next .now) (take (a .args .r) (a .args .order .now)) (set (l .loop .next) (a .args .n + c .widen .result) (l .loop .head)) x
+          (l .loop .i - 1)) w
+          (relinking-turn _ _ _ _ _ _ (l .loop .inv .2) (c .widen .result) (c .before .before .loop-test .taken)
+          (omega (arith, l .loop .inv .1, length-take-le (a .args .r) (a .args .order .now) (a .pre .0 .3)))
           (w ∙ sym (getD-take (a .args .r) (a .args .order .now) (l .loop .i - 1) 0 (before c))) (b .0) (omega (arith, b, a .pre .0 .2, l .loop .inv .0)) (a .pre .1 .1 (c .widen .result))),
     )
 
@@ -71,7 +97,9 @@ mul-next-2 : tie.Need-mul-next-2 Inv-loop μ-loop
 mul-next-2 c = search needs
 
 slice-write-next-2 : tie.Need-slice-write-next-2 Inv-loop μ-loop
-slice-write-next-2 c = omega (arith, c .before .before .before .before .pre .0, c .before .loop .inv .0)
+slice-write-next-2 c =
+    let entry = c .before .before .before .before in
+    omega (arith, entry .pre .0, c .before .loop .inv .0)
 
 same-length : tie.Need-same-length Inv-loop μ-loop
 same-length c = length-set (c .before .loop .next) _ _ ∙ c .before .loop .inv .0

@@ -24,8 +24,9 @@ fields-of-requires c κs = code-within (c .before .loop .code) (omega arith) (om
 
 returns : tie.Need-returns Inv-loop μ-loop
 returns c =
+    let entry = c .before .before .before .before .before in
     let l = c .before .before .before .before .loop in
-    sym (letter-hit (l .code) (c .before .before .before .before .before .args .letter) (omega arith) (omega arith) (ap (λ f. f .letter) (sym (c .before .before .fields-of .ensures)) ∙ c .if1 .taken)) ∙ l .inv .2
+    sym (letter-hit (l .code) (entry .args .letter) (omega arith) (omega arith) (ap (λ f. f .letter) (sym (c .before .before .fields-of .ensures)) ∙ c .if1 .taken)) ∙ l .inv .2
 
 add-code : tie.Need-add-code Inv-loop μ-loop
 add-code c = omega arith
@@ -35,10 +36,11 @@ loop-less c = omega arith
 
 loop-again : tie.Need-loop-again Inv-loop μ-loop
 loop-again c =
+    let entry = c .before .before .before .before .before in
     let l = c .before .before .before .before .loop in (
       omega arith,
       omega arith,
-      sym (letter-miss (l .code) (c .before .before .before .before .before .args .letter) (omega arith) (omega arith) (λ q. c .if1 .left (ap (λ f. f .letter) (c .before .before .fields-of .ensures) ∙ q))) ∙ l .inv .2,
+      sym (letter-miss (l .code) (entry .args .letter) (omega arith) (omega arith) (λ q. c .if1 .left (ap (λ f. f .letter) (c .before .before .fields-of .ensures) ∙ q))) ∙ l .inv .2,
     )
 
 returns-2 : tie.Need-returns-2 Inv-loop μ-loop

@@ -1,7 +1,7 @@
 -- A Group, a value; no other gives any.
 use mathlib.Core.Path.{sym}
 use Rattle.kinds.specs.Kinds.{kinds, kindAt, isDefinition, takes}
-use Rattle.kinds.specs.Plans.{givesValues}
+use Rattle.kinds.specs.GivesValues.{givesValues}
 use Rattle.kinds.proofs.Plans.{other-gives}
 use Rattle.kinds.proofs.gives_values.Statement.{statement}
 use Rattle.kinds.proofs.gives_values.Tie as tie

@@ -17,7 +17,9 @@ unfolding isExpression isKind
 returns-2 c = rw (c .if2 .taken)
 
 returns-3 : tie.Need-returns-3
-returns-3 c = rest-expression (c .before .before .before .args .code) (c .if2 .left) (sym (c .before .before .is-definition .ensures) ∙ c .before .if1 .left)
+returns-3 c =
+    let entry = c .before .before .before in
+    rest-expression (entry .args .code) (c .if2 .left) (sym (c .before .before .is-definition .ensures) ∙ c .before .if1 .left)
 
 pub is-expression-spec : {M : Type 1} → statement M
 is-expression-spec = tie.close (tie.spec is-definition-requires returns returns-2 returns-3)

@@ -13,7 +13,9 @@ enum-known-place : tie.Need-enum-known-place
 enum-known-place c = search needs
 
 returns : tie.Need-returns
-returns c = sym (ap placeIn (c .before .place .given .1)) ∙ ap placeIn (c .before .before .before .clause-of .ensures)
+returns c =
+    let clause-of = c .before .before .before .clause-of in
+    sym (ap placeIn (c .before .place .given .1)) ∙ ap placeIn (clause-of .ensures)
 
 returns-2 : tie.Need-returns-2
 returns-2 c = sym (no-place (c .before .clause-of .result) (c .match .keys2)) ∙ ap placeIn (c .before .clause-of .ensures)

@@ -12,27 +12,52 @@ text-lines-requires : tie.Need-text-lines-requires
 text-lines-requires c κs = search needs
 
 returns : tie.Need-returns
-returns c = head-text (c .before .before .before .args .text .now) (none-counted (c .before .before .before .args .text .now) (sym (c .before .text-lines .ensures) ∙ c .if1 .taken))
+returns c =
+    let entry = c .before .before .before in
+    head-text (entry .args .text .now) (none-counted (entry .args .text .now) (sym (c .before .text-lines .ensures) ∙ c .if1 .taken))
 
 first-line-right-requires : tie.Need-first-line-right-requires
-first-line-right-requires c κs = text-lines (c .before .before .before .args .text .now) (some-counted (c .before .before .before .args .text .now) (λ z. c .if1 .left (c .before .text-lines .ensures ∙ z)))
+first-line-right-requires c κs =
+    let entry = c .before .before .before in
+    text-lines (entry .args .text .now) (some-counted (entry .args .text .now) (λ z. c .if1 .left (c .before .text-lines .ensures ∙ z)))
 
 returns-2 : tie.Need-returns-2
-returns-2 c = head-none (c .before .before .before .before .before .before .args .text .now) (some-counted (c .before .before .before .before .before .before .args .text .now) (λ z. c .before .before .before .if1 .left (c .before .before .before .before .text-lines .ensures ∙ z))) (sym (c .before .before .first-line-right .ensures) ∙ c .before .if2 .taken) (omega (arith, counted-is (c .before .before .before .before .before .before .args .text .now) (some-counted (c .before .before .before .before .before .before .args .text .now) (λ z. c .before .before .before .if1 .left (c .before .before .before .before .text-lines .ensures ∙ z))), c .before .before .before .before .text-lines .ensures))
+returns-2 c =
+    let entry = c .before .before .before .before .before .before in
+    let text-lines = c .before .before .before .before .text-lines in
+    let if1 = c .before .before .before .if1 in
+    head-none (entry .args .text .now) (some-counted (entry .args .text .now) (λ z. if1 .left (text-lines .ensures ∙ z)))
+    (sym (c .before .before .first-line-right .ensures) ∙ c .before .if2 .taken)
+    (omega (arith, counted-is (entry .args .text .now) (some-counted (entry .args .text .now) (λ z. if1 .left (text-lines .ensures ∙ z))), text-lines .ensures))
 
 returns-3 : tie.Need-returns-3
-returns-3 c = head-many (c .before .before .before .before .before .before .before .args .text .now) (some-counted (c .before .before .before .before .before .before .before .args .text .now) (λ z. c .before .before .before .before .if1 .left (c .before .before .before .before .before .text-lines .ensures ∙ z))) (sym (c .before .before .before .first-line-right .ensures) ∙ c .before .before .if2 .taken) (omega (arith, counted-is (c .before .before .before .before .before .before .before .args .text .now) (some-counted (c .before .before .before .before .before .before .before .args .text .now) (λ z. c .before .before .before .before .if1 .left (c .before .before .before .before .before .text-lines .ensures ∙ z))), c .before .before .before .before .before .text-lines .ensures))
+returns-3 c =
+    let entry = c .before .before .before .before .before .before .before in
+    let text-lines = c .before .before .before .before .before .text-lines in
+    let if1 = c .before .before .before .before .if1 in
+    let first-line-right = c .before .before .before .first-line-right in
+    head-many (entry .args .text .now) (some-counted (entry .args .text .now) (λ z. if1 .left (text-lines .ensures ∙ z))) (sym (first-line-right .ensures) ∙ c .before .before .if2 .taken)
+    (omega (arith, counted-is (entry .args .text .now) (some-counted (entry .args .text .now) (λ z. if1 .left (text-lines .ensures ∙ z))), text-lines .ensures))
 
 sub-t6 : tie.Need-sub-t6
 sub-t6 c = search needs
 
 returns-4 : tie.Need-returns-4
 returns-4 c =
-    let q = c .before .before .before .before .before .text-lines .ensures ∙ counted-is (c .before .before .before .before .before .before .before .args .text .now) (some-counted (c .before .before .before .before .before .before .before .args .text .now) (λ z. c .before .before .before .before .if1 .left (c .before .before .before .before .before .text-lines .ensures ∙ z))) in
-    ap (λ m. Answered (m - 1)) q ∙ head-right (c .before .before .before .before .before .before .before .args .text .now) (some-counted (c .before .before .before .before .before .before .before .args .text .now) (λ z. c .before .before .before .before .if1 .left (c .before .before .before .before .before .text-lines .ensures ∙ z))) (sym (c .before .before .before .first-line-right .ensures) ∙ c .before .before .if2 .taken) (omega arith) (omega arith)
+    let entry = c .before .before .before .before .before .before .before in
+    let text-lines = c .before .before .before .before .before .text-lines in
+    let if1 = c .before .before .before .before .if1 in
+    let first-line-right = c .before .before .before .first-line-right in
+    let q = text-lines .ensures ∙ counted-is (entry .args .text .now) (some-counted (entry .args .text .now) (λ z. if1 .left (text-lines .ensures ∙ z))) in
+    ap (λ m. Answered (m - 1)) q ∙ head-right (entry .args .text .now) (some-counted (entry .args .text .now) (λ z. if1 .left (text-lines .ensures ∙ z)))
+    (sym (first-line-right .ensures) ∙ c .before .before .if2 .taken) (omega arith) (omega arith)
 
 returns-5 : tie.Need-returns-5
-returns-5 c = head-first (c .before .before .before .before .before .args .text .now) (some-counted (c .before .before .before .before .before .args .text .now) (λ z. c .before .before .if1 .left (c .before .before .before .text-lines .ensures ∙ z))) (sym (c .before .first-line-right .ensures) ∙ c .if2 .left)
+returns-5 c =
+    let entry = c .before .before .before .before .before in
+    let text-lines = c .before .before .before .text-lines in
+    head-first (entry .args .text .now) (some-counted (entry .args .text .now) (λ z. c .before .before .if1 .left (text-lines .ensures ∙ z)))
+    (sym (c .before .first-line-right .ensures) ∙ c .if2 .left)
 
 pub check-head-spec : {M : Type 1} → statement M
 check-head-spec =

@@ -15,7 +15,9 @@ same-bytes-requires : tie.Need-same-bytes-requires
 same-bytes-requires c κs = search needs
 
 returns-2 : tie.Need-returns-2
-returns-2 c = c .same-bytes .ensures ∙ sym (first-line (c .before .before .before .before .args .text .now) (c .before .before .before .before .pre))
+returns-2 c =
+    let entry = c .before .before .before .before in
+    c .same-bytes .ensures ∙ sym (first-line (entry .args .text .now) (entry .pre))
 
 pub first-line-right-spec : {M : Type 1} → statement M
 first-line-right-spec =

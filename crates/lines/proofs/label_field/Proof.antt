@@ -17,10 +17,13 @@ read-label-requires c κs = search needs
 enum-known-v : tie.Need-enum-known-v
 enum-known-v c = search needs
 
-most : (c : tie.After-known-told) → c .before .v .given .0 .0 ≤ c .before .before .before .before .before .args .n
+most : (c : tie.After-known-told) →
+    let entry = c .before .before .before .before .before in
+    c .before .v .given .0 .0 ≤ entry .args .n
 most c =
+    let read-label = c .before .before .before .read-label in
     let a = c .before .before .before .before .before .args in
-    label-most (a .n) (slice (a .from) (a .to) (a .text .now)) (c .before .v .given .0 .0) (sym (c .before .before .before .read-label .ensures) ∙ c .before .v .given .1)
+    label-most (a .n) (slice (a .from) (a .to) (a .text .now)) (c .before .v .given .0 .0) (sym (read-label .ensures) ∙ c .before .v .given .1)
 
 cast-t9 : tie.Need-cast-t9
 cast-t9 c = omega (arith, most c)
@@ -30,8 +33,9 @@ enum-told c = search needs
 
 returns : tie.Need-returns
 returns c =
+    let read-label = c .before .before .before .read-label in
     let v = c .before .v .given in
-    rw (sym (c .before .before .before .read-label .ensures) ∙ v .1) (ap Holds (toZ-pos w64 {n = v .0 .0} (omega (arith, most c))))
+    rw (sym (read-label .ensures) ∙ v .1) (ap Holds (toZ-pos w64 {n = v .0 .0} (omega (arith, most c))))
 
 returns-2 : tie.Need-returns-2
 returns-2 c = rw (sym (c .before .before .read-label .ensures) ∙ c .enum-told .given .1)

@@ -18,8 +18,9 @@ enum-told c = search needs
 
 returns : tie.Need-returns
 returns c =
+    let read-number = c .before .before .before .read-number in
     let x = c .before .x .given in
-    rw (sym (c .before .before .before .read-number .ensures) ∙ x .1) (ap Holds (toZ-ofZ (sfits-of {w = w64} {z = x .0 .0} (c .known-told .given .0 .1))))
+    rw (sym (read-number .ensures) ∙ x .1) (ap Holds (toZ-ofZ (sfits-of {w = w64} {z = x .0 .0} (c .known-told .given .0 .1))))
 
 returns-2 : tie.Need-returns-2
 returns-2 c = rw (sym (c .before .before .read-number .ensures) ∙ c .enum-told .given .1)

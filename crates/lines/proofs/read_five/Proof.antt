@@ -9,21 +9,31 @@ kind-code-requires : tie.Need-kind-code-requires
 kind-code-requires c κs = search needs
 
 returns : tie.Need-returns
-returns c = line-kind (c .before .before .before .args .n) (c .before .before .before .args .text .now) (c .before .before .before .args .from) (c .before .before .before .args .e) (c .before .before .before .pre .0) (c .before .before .before .args .label) (sym (c .before .kind-code .ensures) ∙ c .if1 .taken)
+returns c =
+    let entry = c .before .before .before in
+    line-kind (entry .args .n) (entry .args .text .now) (entry .args .from) (entry .args .e) (entry .pre .0) (entry .args .label) (sym (c .before .kind-code .ensures) ∙ c .if1 .taken)
 
 read-root-requires : tie.Need-read-root-requires
 read-root-requires c κs = search needs
 
 returns-2 : tie.Need-returns-2
-returns-2 c = c .read-root .ensures ∙ line-root (c .before .before .before .before .before .args .n) (c .before .before .before .before .before .args .text .now) (c .before .before .before .before .before .args .from) (c .before .before .before .before .before .args .e) (c .before .before .before .before .before .pre .0) (c .before .before .before .before .before .args .label) (λ z. c .before .before .if1 .left (c .before .before .before .kind-code .ensures ∙ z)) (c .before .if2 .taken)
+returns-2 c =
+    let entry = c .before .before .before .before .before in
+    let kind-code = c .before .before .before .kind-code in
+    c .read-root .ensures ∙ line-root (entry .args .n) (entry .args .text .now) (entry .args .from) (entry .args .e) (entry .pre .0) (entry .args .label)
+    (λ z. c .before .before .if1 .left (kind-code .ensures ∙ z)) (c .before .if2 .taken)
 
-read-row-requires : tie.Need-read-row-requires
-read-row-requires c κs = search needs
+read-cells-requires : tie.Need-read-cells-requires
+read-cells-requires c κs = search needs
 
 returns-3 : tie.Need-returns-3
-returns-3 c = c .read-row .ensures ∙ line-row (c .before .before .before .before .before .args .n) (c .before .before .before .before .before .args .text .now) (c .before .before .before .before .before .args .from) (c .before .before .before .before .before .args .e) (c .before .before .before .before .before .pre .0) (c .before .before .before .before .before .args .label) (λ z. c .before .before .if1 .left (c .before .before .before .kind-code .ensures ∙ z)) (c .before .if2 .left)
+returns-3 c =
+    let entry = c .before .before .before .before .before in
+    let kind-code = c .before .before .before .kind-code in
+    c .read-cells .ensures ∙ line-row (entry .args .n) (entry .args .text .now) (entry .args .from) (entry .args .e) (entry .pre .0) (entry .args .label)
+    (λ z. c .before .before .if1 .left (kind-code .ensures ∙ z)) (c .before .if2 .left)
 
 pub read-five-spec : {M : Type 1} → statement M
 read-five-spec =
     tie.close
-    (tie.spec kind-code-requires returns read-root-requires returns-2 read-row-requires returns-3)
+    (tie.spec kind-code-requires returns read-root-requires returns-2 read-cells-requires returns-3)

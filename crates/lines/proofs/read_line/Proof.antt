@@ -1,7 +1,7 @@
 -- Row 5 by what the split says.
 use mathlib.Core.Path.{subst}
 use borrow.Author.Needs.{needs}
-use Rattle.lines.specs.Steps.{SplitOf}
+use Rattle.lines.specs.LineSteps.{SplitOf}
 use Rattle.lines.proofs.Rows.{line-fields}
 use Rattle.lines.proofs.read_line.Statement.{statement}
 use Rattle.lines.proofs.read_line.Tie as tie
@@ -13,7 +13,10 @@ enum-known-e : tie.Need-enum-known-e
 enum-known-e c = search needs
 
 read-five-requires : tie.Need-read-five-requires
-read-five-requires c κs = (subst (SplitOf (c .before .before .before .before .before .args .text .now) (c .before .before .before .before .before .args .from)) (c .before .e .given .1) (c .before .before .before .split-line .ensures), c .before .before .before .before .before .pre .1, c .before .before .before .before .before .pre .2)
+read-five-requires c κs =
+    let entry = c .before .before .before .before .before in
+    let split-line = c .before .before .before .split-line in
+    (subst (SplitOf (entry .args .text .now) (entry .args .from)) (c .before .e .given .1) (split-line .ensures), entry .pre .1, entry .pre .2)
 
 enum-told : tie.Need-enum-told
 enum-told c = search needs
@@ -22,7 +25,10 @@ returns : tie.Need-returns
 returns c = search needs
 
 returns-2 : tie.Need-returns-2
-returns-2 c = line-fields (c .before .before .before .before .args .n) (c .before .before .before .before .args .label) (c .before .before .before .before .args .text .now) (c .before .before .before .before .args .from) (subst (SplitOf (c .before .before .before .before .args .text .now) (c .before .before .before .before .args .from)) (c .enum-told .given .1) (c .before .before .split-line .ensures))
+returns-2 c =
+    let entry = c .before .before .before .before in
+    line-fields (entry .args .n) (entry .args .label) (entry .args .text .now) (entry .args .from)
+    (subst (SplitOf (entry .args .text .now) (entry .args .from)) (c .enum-told .given .1) (c .before .before .split-line .ensures))
 
 pub read-line-spec : {M : Type 1} → statement M
 read-line-spec =

@@ -4,7 +4,7 @@ use Prim.Native.Nat.{_+_, _-_, _*_}
 use native.Mathlib.Omega.{arith}
 use lib.ListN.{length}
 use borrow.Author.Needs.{needs}
-use Rattle.lines.specs.Steps.{linesWritten}
+use Rattle.lines.specs.LineSteps.{linesWritten}
 use Rattle.lines.proofs.Heads.{headed}
 use Rattle.lines.proofs.Pass.{Going, Stopped, start, inside, went, stopped, turn, stop, done}
 use Rattle.lines.proofs.read_lines.Statement.{statement}
@@ -21,25 +21,61 @@ loop-holds c = start (c .before .args .text .now) (c .before .args .n) (headed (
 
 step-requires : tie.Need-step-requires Inv-loop μ-loop
 step-requires c κs =
-    let h = headed (c .before .before .before .before .args .text .now) (c .before .before .before .before .pre .0) in
-    let g = c .before .before .loop .inv in
-    ((inside (c .before .before .before .before .args .text .now) (c .before .before .before .before .args .n) (headed (c .before .before .before .before .args .text .now) (c .before .before .before .before .pre .0)) (c .before .before .before .before .pre .1) (c .before .before .before .before .args .table .now) (c .before .before .loop .at) (c .before .before .loop .label) (c .before .before .loop .table) (c .before .before .loop .inv) (omega arith), omega (arith, h .high), h .size, h .ends, h .allowed), (g .low, omega (arith, h .high), omega (arith, g .size, c .before .before .before .before .pre .2)))
+    let entry = c .before .before .before .before in
+    let h = headed (entry .args .text .now) (entry .pre .0) in
+    let g = c .before .before .loop .inv in (
+      (
+        inside (entry .args .text .now) (entry .args .n) (headed (entry .args .text .now) (entry .pre .0)) (entry .pre .1) (entry .args .table .now) (c .before .before .loop .at)
+            (c .before .before .loop .label) (c .before .before .loop .table) (c .before .before .loop .inv) (omega arith),
+        omega (arith, h .high),
+        h .size,
+        h .ends,
+        h .allowed,
+      ),
+      (
+        g .low,
+        omega
+            (arith, h .high),
+        omega (arith, g .size, entry .pre .2),
+      ),
+    )
 
 enum-known-row : tie.Need-enum-known-row Inv-loop μ-loop
 enum-known-row c = search needs
 
-refused : (c : tie.After-known-told Inv-loop μ-loop) → Stopped (c .before .before .before .before .before .before .before .before .before .args .n) (c .before .before .before .before .before .before .before .loop .label) (c .before .before .before .before .before .before .before .before .before .args .text .now) (c .before .before .before .before .before .before .before .loop .at) (c .before .row .given .0 .0)
-refused c = stopped (c .before .before .before .before .before .before .before .before .before .args .n) (c .before .before .before .before .before .before .before .loop .label) (c .before .before .before .before .before .before .before .before .before .args .text .now) (c .before .before .before .before .before .before .before .loop .at) (c .before .row .given .0 .0) (sym (c .before .before .before .before .step .ensures .0) ∙ c .before .row .given .1)
+refused : (c : tie.After-known-told Inv-loop μ-loop) →
+    let entry = c .before .before .before .before .before .before .before .before .before in
+    let loop = c .before .before .before .before .before .before .before .loop in
+    Stopped (entry .args .n) (loop .label) (entry .args .text .now) (loop .at) (c .before .row .given .0 .0)
+refused c =
+    let entry = c .before .before .before .before .before .before .before .before .before in
+    let loop = c .before .before .before .before .before .before .before .loop in
+    let step = c .before .before .before .before .step in
+    stopped (entry .args .n) (loop .label) (entry .args .text .now) (loop .at) (c .before .row .given .0 .0) (sym (step .ensures .0) ∙ c .before .row .given .1)
 
 -- a line that is refused leaves the table as it was
-kept : (c : tie.After-known-told Inv-loop μ-loop) → c .before .before .before .before .step .last .1 .1 .1 .1 .0 ≡ c .before .before .before .before .before .before .before .loop .table
-kept c = c .before .before .before .before .step .ensures .1 ∙ refused c .cells (8 * (c .before .before .before .before .before .before .before .loop .label - 1)) (c .before .before .before .before .before .before .before .loop .table)
+kept : (c : tie.After-known-told Inv-loop μ-loop) →
+    let loop = c .before .before .before .before .before .before .before .loop in
+    let step = c .before .before .before .before .step in
+    step .last .1 .1 .1 .1 .0 ≡ loop .table
+kept c =
+    let loop = c .before .before .before .before .before .before .before .loop in
+    let step = c .before .before .before .before .step in
+    step .ensures .1 ∙ refused c .cells (8 * (loop .label - 1)) (loop .table)
 
 same-length : tie.Need-same-length Inv-loop μ-loop
-same-length c = ap length (kept c) ∙ c .before .before .before .before .before .before .before .loop .inv .size
+same-length c =
+    let inv = c .before .before .before .before .before .before .before .loop .inv in
+    ap length (kept c) ∙ inv .size
 
 returns : tie.Need-returns Inv-loop μ-loop
-returns c = (stop (c .before .before .before .before .before .before .before .before .before .args .text .now) (c .before .before .before .before .before .before .before .before .before .args .n) (headed (c .before .before .before .before .before .before .before .before .before .args .text .now) (c .before .before .before .before .before .before .before .before .before .pre .0)) (c .before .before .before .before .before .before .before .before .before .pre .1) (c .before .before .before .before .before .before .before .before .before .args .table .now) (c .before .before .before .before .before .before .before .loop .at) (c .before .before .before .before .before .before .before .loop .label) (c .before .before .before .before .before .before .before .loop .table) (c .before .before .before .before .before .before .before .loop .inv) (omega arith) (c .before .row .given .0 .0) (refused c), kept c ∙ c .before .before .before .before .before .before .before .loop .inv .table)
+returns c =
+    let entry = c .before .before .before .before .before .before .before .before .before in
+    let loop = c .before .before .before .before .before .before .before .loop in (
+      stop (entry .args .text .now) (entry .args .n) (headed (entry .args .text .now) (entry .pre .0)) (entry .pre .1) (entry .args .table .now) (loop .at) (loop .label) (loop .table) (loop .inv)
+          (omega arith) (c .before .row .given .0 .0) (refused c),
+      kept c ∙ loop .inv .table,
+    )
 
 enum-known-next : tie.Need-enum-known-next Inv-loop μ-loop
 enum-known-next c = search needs
@@ -52,17 +88,25 @@ loop-less c = omega arith
 
 loop-again : tie.Need-loop-again Inv-loop μ-loop
 loop-again c =
-    turn (c .before .before .before .before .before .before .before .before .before .args .text .now) (c .before .before .before .before .before .before .before .before .before .args .n) (headed (c .before .before .before .before .before .before .before .before .before .args .text .now) (c .before .before .before .before .before .before .before .before .before .pre .0)) (c .before .before .before .before .before .before .before .before .before .pre .1) (c .before .before .before .before .before .before .before .before .before .args .table .now) (c .before .before .before .before .before .before .before .loop .at) (c .before .before .before .before .before .before .before .loop .label) (c .before .before .before .before .before .before .before .loop .table) (c .before .before .before .before .before .before .before .loop .inv) (omega arith) (c .before .next .given .0 .0) (c .before .before .before .before .step .last .1 .1 .1 .1 .0)
-    (went (c .before .before .before .before .before .before .before .before .before .args .n) (c .before .before .before .before .before .before .before .loop .label) (c .before .before .before .before .before .before .before .before .before .args .text .now) (c .before .before .before .before .before .before .before .loop .at) (c .before .next .given .0 .0) (sym (c .before .before .before .before .step .ensures .0) ∙ c .before .next .given .1)) (c .before .before .before .before .step .ensures .1) (c .before .before .before .before .before .before .before .before .before .pre .2)
+    let entry = c .before .before .before .before .before .before .before .before .before in
+    let loop = c .before .before .before .before .before .before .before .loop in
+    let step = c .before .before .before .before .step in
+    turn (entry .args .text .now) (entry .args .n) (headed (entry .args .text .now) (entry .pre .0)) (entry .pre .1) (entry .args .table .now) (loop .at) (loop .label) (loop .table) (loop .inv)
+    (omega arith) (c .before .next .given .0 .0) (step .last .1 .1 .1 .1 .0)
+    (went (entry .args .n) (loop .label) (entry .args .text .now) (loop .at) (c .before .next .given .0 .0) (sym (step .ensures .0) ∙ c .before .next .given .1)) (step .ensures .1) (entry .pre .2)
 
 same-length-2 : tie.Need-same-length-2 Inv-loop μ-loop
 same-length-2 c = c .before .loop .inv .size
 
 returns-2 : tie.Need-returns-2 Inv-loop μ-loop
 returns-2 c =
+    let entry = c .before .before .before in
     let g = c .before .loop .inv in
-    let q : c .before .loop .label - 1 ≡ c .before .before .before .args .n = omega (arith, g .high) in
-    (done (c .before .before .before .args .text .now) (c .before .before .before .args .n) (headed (c .before .before .before .args .text .now) (c .before .before .before .pre .0)) (c .before .before .before .pre .1) (c .before .before .before .args .table .now) (c .before .loop .at) (c .before .loop .label) (c .before .loop .table) (c .before .loop .inv) (omega arith), g .table ∙ ap (λ k. linesWritten (c .before .before .before .args .text .now) (c .before .before .before .args .n) k (c .before .before .before .args .table .now)) q)
+    let q : c .before .loop .label - 1 ≡ entry .args .n = omega (arith, g .high) in (
+      done (entry .args .text .now) (entry .args .n) (headed (entry .args .text .now) (entry .pre .0)) (entry .pre .1) (entry .args .table .now) (c .before .loop .at) (c .before .loop .label)
+          (c .before .loop .table) (c .before .loop .inv) (omega arith),
+      g .table ∙ ap (λ k. linesWritten (entry .args .text .now) (entry .args .n) k (entry .args .table .now)) q,
+    )
 
 pub read-lines-spec : {M : Type 1} → statement M
 read-lines-spec =

@@ -34,7 +34,10 @@ enum-told-2 : tie.Need-enum-told-2
 enum-told-2 c = search needs
 
 returns-2 : tie.Need-returns-2
-returns-2 c = rw (sym (c .before .before .before .before .before .before .before .read-field .ensures) ∙ c .before .before .before .before .before .a .given .1, sym (c .before .before .read-field2 .ensures) ∙ c .enum-told2 .given .1)
+returns-2 c =
+    let read-field = c .before .before .before .before .before .before .before .read-field in
+    let a = c .before .before .before .before .before .a in
+    rw (sym (read-field .ensures) ∙ a .given .1, sym (c .before .before .read-field2 .ensures) ∙ c .enum-told2 .given .1)
 
 add-read-field-3 : tie.Need-add-read-field-3
 add-read-field-3 c = search needs
@@ -49,12 +52,29 @@ enum-told-3 : tie.Need-enum-told-3
 enum-told-3 c = search needs
 
 returns-3 : tie.Need-returns-3
-returns-3 c = rw (sym (c .before .before .before .before .before .before .before .before .before .before .before .before .read-field .ensures) ∙ c .before .before .before .before .before .before .before .before .before .before .a .given .1, sym (c .before .before .before .before .before .before .before .read-field2 .ensures) ∙ c .before .before .before .before .before .b .given .1, sym (c .before .before .read-field3 .ensures) ∙ c .enum-told3 .given .1)
+returns-3 c =
+    let read-field = c .before .before .before .before .before .before .before .before .before .before .before .before .read-field in
+    let a = c .before .before .before .before .before .before .before .before .before .before .a in
+    let read-field2 = c .before .before .before .before .before .before .before .read-field2 in
+    let b = c .before .before .before .before .before .b in
+    rw (sym (read-field .ensures) ∙ a .given .1, sym (read-field2 .ensures) ∙ b .given .1, sym (c .before .before .read-field3 .ensures) ∙ c .enum-told3 .given .1)
 
 returns-4 : tie.Need-returns-4
 returns-4 c =
-    rw (sym (c .before .before .before .before .before .before .before .before .before .before .before .before .before .read-field .ensures) ∙ c .before .before .before .before .before .before .before .before .before .before .before .a .given .1, sym (c .before .before .before .before .before .before .before .before .read-field2 .ensures) ∙ c .before .before .before .before .before .before .b .given .1, sym (c .before .before .before .read-field3 .ensures) ∙ c .before .c .given .1)
-    (simp (toZ-ofZ (sfits-of {w = w64} {z = c .before .before .before .before .before .before .before .before .before .before .before .a .given .0 .0} (c .before .before .before .before .before .before .before .before .before .before .known-told .given .0 .1)), toZ-ofZ (sfits-of {w = w64} {z = c .before .before .before .before .before .before .b .given .0 .0} (c .before .before .before .before .before .known-told2 .given .0 .1)), toZ-ofZ (sfits-of {w = w64} {z = c .before .c .given .0 .0} (c .known-told3 .given .0 .1))))
+    let read-field = c .before .before .before .before .before .before .before .before .before .before .before .before .before .read-field in
+    let a = c .before .before .before .before .before .before .before .before .before .before .before .a in
+    let known-told = c .before .before .before .before .before .before .before .before .before .before .known-told in
+    let read-field2 = c .before .before .before .before .before .before .before .before .read-field2 in
+    let b = c .before .before .before .before .before .before .b in
+    let known-told2 = c .before .before .before .before .before .known-told2 in
+    let read-field3 = c .before .before .before .read-field3 in
+    rw (sym (read-field .ensures) ∙ a .given .1, sym (read-field2 .ensures) ∙ b .given .1, sym (read-field3 .ensures) ∙ c .before .c .given .1)
+    (simp (
+      toZ-ofZ (sfits-of {w = w64} {z = a .given .0 .0} (known-told .given .0 .1)),
+      toZ-ofZ (sfits-of {w = w64} {z = b .given .0 .0} (known-told2 .given .0 .1)),
+      toZ-ofZ
+          (sfits-of {w = w64} {z = c .before .c .given .0 .0} (c .known-told3 .given .0 .1)),
+    ))
 
 pub read-operands-spec : {M : Type 1} → statement M
 read-operands-spec =

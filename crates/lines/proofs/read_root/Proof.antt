@@ -16,11 +16,15 @@ cast-t9 c = search needs
 
 returns : tie.Need-returns
 unfolding rootLine
-returns c = root-right (c .before .before .before .before .args .text .now) (c .before .before .before .before .args .from) (c .before .before .before .before .args .e) (c .before .before .before .before .pre) (sym (c .before .same-bytes .ensures) ∙ c .if1 .taken)
+returns c =
+    let entry = c .before .before .before .before in
+    root-right (entry .args .text .now) (entry .args .from) (entry .args .e) (entry .pre) (sym (c .before .same-bytes .ensures) ∙ c .if1 .taken)
 
 returns-2 : tie.Need-returns-2
 unfolding rootLine
-returns-2 c = root-wrong (c .before .before .before .before .args .text .now) (c .before .before .before .before .args .from) (c .before .before .before .before .args .e) (c .before .before .before .before .pre) (sym (c .before .same-bytes .ensures) ∙ c .if1 .left)
+returns-2 c =
+    let entry = c .before .before .before .before in
+    root-wrong (entry .args .text .now) (entry .args .from) (entry .args .e) (entry .pre) (sym (c .before .same-bytes .ensures) ∙ c .if1 .left)
 
 pub read-root-spec : {M : Type 1} → statement M
 read-root-spec =

@@ -10,27 +10,36 @@ returns : tie.Need-returns
 returns c = text-empty (c .before .before .args .text .now) (c .if1 .taken)
 
 returns-2 : tie.Need-returns-2
-returns-2 c = text-long (c .before .before .before .args .text .now) (c .if2 .taken)
+returns-2 c =
+    let entry = c .before .before .before in
+    text-long (entry .args .text .now) (c .if2 .taken)
 
 shared-slice-read-if3 : tie.Need-shared-slice-read-if3
 shared-slice-read-if3 c = search needs
 
 returns-3 : tie.Need-returns-3
-returns-3 c = text-open (c .before .before .before .before .before .args .text .now) (c .if3 .taken)
+returns-3 c =
+    let entry = c .before .before .before .before .before in
+    text-open (entry .args .text .now) (c .if3 .taken)
 
 survey-requires : tie.Need-survey-requires
 survey-requires c κs = search needs
 
 returns-4 : tie.Need-returns-4
-returns-4 c = text-bad (c .before .before .before .before .before .before .before .before .args .text .now) (λ z. c .if4 .taken (c .before .before .survey .ensures .0 ∙ z))
+returns-4 c =
+    let entry = c .before .before .before .before .before .before .before .before in
+    text-bad (entry .args .text .now) (λ z. c .if4 .taken (c .before .before .survey .ensures .0 ∙ z))
 
 cast-result : tie.Need-cast-result
 cast-result c = search needs
 
 returns-5 : tie.Need-returns-5
 returns-5 c =
-    c .before .before .before .survey .ensures .1
-    ∙ text-right (c .before .before .before .before .before .before .before .before .before .args .text .now) (omega arith) (omega arith) (c .before .before .before .before .if3 .left) (sym (c .before .before .before .survey .ensures .0) ∙ c .before .if4 .left)
+    let entry = c .before .before .before .before .before .before .before .before .before in
+    let if3 = c .before .before .before .before .if3 in
+    let survey = c .before .before .before .survey in
+    survey .ensures .1
+    ∙ text-right (entry .args .text .now) (omega arith) (omega arith) (if3 .left) (sym (survey .ensures .0) ∙ c .before .if4 .left)
 
 pub text-lines-spec : {M : Type 1} → statement M
 text-lines-spec =

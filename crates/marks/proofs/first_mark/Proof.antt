@@ -29,10 +29,16 @@ mul-result : tie.Need-mul-result Inv-loop μ-loop
 mul-result c = search needs
 
 cast-result : tie.Need-cast-result Inv-loop μ-loop
-cast-result c = omega (arith, trailing-le 64 (getD (c .before .before .before .before .args .s .now) (c .before .before .before .loop .j) 0))
+cast-result c =
+    let entry = c .before .before .before .before in
+    let loop = c .before .before .before .loop in
+    omega (arith, trailing-le 64 (getD (entry .args .s .now) (loop .j) 0))
 
 add-result : tie.Need-add-result Inv-loop μ-loop
-add-result c = omega (arith, trailing-le 64 (getD (c .before .before .before .before .args .s .now) (c .before .before .before .loop .j) 0))
+add-result c =
+    let entry = c .before .before .before .before in
+    let loop = c .before .before .before .loop in
+    omega (arith, trailing-le 64 (getD (entry .args .s .now) (loop .j) 0))
 
 returns : tie.Need-returns Inv-loop μ-loop
 returns c =
@@ -46,7 +52,9 @@ loop-less : tie.Need-loop-less Inv-loop μ-loop
 loop-less c = search needs
 
 loop-again : tie.Need-loop-again Inv-loop μ-loop
-loop-again c = (omega arith, first-turn _ _ _ (c .before .before .before .loop .inv .1) (c .before .before .loop-test .taken) (omega (arith, c .if1 .left)))
+loop-again c =
+    let inv = c .before .before .before .loop .inv in
+    (omega arith, first-turn _ _ _ (inv .1) (c .before .before .loop-test .taken) (omega (arith, c .if1 .left)))
 
 mul-result-2 : tie.Need-mul-result-2 Inv-loop μ-loop
 mul-result-2 c = search needs

@@ -6,7 +6,7 @@ use native.Mathlib.Nat.{le-antisymm}
 use borrow.Author.Needs.{needs}
 use lib.Dec.{ltb}
 use lib.ListN.{length, take}
-use Rattle.order.specs.Lists.{one, count}
+use Rattle.order.specs.LabelLists.{one, count}
 use Rattle.marks.specs.Marks.{mark}
 use Rattle.marks.proofs.Squares.{listing-none, listing-turn, listing-end}
 use Rattle.marks.proofs.list_marks.Statement.{statement}
@@ -54,12 +54,13 @@ loop-less c = search needs
 
 loop-again : tie.Need-loop-again Inv-loop μ-loop
 loop-again c =
+    let loop-test = c .before .before .before .before .before .before .loop-test in
     let l = c .before .before .before .before .before .before .before in
     let w = c .before .before .list-word in (
       w .kept .1 .1 .0 ∙ l .loop .inv .0,
       omega arith,
       omega (arith, w .ensures .1, l .loop .inv .2),
-      listing-turn _ _ _ _ _ (c .before .before .before .before .before .before .loop-test .taken) (take (l .loop .m) (l .loop .list)) _ (l .loop .inv .3) (w .ensures .0),
+      listing-turn _ _ _ _ _ (loop-test .taken) (take (l .loop .m) (l .loop .list)) _ (l .loop .inv .3) (w .ensures .0),
     )
 
 same-length : tie.Need-same-length Inv-loop μ-loop
@@ -70,7 +71,8 @@ returns c =
     let l = c .before in
     let a = l .before .before .before .before .args in
     let e : l .loop .j ≡ a .w = le-antisymm (l .loop .inv .1) (omega arith) in (
-      λ q. l .loop .inv .3 q ∙ ap (λ (j : ℕ). one (ltb q (64 * j) && mark (a .s .now) (a .w) (a .p) q && mark (a .mask .now) (a .w) 0 q)) e ∙ listing-end (a .s .now) (a .mask .now) (a .w) (a .p) q,
+      λ q. l .loop .inv .3 q ∙ ap (λ (j : ℕ). one (ltb q (64 * j) && mark (a .s .now) (a .w) (a .p) q && mark (a .mask .now) (a .w) 0 q)) e
+          ∙ listing-end (a .s .now) (a .mask .now) (a .w) (a .p) q,
       omega (arith, l .loop .inv .2),
     )
 

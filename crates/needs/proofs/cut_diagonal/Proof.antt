@@ -16,8 +16,12 @@ Inv-loop n square₀ w p₀ square p = (length square ≡ length square₀) × (
 abbrev μ-loop : tie.MeasureT-loop
 μ-loop n square₀ w p₀ square p = n + 1 - p
 
-in-square : (c : tie.In-loop Inv-loop μ-loop) → (c .before .loop .p < 64 * (c .before .before .before .args .n / 64 + 1)) × (c .before .loop .p * (c .before .before .before .args .n / 64 + 1) + (c .before .before .before .args .n / 64 + 1) ≤ length (c .before .loop .square))
-in-square c = (omega (arith, c .loop-test .taken), row-room _ _ _ _ (c .loop-test .taken) (omega (arith, c .before .before .before .pre .1, c .before .loop .inv .0)))
+in-square : (c : tie.In-loop Inv-loop μ-loop) →
+    let entry = c .before .before .before in
+    (c .before .loop .p < 64 * (entry .args .n / 64 + 1)) × (c .before .loop .p * (entry .args .n / 64 + 1) + (entry .args .n / 64 + 1) ≤ length (c .before .loop .square))
+in-square c =
+    let entry = c .before .before .before in
+    (omega (arith, c .loop-test .taken), row-room _ _ _ _ (c .loop-test .taken) (omega (arith, entry .pre .1, c .before .loop .inv .0)))
 
 add-w : tie.Need-add-w Inv-loop μ-loop
 add-w c = search needs
@@ -29,7 +33,9 @@ has-mark-requires : tie.Need-has-mark-requires Inv-loop μ-loop
 has-mark-requires c κs = in-square (c .before)
 
 drop-mark-requires : tie.Need-drop-mark-requires Inv-loop μ-loop
-drop-mark-requires c κs = (in-square (c .before .before .before .before), sym (c .before .before .has-mark .ensures) ∙ c .before .if1 .taken)
+drop-mark-requires c κs =
+    let point = c .before .before .before .before in
+    (in-square point, sym (c .before .before .has-mark .ensures) ∙ c .before .if1 .taken)
 
 add-p : tie.Need-add-p Inv-loop μ-loop
 add-p c = search needs
@@ -49,9 +55,10 @@ same-length c = c .before .loop .inv .0
 
 returns : tie.Need-returns Inv-loop μ-loop
 returns c =
+    let entry = c .before .before .before in
     let l = c .before in
-    let e : l .loop .p ≡ c .before .before .before .args .n + 1 = omega (arith, l .loop .inv .2, c .loop-test .left) in
-    subst (λ (k : ℕ). Cut (c .before .before .before .args .n) k (c .before .before .before .args .square .now) (l .loop .square)) e (l .loop .inv .3)
+    let e : l .loop .p ≡ entry .args .n + 1 = omega (arith, l .loop .inv .2, c .loop-test .left) in
+    subst (λ (k : ℕ). Cut (entry .args .n) k (entry .args .square .now) (l .loop .square)) e (l .loop .inv .3)
 
 pub cut-diagonal-spec : {M : Type 1} → statement M
 cut-diagonal-spec =

@@ -6,13 +6,13 @@ use borrow.Author.Needs.{needs}
 use lib.ListN.{length}
 use mathlib.Core.Bool.{false}
 use Rattle.kinds.specs.Kinds.{groupCode, valueCode}
-use Rattle.kinds.specs.Plans.{givesValues}
+use Rattle.kinds.specs.GivesValues.{givesValues}
 use Rattle.kinds.proofs.Plans.{group-gives, value-gives, gives-cases}
 use Rattle.cells.specs.Table.{kind}
 use Rattle.order.proofs.Tests.{clash}
 use Rattle.reach.proofs.Reading.{row-room}
 use Rattle.needs.specs.Needs.{Lifting}
-use Rattle.reach.specs.Rows.{width}
+use Rattle.reach.specs.MarkRows.{width}
 use Rattle.needs.proofs.Lifts.{lifting-start, lifting-skip, lifting-turn}
 use Rattle.needs.proofs.lift.Statement.{statement}
 use Rattle.needs.proofs.lift.Tie as tie
@@ -32,20 +32,26 @@ loop-holds : tie.Need-loop-holds Inv-loop μ-loop
 loop-holds c = let p = c .before .pre in (refl, p .0 .some, omega arith, lifting-start _ _ (p .0) _ (p .1 .1))
 
 gives-values-requires : tie.Need-gives-values-requires Inv-loop μ-loop
-gives-values-requires c κs = (c .before .before .before .pre .0, (c .before .loop .inv .1, c .before .loop .inv .2))
+gives-values-requires c κs =
+    let entry = c .before .before .before in
+    (entry .pre .0, (c .before .loop .inv .1, c .before .loop .inv .2))
 
 cell-of-requires : tie.Need-cell-of-requires Inv-loop μ-loop
-cell-of-requires c κs = (c .before .before .before .before .before .pre .0, (c .before .before .before .loop .inv .1, c .before .before .before .loop .inv .2, omega arith, omega arith))
+cell-of-requires c κs =
+    let entry = c .before .before .before .before .before in
+    let inv = c .before .before .before .loop .inv in
+    (entry .pre .0, (inv .1, inv .2, omega arith, omega arith))
 
 add-merge-row : tie.Need-add-merge-row Inv-loop μ-loop
 add-merge-row c = search needs
 
 merge-row-requires : tie.Need-merge-row-requires Inv-loop μ-loop
 merge-row-requires c κs =
-    let p = c .before .before .before .before .before .before .before .pre in
+    let entry = c .before .before .before .before .before .before .before in
+    let p = entry .pre in
     let l = c .before .before .before .before .before in
-    let r : (c .before .before .before .before .before .before .before .args .n + 1) * width (c .before .before .before .before .before .before .before .args .n) ≤ length (l .loop .square) = omega (arith, p .1 .0, l .loop .inv .0) in
-    let b : c .before .cell-of .result ≤ c .before .before .before .before .before .before .before .args .n = omega (arith, c .before .cell-of .ensures, p .0 .falls (l .loop .k) (l .loop .inv .1) (l .loop .inv .2), l .loop .inv .2) in
+    let r : (entry .args .n + 1) * width (entry .args .n) ≤ length (l .loop .square) = omega (arith, p .1 .0, l .loop .inv .0) in
+    let b : c .before .cell-of .result ≤ entry .args .n = omega (arith, c .before .cell-of .ensures, p .0 .falls (l .loop .k) (l .loop .inv .1) (l .loop .inv .2), l .loop .inv .2) in
     let own = row-room _ _ _ _ (l .loop .inv .2) r in
     let group = row-room _ _ _ _ b r in
     (omega arith, omega arith)
@@ -83,9 +89,10 @@ same-length c = c .before .loop .inv .0
 
 returns : tie.Need-returns Inv-loop μ-loop
 returns c =
+    let entry = c .before .before .before in
     let l = c .before in
     let e : l .loop .k ≡ 1 = omega (arith, l .loop .inv .1, c .loop-test .left) in
-    subst (λ (k : ℕ). Lifting (c .before .before .before .args .table .now) (c .before .before .before .args .n) k (l .loop .square)) e (l .loop .inv .3)
+    subst (λ (k : ℕ). Lifting (entry .args .table .now) (entry .args .n) k (l .loop .square)) e (l .loop .inv .3)
 
 pub lift-spec : {M : Type 1} → statement M
 lift-spec =

@@ -13,7 +13,10 @@ same-length : tie.Need-same-length
 same-length c = search needs
 
 returns : tie.Need-returns
-returns c = rows-need _ _ (c .before .before .before .before .before .before .before .before .before .pre .0) _ (c .before .before .before .before .before .before .lift .ensures) _ (c .before .before .cut-diagonal .ensures)
+returns c =
+    let entry = c .before .before .before .before .before .before .before .before .before in
+    let lift = c .before .before .before .before .before .before .lift in
+    rows-need _ _ (entry .pre .0) _ (lift .ensures) _ (c .before .before .cut-diagonal .ensures)
 
 pub needs-of-spec : {M : Type 1} → statement M
 needs-of-spec = tie.close (tie.spec lift-requires cut-diagonal-requires same-length returns)

@@ -91,10 +91,11 @@ returns-4 c =
 returns-5 : tie.Need-returns-5
 unfolding result
 returns-5 c =
+    let enum-told4 = c .before .before .before .enum-told4 in
     let s = c .before .before .before .before .before in
     let n = c .before .nearest in
     calculated-by (s .args .tie) (s .args .op) Quotient (s .args .a) (s .args .b) _
-    (c .before .before .before .enum-told4 .given .1)
+    (enum-told4 .given .1)
     (unequal (s .args .b) 0 (c .before .before .if1 .left))
     (toZ-ofZ (sfits-of (n .ok)) ∙ (rw (toZ-ofZ (s .fits .a), toZ-ofZ (s .fits .b)) at (n .ensures)))
     (c .ranged4 .ensures)

@@ -36,7 +36,9 @@ returns : tie.Need-returns Inv-loop μ-loop
 returns c = sym (turn (c .before .before) ∙ digits-bad _ _ _ _ (digit-low _ (c .if1 .taken)))
 
 returns-2 : tie.Need-returns-2 Inv-loop μ-loop
-returns-2 c = sym (turn (c .before .before .before) ∙ digits-bad _ _ _ _ (digit-high _ (c .if2 .taken)))
+returns-2 c =
+    let point = c .before .before .before in
+    sym (turn point ∙ digits-bad _ _ _ _ (digit-high _ (c .if2 .taken)))
 
 mul-v : tie.Need-mul-v Inv-loop μ-loop
 mul-v c = omega arith
@@ -49,8 +51,9 @@ add-v c = omega arith
 
 returns-3 : tie.Need-returns-3 Inv-loop μ-loop
 returns-3 c =
+    let point = c .before .before .before .before in
     let d = digit-is _ (c .before .before .if1 .left) (c .before .if2 .left) in
-    sym (turn (c .before .before .before .before) ∙ digits-step _ _ _ _ d ∙ digits-over _ _ _ (c .if3 .taken))
+    sym (turn point ∙ digits-step _ _ _ _ d ∙ digits-over _ _ _ (c .if3 .taken))
 
 add-i : tie.Need-add-i Inv-loop μ-loop
 add-i c = omega arith
@@ -60,8 +63,9 @@ loop-less c = omega arith
 
 loop-again : tie.Need-loop-again Inv-loop μ-loop
 loop-again c =
+    let point = c .before .before .before .before in
     let d = digit-is _ (c .before .before .if1 .left) (c .before .if2 .left) in
-    (omega arith, c .if3 .left, turn (c .before .before .before .before) ∙ digits-step _ _ _ _ d)
+    (omega arith, c .if3 .left, turn point ∙ digits-step _ _ _ _ d)
 
 returns-4 : tie.Need-returns-4 Inv-loop μ-loop
 returns-4 c =

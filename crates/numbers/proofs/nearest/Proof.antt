@@ -22,10 +22,16 @@ size-r c =
     let s = c .before .before in
     c .magnitude2 .ensures ∙ rem-read (s .args .a) (s .args .b) (s .fits .a) (s .fits .b) (s .pre .0)
 
-size-b : (c : tie.After-magnitude3) → c .magnitude3 .result ≡ natAbs (c .before .before .before .args .b)
-size-b c = rw (toZ-ofZ (c .before .before .before .fits .b)) at (c .magnitude3 .ensures)
+size-b : (c : tie.After-magnitude3) →
+    let entry = c .before .before .before in
+    c .magnitude3 .result ≡ natAbs (entry .args .b)
+size-b c =
+    let entry = c .before .before .before in
+    rw (toZ-ofZ (entry .fits .b)) at (c .magnitude3 .ensures)
 
-small : (c : tie.After-is-negative2) → c .before .before .before .before .before .magnitude .result + c .before .before .round-up .result < 2 ^ 63
+small : (c : tie.After-is-negative2) →
+    let magnitude = c .before .before .before .before .before .magnitude in
+    magnitude .result + c .before .before .round-up .result < 2 ^ 63
 small c =
     let u = c .before .before in
     let q = u .before .before .before in

@@ -1,7 +1,7 @@
 use mathlib.Core.Path.{_∙_, ap}
 use mathlib.Core.Bool.{true, false}
 use native.Mathlib.Omega.{arith}
-use Rattle.numbers.specs.Range.{limit}
+use Rattle.cells.specs.Limits.{numberLimit}
 use Rattle.numbers.specs.Decimal.{signedOf}
 use Rattle.numbers.proofs.Decimals.{decimal-most, number-empty, number-negative, number-plain}
 use borrow.Author.Needs.{needs}
@@ -24,7 +24,7 @@ read-decimal-requires : tie.Need-read-decimal-requires
 read-decimal-requires c κs = search needs
 
 signed-requires : tie.Need-signed-requires
-signed-requires c κs = rw (c .read-decimal .ensures) (decimal-most limit _)
+signed-requires c κs = rw (c .read-decimal .ensures) (decimal-most numberLimit _)
 
 returns-2 : tie.Need-returns-2
 returns-2 c =
@@ -38,7 +38,7 @@ read-decimal-requires-2 : tie.Need-read-decimal-requires-2
 read-decimal-requires-2 c κs = search needs
 
 signed-requires-2 : tie.Need-signed-requires-2
-signed-requires-2 c κs = rw (c .read-decimal2 .ensures) (decimal-most limit _)
+signed-requires-2 c κs = rw (c .read-decimal2 .ensures) (decimal-most numberLimit _)
 
 returns-3 : tie.Need-returns-3
 returns-3 c =

@@ -19,10 +19,14 @@ enum-told-2 : tie.Need-enum-told-2
 enum-told-2 c = search needs
 
 returns-3 : tie.Need-returns-3
-returns-3 c = rw (le-ltb _ _ (c .before .before .before .if1 .left), le-ltb _ _ (c .before .before .if2 .left), c .enum-told .given .1)
+returns-3 c =
+    let if1 = c .before .before .before .if1 in
+    rw (le-ltb _ _ (if1 .left), le-ltb _ _ (c .before .before .if2 .left), c .enum-told .given .1)
 
 returns-4 : tie.Need-returns-4
-returns-4 c = rw (le-ltb _ _ (c .before .before .before .if1 .left), le-ltb _ _ (c .before .before .if2 .left), c .enum-told2 .given .1)
+returns-4 c =
+    let if1 = c .before .before .before .if1 in
+    rw (le-ltb _ _ (if1 .left), le-ltb _ _ (c .before .before .if2 .left), c .enum-told2 .given .1)
 
 pub round-up-spec : {M : Type 1} → statement M
 round-up-spec =

@@ -4,7 +4,7 @@ use native.Mathlib.Omega.{arith}
 use borrow.Author.Tests.{ne-eqb}
 use borrow.Author.Needs.{sfits-of, needs}
 use mir.Facts.{toZ-ofZ}
-use Rattle.numbers.specs.Range.{limit}
+use Rattle.cells.specs.Limits.{numberLimit}
 use Rattle.numbers.specs.Bounds.{AtMost}
 use Rattle.numbers.specs.declared.Number.the-variants.{Is}
 use Rattle.numbers.proofs.signed.Statement.{statement}
@@ -23,12 +23,15 @@ returns-2 : tie.Need-returns-2
 returns-2 c = search needs
 
 returns-3 : tie.Need-returns-3
-returns-3 c = rw (c .before .before .before .d .given .1, c .before .if1 .taken, c .if2 .left)
+returns-3 c =
+    let d = c .before .before .before .d in
+    rw (d .given .1, c .before .if1 .taken, c .if2 .left)
 
 with-sign-requires : tie.Need-with-sign-requires
 with-sign-requires c κs =
+    let entry = c .before .before .before .before in
     let d = c .before .before .d .given in
-    omega (arith, subst (AtMost limit) (d .1) (c .before .before .before .before .pre))
+    omega (arith, subst (AtMost numberLimit) (d .1) (entry .pre))
 
 returns-4 : tie.Need-returns-4
 returns-4 c =

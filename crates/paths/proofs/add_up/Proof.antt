@@ -40,8 +40,9 @@ slice-read-starts-2 c =
 
 add-starts-2 : tie.Need-add-starts-2 Inv-loop μ-loop
 add-starts-2 c =
-    let a = c .before .before .before .before .args in
-    let p = c .before .before .before .before .pre in
+    let entry = c .before .before .before .before in
+    let a = entry .args in
+    let p = entry .pre in
     let l = c .before .before .before .loop in
     let c₀ = a .starts .now in
     omega (arith, p .1, sum-next c₀ (l .inv .1), sum-rises c₀ (l .group + 1) (a .n + 1) (omega arith))
@@ -66,8 +67,9 @@ loop-less c =
 
 loop-again : tie.Need-loop-again Inv-loop μ-loop
 loop-again c =
-    let a = c .before .before .before .before .args in
-    let p = c .before .before .before .before .pre in
+    let entry = c .before .before .before .before in
+    let a = entry .args in
+    let p = entry .pre in
     let l = c .before .before .before .loop in
     (omega arith, sum-turn (a .starts .now) (l .inv .1) (omega (arith, p .0)) refl)
 

@@ -1,6 +1,6 @@
 use mathlib.Core.Path.{_∙_, sym}
 use Prim.Native.Nat.{_+_, _-_}
-use Rattle.paths.specs.Steps.{wrongTarget}
+use Rattle.paths.specs.TargetCells.{wrongTarget}
 use Rattle.paths.proofs.Passes.{Pass, pass-start, pass-turn, pass-stop, pass-done}
 use native.Mathlib.Omega.{arith}
 use borrow.Author.Needs.{needs}

@@ -29,8 +29,9 @@ slice-read-starts c =
 
 add-starts-2 : tie.Need-add-starts-2
 add-starts-2 c =
-    let a = c .before .before .before .before .before .args in
-    let p = c .before .before .before .before .before .pre in
+    let entry = c .before .before .before .before .before in
+    let a = entry .args in
+    let p = entry .pre in
     let small : getD (a .starts .now) (c .before .cell-at .result + 1) 0 ≤ 4096 = rw (c .before .cell-at .ensures) (p .1) in
     omega arith
 

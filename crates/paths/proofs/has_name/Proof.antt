@@ -13,8 +13,9 @@ sub-if1 c = search needs
 
 returns : tie.Need-returns
 returns c =
-    let a = c .before .before .before .args in
-    let p = c .before .before .before .pre in
+    let entry = c .before .before .before in
+    let a = entry .args in
+    let p = entry .pre in
     name-differs (a .text .now) (a .table .now) (a .m) (a .from) (a .to) (p .1) (p .2) (λ e. c .if1 .taken (c .before .cell-at .ensures ∙ e))
 
 cell-at-requires-2 : tie.Need-cell-at-requires-2
@@ -25,9 +26,10 @@ same-name-requires c κs = search needs
 
 returns-2 : tie.Need-returns-2
 returns-2 c =
+    let entry = c .before .before .before .before .before in
     let cell-at = c .before .before .before .cell-at in
-    let a = c .before .before .before .before .before .args in
-    let p = c .before .before .before .before .before .pre in
+    let a = entry .args in
+    let p = entry .pre in
     name-compared (a .text .now) (a .table .now) (a .m) (a .from) (a .to) (p .1) (p .0)
     (c .before .cell-at2 .ensures) (cell-at .ensures) (c .before .before .if1 .left) (c .same-name .ensures)
 

@@ -21,8 +21,9 @@ first-in-requires c κs =
 
 loop-holds : tie.Need-loop-holds Inv-loop μ-loop
 loop-holds c =
-    let p = c .before .before .before .before .pre in
-    let a = c .before .before .before .before .args in
+    let entry = c .before .before .before .before in
+    let p = entry .pre in
+    let a = entry .args in
     walking-start (a .text .now) (a .table .now) (slice (a .from) (a .to) (a .text .now)) (a .hash) (p .0 .0) (c .first-in .ensures)
 
 has-name-requires : tie.Need-has-name-requires Inv-loop μ-loop

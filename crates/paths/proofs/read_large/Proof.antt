@@ -12,8 +12,9 @@ slice-aggregate-read-with-2 c = search needs
 
 read-with-requires : tie.Need-read-with-requires
 read-with-requires c κs =
-    let a = c .before .before .before .before .args in
-    let r = c .before .before .before .before .pre in
+    let entry = c .before .before .before .before in
+    let a = entry .args in
+    let r = entry .pre in
     (r, fresh-zeros (a .n) 1025 (omega (arith, r .few)))
 
 same-length : tie.Need-same-length

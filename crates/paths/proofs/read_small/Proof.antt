@@ -11,8 +11,9 @@ slice-aggregate-read-with-2 c = search needs
 
 read-with-requires : tie.Need-read-with-requires
 read-with-requires c κs =
-    let p = c .before .before .before .before .pre in
-    let a = c .before .before .before .before .args in
+    let entry = c .before .before .before .before in
+    let p = entry .pre in
+    let a = entry .args in
     (p .0, fresh-zeros (a .n) 128 (p .1))
 
 same-length : tie.Need-same-length

@@ -23,8 +23,9 @@ same-length c = search needs
 
 returns : tie.Need-returns
 returns c =
-    let p = c .before .before .before .before .before .before .before .before .before .before .pre in
-    let a = c .before .before .before .before .before .before .before .before .before .before .args in
+    let entry = c .before .before .before .before .before .before .before .before .before .before in
+    let p = entry .pre in
+    let a = entry .args in
     let u = c .before .before .before .before .before .settle-targets in
     let f = c .before .before .enum-told .given .1 in
     let e = u .ensures .1 f in

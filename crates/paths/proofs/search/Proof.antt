@@ -34,8 +34,9 @@ groups-holds c = (omega arith, refl, refl)
 
 first-in-requires : tie.Need-first-in-requires Inv-loop μ-loop Inv-groups μ-groups
 first-in-requires c κs =
-    let p = c .before .before .before .before .before .before .pre in
-    let a = c .before .before .before .before .before .before .args in
+    let entry = c .before .before .before .before .before .before in
+    let p = entry .pre in
+    let a = entry .args in
     let p = p .0 in
     let h = linked-walkable (p .0) (p .1) (c .before .groups .g) (omega arith) in
     let small = hash-small (slice (a .from) (a .to) (a .text .now)) in
@@ -43,9 +44,10 @@ first-in-requires c κs =
 
 loop-holds : tie.Need-loop-holds Inv-loop μ-loop Inv-groups μ-groups
 loop-holds c =
-    let p = c .before .before .before .before .before .before .before .pre in
+    let entry = c .before .before .before .before .before .before .before in
+    let p = entry .pre in
     let hash-name = c .before .before .before .hash-name in
-    let a = c .before .before .before .before .before .before .before .args in
+    let a = entry .args in
     let p = p .0 in
     let w = slice (a .from) (a .to) (a .text .now) in
     (c .before .before .groups .inv .1, member-walking (p .0) (p .1) (c .before .before .groups .g) (omega arith) w (hash-name .ensures) (c .first-in .ensures))
@@ -97,8 +99,9 @@ groups-less c =
 
 groups-again : tie.Need-groups-again Inv-loop μ-loop Inv-groups μ-groups
 groups-again c =
-    let p = c .before .before .before .before .before .before .before .before .before .before .pre in
-    let a = c .before .before .before .before .before .before .before .before .before .before .args in
+    let entry = c .before .before .before .before .before .before .before .before .before .before in
+    let p = entry .pre in
+    let a = entry .args in
     let r = p .0 .0 in
     let g = c .before .before .before .before .before .groups in
     let f = r .falls (g .g) (omega arith) (omega arith) in
@@ -109,17 +112,19 @@ groups-again c =
 
 returns : tie.Need-returns Inv-loop μ-loop Inv-groups μ-groups
 returns c =
-    let p = c .before .before .before .before .before .before .pre in
-    let a = c .before .before .before .before .before .before .args in
+    let entry = c .before .before .before .before .before .before in
+    let p = entry .pre in
+    let a = entry .args in
     let g = c .before .groups in
     let w = slice (a .from) (a .to) (a .text .now) in
     g .inv .1 ∙ sym (head-end (a .text .now) (a .table .now) (a .n) w (p .0 .0 .falls) (g .g) (omega arith)) ∙ g .inv .2
 
 returns-2 : tie.Need-returns-2 Inv-loop μ-loop Inv-groups μ-groups
 returns-2 c =
-    let p = c .before .before .before .before .before .before .before .before .before .before .before .pre in
+    let entry = c .before .before .before .before .before .before .before .before .before .before .before in
+    let p = entry .pre in
     let l = c .before .before .before .loop in
-    let a = c .before .before .before .before .before .before .before .before .before .before .before .args in
+    let a = entry .args in
     let g = c .before .before .before .before .before .before .groups in
     let w = slice (a .from) (a .to) (a .text .now) in
     let hit = walking-hit (l .inv .1) (c .before .before .loop-test .taken) (sym (c .before .has-name .ensures) ∙ c .if1 .taken) in

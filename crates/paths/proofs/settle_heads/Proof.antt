@@ -1,7 +1,7 @@
 use mathlib.Core.Path.{_≡_}
 use Prim.Native.Nat.{_+_, _-_}
 use Rattle.paths.specs.Paths.{pathHeadBad}
-use Rattle.paths.specs.Steps.{headCell}
+use Rattle.paths.specs.TargetCells.{headCell}
 use Rattle.paths.proofs.Alike.{head-cell-alike, rows-alike, linked-alike}
 use Rattle.paths.proofs.Passes.{Settling, settle-start, settle-size, settle-alike, settle-all, settle-kept}
 use Rattle.paths.proofs.Passes.{settle-turn, settle-stop, pass-done, head-rule, not-fine}

@@ -2,7 +2,7 @@ use mathlib.Core.Path.{_∙_, ap}
 use Prim.Native.Nat.{_+_, _-_, _*_}
 use lib.IntN.{pos}
 use lib.ListN.{set}
-use Rattle.paths.specs.Steps.{targetBy}
+use Rattle.paths.specs.TargetCells.{targetBy}
 use borrow.Author.Needs.{needs}
 use Rattle.paths.proofs.settle_target.Statement.{statement}
 use Rattle.paths.proofs.settle_target.Tie as tie

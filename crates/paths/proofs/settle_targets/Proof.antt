@@ -2,7 +2,7 @@ use mathlib.Core.Path.{_≡_, _∙_}
 use Prim.Native.Nat.{_+_, _-_}
 use Rattle.cells.specs.Table.{target}
 use Rattle.paths.specs.Paths.{targetCell, laterBad}
-use Rattle.paths.specs.Steps.{targetBy}
+use Rattle.paths.specs.TargetCells.{targetBy}
 use Rattle.paths.proofs.Alike.{rows-alike, linked-alike}
 use Rattle.paths.proofs.Passes.{Settling, settle-start, settle-size, settle-alike, settle-later, settle-all, settle-kept}
 use Rattle.paths.proofs.Passes.{settle-turn, settle-stop, pass-done, later-rule, head-cell-high, target-now, not-fine}

@@ -24,16 +24,22 @@ wanted-by-requires c κs = search needs
 
 returns : tie.Need-returns
 returns c =
+    let has-path = c .before .before .before .before .before .has-path in
+    let if1 = c .before .before .before .before .if1 in
+    let cell-at2 = c .before .before .before .cell-at2 in
     let s = c .before .before .before .before .before .before .before in
     let code = c .before .before .before .before .before .before .cell-at in
-    let has = sym (c .before .before .before .before .before .has-path .ensures) ∙ c .before .before .before .before .if1 .taken in
-    target-wrong (s .args .table .now) (s .args .label) (code .result) (c .before .before .cell-at3 .result) (c .before .wanted-by .result) (code .ensures) (c .before .before .cell-at3 .ensures ∙ ap (kind (s .args .table .now)) (c .before .before .before .cell-at2 .ensures)) (c .before .wanted-by .ensures) has (c .if2 .taken)
+    let has = sym (has-path .ensures) ∙ if1 .taken in
+    target-wrong (s .args .table .now) (s .args .label) (code .result) (c .before .before .cell-at3 .result) (c .before .wanted-by .result) (code .ensures)
+    (c .before .before .cell-at3 .ensures ∙ ap (kind (s .args .table .now)) (cell-at2 .ensures)) (c .before .wanted-by .ensures) has (c .if2 .taken)
 
 returns-2 : tie.Need-returns-2
 returns-2 c =
+    let cell-at2 = c .before .before .before .cell-at2 in
     let s = c .before .before .before .before .before .before .before in
     let code = c .before .before .before .before .before .before .cell-at in
-    target-right (s .args .table .now) (s .args .label) (code .result) (c .before .before .cell-at3 .result) (c .before .wanted-by .result) (code .ensures) (c .before .before .cell-at3 .ensures ∙ ap (kind (s .args .table .now)) (c .before .before .before .cell-at2 .ensures)) (c .before .wanted-by .ensures) (c .if2 .left)
+    target-right (s .args .table .now) (s .args .label) (code .result) (c .before .before .cell-at3 .result) (c .before .wanted-by .result) (code .ensures)
+    (c .before .before .cell-at3 .ensures ∙ ap (kind (s .args .table .now)) (cell-at2 .ensures)) (c .before .wanted-by .ensures) (c .if2 .left)
 
 returns-3 : tie.Need-returns-3
 returns-3 c =

@@ -4,7 +4,7 @@ use Prim.Native.Nat.{ℕ, _-_, _≤_, _<_}
 use native.Mathlib.Omega.{arith}
 use borrow.Author.Needs.{needs}
 use lib.ListN.{length, getD, take, length-set}
-use Rattle.order.specs.Lists.{_∈_}
+use Rattle.order.specs.LabelLists.{_∈_}
 use lib.Seq.{take-all}
 use Rattle.placing.proofs.Lists.{in-at}
 use Rattle.placing.proofs.Counts.{clear-turn}
@@ -17,10 +17,14 @@ Inv-loop items unmet₀ i₀ unmet i = (length unmet ≡ length unmet₀) × (i 
 abbrev μ-loop : tie.MeasureT-loop
 μ-loop items unmet₀ i₀ unmet i = length items - i
 
-inside : (c : tie.After-widen Inv-loop μ-loop) → c .widen .result < length (c .before .before .before .loop .unmet)
+inside : (c : tie.After-widen Inv-loop μ-loop) →
+    let loop = c .before .before .before .loop in
+    c .widen .result < length (loop .unmet)
 inside c =
-    let i = in-at (c .before .before .before .before .before .before .args .items .now) (c .before .before .before .loop .i) (c .before .before .loop-test .taken) in
-    omega (arith, c .widen .ensures, c .before .before .before .before .before .before .pre (getD (c .before .before .before .before .before .before .args .items .now) (c .before .before .before .loop .i) 0) i, c .before .before .before .loop .inv .0)
+    let entry = c .before .before .before .before .before .before in
+    let loop = c .before .before .before .loop in
+    let i = in-at (entry .args .items .now) (loop .i) (c .before .before .loop-test .taken) in
+    omega (arith, c .widen .ensures, entry .pre (getD (entry .args .items .now) (loop .i) 0) i, loop .inv .0)
 
 loop-holds : tie.Need-loop-holds Inv-loop μ-loop
 loop-holds c = (refl, omega arith, λ p m. absurd (omega arith))
@@ -35,7 +39,9 @@ widen-requires : tie.Need-widen-requires Inv-loop μ-loop
 widen-requires c κs = search needs
 
 mul-unmet : tie.Need-mul-unmet Inv-loop μ-loop
-mul-unmet c = omega (arith, c .widen .ensures, c .before .shared-slice-known2 .given (c .before .before .before .loop .i))
+mul-unmet c =
+    let loop = c .before .before .before .loop in
+    omega (arith, c .widen .ensures, c .before .shared-slice-known2 .given (loop .i))
 
 slice-write-unmet : tie.Need-slice-write-unmet Inv-loop μ-loop
 slice-write-unmet c = inside c
@@ -48,10 +54,11 @@ loop-less c = search needs
 
 loop-again : tie.Need-loop-again Inv-loop μ-loop
 loop-again c =
+    let entry = c .before .before .before .before .before .before in
     let l = c .before .before .before in (
       length-set (l .loop .unmet) _ _ ∙ l .loop .inv .0,
       omega (arith, c .before .before .loop-test .taken),
-      clear-turn (c .before .before .before .before .before .before .args .items .now) (l .loop .unmet) (l .loop .i) _ (c .before .before .loop-test .taken) (c .widen .ensures) (inside c) (l .loop .inv .2),
+      clear-turn (entry .args .items .now) (l .loop .unmet) (l .loop .i) _ (c .before .before .loop-test .taken) (c .widen .ensures) (inside c) (l .loop .inv .2),
     )
 
 same-length : tie.Need-same-length Inv-loop μ-loop
@@ -59,8 +66,9 @@ same-length c = c .before .loop .inv .0
 
 returns : tie.Need-returns Inv-loop μ-loop
 returns c =
+    let entry = c .before .before .before .before in
     let l = c .before in
-    λ p m. l .loop .inv .2 p (subst (λ (k : List ℕ). p ∈ k) (sym (take-all (l .loop .i) (c .before .before .before .before .args .items .now) (omega (arith, c .loop-test .left)))) m)
+    λ p m. l .loop .inv .2 p (subst (λ (k : List ℕ). p ∈ k) (sym (take-all (l .loop .i) (entry .args .items .now) (omega (arith, c .loop-test .left)))) m)
 
 pub clear-counts-spec : {M : Type 1} → statement M
 clear-counts-spec =

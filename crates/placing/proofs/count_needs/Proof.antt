@@ -4,8 +4,8 @@ use Prim.Native.Nat.{ℕ, _-_, _≤_}
 use native.Mathlib.Omega.{arith}
 use borrow.Author.Needs.{needs}
 use lib.ListN.{length, getD, take}
-use Rattle.order.specs.Lists.{_∈_, filter}
-use Rattle.placing.specs.Placing.{needed}
+use Rattle.order.specs.LabelLists.{_∈_, filter}
+use Rattle.placing.specs.UnmetCounts.{needed}
 use lib.Seq.{take-all}
 use Rattle.placing.proofs.Lists.{in-at}
 use Rattle.placing.proofs.Counts.{need-item, count-room, count-turn}
@@ -20,18 +20,31 @@ Inv-loop items square w mask unmet₀ list₀ i₀ unmet list i =
 abbrev μ-loop : tie.MeasureT-loop
 μ-loop items square w mask unmet₀ list₀ i₀ unmet list i = length items - i
 
-here : (c : tie.After-widen Inv-loop μ-loop) → c .widen .result ∈ c .before .before .before .before .before .before .before .before .before .args .items .now
-here c = subst (λ (x : ℕ). x ∈ c .before .before .before .before .before .before .before .before .before .args .items .now) (sym (c .widen .ensures)) (in-at (c .before .before .before .before .before .before .before .before .before .args .items .now) (c .before .before .before .loop .i) (c .before .before .loop-test .taken))
+here : (c : tie.After-widen Inv-loop μ-loop) →
+    let entry = c .before .before .before .before .before .before .before .before .before in
+    c .widen .result ∈ entry .args .items .now
+here c =
+    let entry = c .before .before .before .before .before .before .before .before .before in
+    let loop = c .before .before .before .loop in
+    subst (λ (x : ℕ). x ∈ entry .args .items .now) (sym (c .widen .ensures)) (in-at (entry .args .items .now) (loop .i) (c .before .before .loop-test .taken))
 
 -- those that need the item at hand
-item-of : (c : tie.After-needed-by Inv-loop μ-loop) → (p : ℕ) → p ∈ take (c .needed-by .result) (c .needed-by .last .1 .1 .1 .1 .0) → p ∈ c .before .before .before .before .before .before .before .before .before .before .before .args .items .now
-item-of c = need-item _ _ _ _ _ _ (c .before .before .before .before .before .before .before .before .before .before .before .pre .0) (take (c .needed-by .result) (c .needed-by .last .1 .1 .1 .1 .0)) (c .needed-by .ensures .0)
+item-of : (c : tie.After-needed-by Inv-loop μ-loop) →
+    let entry = c .before .before .before .before .before .before .before .before .before .before .before in
+    (p : ℕ) → p ∈ take (c .needed-by .result) (c .needed-by .last .1 .1 .1 .1 .0) → p ∈ entry .args .items .now
+item-of c =
+    let entry = c .before .before .before .before .before .before .before .before .before .before .before in
+    need-item _ _ _ _ _ _ (entry .pre .0) (take (c .needed-by .result) (c .needed-by .last .1 .1 .1 .1 .0)) (c .needed-by .ensures .0)
 
 loop-holds : tie.Need-loop-holds Inv-loop μ-loop
-loop-holds c = (refl, refl, omega arith, λ p m. c .before .before .before .before .before .pre .1 .1 p m)
+loop-holds c =
+    let entry = c .before .before .before .before .before in
+    (refl, refl, omega arith, λ p m. entry .pre .1 .1 p m)
 
 mul-widen : tie.Need-mul-widen Inv-loop μ-loop
-mul-widen c = omega (arith, c .loop-test .taken, c .before .before .before .before .before .before .before .pre .0 .few)
+mul-widen c =
+    let entry = c .before .before .before .before .before .before .before in
+    omega (arith, c .loop-test .taken, entry .pre .0 .few)
 
 shared-slice-read-widen : tie.Need-shared-slice-read-widen Inv-loop μ-loop
 shared-slice-read-widen c = omega (arith, c .before .loop-test .taken)
@@ -41,35 +54,49 @@ widen-requires c κs = search needs
 
 needed-by-requires : tie.Need-needed-by-requires Inv-loop μ-loop
 needed-by-requires c κs =
-    let f = c .before .before .before .before .before .before .before .before .before .before .pre .0 in
+    let entry = c .before .before .before .before .before .before .before .before .before .before in
+    let inv = c .before .before .before .before .loop .inv in
+    let f = entry .pre .0 in
     let h = here (c .before) in
-    (f .below _ h, f .rows _ h, f .mask-room, omega (arith, c .before .before .before .before .before .before .before .before .before .before .pre .1 .0, c .before .before .before .before .loop .inv .1), f .narrow)
+    (f .below _ h, f .rows _ h, f .mask-room, omega (arith, entry .pre .1 .0, inv .1), f .narrow)
 
 raise-requires : tie.Need-raise-requires Inv-loop μ-loop
 raise-requires c κs =
+    let loop-test = c .before .before .before .before .before .before .before .before .loop-test in
+    let widen = c .before .before .before .before .before .before .widen in
+    let point = c .before .before .before .before in
     let a = c .before .before .before .before .before .before .before .before .before .before .before .before .before .before .before in
     let l = c .before .before .before .before .before .before .before .before .before in
     let e = c .before .before .before .before .needed-by in (
       omega (arith, e .ensures .1, e .kept .1 .1 .1 .1 .0, l .loop .inv .1, a .pre .1 .0),
-      λ p m. omega (arith, l .loop .inv .0, a .pre .0 .counted p (item-of (c .before .before .before .before) p m)),
-      λ p m. count-room _ _ _ _ (l .loop .i) _ (c .before .before .before .before .before .before .widen .ensures) (c .before .before .before .before .before .before .before .before .loop-test .taken) (l .loop .unmet) (e .last .1 .1 .1 .1 .0) (e .result) (e .ensures .0) (l .loop .inv .3) (a .pre .0 .few) p (item-of (c .before .before .before .before) p m),
+      λ p m. omega (arith, l .loop .inv .0, a .pre .0 .counted p (item-of point p m)),
+      λ p m. count-room _ _ _ _ (l .loop .i) _ (widen .ensures) (loop-test .taken) (l .loop .unmet) (e .last .1 .1 .1 .1 .0) (e .result) (e .ensures .0) (l .loop .inv .3) (a .pre .0 .few) p
+          (item-of point p m),
     )
 
 add-i : tie.Need-add-i Inv-loop μ-loop
-add-i c = omega (arith, c .before .before .before .before .before .before .before .before .before .before .before .loop-test .taken, c .before .before .before .before .before .before .before .before .before .before .before .before .before .before .before .before .before .before .pre .0 .few)
+add-i c =
+    let back = c .before .before .before .before .before .before .before .before .before .before .before .before in
+    let entry = back .before .before .before .before .before .before in
+    let loop-test = c .before .before .before .before .before .before .before .before .before .before .before .loop-test in
+    omega (arith, loop-test .taken, entry .pre .0 .few)
 
 loop-less : tie.Need-loop-less Inv-loop μ-loop
-loop-less c = omega (arith, c .before .before .before .before .before .before .before .before .before .before .before .loop-test .taken)
+loop-less c =
+    let loop-test = c .before .before .before .before .before .before .before .before .before .before .before .loop-test in
+    omega (arith, loop-test .taken)
 
 loop-again : tie.Need-loop-again Inv-loop μ-loop
 loop-again c =
+    let loop-test = c .before .before .before .before .before .before .before .before .before .before .before .loop-test in
+    let widen = c .before .before .before .before .before .before .before .before .before .widen in
     let l = c .before .before .before .before .before .before .before .before .before .before .before .before in
     let e = c .before .before .before .before .before .before .before .needed-by in
     let r = c .before .before .raise in (
       r .kept .1 .1 .0 ∙ l .loop .inv .0,
       e .kept .1 .1 .1 .1 .0 ∙ l .loop .inv .1,
-      omega (arith, c .before .before .before .before .before .before .before .before .before .before .before .loop-test .taken),
-      count-turn _ _ _ _ (l .loop .i) _ (c .before .before .before .before .before .before .before .before .before .widen .ensures) (c .before .before .before .before .before .before .before .before .before .before .before .loop-test .taken) (l .loop .unmet) (e .last .1 .1 .1 .1 .0) (e .result) (e .ensures .0) (l .loop .inv .3) (r .last .1 .1 .0) (r .ensures),
+      omega (arith, loop-test .taken),
+      count-turn _ _ _ _ (l .loop .i) _ (widen .ensures) (loop-test .taken) (l .loop .unmet) (e .last .1 .1 .1 .1 .0) (e .result) (e .ensures .0) (l .loop .inv .3) (r .last .1 .1 .0) (r .ensures),
     )
 
 same-length : tie.Need-same-length Inv-loop μ-loop

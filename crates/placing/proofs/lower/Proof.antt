@@ -6,8 +6,8 @@ use native.Mathlib.Nat.{le-antisymm}
 use borrow.Author.Needs.{needs}
 use lib.Seq.{getD-set-same}
 use lib.ListN.{length, getD, take, set, length-set}
-use Rattle.order.specs.Lists.{count, _∈_}
-use Rattle.placing.specs.Placing.{Lowered}
+use Rattle.order.specs.LabelLists.{count, _∈_}
+use Rattle.placing.specs.UnmetCounts.{Lowered}
 use Rattle.placing.proofs.Lists.{in-take, count-take-le}
 use Rattle.placing.proofs.Counts.{lowered-none, lowered-turn, can-lower}
 use Rattle.placing.proofs.lower.Statement.{statement}
@@ -21,29 +21,65 @@ abbrev μ-loop : tie.MeasureT-loop
 
 -- in a turn: the label at hand is in the list, and has a count to lower
 module _ (c : tie.After-widen Inv-loop μ-loop) where
-  in-list : c .before .before .before .loop .i < length (c .before .before .before .before .before .before .before .args .list .now)
-  in-list = omega (arith, c .before .before .loop-test .taken, c .before .before .before .before .before .before .before .pre .0 .0)
+  in-list :
+      let entry = c .before .before .before .before .before .before .before in
+      let loop = c .before .before .before .loop in
+      loop .i < length (entry .args .list .now)
+  in-list =
+      let entry = c .before .before .before .before .before .before .before in
+      omega (arith, c .before .before .loop-test .taken, entry .pre .0 .0)
 
-  here : c .widen .result ∈ take (c .before .before .before .before .before .before .before .args .m) (c .before .before .before .before .before .before .before .args .list .now)
-  here = subst (λ (x : ℕ). x ∈ take (c .before .before .before .before .before .before .before .args .m) (c .before .before .before .before .before .before .before .args .list .now)) (sym (c .widen .ensures)) (in-take (c .before .before .before .before .before .before .before .args .list .now) _ (c .before .before .before .loop .i) (c .before .before .loop-test .taken) (c .before .before .before .before .before .before .before .pre .0 .0))
+  here :
+      let entry = c .before .before .before .before .before .before .before in
+      c .widen .result ∈ take (entry .args .m) (entry .args .list .now)
+  here =
+      let entry = c .before .before .before .before .before .before .before in
+      let loop = c .before .before .before .loop in
+      subst (λ (x : ℕ). x ∈ take (entry .args .m) (entry .args .list .now)) (sym (c .widen .ensures))
+      (in-take (entry .args .list .now) _ (loop .i) (c .before .before .loop-test .taken) (entry .pre .0 .0))
 
-  inside : c .widen .result < length (c .before .before .before .loop .unmet)
-  inside = omega (arith, c .before .before .before .before .before .before .before .pre .0 .1 (c .widen .result) here, c .before .before .before .loop .inv .0)
+  inside :
+      let loop = c .before .before .before .loop in
+      c .widen .result < length (loop .unmet)
+  inside =
+      let entry = c .before .before .before .before .before .before .before in
+      let inv = c .before .before .before .loop .inv in
+      omega (arith, entry .pre .0 .1 (c .widen .result) here, inv .0)
 
-  more : c .before .before .before .loop .i + 1 ≤ c .before .before .before .before .before .before .before .args .m
+  more :
+      let entry = c .before .before .before .before .before .before .before in
+      let loop = c .before .before .before .loop in
+      loop .i + 1 ≤ entry .args .m
   more = omega (arith, c .before .before .loop-test .taken)
 
-  once : count (c .widen .result) (take (c .before .before .before .loop .i + 1) (c .before .before .before .before .before .before .before .args .list .now)) ≤ 1
-  once = omega (arith, c .before .before .before .before .before .before .before .pre .1 .0 (c .widen .result), count-take-le (c .widen .result) (c .before .before .before .before .before .before .before .args .list .now) (c .before .before .before .loop .i + 1) (c .before .before .before .before .before .before .before .args .m) more)
+  once :
+      let entry = c .before .before .before .before .before .before .before in
+      let loop = c .before .before .before .loop in
+      count (c .widen .result) (take (loop .i + 1) (entry .args .list .now)) ≤ 1
+  once =
+      let entry = c .before .before .before .before .before .before .before in
+      let loop = c .before .before .before .loop in
+      omega (arith, entry .pre .1 .0 (c .widen .result), count-take-le (c .widen .result) (entry .args .list .now) (loop .i + 1) (entry .args .m) more)
 
-  some : 1 ≤ getD (c .before .before .before .loop .unmet) (c .widen .result) 0
-  some = can-lower _ _ _ _ _ _ _ (c .before .before .before .loop .inv .3) _ (c .widen .ensures) in-list once inside (c .before .before .before .before .before .before .before .args .m) more (c .before .before .before .before .before .before .before .pre .1 .1 (c .widen .result))
+  some :
+      let loop = c .before .before .before .loop in
+      1 ≤ getD (loop .unmet) (c .widen .result) 0
+  some =
+      let entry = c .before .before .before .before .before .before .before in
+      let inv = c .before .before .before .loop .inv in
+      can-lower _ _ _ _ _ _ _ (inv .3) _ (c .widen .ensures) in-list once inside (entry .args .m) more (entry .pre .1 .1 (c .widen .result))
 
   -- the count after it is lowered
-  own : getD (set (c .before .before .before .loop .unmet) (c .widen .result) (getD (c .before .before .before .loop .unmet) (c .widen .result) 0 - 1)) (c .widen .result) 0 ≡ getD (c .before .before .before .loop .unmet) (c .widen .result) 0 - 1
-  own = getD-set-same (c .before .before .before .loop .unmet) (c .widen .result) (getD (c .before .before .before .loop .unmet) (c .widen .result) 0 - 1) 0 inside
+  own :
+      let loop = c .before .before .before .loop in
+      getD (set (loop .unmet) (c .widen .result) (getD (loop .unmet) (c .widen .result) 0 - 1)) (c .widen .result) 0 ≡ getD (loop .unmet) (c .widen .result) 0 - 1
+  own =
+      let loop = c .before .before .before .loop in
+      getD-set-same (loop .unmet) (c .widen .result) (getD (loop .unmet) (c .widen .result) 0 - 1) 0 inside
 
-  zero-of : getD (set (c .before .before .before .loop .unmet) (c .widen .result) (getD (c .before .before .before .loop .unmet) (c .widen .result) 0 - 1)) (c .widen .result) 0 ≡ 0 → getD (c .before .before .before .loop .unmet) (c .widen .result) 0 - 1 ≡ 0
+  zero-of :
+      let loop = c .before .before .before .loop in
+      getD (set (loop .unmet) (c .widen .result) (getD (loop .unmet) (c .widen .result) 0 - 1)) (c .widen .result) 0 ≡ 0 → getD (loop .unmet) (c .widen .result) 0 - 1 ≡ 0
   zero-of z = sym own ∙ z
 
 loop-holds : tie.Need-loop-holds Inv-loop μ-loop
@@ -53,13 +89,17 @@ mul-widen : tie.Need-mul-widen Inv-loop μ-loop
 mul-widen c = search needs
 
 shared-slice-read-widen : tie.Need-shared-slice-read-widen Inv-loop μ-loop
-shared-slice-read-widen c = omega (arith, c .before .loop-test .taken, c .before .before .before .before .before .before .pre .0 .0)
+shared-slice-read-widen c =
+    let entry = c .before .before .before .before .before .before in
+    omega (arith, c .before .loop-test .taken, entry .pre .0 .0)
 
 widen-requires : tie.Need-widen-requires Inv-loop μ-loop
 widen-requires c κs = search needs
 
 mul-unmet : tie.Need-mul-unmet Inv-loop μ-loop
-mul-unmet c = omega (arith, c .widen .ensures, c .before .shared-slice-known2 .given (c .before .before .before .loop .i))
+mul-unmet c =
+    let loop = c .before .before .before .loop in
+    omega (arith, c .widen .ensures, c .before .shared-slice-known2 .given (loop .i))
 
 slice-read-unmet : tie.Need-slice-read-unmet Inv-loop μ-loop
 slice-read-unmet c = inside (c .before)
@@ -68,19 +108,27 @@ sub-unmet : tie.Need-sub-unmet Inv-loop μ-loop
 sub-unmet c = some (c .before)
 
 mul-unmet-2 : tie.Need-mul-unmet-2 Inv-loop μ-loop
-mul-unmet-2 c = omega (arith, c .before .widen .ensures, c .before .before .shared-slice-known2 .given (c .before .before .before .before .loop .i))
+mul-unmet-2 c =
+    let loop = c .before .before .before .before .loop in
+    omega (arith, c .before .widen .ensures, c .before .before .shared-slice-known2 .given (loop .i))
 
 slice-write-unmet : tie.Need-slice-write-unmet Inv-loop μ-loop
 slice-write-unmet c = inside (c .before)
 
 mul-if1 : tie.Need-mul-if1 Inv-loop μ-loop
-mul-if1 c = omega (arith, c .before .widen .ensures, c .before .before .shared-slice-known2 .given (c .before .before .before .before .loop .i))
+mul-if1 c =
+    let loop = c .before .before .before .before .loop in
+    omega (arith, c .before .widen .ensures, c .before .before .shared-slice-known2 .given (loop .i))
 
 slice-read-if1 : tie.Need-slice-read-if1 Inv-loop μ-loop
 slice-read-if1 c = simp length-set (inside (c .before .before))
 
 put-mark-requires : tie.Need-put-mark-requires Inv-loop μ-loop
-put-mark-requires c κs = (c .before .before .before .before .before .before .before .before .before .before .before .pre .0 .2 _ (here (c .before .before .before .before)), omega (arith, c .before .before .before .before .before .before .before .before .before .before .before .pre .1 .2, c .before .before .before .before .before .before .before .loop .inv .1))
+put-mark-requires c κs =
+    let entry = c .before .before .before .before .before .before .before .before .before .before .before in
+    let inv = c .before .before .before .before .before .before .before .loop .inv in
+    let point = c .before .before .before .before in
+    (entry .pre .0 .2 _ (here point), omega (arith, entry .pre .1 .2, inv .1))
 
 add-i : tie.Need-add-i Inv-loop μ-loop
 add-i c = search needs
@@ -90,10 +138,11 @@ loop-less c = search needs
 
 loop-again : tie.Need-loop-again Inv-loop μ-loop
 loop-again c =
+    let loop-test = c .before .before .before .before .before .loop-test in
     let l = c .before .before .before .before .before .before in
     let a = c .before .before .before .before .before .before .before .before .before .before in
     let q = c .before .before .before in
-    let k : l .loop .i + 1 ≤ a .args .m = omega (arith, c .before .before .before .before .before .loop-test .taken) in
+    let k : l .loop .i + 1 ≤ a .args .m = omega (arith, loop-test .taken) in
     ⊎-elim (λ w. rw (w .5) (
       length-set (l .loop .unmet) _ _ ∙ l .loop .inv .0,
       w .2 .kept .0 ∙ l .loop .inv .1,

@@ -6,7 +6,7 @@ use Prim.Native.Nat.{ℕ, _-_, _≤_}
 use native.Mathlib.Omega.{arith}
 use borrow.Author.Needs.{needs}
 use lib.ListN.{length, getD, take}
-use Rattle.order.specs.Lists.{_∈_}
+use Rattle.order.specs.LabelLists.{_∈_}
 use Rattle.marks.specs.Marks.{mark}
 use lib.Seq.{take-all}
 use Rattle.order.proofs.Tests.{clash}
@@ -23,11 +23,18 @@ abbrev μ-loop : tie.MeasureT-loop
 μ-loop items w unmet ready₀ i₀ ready i = length items - i
 
 module _ (c : tie.After-widen Inv-loop μ-loop) where
-  here : c .widen .result ∈ c .before .before .before .before .before .before .before .args .items .now
-  here = subst (λ (x : ℕ). x ∈ c .before .before .before .before .before .before .before .args .items .now) (sym (c .widen .ensures)) (in-at (c .before .before .before .before .before .before .before .args .items .now) (c .before .before .before .loop .i) (c .before .before .loop-test .taken))
+  here :
+      let entry = c .before .before .before .before .before .before .before in
+      c .widen .result ∈ entry .args .items .now
+  here =
+      let entry = c .before .before .before .before .before .before .before in
+      let loop = c .before .before .before .loop in
+      subst (λ (x : ℕ). x ∈ entry .args .items .now) (sym (c .widen .ensures)) (in-at (entry .args .items .now) (loop .i) (c .before .before .loop-test .taken))
 
 loop-holds : tie.Need-loop-holds Inv-loop μ-loop
-loop-holds c = (refl, omega arith, λ p. (λ m. clash (mark (c .before .before .before .args .ready .now) (c .before .before .before .args .w) 0 p) m (c .before .before .before .pre .1 p), λ y. absurd (omega (arith, y .0))))
+loop-holds c =
+    let entry = c .before .before .before in
+    (refl, omega arith, λ p. (λ m. clash (mark (entry .args .ready .now) (entry .args .w) 0 p) m (entry .pre .1 p), λ y. absurd (omega (arith, y .0))))
 
 mul-widen : tie.Need-mul-widen Inv-loop μ-loop
 mul-widen c = search needs
@@ -39,13 +46,21 @@ widen-requires : tie.Need-widen-requires Inv-loop μ-loop
 widen-requires c κs = search needs
 
 mul-if1 : tie.Need-mul-if1 Inv-loop μ-loop
-mul-if1 c = omega (arith, c .widen .ensures, c .before .shared-slice-known3 .given (c .before .before .before .loop .i))
+mul-if1 c =
+    let loop = c .before .before .before .loop in
+    omega (arith, c .widen .ensures, c .before .shared-slice-known3 .given (loop .i))
 
 shared-slice-read-if1 : tie.Need-shared-slice-read-if1 Inv-loop μ-loop
-shared-slice-read-if1 c = c .before .before .before .before .before .before .before .before .pre .0 .0 _ (here (c .before))
+shared-slice-read-if1 c =
+    let entry = c .before .before .before .before .before .before .before .before in
+    entry .pre .0 .0 _ (here (c .before))
 
 put-mark-requires : tie.Need-put-mark-requires Inv-loop μ-loop
-put-mark-requires c κs = (c .before .before .before .before .before .before .before .before .before .before .pre .0 .1 _ (here (c .before .before .before)), omega (arith, c .before .before .before .before .before .before .before .before .before .before .pre .0 .2, c .before .before .before .before .before .before .loop .inv .0))
+put-mark-requires c κs =
+    let entry = c .before .before .before .before .before .before .before .before .before .before in
+    let inv = c .before .before .before .before .before .before .loop .inv in
+    let point = c .before .before .before in
+    (entry .pre .0 .1 _ (here point), omega (arith, entry .pre .0 .2, inv .0))
 
 add-i : tie.Need-add-i Inv-loop μ-loop
 add-i c = search needs
@@ -61,7 +76,12 @@ loop-again c =
     let h = c .before .before .before .before .loop-test .taken in
     let items = a .args .items .now in
     let unmet = a .args .unmet .now in
-    ⊎-elim (λ w. rw (w .5) (w .2 .kept .0 ∙ l .loop .inv .0, omega arith, ready-put items unmet (l .loop .ready) (l .loop .i) (a .args .w) _ (q .widen .ensures) h (l .loop .inv .2) (a .pre .0 .1 _ (here q)) (w .0 .taken) _ (w .2 .ensures)))
+    ⊎-elim (λ w. rw (w .5) (
+      w .2 .kept .0 ∙ l .loop .inv .0,
+      omega arith,
+      ready-put items unmet (l .loop .ready) (l .loop .i) (a .args .w) _ (q .widen .ensures) h (l .loop .inv .2)
+          (a .pre .0 .1 _ (here q)) (w .0 .taken) _ (w .2 .ensures),
+    ))
     (λ w. rw (w .1) (l .loop .inv .0, omega arith, ready-skip items unmet (l .loop .ready) (l .loop .i) (a .args .w) _ (q .widen .ensures) h (l .loop .inv .2) (w .0 .left)))
     (c .if1 .came)
 

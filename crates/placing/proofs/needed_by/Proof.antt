@@ -5,18 +5,24 @@ use Rattle.placing.proofs.needed_by.Statement.{statement}
 use Rattle.placing.proofs.needed_by.Tie as tie
 
 has-mark-requires : tie.Need-has-mark-requires
-has-mark-requires c κs = (c .before .before .before .pre .0, omega (arith, c .before .before .before .pre .2))
+has-mark-requires c κs =
+    let entry = c .before .before .before in
+    (entry .pre .0, omega (arith, entry .pre .2))
 
 list-marks-requires : tie.Need-list-marks-requires
-list-marks-requires c κs = let p = c .before .before .before .before .before .before .pre in (p .1, p .2, p .3, p .4)
+list-marks-requires c κs =
+    let p = c .before .before .before .before .before .before .pre in
+    (p .1, p .2, p .3, p .4)
 
 same-length : tie.Need-same-length
 same-length c = c .before .before .list-marks .kept .1 .1 .1 .1 .0
 
 returns : tie.Need-returns
 returns c =
+    let has-mark = c .before .before .before .before .before .has-mark in
+    let if1 = c .before .before .before .before .if1 in
     let e = c .before .before .list-marks .ensures in
-    (λ p. e .0 p ∙ needed-masked _ _ _ p _ (sym (c .before .before .before .before .before .has-mark .ensures) ∙ c .before .before .before .before .if1 .taken), e .1)
+    (λ p. e .0 p ∙ needed-masked _ _ _ p _ (sym (has-mark .ensures) ∙ if1 .taken), e .1)
 
 returns-2 : tie.Need-returns-2
 returns-2 c = (λ p. needed-none _ _ _ p _ (sym (c .before .has-mark .ensures) ∙ c .if1 .left), omega arith)

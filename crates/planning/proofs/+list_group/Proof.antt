@@ -8,7 +8,7 @@ use mir.Facts.{toZ-pos}
 use Rattle.kinds.specs.Kinds.{valueCode}
 use Rattle.cells.specs.Table.{kind}
 use Rattle.order.proofs.Tables.{kind-g}
-use Rattle.planning.specs.Listing.{listOf, Put}
+use Rattle.planning.specs.Listing.{listOf, PutAt}
 use Rattle.groups.proofs.Chains.{steps}
 use Rattle.planning.proofs.Listing.{Turn, turn-start, turn-end, turn-label, turn-less, value-room, value-turn, group-room, group-turn, none-turn}
 use borrow.Fn.Kinds.{In}
@@ -49,18 +49,33 @@ abbrev list-group-μ-loop : list-group-lts.MeasureT-loop
 list-group-μ-loop table n next plan₀ at group to₀ x₀ plan to x = steps n next n x
 
 -- in a turn: the member at hand is a label above the Group
-label : (t : ℕ) (c : list-group-lts.In-loop (claims t) (list-group-at t) list-group.Post list-group-Inv-loop list-group-μ-loop) → (1 ≤ c .before .loop .x) × (c .before .loop .x ≤ c .before .before .before .before .args .n) × (c .before .before .before .before .args .group < c .before .loop .x)
-label t c = turn-label _ _ (c .before .before .before .before .pre .1 .0) _ _ _ _ _ _ _ (c .before .loop .inv .1) (c .loop-test .taken)
+label : (t : ℕ) (c : list-group-lts.In-loop (claims t) (list-group-at t) list-group.Post list-group-Inv-loop list-group-μ-loop) →
+    let entry = c .before .before .before .before in
+    (1 ≤ c .before .loop .x) × (c .before .loop .x ≤ entry .args .n) × (entry .args .group < c .before .loop .x)
+label t c =
+    let entry = c .before .before .before .before in
+    turn-label _ _ (entry .pre .1 .0) _ _ _ _ _ _ _ (c .before .loop .inv .1) (c .loop-test .taken)
 
 -- where it is a value, there is room for it
 module _ (t : ℕ) (c : list-group-lts.Then1 (claims t) (list-group-at t) list-group.Post list-group-Inv-loop list-group-μ-loop) where
-  value : kind (c .before .before .before .before .before .before .before .before .args .table .now) (c .before .before .before .before .before .loop .x) ≡ valueCode
-  value = ap (kind (c .before .before .before .before .before .before .before .before .args .table .now)) (sym (c .before .before .before .widen .ensures)) ∙ sym (c .before .kind-of .ensures) ∙ c .if1 .taken
+  value :
+      let entry = c .before .before .before .before .before .before .before .before in
+      let loop = c .before .before .before .before .before .loop in
+      kind (entry .args .table .now) (loop .x) ≡ valueCode
+  value =
+      let entry = c .before .before .before .before .before .before .before .before in
+      let widen = c .before .before .before .widen in
+      ap (kind (entry .args .table .now)) (sym (widen .ensures)) ∙ sym (c .before .kind-of .ensures) ∙ c .if1 .taken
 
-  room : c .before .before .before .before .before .loop .to < length (c .before .before .before .before .before .loop .plan)
+  room :
+      let loop = c .before .before .before .before .before .loop in
+      loop .to < length (loop .plan)
   room =
-      let p = c .before .before .before .before .before .before .before .before .pre .1 in
-      value-room _ _ (p .0) _ _ _ _ _ _ _ (c .before .before .before .before .before .loop .inv .1) (c .before .before .before .before .loop-test .taken) value (kind-g (c .before .before .before .before .before .before .before .before .args .table .now) (c .before .before .before .before .before .before .before .before .args .group) (p .1 .1 .0 .2)) _ (omega (arith, p .1 .1 .1, c .before .before .before .before .before .loop .inv .0))
+      let entry = c .before .before .before .before .before .before .before .before in
+      let inv = c .before .before .before .before .before .loop .inv in
+      let loop-test = c .before .before .before .before .loop-test in
+      let p = entry .pre .1 in
+      value-room _ _ (p .0) _ _ _ _ _ _ _ (inv .1) (loop-test .taken) value (kind-g (entry .args .table .now) (entry .args .group) (p .1 .1 .0 .2)) _ (omega (arith, p .1 .1 .1, inv .0))
 
 list-group-mul-x : (t : ℕ) → list-group-lts.Need-mul-x (claims t) (list-group-at t) list-group.Post list-group-Inv-loop list-group-μ-loop
 list-group-mul-x t c = omega (arith, c .before .pre .1 .0 .few, c .before .pre .1 .1 .1 .0)
@@ -78,48 +93,83 @@ list-group-widen-requires : (t : ℕ) → list-group-lts.Need-widen-requires (cl
 list-group-widen-requires t c κs = search needs
 
 list-group-add-x : (t : ℕ) → list-group-lts.Need-add-x (claims t) (list-group-at t) list-group.Post list-group-Inv-loop list-group-μ-loop
-list-group-add-x t c = let b = label t (c .before) in omega (arith, b, c .widen .ensures, c .before .before .before .before .before .pre .1 .0 .few)
+list-group-add-x t c =
+    let entry = c .before .before .before .before .before in
+    let b = label t (c .before) in
+    omega (arith, b, c .widen .ensures, entry .pre .1 .0 .few)
 
 list-group-mul-x-2 : (t : ℕ) → list-group-lts.Need-mul-x-2 (claims t) (list-group-at t) list-group.Post list-group-Inv-loop list-group-μ-loop
-list-group-mul-x-2 t c = let b = label t (c .before) in omega (arith, b, c .widen .ensures, c .before .before .before .before .before .pre .1 .0 .few)
+list-group-mul-x-2 t c =
+    let entry = c .before .before .before .before .before in
+    let b = label t (c .before) in
+    omega (arith, b, c .widen .ensures, entry .pre .1 .0 .few)
 
 list-group-shared-slice-read-x-2 : (t : ℕ) → list-group-lts.Need-shared-slice-read-x-2 (claims t) (list-group-at t) list-group.Post list-group-Inv-loop list-group-μ-loop
-list-group-shared-slice-read-x-2 t c = let b = label t (c .before .before) in omega (arith, b, c .before .widen .ensures, c .before .before .before .before .before .before .pre .1 .1 .0 .0)
+list-group-shared-slice-read-x-2 t c =
+    let entry = c .before .before .before .before .before .before in
+    let b = label t (c .before .before) in
+    omega (arith, b, c .before .widen .ensures, entry .pre .1 .1 .0 .0)
 
 list-group-kind-of-requires : (t : ℕ) → list-group-lts.Need-kind-of-requires (claims t) (list-group-at t) list-group.Post list-group-Inv-loop list-group-μ-loop
-list-group-kind-of-requires t c κs = let b = label t (c .before .before) in (c .before .before .before .before .before .before .pre .1 .0, (omega (arith, b, c .before .widen .ensures), omega (arith, b, c .before .widen .ensures)))
+list-group-kind-of-requires t c κs =
+    let entry = c .before .before .before .before .before .before in
+    let b = label t (c .before .before) in
+    (entry .pre .1 .0, (omega (arith, b, c .before .widen .ensures), omega (arith, b, c .before .widen .ensures)))
 
 list-group-cast-plan : (t : ℕ) → list-group-lts.Need-cast-plan (claims t) (list-group-at t) list-group.Post list-group-Inv-loop list-group-μ-loop
-list-group-cast-plan t c = let b = label t (c .before .before .before .before) in record { sfits = omega (arith, b, c .before .before .before .widen .ensures, c .before .before .before .before .before .before .before .before .pre .1 .0 .few) }
+list-group-cast-plan t c =
+    let entry = c .before .before .before .before .before .before .before .before in
+    let point = c .before .before .before .before in
+    let widen = c .before .before .before .widen in
+    let b = label t point in
+    record { sfits = omega (arith, b, widen .ensures, entry .pre .1 .0 .few) }
 
 list-group-mul-t20 : (t : ℕ) → list-group-lts.Need-mul-t20 (claims t) (list-group-at t) list-group.Post list-group-Inv-loop list-group-μ-loop
-list-group-mul-t20 t c = omega (arith, room t c, c .before .before .before .before .before .before .before .before .good)
+list-group-mul-t20 t c =
+    let good = c .before .before .before .before .before .before .before .before .good in
+    omega (arith, room t c, good)
 
 list-group-slice-set-from-plan : (t : ℕ) → list-group-lts.Need-slice-set-from-plan (claims t) (list-group-at t) list-group.Post list-group-Inv-loop list-group-μ-loop
 list-group-slice-set-from-plan t c = room t c
 
 list-group-add-to : (t : ℕ) → list-group-lts.Need-add-to (claims t) (list-group-at t) list-group.Post list-group-Inv-loop list-group-μ-loop
-list-group-add-to t c = omega (arith, room t c, c .before .before .before .before .before .before .before .before .good)
+list-group-add-to t c =
+    let good = c .before .before .before .before .before .before .before .before .good in
+    omega (arith, room t c, good)
 
 list-group-loop-less : (t : ℕ) → list-group-lts.Need-loop-less (claims t) (list-group-at t) list-group.Post list-group-Inv-loop list-group-μ-loop
-list-group-loop-less t c = rw (c .before .before .before .widen .ensures) (turn-less _ _ (c .before .before .before .before .before .before .before .before .pre .1 .0) _ _ _ _ _ _ _ (c .before .before .before .before .before .loop .inv .1) (c .before .before .before .before .loop-test .taken))
+list-group-loop-less t c =
+    let entry = c .before .before .before .before .before .before .before .before in
+    let inv = c .before .before .before .before .before .loop .inv in
+    let loop-test = c .before .before .before .before .loop-test in
+    let widen = c .before .before .before .widen in
+    rw (widen .ensures) (turn-less _ _ (entry .pre .1 .0) _ _ _ _ _ _ _ (inv .1) (loop-test .taken))
 
 list-group-loop-again : (t : ℕ) → list-group-lts.Need-loop-again (claims t) (list-group-at t) list-group.Post list-group-Inv-loop list-group-μ-loop
 list-group-loop-again t c =
-    let b = label t (c .before .before .before .before) in (
-      length-set (c .before .before .before .before .before .loop .plan) _ _ ∙ c .before .before .before .before .before .loop .inv .0,
-      rw (c .before .before .before .widen .ensures) (value-turn _ _ (c .before .before .before .before .before .before .before .before .pre .1 .0) _ _ _ _ _ _ _ (c .before .before .before .before .before .loop .inv .1) (c .before .before .before .before .loop-test .taken) (value t c) _
-          (toZ-pos w64 {n = c .before .before .before .before .before .loop .x} (omega (arith, b, c .before .before .before .before .before .before .before .before .pre .1 .0 .few))) (room t c)),
+    let entry = c .before .before .before .before .before .before .before .before in
+    let loop = c .before .before .before .before .before .loop in
+    let point = c .before .before .before .before in
+    let loop-test = c .before .before .before .before .loop-test in
+    let widen = c .before .before .before .widen in
+    let b = label t point in (
+      length-set (loop .plan) _ _ ∙ loop .inv .0,
+      rw (widen .ensures) (value-turn _ _ (entry .pre .1 .0) _ _ _ _ _ _ _ (loop .inv .1) (loop-test .taken) (value t c) _
+          (toZ-pos w64 {n = loop .x} (omega (arith, b, entry .pre .1 .0 .few))) (room t c)),
     )
 
 list-group-list-group-requires : (t : ℕ) → list-group-lts.Need-list-group-requires (claims t) (list-group-at t) list-group.Post list-group-Inv-loop list-group-μ-loop
 list-group-list-group-requires t c κs =
+    let point = c .before .before .before .before .before .before in
+    let loop-test = c .before .before .before .before .before .before .loop-test in
+    let widen = c .before .before .before .before .before .widen in
+    let kind-of = c .before .before .before .kind-of in
     let a = c .before .before .before .before .before .before .before .before .before .before in
     let p = a .pre .1 in
     let l = c .before .before .before .before .before .before .before in
-    let b = label t (c .before .before .before .before .before .before) in
-    let k = ap (kind (a .args .table .now)) (sym (c .before .before .before .before .before .widen .ensures)) ∙ sym (c .before .before .before .kind-of .ensures) ∙ c .before .if2 .taken in
-    rw (c .before .before .before .before .before .widen .ensures) (
+    let b = label t point in
+    let k = ap (kind (a .args .table .now)) (sym (widen .ensures)) ∙ sym (kind-of .ensures) ∙ c .before .if2 .taken in
+    rw (widen .ensures) (
       omega (arith, b, a .pre .0, p .1 .1 .0),
       (
         p .0,
@@ -127,37 +177,59 @@ list-group-list-group-requires t c κs =
           p .1 .0,
           (
             (b .0, b .1, k),
-            group-room _ _ (p .0) _ _ _ _ _ _ _ (l .loop .inv .1) (c .before .before .before .before .before .before .loop-test .taken) k (kind-g (a .args .table .now) (a .args .group) (p .1 .1 .0 .2)) _ (omega (arith, p .1 .1 .1, l .loop .inv .0)),
+            group-room _ _ (p .0) _ _ _ _ _ _ _ (l .loop .inv .1) (loop-test .taken) k (kind-g (a .args .table .now) (a .args .group) (p .1 .1 .0 .2)) _ (omega (arith, p .1 .1 .1, l .loop .inv .0)),
           ),
         ),
       ),
     )
 
 list-group-loop-less-2 : (t : ℕ) → list-group-lts.Need-loop-less-2 (claims t) (list-group-at t) list-group.Post list-group-Inv-loop list-group-μ-loop
-list-group-loop-less-2 t c = rw (c .before .before .before .before .before .before .before .widen .ensures) (turn-less _ _ (c .before .before .before .before .before .before .before .before .before .before .before .before .pre .1 .0) _ _ _ _ _ _ _ (c .before .before .before .before .before .before .before .before .before .loop .inv .1) (c .before .before .before .before .before .before .before .before .loop-test .taken))
+list-group-loop-less-2 t c =
+    let entry = c .before .before .before .before .before .before .before .before .before .before .before .before in
+    let inv = c .before .before .before .before .before .before .before .before .before .loop .inv in
+    let loop-test = c .before .before .before .before .before .before .before .before .loop-test in
+    let widen = c .before .before .before .before .before .before .before .widen in
+    rw (widen .ensures) (turn-less _ _ (entry .pre .1 .0) _ _ _ _ _ _ _ (inv .1) (loop-test .taken))
 
 list-group-loop-again-2 : (t : ℕ) → list-group-lts.Need-loop-again-2 (claims t) (list-group-at t) list-group.Post list-group-Inv-loop list-group-μ-loop
 list-group-loop-again-2 t c =
+    let loop = c .before .before .before .before .before .before .before .before .before .loop in
+    let loop-test = c .before .before .before .before .before .before .before .before .loop-test in
+    let widen = c .before .before .before .before .before .before .before .widen in
+    let kind-of = c .before .before .before .before .before .kind-of in
+    let if2 = c .before .before .before .if2 in
     let a = c .before .before .before .before .before .before .before .before .before .before .before .before in
-    let k = ap (kind (a .args .table .now)) (sym (c .before .before .before .before .before .before .before .widen .ensures)) ∙ sym (c .before .before .before .before .before .kind-of .ensures) ∙ c .before .before .before .if2 .taken in (
-      c .before .list-group .kept .1 .1 .1 .0 ∙ c .before .before .before .before .before .before .before .before .before .loop .inv .0,
-      rw (c .before .before .before .before .before .before .before .widen .ensures) (group-turn _ _ (a .pre .1 .0) _ _ _ _ _ _ _ (c .before .before .before .before .before .before .before .before .before .loop .inv .1) (c .before .before .before .before .before .before .before .before .loop-test .taken) k _ _
-          (subst (λ (q : ℕ). Put (listOf (a .args .table .now) (a .args .n) q) (c .before .before .before .before .before .before .before .before .before .loop .to) (c .before .before .before .before .before .before .before .before .before .loop .plan) (c .before .list-group .last .1 .1 .1 .0) (c .before .list-group .result)) (c .before .before .before .before .before .before .before .widen .ensures) (c .before .list-group .ensures))),
+    let k = ap (kind (a .args .table .now)) (sym (widen .ensures)) ∙ sym (kind-of .ensures) ∙ if2 .taken in (
+      c .before .list-group .kept .1 .1 .1 .0 ∙ loop .inv .0,
+      rw (widen .ensures) (group-turn _ _ (a .pre .1 .0) _ _ _ _ _ _ _ (loop .inv .1) (loop-test .taken) k _ _
+          (subst (λ (q : ℕ). PutAt (listOf (a .args .table .now) (a .args .n) q) (loop .to) (loop .plan) (c .before .list-group .last .1 .1 .1 .0) (c .before .list-group .result)) (widen .ensures)
+          (c .before .list-group .ensures))),
     )
 
 list-group-loop-less-3 : (t : ℕ) → list-group-lts.Need-loop-less-3 (claims t) (list-group-at t) list-group.Post list-group-Inv-loop list-group-μ-loop
-list-group-loop-less-3 t c = rw (c .before .before .before .before .widen .ensures) (turn-less _ _ (c .before .before .before .before .before .before .before .before .before .pre .1 .0) _ _ _ _ _ _ _ (c .before .before .before .before .before .before .loop .inv .1) (c .before .before .before .before .before .loop-test .taken))
+list-group-loop-less-3 t c =
+    let entry = c .before .before .before .before .before .before .before .before .before in
+    let inv = c .before .before .before .before .before .before .loop .inv in
+    let loop-test = c .before .before .before .before .before .loop-test in
+    let widen = c .before .before .before .before .widen in
+    rw (widen .ensures) (turn-less _ _ (entry .pre .1 .0) _ _ _ _ _ _ _ (inv .1) (loop-test .taken))
 
 list-group-loop-again-3 : (t : ℕ) → list-group-lts.Need-loop-again-3 (claims t) (list-group-at t) list-group.Post list-group-Inv-loop list-group-μ-loop
 list-group-loop-again-3 t c =
-    let e = c .before .before .kind-of .ensures ∙ ap (kind (c .before .before .before .before .before .before .before .before .before .args .table .now)) (c .before .before .before .before .widen .ensures) in
-    (c .before .before .before .before .before .before .loop .inv .0, rw (c .before .before .before .before .widen .ensures) (none-turn _ _ (c .before .before .before .before .before .before .before .before .before .pre .1 .0) _ _ _ _ _ _ _ (c .before .before .before .before .before .before .loop .inv .1) (c .before .before .before .before .before .loop-test .taken) (λ z. c .before .if1 .left (e ∙ z)) (λ z. c .if2 .left (e ∙ z))))
+    let entry = c .before .before .before .before .before .before .before .before .before in
+    let inv = c .before .before .before .before .before .before .loop .inv in
+    let loop-test = c .before .before .before .before .before .loop-test in
+    let widen = c .before .before .before .before .widen in
+    let e = c .before .before .kind-of .ensures ∙ ap (kind (entry .args .table .now)) (widen .ensures) in
+    (inv .0, rw (widen .ensures) (none-turn _ _ (entry .pre .1 .0) _ _ _ _ _ _ _ (inv .1) (loop-test .taken) (λ z. c .before .if1 .left (e ∙ z)) (λ z. c .if2 .left (e ∙ z))))
 
 list-group-same-length : (t : ℕ) → list-group-lts.Need-same-length (claims t) (list-group-at t) list-group.Post list-group-Inv-loop list-group-μ-loop
 list-group-same-length t c = c .before .loop .inv .0
 
 list-group-returns : (t : ℕ) → list-group-lts.Need-returns (claims t) (list-group-at t) list-group.Post list-group-Inv-loop list-group-μ-loop
-list-group-returns t c = turn-end _ _ (c .before .before .before .before .pre .1 .0) _ _ _ _ _ _ _ (c .before .loop .inv .1) (kind-g (c .before .before .before .before .args .table .now) (c .before .before .before .before .args .group) (c .before .before .before .before .pre .1 .1 .1 .0 .2)) (c .loop-test .left)
+list-group-returns t c =
+    let entry = c .before .before .before .before in
+    turn-end _ _ (entry .pre .1 .0) _ _ _ _ _ _ _ (c .before .loop .inv .1) (kind-g (entry .args .table .now) (entry .args .group) (entry .pre .1 .1 .1 .0 .2)) (c .loop-test .left)
 
 pub +list-group-spec : {M : Type 1} → statement M
 +list-group-spec = close μ-list-group λ t. list-group-lts.spec (claims t)

@@ -20,21 +20,46 @@ link-members-requires c κs = search needs
 
 order-groups-requires : tie.Need-order-groups-requires
 order-groups-requires c κs =
-    let p = c .before .before .before .before .before .before .before .before .before .before .before .before .before .before .before .before .before .before .before .pre in
+    let back = c .before .before .before .before .before .before .before .before .before .before .before .before in
+    let entry = back .before .before .before .before .before .before .before in
+    let p = entry .pre in
     let k = c .before .before .before .before .before .before .before .before .before .link-members in
     (p .0, (((omega (arith, p .1 .1 .1 .0 .0, k .kept .1 .1 .0), p .1 .1 .1 .1 .0), p .1 .1 .1 .1 .1), (p .1 .1 .0, k .ensures)))
 
 list-mixed-requires : tie.Need-list-mixed-requires
 list-mixed-requires c κs =
-    let p = c .before .before .before .before .before .before .before .before .before .before .before .before .before .before .before .before .before .before .before .before .before .before .before .before .before .before .before .before .before .before .before .before .before .before .before .before .before .before .before .before .before .before .pre in
-    let k = c .before .before .before .before .before .before .before .before .before .before .before .before .before .before .before .before .before .before .before .before .before .before .order-groups .kept .1 .1 .1 .1 in
-    (p .0, (p .1 .0, (p .1 .1 .0, (omega (arith, p .1 .1 .1 .1 .0, k .0), scratch-as _ _ _ _ _ _ _ _ _ _ _ (k .1 .0) (k .1 .1 .0) (k .1 .1 .1 .0) (k .1 .1 .1 .1 .0) (k .1 .1 .1 .1 .1 .0) (p .1 .1 .1 .1 .1)))))
+    let back = c .before .before .before .before .before .before .before .before .before .before .before .before in
+    let back-2 = back .before .before .before .before .before .before .before .before .before .before .before .before in
+    let back-2-2 = back-2 .before .before .before .before .before .before .before .before .before .before .before .before in
+    let entry = back-2-2 .before .before .before .before .before .before in
+    let order-groups = back .before .before .before .before .before .before .before .before .before .before .order-groups in
+    let p = entry .pre in
+    let k = order-groups .kept .1 .1 .1 .1 in (
+      p .0,
+      (
+        p .1 .0,
+        (
+          p .1 .1 .0,
+          (
+            omega (arith, p .1 .1 .1 .1 .0, k .0),
+            scratch-as _ _ _ _ _ _ _ _ _ _ _ (k .1 .0) (k .1 .1 .0) (k .1 .1 .1 .0) (k .1 .1 .1 .1 .0) (k .1 .1 .1 .1 .1 .0)
+                (p .1 .1 .1 .1 .1),
+          ),
+        ),
+      ),
+    )
 
 same-length : tie.Need-same-length
 same-length c = search needs
 
 same-length-2 : tie.Need-same-length-2
-same-length-2 c = c .before .before .before .before .before .before .before .before .before .before .before .before .before .before .before .before .before .before .before .before .before .before .before .before .before .before .before .before .before .before .before .before .before .before .before .before .order-groups .kept .1 .1 .1 .0 ∙ c .before .before .before .before .before .before .before .before .before .before .before .before .before .before .before .before .before .before .before .before .before .before .before .before .before .before .before .before .before .before .before .before .before .before .before .before .before .before .before .before .before .before .before .before .before .before .link-members .kept .1 .1 .0
+same-length-2 c =
+    let back = c .before .before .before .before .before .before .before .before .before .before .before .before in
+    let back-2 = back .before .before .before .before .before .before .before .before .before .before .before .before in
+    let back-2-2 = back-2 .before .before .before .before .before .before .before .before .before .before .before .before in
+    let link-members = back-2-2 .before .before .before .before .before .before .before .before .before .before .link-members in
+    let order-groups = back-2 .before .before .before .before .before .before .before .before .before .before .before .before .order-groups in
+    order-groups .kept .1 .1 .1 .0 ∙ link-members .kept .1 .1 .0
 
 same-length-3 : tie.Need-same-length-3
 same-length-3 c = search needs
@@ -56,15 +81,30 @@ same-length-8 c = search needs
 
 returns : tie.Need-returns
 returns c =
-    let a = c .before .before .before .before .before .before .before .before .before .before .before .before .before .before .before .before .before .before .before .before .before .before .before .before .before .before .before .before .before .before .before .before .before .before .before .before .before .before .before .before .before .before .before .before .before .before .before .before .before .before .before .before .before .before .before .before in
-    plan-mixed _ _ (a .pre .0) _ _ _ (a .pre .1 .0 .1) (orders (a .args .table .now) (a .args .n) _ _ _ (c .before .before .before .before .before .before .before .before .before .before .before .before .before .before .before .before .before .before .before .before .before .before .before .before .before .before .before .before .before .before .before .before .before .before .before .before .order-groups .ensures) (c .before .before .before .before .before .before .before .before .before .before .before .before .before .before .before .before .before .before .before .before .before .if1 .taken)) (c .before .before .before .before .before .before .before .before .before .before .before .before .before .list-mixed .ensures)
+    let back = c .before .before .before .before .before .before .before .before .before .before .before .before in
+    let back-2 = back .before .before .before .before .before .before .before .before .before .before .before .before in
+    let back-2-2 = back-2 .before .before .before .before .before .before .before .before .before .before .before .before in
+    let back-2-2-2 = back-2-2 .before .before .before .before .before .before .before .before .before .before .before .before in
+    let a = back-2-2-2 .before .before .before .before .before .before .before .before in
+    let order-groups = back-2 .before .before .before .before .before .before .before .before .before .before .before .before .order-groups in
+    let if1 = back .before .before .before .before .before .before .before .before .before .if1 in
+    let list-mixed = c .before .before .before .before .before .before .before .before .before .before .before .before .before .list-mixed in
+    plan-mixed _ _ (a .pre .0) _ _ _ (a .pre .1 .0 .1) (orders (a .args .table .now) (a .args .n) _ _ _ (order-groups .ensures) (if1 .taken)) (list-mixed .ensures)
 
 list-group-requires : tie.Need-list-group-requires
 list-group-requires c κs =
-    let a = c .before .before .before .before .before .before .before .before .before .before .before .before .before .before .before .before .before .before .before .before .before .before .before .before .before .before .before .before .before .before .before .before .before .before .before .before .before in
-    let k = c .before .before .before .before .before .before .before .before .before .before .before .before .before .before .before .before .before .order-groups in
-    let o = orders (a .args .table .now) (a .args .n) _ _ _ (k .ensures) (c .before .before .if1 .left) in
-    (a .pre .0, ((omega (arith, k .kept .1 .1 .1 .0, c .before .before .before .before .before .before .before .before .before .before .before .before .before .before .before .before .before .before .before .before .before .before .before .before .before .before .before .link-members .kept .1 .1 .0, a .pre .1 .1 .1 .0 .0), o .0), ((omega arith, a .pre .0 .some, a .pre .0 .root), omega (arith, a .pre .1 .0 .0, whole-short _ _ (a .pre .0) (a .pre .1 .0 .1) (o .1)))))
+    let back = c .before .before .before .before .before .before .before .before .before .before .before .before in
+    let back-2 = back .before .before .before .before .before .before .before .before .before .before .before .before in
+    let a = back-2 .before .before .before .before .before .before .before .before .before .before .before .before .before in
+    let link-members = back .before .before .before .before .before .before .before .before .before .before .before .before .before .before .before .link-members in
+    let k = back .before .before .before .before .before .order-groups in
+    let o = orders (a .args .table .now) (a .args .n) _ _ _ (k .ensures) (c .before .before .if1 .left) in (
+      a .pre .0,
+      (
+        (omega (arith, k .kept .1 .1 .1 .0, link-members .kept .1 .1 .0, a .pre .1 .1 .1 .0 .0), o .0),
+        ((omega arith, a .pre .0 .some, a .pre .0 .root), omega (arith, a .pre .1 .0 .0, whole-short _ _ (a .pre .0) (a .pre .1 .0 .1) (o .1))),
+      ),
+    )
 
 same-length-9 : tie.Need-same-length-9
 same-length-9 c = search needs
@@ -92,8 +132,12 @@ same-length-16 c = search needs
 
 returns-2 : tie.Need-returns-2
 returns-2 c =
-    let a = c .before .before .before .before .before .before .before .before .before .before .before .before .before .before .before .before .before .before .before .before .before .before .before .before .before .before .before .before .before .before .before .before .before .before .before .before .before .before .before in
-    let o = orders (a .args .table .now) (a .args .n) _ _ _ (c .before .before .before .before .before .before .before .before .before .before .before .before .before .before .before .before .before .before .before .order-groups .ensures) (c .before .before .before .before .if1 .left) in
+    let back = c .before .before .before .before .before .before .before .before .before .before .before .before in
+    let back-2 = back .before .before .before .before .before .before .before .before .before .before .before .before in
+    let a = back-2 .before .before .before .before .before .before .before .before .before .before .before .before .before .before .before in
+    let order-groups = back .before .before .before .before .before .before .before .order-groups in
+    let if1 = c .before .before .before .before .if1 in
+    let o = orders (a .args .table .now) (a .args .n) _ _ _ (order-groups .ensures) (if1 .left) in
     plan-whole _ _ (a .pre .0) _ _ _ (a .pre .1 .0 .1) (o .1) (c .before .list-group .ensures)
 
 pub list-in-spec : {M : Type 1} → statement M

@@ -3,7 +3,7 @@ use mathlib.Core.List.{List}
 use Prim.Native.Nat.{ℕ}
 use native.Mathlib.Omega.{arith}
 use Rattle.groups.proofs.Orders.{value-items, items-few, mixed-is}
-use Rattle.planning.specs.Listing.{Put}
+use Rattle.planning.specs.Listing.{PutAt}
 use borrow.Author.Needs.{needs}
 use Rattle.planning.proofs.list_mixed.Statement.{statement}
 use Rattle.planning.proofs.list_mixed.Tie as tie
@@ -22,14 +22,21 @@ part-place-items-end c = search needs
 
 place-items-requires : tie.Need-place-items-requires
 place-items-requires c κs =
-    let p = c .before .before .before .before .before .before .before .before .before .before .before .before .before .before .before .before .before .before .pre in
-    (p .0, (value-items _ _ (p .0) _ _ (c .before .before .before .before .before .before .before .before .before .gather-values .ensures), (p .1 .1 .0, p .1 .1 .1 .1)))
+    let back = c .before .before .before .before .before .before .before .before .before .before .before .before in
+    let entry = back .before .before .before .before .before .before in
+    let gather-values = c .before .before .before .before .before .before .before .before .before .gather-values in
+    let p = entry .pre in
+    (p .0, (value-items _ _ (p .0) _ _ (gather-values .ensures), (p .1 .1 .0, p .1 .1 .1 .1)))
 
 put-all-requires : tie.Need-put-all-requires
 put-all-requires c κs =
-    let p = c .before .before .before .before .before .before .before .before .before .before .before .before .before .before .before .before .before .before .before .before .before .before .before .before .before .before .before .before .before .before .before .pre in
+    let back = c .before .before .before .before .before .before .before .before .before .before .before .before in
+    let back-2 = back .before .before .before .before .before .before .before .before .before .before .before .before in
+    let entry = back-2 .before .before .before .before .before .before .before in
+    let gather-values = back .before .before .before .before .before .before .before .before .before .before .gather-values in
+    let p = entry .pre in
     let e = c .before .before .before .before .before .before .before .before .before .before .before .before .place-items in
-    let m = items-few _ _ (p .0) _ (value-items _ _ (p .0) _ _ (c .before .before .before .before .before .before .before .before .before .before .before .before .before .before .before .before .before .before .before .before .before .before .gather-values .ensures)) in
+    let m = items-few _ _ (p .0) _ (value-items _ _ (p .0) _ _ (gather-values .ensures)) in
     (omega (arith, e .ensures .within, m, e .kept .1 .1 .1 .1 .1 .1 .1 .1 .0, p .1 .1 .1 .1 .orders), omega (arith, e .ensures .within, m, p .1 .0))
 
 same-length : tie.Need-same-length
@@ -55,9 +62,13 @@ same-length-7 c = search needs
 
 returns : tie.Need-returns
 returns c =
-    let a = c .before .before .before .before .before .before .before .before .before .before .before .before .before .before .before .before .before .before .before .before .before .before .before .before .before .before .before .before .before .before .before .before .before in
+    let back = c .before .before .before .before .before .before .before .before .before .before .before .before in
+    let back-2 = back .before .before .before .before .before .before .before .before .before .before .before .before in
+    let a = back-2 .before .before .before .before .before .before .before .before .before in
+    let gather-values = back .before .before .before .before .before .before .before .before .before .before .before .before .gather-values in
     let e = c .before .before .before .before .before .before .before .before .before .before .before .before .before .before .place-items in
-    subst (λ (l : List ℕ). Put l 0 (a .args .plan .now) (c .before .put-all .last .1 .1 .0) (e .result)) (mixed-is _ _ (a .pre .0) _ _ (c .before .before .before .before .before .before .before .before .before .before .before .before .before .before .before .before .before .before .before .before .before .before .before .before .gather-values .ensures) (a .pre .1 .0 .1) _ _ (e .ensures)) (c .before .put-all .ensures)
+    subst (λ (l : List ℕ). PutAt l 0 (a .args .plan .now) (c .before .put-all .last .1 .1 .0) (e .result)) (mixed-is _ _ (a .pre .0) _ _ (gather-values .ensures) (a .pre .1 .0 .1) _ _ (e .ensures))
+    (c .before .put-all .ensures)
 
 pub list-mixed-spec : {M : Type 1} → statement M
 list-mixed-spec =

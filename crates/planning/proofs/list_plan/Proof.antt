@@ -1,5 +1,6 @@
 use Prim.Native.Nat.{_≤_}
 use native.Mathlib.Omega.{arith}
+use Rattle.cells.specs.Limits.{labelLimit}
 use Rattle.planning.proofs.Plans.{zero-lists}
 use borrow.Author.Needs.{needs}
 use Rattle.planning.proofs.list_plan.Statement.{statement}
@@ -38,7 +39,7 @@ slice-aggregate-list-in-7 c = search needs
 list-in-requires : tie.Need-list-in-requires
 list-in-requires c κs =
     let a = c .before .before .before .before .before .before .before .before .before .before in
-    let h : a .args .n ≤ 1024 = a .pre .0 .few in
+    let h : a .args .n ≤ labelLimit = a .pre .0 .few in
     (a .pre .0, (a .pre .1 .0, (a .pre .1 .1, zero-lists (a .args .n) 1025 17 (omega arith) (omega arith))))
 
 same-length-2 : tie.Need-same-length-2

@@ -13,17 +13,21 @@ same-length : tie.Need-same-length
 same-length c = search needs
 
 returns : tie.Need-returns
-returns c = plan-cycle _ _ (c .before .before .before .before .before .before .pre .0) _ _ (c .before .before .before .find-cycle .ensures .0) (c .if1 .taken)
+returns c =
+    let entry = c .before .before .before .before .before .before in
+    let find-cycle = c .before .before .before .find-cycle in
+    plan-cycle _ _ (entry .pre .0) _ _ (find-cycle .ensures .0) (c .if1 .taken)
 
 needs-of-requires : tie.Need-needs-of-requires
 needs-of-requires c κs = search needs
 
 list-plan-requires : tie.Need-list-plan-requires
 list-plan-requires c κs =
+    let if1 = c .before .before .before .before .before .before .if1 in
     let p = c .before .before .before .before .before .before .before .before .before .before .before .before .pre in
     let k = c .before .before .before .before .before .before .before .before .before .find-cycle in
     let m = c .before .before .before .before .needs-of in
-    (p .0, ((p .1 .0, sym (k .ensures .0) ∙ c .before .before .before .before .before .before .if1 .left), (omega (arith, p .1 .1 .0, k .kept .1 .1 .1 .0, m .kept .1 .1 .0), m .ensures)))
+    (p .0, ((p .1 .0, sym (k .ensures .0) ∙ if1 .left), (omega (arith, p .1 .1 .0, k .kept .1 .1 .1 .0, m .kept .1 .1 .0), m .ensures)))
 
 same-length-2 : tie.Need-same-length-2
 same-length-2 c = search needs

@@ -1,5 +1,6 @@
 use Prim.Native.Nat.{_≤_}
 use native.Mathlib.Omega.{arith}
+use Rattle.cells.specs.Limits.{labelLimit}
 use Rattle.reach.proofs.Scratch.{zero-square}
 use borrow.Author.Needs.{needs}
 use Rattle.planning.proofs.plan_of.Statement.{statement}
@@ -56,7 +57,7 @@ slice-aggregate-plan-in-4 c = search needs
 plan-in-requires-4 : tie.Need-plan-in-requires-4
 plan-in-requires-4 c κs =
     let a = c .before .before .before .before .before in
-    let h : a .args .n ≤ 1024 = a .pre .0 .few in
+    let h : a .args .n ≤ labelLimit = a .pre .0 .few in
     (a .pre .0, (a .pre .1, zero-square (a .args .n) 1025 17 (omega arith) (omega arith)))
 
 same-length-4 : tie.Need-same-length-4

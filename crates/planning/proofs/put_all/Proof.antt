@@ -6,19 +6,21 @@ use lib.ListN.{length, take, length-set}
 use lib.IntN.{pos}
 use mir.Syntax.{w64}
 use mir.Facts.{toZ-pos}
-use Rattle.planning.specs.Listing.{Put}
+use Rattle.planning.specs.Listing.{PutAt}
 use Rattle.planning.proofs.Listing.{put-none, put-label}
 use Rattle.planning.proofs.put_all.Statement.{statement}
 use Rattle.planning.proofs.put_all.Tie as tie
 
 abbrev Inv-loop : tie.InvT-loop
-Inv-loop order r plan₀ i₀ plan i = (length plan ≡ length plan₀) × (i ≤ r) × Put (take i order) 0 plan₀ plan i
+Inv-loop order r plan₀ i₀ plan i = (length plan ≡ length plan₀) × (i ≤ r) × PutAt (take i order) 0 plan₀ plan i
 
 abbrev μ-loop : tie.MeasureT-loop
 μ-loop order r plan₀ i₀ plan i = r - i
 
 small : (c : tie.After-widen Inv-loop μ-loop) → c .widen .result < 65536
-small c = omega (arith, c .widen .ensures, c .before .shared-slice-known2 .given (c .before .before .before .loop .i))
+small c =
+    let loop = c .before .before .before .loop in
+    omega (arith, c .widen .ensures, c .before .shared-slice-known2 .given (loop .i))
 
 loop-holds : tie.Need-loop-holds Inv-loop μ-loop
 loop-holds c = (refl, omega arith, put-none _ _)
@@ -27,7 +29,9 @@ mul-widen : tie.Need-mul-widen Inv-loop μ-loop
 mul-widen c = search needs
 
 shared-slice-read-widen : tie.Need-shared-slice-read-widen Inv-loop μ-loop
-shared-slice-read-widen c = omega (arith, c .before .loop-test .taken, c .before .before .before .before .pre .0)
+shared-slice-read-widen c =
+    let entry = c .before .before .before .before in
+    omega (arith, c .before .loop-test .taken, entry .pre .0)
 
 widen-requires : tie.Need-widen-requires Inv-loop μ-loop
 widen-requires c κs = search needs
@@ -39,7 +43,10 @@ mul-t11 : tie.Need-mul-t11 Inv-loop μ-loop
 mul-t11 c = search needs
 
 slice-set-from-plan : tie.Need-slice-set-from-plan Inv-loop μ-loop
-slice-set-from-plan c = omega (arith, c .before .before .loop-test .taken, c .before .before .before .before .before .pre .1, c .before .before .before .loop .inv .0)
+slice-set-from-plan c =
+    let entry = c .before .before .before .before .before in
+    let inv = c .before .before .before .loop .inv in
+    omega (arith, c .before .before .loop-test .taken, entry .pre .1, inv .0)
 
 add-i : tie.Need-add-i Inv-loop μ-loop
 add-i c = search needs
@@ -53,7 +60,8 @@ loop-again c =
     let a = c .before .before .before .before .before in (
       length-set (l .loop .plan) _ _ ∙ l .loop .inv .0,
       omega (arith, c .before .before .loop-test .taken),
-      put-label (a .args .order .now) _ (l .loop .plan) (l .loop .i) (l .loop .inv .2) _ (omega (arith, c .before .before .loop-test .taken, a .pre .0)) (omega (arith, c .before .before .loop-test .taken, a .pre .1, l .loop .inv .0))
+      put-label (a .args .order .now) _ (l .loop .plan) (l .loop .i) (l .loop .inv .2) _ (omega (arith, c .before .before .loop-test .taken, a .pre .0))
+          (omega (arith, c .before .before .loop-test .taken, a .pre .1, l .loop .inv .0))
           (toZ-pos w64 {n = c .widen .result} (omega (arith, small c)) ∙ ap pos (c .widen .ensures)),
     )
 
@@ -65,7 +73,7 @@ returns c =
     let l = c .before in
     let a = c .before .before .before in
     let e : l .loop .i ≡ a .args .r = omega (arith, l .loop .inv .1, c .loop-test .left) in
-    subst (λ (k : ℕ). Put (take k (a .args .order .now)) 0 (a .args .plan .now) (l .loop .plan) k) e (l .loop .inv .2)
+    subst (λ (k : ℕ). PutAt (take k (a .args .order .now)) 0 (a .args .plan .now) (l .loop .plan) k) e (l .loop .inv .2)
 
 pub put-all-spec : {M : Type 1} → statement M
 put-all-spec =

@@ -33,7 +33,9 @@ put-digits-returns t c =
     rw (c .if1 .taken, digits-none) (nothing (a .out .now) (a .at) (omega arith) (omega arith))
 
 put-digits-put-digits-requires : (t : ℕ) → put-digits-lts.Need-put-digits-requires (claims t) (put-digits-at t) put-digits.Post
-put-digits-put-digits-requires t c κs = (omega (arith, c .before .before .before .pre .0, c .before .if1 .left), tt)
+put-digits-put-digits-requires t c κs =
+    let entry = c .before .before .before in
+    (omega (arith, entry .pre .0, c .before .if1 .left), tt)
 
 put-digits-cast-put : (t : ℕ) → put-digits-lts.Need-cast-put (claims t) (put-digits-at t) put-digits.Post
 put-digits-cast-put t c = search needs

@@ -11,7 +11,9 @@ same-length : tie.Need-same-length
 same-length c = search needs
 
 returns : tie.Need-returns
-returns c = rw (c .before .before .before .before .if1 .taken, decimal-zero) (c .before .before .put .ensures)
+returns c =
+    let if1 = c .before .before .before .before .if1 in
+    rw (if1 .taken, decimal-zero) (c .before .before .put .ensures)
 
 put-digits-requires : tie.Need-put-digits-requires
 put-digits-requires c κs = search needs
@@ -21,7 +23,8 @@ same-length-2 c = search needs
 
 returns-2 : tie.Need-returns-2
 returns-2 c =
-    rw (decimal-digits (c .before .before .before .before .before .before .args .n) (omega arith))
+    let entry = c .before .before .before .before .before .before in
+    rw (decimal-digits (entry .args .n) (omega arith))
     (c .before .before .put-digits .ensures)
 
 pub put-decimal-spec : {M : Type 1} → statement M

@@ -26,7 +26,9 @@ nat-at-requires : tie.Need-nat-at-requires Inv-loop μ-loop
 nat-at-requires c κs = search needs
 
 put-line-requires : tie.Need-put-line-requires Inv-loop μ-loop
-put-line-requires c κs = let start = c .before .before .before in start .before .before .before .before .pre .1
+put-line-requires c κs =
+    let start = c .before .before .before in
+    start .before .before .before .before .pre .1
 
 add-i : tie.Need-add-i Inv-loop μ-loop
 add-i c = omega arith
@@ -50,8 +52,9 @@ same-length c = same-size _ _ _ _ _ (c .before .loop .inv .1)
 
 returns : tie.Need-returns Inv-loop μ-loop
 returns c =
+    let entry = c .before .before .before .before .before in
     let l = c .before .loop in
-    let e : l .i ≡ c .before .before .before .before .before .args .count = omega arith in
+    let e : l .i ≡ entry .args .count = omega arith in
     rw e at (l .inv .1)
 
 pub put-lines-spec : {M : Type 1} → statement M

@@ -26,9 +26,10 @@ put-requires c κs = search needs
 
 loop-less : tie.Need-loop-less Inv-loop μ-loop
 loop-less c =
+    let loop-test = c .before .before .before .before .loop-test in
     let l = c .before .before .before .before .before .loop in
     let p = c .before .before .put in
-    omega (arith, next-index _ _ _ _ (l .inv .2) _ _ (p .ensures) (c .before .before .before .before .loop-test .taken), same-size _ _ _ _ _ (l .inv .2))
+    omega (arith, next-index _ _ _ _ (l .inv .2) _ _ (p .ensures) (loop-test .taken), same-size _ _ _ _ _ (l .inv .2))
 
 loop-again : tie.Need-loop-again Inv-loop μ-loop
 loop-again c =

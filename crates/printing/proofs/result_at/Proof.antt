@@ -25,7 +25,9 @@ int-at-requires : tie.Need-int-at-requires
 int-at-requires c κs = search needs
 
 returns-3 : tie.Need-returns-3
-returns-3 c = let a = c .before .before .before .args in whole (c .int-at .result) (c .int-at .ok) ∙ c .int-at .ensures ∙ result-in (a .results .now) (a .label) (a .j) (omega arith)
+returns-3 c =
+    let a = c .before .before .before .args in
+    whole (c .int-at .result) (c .int-at .ok) ∙ c .int-at .ensures ∙ result-in (a .results .now) (a .label) (a .j) (omega arith)
 
 pub result-at-spec : {M : Type 1} → statement M
 result-at-spec =

@@ -17,7 +17,9 @@ negative c = rw (toZ-ofZ (c .before .before .fits .x)) at (sym (c .before .is-ne
 small : (c : tie.Start) → isNegative (c .args .x) ≡ true → natAbs (c .args .x +ℤ pos 1) < 2 ^ 63
 small c e = next-small (c .args .x) e (c .fits .x .sfits)
 
-size : (c : tie.After-magnitude) → c .magnitude .result ≡ natAbs (c .before .before .before .args .x +ℤ pos 1)
+size : (c : tie.After-magnitude) →
+    let entry = c .before .before .before in
+    c .magnitude .result ≡ natAbs (entry .args .x +ℤ pos 1)
 size c =
     let s = c .before .before .before in
     rw (toZ-ofZ (s .fits .x), toZ-ofZ (fits-below (s .args .x +ℤ pos 1) (small s (negative (c .before))))) at (c .magnitude .ensures)

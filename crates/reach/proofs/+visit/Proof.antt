@@ -8,7 +8,7 @@ use lib.Seq.{getD-set-same}
 use Rattle.cells.specs.Table.{cell}
 use Rattle.cells.specs.Accepted.{HasBody}
 use Rattle.reach.specs.Chains.{Hangs, Last}
-use Rattle.reach.specs.Rows.{Room}
+use Rattle.reach.specs.MarkRows.{MarksRoom}
 use Rattle.reach.specs.Turns.{Shared}
 use Rattle.reach.proofs.Links.{column-range, body-label, end-body}
 use Rattle.reach.proofs.Visits.{Going, unbegun, begin, fewer, finish, stay, going-start, going-room, going-still, going-more}
@@ -57,67 +57,117 @@ visit-μ-loop table n j chains state₀ square₀ stack₀ d x₀ state square s
 
 -- at the loop: d's state is there, and there is room
 module _ (t : ℕ) (l : visit-lts.At-loop (claims t) (visit-at t) visit.Post visit-Inv-loop visit-μ-loop) where
-  here : l .before .before .before .before .before .before .before .before .before .args .d < length (l .before .before .before .before .before .before .before .before .before .args .state .now)
-  here = let a = l .before .before .before .before .before .before .before .before .before in omega (arith, a .pre .1 .1 .1 .1 .0 .states, body-label _ _ (a .pre .1 .0) (a .args .d) (a .pre .1 .1 .1 .1 .1 .1))
+  here :
+      let entry = l .before .before .before .before .before .before .before .before .before in
+      entry .args .d < length (entry .args .state .now)
+  here =
+      let a = l .before .before .before .before .before .before .before .before .before in
+      omega (arith, a .pre .1 .1 .1 .1 .0 .states, body-label _ _ (a .pre .1 .0) (a .args .d) (a .pre .1 .1 .1 .1 .1 .1))
 
-  first : Room (l .before .before .before .before .before .before .before .before .before .args .n) (set (l .before .before .before .before .before .before .before .before .before .args .state .now) (l .before .before .before .before .before .before .before .before .before .args .d) 1) (l .before .before .before .before .before .before .before .before .before .args .square .now) (l .before .before .before .before .before .before .before .before .before .args .stack .now)
+  first :
+      let entry = l .before .before .before .before .before .before .before .before .before in
+      MarksRoom (entry .args .n) (set (entry .args .state .now) (entry .args .d) 1) (entry .args .square .now) (entry .args .stack .now)
   first =
       let a = l .before .before .before .before .before .before .before .before .before in
       let r = a .pre .1 .1 .1 .1 .0 in
       record { states = omega (arith, r .states, length-set (a .args .state .now) (a .args .d) 1); rows = r .rows; heights = r .heights }
 
-  room : Room (l .before .before .before .before .before .before .before .before .before .args .n) (l .loop .state) (l .loop .square) (l .loop .stack)
-  room = going-room _ _ (l .before .before .before .before .before .before .before .before .before .pre .1 .0) _ _ _ _ _ _ _ (l .loop .inv .0) first
+  room :
+      let entry = l .before .before .before .before .before .before .before .before .before in
+      MarksRoom (entry .args .n) (l .loop .state) (l .loop .square) (l .loop .stack)
+  room =
+      let entry = l .before .before .before .before .before .before .before .before .before in
+      going-room _ _ (entry .pre .1 .0) _ _ _ _ _ _ _ (l .loop .inv .0) first
 
 -- in a turn: the line at hand, and where its link leads
 module _ (t : ℕ) (c : visit-lts.In-loop (claims t) (visit-at t) visit.Post visit-Inv-loop visit-μ-loop) where
-  hangs : Hangs (c .before .before .before .before .before .before .before .before .before .before .args .table .now) (c .before .before .before .before .before .before .before .before .before .before .args .j) (c .before .before .before .before .before .before .before .before .before .before .args .d) (c .before .loop .x)
+  hangs :
+      let entry = c .before .before .before .before .before .before .before .before .before .before in
+      Hangs (entry .args .table .now) (entry .args .j) (entry .args .d) (c .before .loop .x)
   hangs = c .before .loop .inv .2 (c .loop-test .taken)
 
-  line : (1 ≤ c .before .loop .x) × (c .before .loop .x ≤ c .before .before .before .before .before .before .before .before .before .before .args .n)
+  line :
+      let entry = c .before .before .before .before .before .before .before .before .before .before in
+      (1 ≤ c .before .loop .x) × (c .before .loop .x ≤ entry .args .n)
   line = let z : c .before .loop .x ≡ 0 → ⊥ = c .loop-test .taken in (omega arith, c .before .loop .inv .1)
 
-  last : Last (c .before .before .before .before .before .before .before .before .before .before .args .table .now) (c .before .before .before .before .before .before .before .before .before .before .args .j) (c .before .before .before .before .before .before .before .before .before .before .args .d) (c .before .loop .x - 1) (getD (c .before .before .before .before .before .before .before .before .before .before .args .chains .now) (c .before .before .before .before .before .before .before .before .before .before .args .n + c .before .loop .x) 0)
-  last = c .before .before .before .before .before .before .before .before .before .before .pre .1 .1 .1 .0 .1 .links (c .before .loop .x) (c .before .before .before .before .before .before .before .before .before .before .args .d) (line .1) hangs
+  last :
+      let entry = c .before .before .before .before .before .before .before .before .before .before in
+      Last (entry .args .table .now) (entry .args .j) (entry .args .d) (c .before .loop .x - 1) (getD (entry .args .chains .now) (entry .args .n + c .before .loop .x) 0)
+  last =
+      let entry = c .before .before .before .before .before .before .before .before .before .before in
+      entry .pre .1 .1 .1 .0 .1 .links (c .before .loop .x) (entry .args .d) (line .1) hangs
 
-  body : HasBody (c .before .before .before .before .before .before .before .before .before .before .args .table .now) (cell (c .before .before .before .before .before .before .before .before .before .before .args .table .now) (c .before .loop .x) (c .before .before .before .before .before .before .before .before .before .before .args .j))
-  body = let p = c .before .before .before .before .before .before .before .before .before .before .pre .1 in end-body _ _ (p .0) _ (c .before .loop .x) (p .1 .0) (hangs .path)
+  body :
+      let entry = c .before .before .before .before .before .before .before .before .before .before in
+      HasBody (entry .args .table .now) (cell (entry .args .table .now) (c .before .loop .x) (entry .args .j))
+  body =
+      let p = c .before .before .before .before .before .before .before .before .before .before .pre .1 in
+      end-body _ _ (p .0) _ (c .before .loop .x) (p .1 .0) (hangs .path)
 
-  label : (1 ≤ cell (c .before .before .before .before .before .before .before .before .before .before .args .table .now) (c .before .loop .x) (c .before .before .before .before .before .before .before .before .before .before .args .j)) × (cell (c .before .before .before .before .before .before .before .before .before .before .args .table .now) (c .before .loop .x) (c .before .before .before .before .before .before .before .before .before .before .args .j) ≤ c .before .before .before .before .before .before .before .before .before .before .args .n)
-  label = body-label _ _ (c .before .before .before .before .before .before .before .before .before .before .pre .1 .0) _ body
+  label :
+      let entry = c .before .before .before .before .before .before .before .before .before .before in
+      (1 ≤ cell (entry .args .table .now) (c .before .loop .x) (entry .args .j)) × (cell (entry .args .table .now) (c .before .loop .x) (entry .args .j) ≤ entry .args .n)
+  label =
+      let entry = c .before .before .before .before .before .before .before .before .before .before in
+      body-label _ _ (entry .pre .1 .0) _ body
 
 -- after e is visited, unless it was begun
 module _ (t : ℕ) (w : visit-lts.Joined2 (claims t) (visit-at t) visit.Post visit-Inv-loop visit-μ-loop) where
-  going : Going (w .before .before .before .before .before .before .before .before .before .before .before .before .before .args .table .now) (w .before .before .before .before .before .before .before .before .before .before .before .before .before .args .n) (w .before .before .before .before .before .before .before .before .before .before .before .before .before .args .j) (set (w .before .before .before .before .before .before .before .before .before .before .before .before .before .args .state .now) (w .before .before .before .before .before .before .before .before .before .before .before .before .before .args .d) 1) (w .before .before .before .before .before .before .before .before .before .before .before .before .before .args .square .now) (w .before .before .before .before .before .before .before .before .before .before .before .before .before .args .stack .now) (w .if2 .state) (w .if2 .square) (w .if2 .stack)
+  going :
+      let entry = w .before .before .before .before .before .before .before .before .before .before .before .before .before in
+      Going (entry .args .table .now) (entry .args .n) (entry .args .j) (set (entry .args .state .now) (entry .args .d) 1) (entry .args .square .now) (entry .args .stack .now) (w .if2 .state)
+      (w .if2 .square) (w .if2 .stack)
   going =
+      let entry = w .before .before .before .before .before .before .before .before .before .before .before .before .before in
       let g = w .before .before .before .before .loop .inv .0 in
       ⊎-elim (λ u.
       let k = u .4 .kept .1 .1 .1 .1 in
-      rw (u .11, u .12, u .13) (going-more _ _ (w .before .before .before .before .before .before .before .before .before .before .before .before .before .pre .1 .0) _ _ _ _ _ _ _ g _ _ _ _ (u .4 .ensures) (k .0) (k .1 .0) (k .1 .1 .0)))
+      rw (u .11, u .12, u .13) (going-more _ _ (entry .pre .1 .0) _ _ _ _ _ _ _ g _ _ _ _ (u .4 .ensures) (k .0) (k .1 .0) (k .1 .1 .0)))
       (λ u. rw (u .1, u .2, u .3) g)
       (w .if2 .came)
 
-  after : Room (w .before .before .before .before .before .before .before .before .before .before .before .before .before .args .n) (w .if2 .state) (w .if2 .square) (w .if2 .stack)
-  after = going-room _ _ (w .before .before .before .before .before .before .before .before .before .before .before .before .before .pre .1 .0) _ _ _ _ _ _ _ going (first t (w .before .before .before .before))
+  after :
+      let entry = w .before .before .before .before .before .before .before .before .before .before .before .before .before in
+      MarksRoom (entry .args .n) (w .if2 .state) (w .if2 .square) (w .if2 .stack)
+  after =
+      let entry = w .before .before .before .before .before .before .before .before .before .before .before .before .before in
+      let point = w .before .before .before .before in
+      going-room _ _ (entry .pre .1 .0) _ _ _ _ _ _ _ going (first t point)
 
   -- d is begun and not made
-  not-made : getD (w .if2 .state) (w .before .before .before .before .before .before .before .before .before .before .before .before .before .args .d) 0 ≡ 2 → ⊥
-  not-made z = omega (arith, going .since .held (w .before .before .before .before .before .before .before .before .before .before .before .before .before .args .d) (getD-set-same (w .before .before .before .before .before .before .before .before .before .before .before .before .before .args .state .now) (w .before .before .before .before .before .before .before .before .before .before .before .before .before .args .d) 1 0 (here t (w .before .before .before .before))))
+  not-made :
+      let entry = w .before .before .before .before .before .before .before .before .before .before .before .before .before in
+      getD (w .if2 .state) (entry .args .d) 0 ≡ 2 → ⊥
+  not-made z =
+      let entry = w .before .before .before .before .before .before .before .before .before .before .before .before .before in
+      let point = w .before .before .before .before in
+      omega (arith, going .since .held (entry .args .d) (getD-set-same (entry .args .state .now) (entry .args .d) 1 0 (here t point)))
 
 visit-slice-read-if1 : (t : ℕ) → visit-lts.Need-slice-read-if1 (claims t) (visit-at t) visit.Post visit-Inv-loop visit-μ-loop
-visit-slice-read-if1 t c = let a = c .before .before .before .before .before in omega (arith, a .pre .1 .1 .1 .1 .0 .states, body-label _ _ (a .pre .1 .0) (a .args .d) (a .pre .1 .1 .1 .1 .1 .1))
+visit-slice-read-if1 t c =
+    let a = c .before .before .before .before .before in
+    omega (arith, a .pre .1 .1 .1 .1 .0 .states, body-label _ _ (a .pre .1 .0) (a .args .d) (a .pre .1 .1 .1 .1 .1 .1))
 
 visit-returns : (t : ℕ) → visit-lts.Need-returns (claims t) (visit-at t) visit.Post visit-Inv-loop visit-μ-loop
-visit-returns t c = let p = c .before .before .before .before .before .before .pre .1 in stay _ _ (p .0) _ _ _ _ (c .if1 .taken) (p .1 .1 .1 .1 .0)
+visit-returns t c =
+    let p = c .before .before .before .before .before .before .pre .1 in
+    stay _ _ (p .0) _ _ _ _ (c .if1 .taken) (p .1 .1 .1 .1 .0)
 
 visit-slice-write-state : (t : ℕ) → visit-lts.Need-slice-write-state (claims t) (visit-at t) visit.Post visit-Inv-loop visit-μ-loop
-visit-slice-write-state t c = let a = c .before .before .before .before .before .before in omega (arith, a .pre .1 .1 .1 .1 .0 .states, body-label _ _ (a .pre .1 .0) (a .args .d) (a .pre .1 .1 .1 .1 .1 .1))
+visit-slice-write-state t c =
+    let a = c .before .before .before .before .before .before in
+    omega (arith, a .pre .1 .1 .1 .1 .0 .states, body-label _ _ (a .pre .1 .0) (a .args .d) (a .pre .1 .1 .1 .1 .1 .1))
 
 visit-mul-widen : (t : ℕ) → visit-lts.Need-mul-widen (claims t) (visit-at t) visit.Post visit-Inv-loop visit-μ-loop
-visit-mul-widen t c = let a = c .before .before .before .before .before .before in omega (arith, a .pre .1 .0 .few, body-label _ _ (a .pre .1 .0) (a .args .d) (a .pre .1 .1 .1 .1 .1 .1))
+visit-mul-widen t c =
+    let a = c .before .before .before .before .before .before in
+    omega (arith, a .pre .1 .0 .few, body-label _ _ (a .pre .1 .0) (a .args .d) (a .pre .1 .1 .1 .1 .1 .1))
 
 visit-shared-slice-read-widen : (t : ℕ) → visit-lts.Need-shared-slice-read-widen (claims t) (visit-at t) visit.Post visit-Inv-loop visit-μ-loop
-visit-shared-slice-read-widen t c = let a = c .before .before .before .before .before .before .before in omega (arith, a .pre .1 .1 .1 .0 .0, body-label _ _ (a .pre .1 .0) (a .args .d) (a .pre .1 .1 .1 .1 .1 .1))
+visit-shared-slice-read-widen t c =
+    let a = c .before .before .before .before .before .before .before in
+    omega (arith, a .pre .1 .1 .1 .0 .0, body-label _ _ (a .pre .1 .0) (a .args .d) (a .pre .1 .1 .1 .1 .1 .1))
 
 visit-widen-requires : (t : ℕ) → visit-lts.Need-widen-requires (claims t) (visit-at t) visit.Post visit-Inv-loop visit-μ-loop
 visit-widen-requires t c κs = search needs
@@ -142,79 +192,128 @@ visit-cell-of-requires t c κs =
     (p .0, (l .0, l .1, omega (arith, r), omega (arith, r)))
 
 visit-slice-read-if2 : (t : ℕ) → visit-lts.Need-slice-read-if2 (claims t) (visit-at t) visit.Post visit-Inv-loop visit-μ-loop
-visit-slice-read-if2 t c = omega (arith, label t (c .before .before), c .before .cell-of .ensures, room t (c .before .before .before) .states)
+visit-slice-read-if2 t c =
+    let point = c .before .before .before in
+    omega (arith, label t (c .before .before), c .before .cell-of .ensures, room t point .states)
 
 visit-visit-requires : (t : ℕ) → visit-lts.Need-visit-requires (claims t) (visit-at t) visit.Post visit-Inv-loop visit-μ-loop
 visit-visit-requires t c κs =
+    let point = c .before .before .before .before .before .before in
+    let cell-of = c .before .before .before .before .before .cell-of in
     let a = c .before .before .before .before .before .before .before .before .before .before .before .before .before .before .before .before in
     let p = a .pre .1 in
     let l = c .before .before .before .before .before .before .before in (
       subst (λ (m : ℕ). unbegun (a .args .n) (l .loop .state) < m) (a .pre .0)
           (fewer _ _ (p .0) _ _ _ _ (here t l) (l .before .before .before .if1 .left) (p .1 .1 .1 .1 .1) (p .1 .1 .1 .1 .0) _ (l .loop .inv .0 .since)),
-      (p .0, (p .1 .0, (p .1 .1 .0, (room t l, (l .loop .inv .0 .rows, subst (HasBody (a .args .table .now)) (sym (c .before .before .before .before .before .cell-of .ensures)) (body t (c .before .before .before .before .before .before))))))),
+      (p .0, (p .1 .0, (p .1 .1 .0, (room t l, (l .loop .inv .0 .rows, subst (HasBody (a .args .table .now)) (sym (cell-of .ensures)) (body t point)))))),
     )
 
 visit-share-row-requires : (t : ℕ) → visit-lts.Need-share-row-requires (claims t) (visit-at t) visit.Post visit-Inv-loop visit-μ-loop
 visit-share-row-requires t c κs =
+    let point = c .before .before .before .before .before in
+    let cell-of = c .before .before .before .before .cell-of in
     let a = c .before .before .before .before .before .before .before .before .before .before .before .before .before .before .before in
     let p = a .pre .1 in
     let r = after t (c .before .before) in
-    (p .0 .few, body-label _ _ (p .0) (a .args .d) (p .1 .1 .1 .1 .1) .1, omega (arith, label t (c .before .before .before .before .before), c .before .before .before .before .cell-of .ensures), r .states, r .rows)
+    (p .0 .few, body-label _ _ (p .0) (a .args .d) (p .1 .1 .1 .1 .1) .1, omega (arith, label t point, cell-of .ensures), r .states, r .rows)
 
 visit-slice-write-state-2 : (t : ℕ) → visit-lts.Need-slice-write-state-2 (claims t) (visit-at t) visit.Post visit-Inv-loop visit-μ-loop
-visit-slice-write-state-2 t c = let a = c .before .before .before .before .before .before .before .before .before .before .before .before .before .before .before .before .before .before .before in omega (arith, after t (c .before .before .before .before .before .before) .states, body-label _ _ (a .pre .1 .0) (a .args .d) (a .pre .1 .1 .1 .1 .1 .1))
+visit-slice-write-state-2 t c =
+    let back = c .before .before .before .before .before .before .before .before .before .before .before .before in
+    let a = back .before .before .before .before .before .before .before in
+    let point-2 = c .before .before .before .before .before .before in
+    omega (arith, after t point-2 .states, body-label _ _ (a .pre .1 .0) (a .args .d) (a .pre .1 .1 .1 .1 .1 .1))
 
 visit-same-length : (t : ℕ) → visit-lts.Need-same-length (claims t) (visit-at t) visit.Post visit-Inv-loop visit-μ-loop
-visit-same-length t c = let a = c .before .before .before .before .before .before .before .before .before .before .before .before .before .before .before .before .before .before .before .args in length-set (c .before .before .before .before .before .before .if2 .state) (a .d) 2 ∙ going t (c .before .before .before .before .before .before) .states ∙ length-set (a .state .now) (a .d) 1
+visit-same-length t c =
+    let back = c .before .before .before .before .before .before .before .before .before .before .before .before in
+    let entry = back .before .before .before .before .before .before .before in
+    let if2 = c .before .before .before .before .before .before .if2 in
+    let point = c .before .before .before .before .before .before in
+    let a = entry .args in
+    length-set (if2 .state) (a .d) 2 ∙ going t point .states ∙ length-set (a .state .now) (a .d) 1
 
 visit-same-length-2 : (t : ℕ) → visit-lts.Need-same-length-2 (claims t) (visit-at t) visit.Post visit-Inv-loop visit-μ-loop
-visit-same-length-2 t c = c .before .before .before .share-row .kept .1 .1 .0 ∙ going t (c .before .before .before .before .before .before) .squares
+visit-same-length-2 t c =
+    let point = c .before .before .before .before .before .before in
+    let share-row = c .before .before .before .share-row in
+    share-row .kept .1 .1 .0 ∙ going t point .squares
 
 visit-same-length-3 : (t : ℕ) → visit-lts.Need-same-length-3 (claims t) (visit-at t) visit.Post visit-Inv-loop visit-μ-loop
-visit-same-length-3 t c = going t (c .before .before .before .before .before .before) .stacks
+visit-same-length-3 t c =
+    let point = c .before .before .before .before .before .before in
+    going t point .stacks
 
 visit-returns-2 : (t : ℕ) → visit-lts.Need-returns-2 (claims t) (visit-at t) visit.Post visit-Inv-loop visit-μ-loop
 visit-returns-2 t c =
-    let a = c .before .before .before .before .before .before .before .before .before .before .before .before .before .before .before .before .before .before .before in
+    let back = c .before .before .before .before .before .before .before .before .before .before .before .before in
+    let a = back .before .before .before .before .before .before .before in
+    let point-2 = c .before .before .before .before .before .before .before .before .before in
+    let cell-of = c .before .before .before .before .before .before .before .before .cell-of in
     let p = a .pre .1 in
     let w = c .before .before .before .before .before .before in
     let l = c .before .before .before .before .before .before .before .before .before .before in
-    let h = hangs t (c .before .before .before .before .before .before .before .before .before) in
+    let h = hangs t point-2 in
     let k = c .before .before .before .share-row in
-    let s = subst (Shared (a .args .n) (w .if2 .state) (a .args .d) (c .before .before .before .before .before .before .before .before .cell-of .result) (w .if2 .square) (k .last .1 .1 .0)) (c .if3 .taken) (k .ensures) in
+    let s = subst (Shared (a .args .n) (w .if2 .state) (a .args .d) (cell-of .result) (w .if2 .square) (k .last .1 .1 .0)) (c .if3 .taken) (k .ensures) in
     let g = going t w in
     finish _ _ (p .0) _ _ _ _ (here t l) (l .before .before .before .if1 .left) (p .1 .1 .1 .1 .1) (p .1 .1 .1 .1 .0) _ _ _ _ _ _ g
-    (shared _ _ (p .0) _ (p .1 .0) _ _ _ _ (p .1 .1 .1 .1 .1) (record { line = l .loop .x; path = h .path; from = h .from; to = sym (c .before .before .before .before .before .before .before .before .cell-of .ensures) })
+    (shared _ _ (p .0) _ (p .1 .0) _ _ _ _ (p .1 .1 .1 .1 .1) (record { line = l .loop .x; path = h .path; from = h .from; to = sym (cell-of .ensures) })
     (g .rows .made _ (s .0)) (s .1) (g .rows .blank _ (not-made t w)) (s .2))
 
 visit-add-widen : (t : ℕ) → visit-lts.Need-add-widen (claims t) (visit-at t) visit.Post visit-Inv-loop visit-μ-loop
-visit-add-widen t c = let l = line t (c .before .before .before .before .before .before .before .before .before) in omega (arith, l, c .before .before .before .before .before .before .before .before .before .before .before .before .before .before .before .before .before .before .before .pre .1 .0 .few)
+visit-add-widen t c =
+    let back = c .before .before .before .before .before .before .before .before .before .before .before .before in
+    let entry = back .before .before .before .before .before .before .before in
+    let point = c .before .before .before .before .before .before .before .before .before in
+    let l = line t point in
+    omega (arith, l, entry .pre .1 .0 .few)
 
 visit-mul-widen-2 : (t : ℕ) → visit-lts.Need-mul-widen-2 (claims t) (visit-at t) visit.Post visit-Inv-loop visit-μ-loop
-visit-mul-widen-2 t c = let l = line t (c .before .before .before .before .before .before .before .before .before) in omega (arith, l, c .before .before .before .before .before .before .before .before .before .before .before .before .before .before .before .before .before .before .before .pre .1 .0 .few)
+visit-mul-widen-2 t c =
+    let back = c .before .before .before .before .before .before .before .before .before .before .before .before in
+    let entry = back .before .before .before .before .before .before .before in
+    let point = c .before .before .before .before .before .before .before .before .before in
+    let l = line t point in
+    omega (arith, l, entry .pre .1 .0 .few)
 
 visit-shared-slice-read-widen-2 : (t : ℕ) → visit-lts.Need-shared-slice-read-widen-2 (claims t) (visit-at t) visit.Post visit-Inv-loop visit-μ-loop
-visit-shared-slice-read-widen-2 t c = let l = line t (c .before .before .before .before .before .before .before .before .before .before) in omega (arith, l, c .before .before .before .before .before .before .before .before .before .before .before .before .before .before .before .before .before .before .before .before .pre .1 .1 .1 .0 .0)
+visit-shared-slice-read-widen-2 t c =
+    let back = c .before .before .before .before .before .before .before .before .before .before .before .before in
+    let entry = back .before .before .before .before .before .before .before .before in
+    let point = c .before .before .before .before .before .before .before .before .before .before in
+    let l = line t point in
+    omega (arith, l, entry .pre .1 .1 .1 .0 .0)
 
 visit-widen-requires-2 : (t : ℕ) → visit-lts.Need-widen-requires-2 (claims t) (visit-at t) visit.Post visit-Inv-loop visit-μ-loop
 visit-widen-requires-2 t c κs = search needs
 
 visit-loop-less : (t : ℕ) → visit-lts.Need-loop-less (claims t) (visit-at t) visit.Post visit-Inv-loop visit-μ-loop
-visit-loop-less t c = let l = line t (c .before .before .before .before .before .before .before .before .before .before .before) in omega (arith, l, c .widen2 .ensures, last t (c .before .before .before .before .before .before .before .before .before .before .before) .within)
+visit-loop-less t c =
+    let point = c .before .before .before .before .before .before .before .before .before .before .before in
+    let l = line t point in
+    omega (arith, l, c .widen2 .ensures, last t point .within)
 
 visit-loop-again : (t : ℕ) → visit-lts.Need-loop-again (claims t) (visit-at t) visit.Post visit-Inv-loop visit-μ-loop
 visit-loop-again t c =
-    let a = c .before .before .before .before .before .before .before .before .before .before .before .before .before .before .before .before .before .before .before .before .before in
+    let back = c .before .before .before .before .before .before .before .before .before .before .before .before in
+    let a = back .before .before .before .before .before .before .before .before .before in
+    let point-2 = c .before .before .before .before .before .before .before .before .before .before .before in
+    let cell-of = c .before .before .before .before .before .before .before .before .before .before .cell-of in
     let w = c .before .before .before .before .before .before .before .before in
-    let x = last t (c .before .before .before .before .before .before .before .before .before .before .before) in
+    let x = last t point-2 in
     let k = c .before .before .before .before .before .share-row in
-    let same = subst (Shared (a .args .n) (w .if2 .state) (a .args .d) (c .before .before .before .before .before .before .before .before .before .before .cell-of .result) (w .if2 .square) (k .last .1 .1 .0)) (c .before .before .if3 .left) (k .ensures) in
-    rw (c .widen2 .ensures) (going-still _ _ (a .pre .1 .0) _ _ _ _ _ _ _ (going t w) _ same, omega (arith, x .within, line t (c .before .before .before .before .before .before .before .before .before .before .before)), x .hangs)
+    let same = subst (Shared (a .args .n) (w .if2 .state) (a .args .d) (cell-of .result) (w .if2 .square) (k .last .1 .1 .0)) (c .before .before .if3 .left) (k .ensures) in
+    rw (c .widen2 .ensures) (going-still _ _ (a .pre .1 .0) _ _ _ _ _ _ _ (going t w) _ same, omega (arith, x .within, line t point-2), x .hangs)
 
 -- after the loop
 module _ (t : ℕ) (l : visit-lts.At-loop (claims t) (visit-at t) visit.Post visit-Inv-loop visit-μ-loop) where
-  open-still : getD (l .loop .state) (l .before .before .before .before .before .before .before .before .before .args .d) 0 ≡ 2 → ⊥
-  open-still z = omega (arith, l .loop .inv .0 .since .held (l .before .before .before .before .before .before .before .before .before .args .d) (getD-set-same (l .before .before .before .before .before .before .before .before .before .args .state .now) (l .before .before .before .before .before .before .before .before .before .args .d) 1 0 (here t l)))
+  open-still :
+      let entry = l .before .before .before .before .before .before .before .before .before in
+      getD (l .loop .state) (entry .args .d) 0 ≡ 2 → ⊥
+  open-still z =
+      let entry = l .before .before .before .before .before .before .before .before .before in
+      omega (arith, l .loop .inv .0 .since .held (entry .args .d) (getD-set-same (entry .args .state .now) (entry .args .d) 1 0 (here t l)))
 
 visit-fill-requires : (t : ℕ) → visit-lts.Need-fill-requires (claims t) (visit-at t) visit.Post visit-Inv-loop visit-μ-loop
 visit-fill-requires t c κs =
@@ -225,25 +324,40 @@ visit-fill-requires t c κs =
     (p .0, (p .1 .0, (p .1 .1 .0, (room t l, ((open-still t l, p .1 .1 .1 .1 .1), (r .made, r .blank (a .args .d) (open-still t l)))))))
 
 visit-slice-write-state-3 : (t : ℕ) → visit-lts.Need-slice-write-state-3 (claims t) (visit-at t) visit.Post visit-Inv-loop visit-μ-loop
-visit-slice-write-state-3 t c = let a = c .before .before .before .before .before .before .before .before .before .before .before .before .before .before .before .before .before .before in omega (arith, room t (c .before .before .before .before .before .before .before .before .before) .states, body-label _ _ (a .pre .1 .0) (a .args .d) (a .pre .1 .1 .1 .1 .1 .1))
+visit-slice-write-state-3 t c =
+    let back = c .before .before .before .before .before .before .before .before .before .before .before .before in
+    let a = back .before .before .before .before .before .before in
+    let point-2 = c .before .before .before .before .before .before .before .before .before in
+    omega (arith, room t point-2 .states, body-label _ _ (a .pre .1 .0) (a .args .d) (a .pre .1 .1 .1 .1 .1 .1))
 
 visit-same-length-4 : (t : ℕ) → visit-lts.Need-same-length-4 (claims t) (visit-at t) visit.Post visit-Inv-loop visit-μ-loop
 visit-same-length-4 t c =
-    let a = c .before .before .before .before .before .before .before .before .before .before .before .before .before .before .before .before .before .before .args in
+    let back = c .before .before .before .before .before .before .before .before .before .before .before .before in
+    let entry = back .before .before .before .before .before .before in
+    let a = entry .args in
     let l = c .before .before .before .before .before .before .before .before .before in
     length-set (l .loop .state) (a .d) 2 ∙ l .loop .inv .0 .states ∙ length-set (a .state .now) (a .d) 1
 
 visit-same-length-5 : (t : ℕ) → visit-lts.Need-same-length-5 (claims t) (visit-at t) visit.Post visit-Inv-loop visit-μ-loop
-visit-same-length-5 t c = c .before .before .before .before .fill .kept .1 .1 .1 .1 .1 .0 ∙ c .before .before .before .before .before .before .before .before .before .loop .inv .0 .squares
+visit-same-length-5 t c =
+    let inv = c .before .before .before .before .before .before .before .before .before .loop .inv in
+    let fill = c .before .before .before .before .fill in
+    fill .kept .1 .1 .1 .1 .1 .0 ∙ inv .0 .squares
 
 visit-same-length-6 : (t : ℕ) → visit-lts.Need-same-length-6 (claims t) (visit-at t) visit.Post visit-Inv-loop visit-μ-loop
-visit-same-length-6 t c = c .before .before .before .before .fill .kept .1 .1 .1 .1 .1 .1 .0 ∙ c .before .before .before .before .before .before .before .before .before .loop .inv .0 .stacks
+visit-same-length-6 t c =
+    let inv = c .before .before .before .before .before .before .before .before .before .loop .inv in
+    let fill = c .before .before .before .before .fill in
+    fill .kept .1 .1 .1 .1 .1 .1 .0 ∙ inv .0 .stacks
 
 visit-returns-3 : (t : ℕ) → visit-lts.Need-returns-3 (claims t) (visit-at t) visit.Post visit-Inv-loop visit-μ-loop
 visit-returns-3 t c =
-    let p = c .before .before .before .before .before .before .before .before .before .before .before .before .before .before .before .before .before .before .pre .1 in
+    let back = c .before .before .before .before .before .before .before .before .before .before .before .before in
+    let entry = back .before .before .before .before .before .before in
+    let fill = c .before .before .before .before .fill in
+    let p = entry .pre .1 in
     let l = c .before .before .before .before .before .before .before .before .before in
-    finish _ _ (p .0) _ _ _ _ (here t l) (l .before .before .before .if1 .left) (p .1 .1 .1 .1 .1) (p .1 .1 .1 .1 .0) _ _ _ _ _ _ (l .loop .inv .0) (c .before .before .before .before .fill .ensures)
+    finish _ _ (p .0) _ _ _ _ (here t l) (l .before .before .before .if1 .left) (p .1 .1 .1 .1 .1) (p .1 .1 .1 .1 .0) _ _ _ _ _ _ (l .loop .inv .0) (fill .ensures)
 
 pub +visit-spec : {M : Type 1} → statement M
 +visit-spec = close μ-visit λ t. visit-lts.spec (claims t)

@@ -14,7 +14,9 @@ reach-rows-requires c κs =
 
 first-cycle-requires : tie.Need-first-cycle-requires
 first-cycle-requires c κs =
-    let p = c .before .before .before .before .before .before .before .before .before .before .before .before .before .before .before .before .before .before .before .before .pre in
+    let back = c .before .before .before .before .before .before .before .before .before .before .before .before in
+    let entry = back .before .before .before .before .before .before .before .before in
+    let p = entry .pre in
     let k = c .before .before .before .before .before .before .before .reach-rows in
     (p .0, (p .1 .0, (omega (arith, p .1 .1 .1 .0 .rows, k .kept .1 .1 .1 .1 .1 .0), k .ensures)))
 

@@ -8,7 +8,7 @@ use lib.ListN.{length, take}
 use Rattle.cells.specs.Accepted.{HasBody}
 use Rattle.marks.specs.Marks.{mark}
 use Rattle.reach.specs.Links.{Link, Links}
-use Rattle.reach.specs.Rows.{width, Room}
+use Rattle.reach.specs.MarkRows.{width, MarksRoom}
 use Rattle.reach.specs.Turns.{Spread, markCount}
 use Rattle.reach.proofs.Links.{body-label}
 use Rattle.reach.proofs.Spread.{spread-none, popped, grown-less, rows-kept, filled}
@@ -25,25 +25,37 @@ abbrev μ-loop : tie.MeasureT-loop
 
 -- in the loop, buffers are as long as at entry, and other rows as they were
 module _ (l : tie.At-loop Inv-loop μ-loop) where
-  room : Room (l .before .before .before .before .before .before .before .before .before .before .before .before .args .n) (l .before .before .before .before .before .before .before .before .before .before .before .before .args .state .now) (l .loop .square) (l .loop .stack)
+  room :
+      let entry = l .before .before .before .before .before .before .before .before .before .before .before .before in
+      MarksRoom (entry .args .n) (entry .args .state .now) (l .loop .square) (l .loop .stack)
   room =
       let r = l .before .before .before .before .before .before .before .before .before .before .before .before .pre .1 .1 .1 .0 in
       let k = l .before .before .before .before .before .grow .kept in
       record { states = r .states; rows = omega (arith, r .rows, k .1 .1 .1 .1 .1 .0, l .loop .inv .0); heights = omega (arith, r .heights, k .1 .1 .1 .1 .1 .1 .0, l .loop .inv .1) }
 
-  same : (a q : ℕ) → (a ≡ l .before .before .before .before .before .before .before .before .before .before .before .before .args .d → ⊥) → mark (l .loop .square) (width (l .before .before .before .before .before .before .before .before .before .before .before .before .args .n)) a q ≡ mark (l .before .before .before .before .before .before .before .before .before .before .before .before .args .square .now) (width (l .before .before .before .before .before .before .before .before .before .before .before .before .args .n)) a q
-  same a q z = l .loop .inv .5 a q z ∙ l .before .before .before .before .before .grow .ensures .0 .others a q z
+  same : (a q : ℕ) →
+      let entry = l .before .before .before .before .before .before .before .before .before .before .before .before in
+      (a ≡ entry .args .d → ⊥) → mark (l .loop .square) (width (entry .args .n)) a q ≡ mark (entry .args .square .now) (width (entry .args .n)) a q
+  same a q z =
+      let grow = l .before .before .before .before .before .grow in
+      l .loop .inv .5 a q z ∙ grow .ensures .0 .others a q z
 
 -- in a turn, what is at the top of the stack
-top-of : (c : tie.After-widen Inv-loop μ-loop) → Spread (c .before .before .before .before .before .before .before .before .before .before .before .before .before .before .before .args .table .now) (c .before .before .before .before .before .before .before .before .before .before .before .before .before .before .before .args .j) (c .before .before .before .before .before .before .before .before .before .before .before .before .before .before .before .args .d) (c .widen .result) (mark (c .before .before .before .loop .square) (width (c .before .before .before .before .before .before .before .before .before .before .before .before .before .before .before .args .n)) (c .before .before .before .before .before .before .before .before .before .before .before .before .before .before .before .args .d)) (take (c .before .before .before .loop .top - 1) (c .before .before .before .loop .stack))
-    × HasBody (c .before .before .before .before .before .before .before .before .before .before .before .before .before .before .before .args .table .now) (c .widen .result) × Links (c .before .before .before .before .before .before .before .before .before .before .before .before .before .before .before .args .table .now) (c .before .before .before .before .before .before .before .before .before .before .before .before .before .before .before .args .j) (c .before .before .before .before .before .before .before .before .before .before .before .before .before .before .before .args .d) (c .widen .result)
+top-of : (c : tie.After-widen Inv-loop μ-loop) →
+    let entry = c .before .before .before .before .before .before .before .before .before .before .before .before .before .before .before in
+    let loop = c .before .before .before .loop in
+    Spread (entry .args .table .now) (entry .args .j) (entry .args .d) (c .widen .result) (mark (loop .square) (width (entry .args .n)) (entry .args .d)) (take (loop .top - 1) (loop .stack))
+    × HasBody (entry .args .table .now) (c .widen .result) × Links (entry .args .table .now) (entry .args .j) (entry .args .d) (c .widen .result)
 top-of c =
+    let loop = c .before .before .before .loop in
+    let point = c .before .before .before in
     let p = c .before .before .before .before .before .before .before .before .before .before .before .before .before .before .before .pre in
-    popped _ _ (p .0) _ (p .1 .0) _ _ (c .before .before .before .loop .stack) (c .before .before .before .loop .top) _ (c .widen .ensures) (c .before .before .loop-test .taken) (omega (arith, c .before .before .before .loop .inv .2, room (c .before .before .before) .heights)) (c .before .before .before .loop .inv .3)
+    popped _ _ (p .0) _ (p .1 .0) _ _ (loop .stack) (loop .top) _ (c .widen .ensures) (c .before .before .loop-test .taken) (omega (arith, loop .inv .2, room point .heights)) (loop .inv .3)
 
 grow-requires : tie.Need-grow-requires Inv-loop μ-loop
 grow-requires c κs =
-    let p = c .before .before .before .before .before .before .pre in
+    let entry = c .before .before .before .before .before .before in
+    let p = entry .pre in
     let b = p .1 .1 .1 .1 .0 .1 in (
       p .0,
       (
@@ -53,7 +65,7 @@ grow-requires c κs =
           (
             p .1 .1 .1 .0,
             (
-              (body-label _ _ (p .0) (c .before .before .before .before .before .before .args .d) b .1, p .1 .1 .1 .1 .0 .0, b, inl refl),
+              (body-label _ _ (p .0) (entry .args .d) b .1, p .1 .1 .1 .1 .0 .0, b, inl refl),
               (p .1 .1 .1 .1 .1 .0, (spread-none _ _ (p .0) _ (p .1 .0) _ _ (p .1 .1 .1 .1 .1 .1), omega arith)),
             ),
           ),
@@ -70,7 +82,9 @@ sub-widen : tie.Need-sub-widen Inv-loop μ-loop
 sub-widen c = omega (arith, c .loop-test .taken)
 
 mul-widen : tie.Need-mul-widen Inv-loop μ-loop
-mul-widen c = omega (arith, c .before .loop .inv .2, c .before .before .before .before .before .before .before .before .before .before .before .before .before .pre .0 .few)
+mul-widen c =
+    let entry = c .before .before .before .before .before .before .before .before .before .before .before .before .before in
+    omega (arith, c .before .loop .inv .2, entry .pre .0 .few)
 
 slice-read-widen : tie.Need-slice-read-widen Inv-loop μ-loop
 slice-read-widen c = omega (arith, c .before .before .loop .inv .2, room (c .before .before) .heights)
@@ -79,11 +93,15 @@ widen-requires : tie.Need-widen-requires Inv-loop μ-loop
 widen-requires c κs = search needs
 
 sub-grow : tie.Need-sub-grow Inv-loop μ-loop
-sub-grow c = omega (arith, c .before .before .before .before .loop-test .taken)
+sub-grow c =
+    let loop-test = c .before .before .before .before .loop-test in
+    omega (arith, loop-test .taken)
 
 grow-requires-2 : tie.Need-grow-requires-2 Inv-loop μ-loop
 grow-requires-2 c κs =
-    let p = c .before .before .before .before .before .before .before .before .before .before .before .before .before .before .before .before .before .pre in
+    let back = c .before .before .before .before .before .before .before .before .before .before .before .before in
+    let entry = back .before .before .before .before .before in
+    let p = entry .pre in
     let l = c .before .before .before .before .before in
     let e = top-of (c .before .before) in (
       p .0,
@@ -94,9 +112,9 @@ grow-requires-2 c κs =
           (
             room l,
             (
-              (body-label _ _ (p .0) (c .before .before .before .before .before .before .before .before .before .before .before .before .before .before .before .before .before .args .d) (p .1 .1 .1 .1 .0 .1) .1, p .1 .1 .1 .1 .0 .0, e .1, inr (e .2)),
+              (body-label _ _ (p .0) (entry .args .d) (p .1 .1 .1 .1 .0 .1) .1, p .1 .1 .1 .1 .0 .0, e .1, inr (e .2)),
               (
-                rows-kept _ _ (p .0) _ (p .1 .0) (c .before .before .before .before .before .before .before .before .before .before .before .before .before .before .before .before .before .args .d) (c .before .before .before .before .before .before .before .before .before .before .before .before .before .before .before .before .before .args .state .now) (c .before .before .before .before .before .before .before .before .before .before .before .before .before .before .before .before .before .args .square .now) (l .loop .square) (p .1 .1 .1 .1 .0 .0) (p .1 .1 .1 .1 .1 .0) (same l),
+                rows-kept _ _ (p .0) _ (p .1 .0) (entry .args .d) (entry .args .state .now) (entry .args .square .now) (l .loop .square) (p .1 .1 .1 .1 .0 .0) (p .1 .1 .1 .1 .1 .0) (same l),
                 (e .0, omega (arith, l .loop .inv .2)),
               ),
             ),
@@ -107,9 +125,13 @@ grow-requires-2 c κs =
 
 loop-less : tie.Need-loop-less Inv-loop μ-loop
 loop-less c =
-    let p = c .before .before .before .before .before .before .before .before .before .before .before .before .before .before .before .before .before .before .before .before .before .before .pre in
-    let less = grown-less _ _ (p .0) _ (p .1 .0) _ _ _ _ _ _ _ (c .before .before .before .before .grow2 .ensures .0) in
-    omega (arith, c .before .before .before .before .before .before .before .before .before .loop-test .taken)
+    let back = c .before .before .before .before .before .before .before .before .before .before .before .before in
+    let entry = back .before .before .before .before .before .before .before .before .before .before in
+    let loop-test = c .before .before .before .before .before .before .before .before .before .loop-test in
+    let grow2 = c .before .before .before .before .grow2 in
+    let p = entry .pre in
+    let less = grown-less _ _ (p .0) _ (p .1 .0) _ _ _ _ _ _ _ (grow2 .ensures .0) in
+    omega (arith, loop-test .taken)
 
 loop-again : tie.Need-loop-again Inv-loop μ-loop
 loop-again c =
@@ -124,17 +146,23 @@ loop-again c =
     )
 
 same-length : tie.Need-same-length Inv-loop μ-loop
-same-length c = c .before .loop .inv .0 ∙ c .before .before .before .before .before .before .grow .kept .1 .1 .1 .1 .1 .0
+same-length c =
+    let grow = c .before .before .before .before .before .before .grow in
+    c .before .loop .inv .0 ∙ grow .kept .1 .1 .1 .1 .1 .0
 
 same-length-2 : tie.Need-same-length-2 Inv-loop μ-loop
-same-length-2 c = c .before .loop .inv .1 ∙ c .before .before .before .before .before .before .grow .kept .1 .1 .1 .1 .1 .1 .0
+same-length-2 c =
+    let grow = c .before .before .before .before .before .before .grow in
+    c .before .loop .inv .1 ∙ grow .kept .1 .1 .1 .1 .1 .1 .0
 
 returns : tie.Need-returns Inv-loop μ-loop
 returns c =
+    let entry = c .before .before .before .before .before .before .before .before .before .before .before .before .before in
     let l = c .before in
-    let p = c .before .before .before .before .before .before .before .before .before .before .before .before .before .pre in
+    let p = entry .pre in
     let z : l .loop .top ≡ 0 = omega (arith, c .loop-test .left) in
-    filled _ _ (p .0) _ (p .1 .0) _ _ _ (subst (λ (k : ℕ). Spread (c .before .before .before .before .before .before .before .before .before .before .before .before .before .args .table .now) (c .before .before .before .before .before .before .before .before .before .before .before .before .before .args .j) (c .before .before .before .before .before .before .before .before .before .before .before .before .before .args .d) 0 (mark (l .loop .square) (width (c .before .before .before .before .before .before .before .before .before .before .before .before .before .args .n)) (c .before .before .before .before .before .before .before .before .before .before .before .before .before .args .d)) (take k (l .loop .stack))) z (l .loop .inv .3)) (l .loop .inv .4) (same l)
+    filled _ _ (p .0) _ (p .1 .0) _ _ _ (subst (λ (k : ℕ). Spread (entry .args .table .now) (entry .args .j) (entry .args .d) 0 (mark (l .loop .square) (width (entry .args .n)) (entry .args .d))
+    (take k (l .loop .stack))) z (l .loop .inv .3)) (l .loop .inv .4) (same l)
 
 pub fill-spec : {M : Type 1} → statement M
 fill-spec =

@@ -31,13 +31,17 @@ add-has-mark : tie.Need-add-has-mark Inv-loop μ-loop
 add-has-mark c = search needs
 
 has-mark-requires : tie.Need-has-mark-requires Inv-loop μ-loop
-has-mark-requires c κs = (omega arith, row-room _ _ _ _ (omega (arith, c .before .before .loop-test .taken)) (c .before .before .before .before .before .pre .1 .1 .0))
+has-mark-requires c κs =
+    let entry = c .before .before .before .before .before in
+    (omega arith, row-room _ _ _ _ (omega (arith, c .before .before .loop-test .taken)) (entry .pre .1 .1 .0))
 
 returns : tie.Need-returns Inv-loop μ-loop
 returns c =
+    let inv = c .before .before .before .before .before .loop .inv in
+    let kind-of = c .before .before .before .kind-of in
     let p = c .before .before .before .before .before .before .before .pre in
-    let k = sym (c .before .before .before .kind-of .ensures) ∙ c .before .before .if1 .taken in
-    smallest-is _ _ (p .0) _ (c .before .before .before .before .before .loop .inv .0) k (cycle-marked _ _ (p .0) _ (p .1 .0) _ (p .1 .1 .1) _ k (sym (c .before .has-mark .ensures) ∙ c .if2 .taken)) (c .before .before .before .before .before .loop .inv .2)
+    let k = sym (kind-of .ensures) ∙ c .before .before .if1 .taken in
+    smallest-is _ _ (p .0) _ (inv .0) k (cycle-marked _ _ (p .0) _ (p .1 .0) _ (p .1 .1 .1) _ k (sym (c .before .has-mark .ensures) ∙ c .if2 .taken)) (inv .2)
 
 add-v : tie.Need-add-v Inv-loop μ-loop
 add-v c = search needs

@@ -1,6 +1,6 @@
 use mathlib.Core.Path.{ap, _∙_}
 use borrow.Author.Needs.{needs}
-use Rattle.kinds.specs.Plans.{givesValues}
+use Rattle.kinds.specs.GivesValues.{givesValues}
 use Rattle.reach.proofs.gives_values.Statement.{statement}
 use Rattle.reach.proofs.gives_values.Tie as tie
 

@@ -9,7 +9,7 @@ use Rattle.cells.specs.Table.{cell}
 use Rattle.cells.specs.Accepted.{HasBody}
 use Rattle.reach.specs.Links.{Link, Links, once, then}
 use Rattle.reach.specs.Chains.{Hangs, Last}
-use Rattle.reach.specs.Rows.{Room}
+use Rattle.reach.specs.MarkRows.{MarksRoom}
 use Rattle.reach.proofs.Links.{column-range, body-label, end-body}
 use Rattle.reach.proofs.Spread.{Growing, growing-start, growing-turn, growing-end, row-above, rows-kept}
 use Rattle.reach.proofs.grow.Statement.{statement}
@@ -25,34 +25,62 @@ abbrev μ-loop : tie.MeasureT-loop
 
 -- in a turn: the line at hand, and where its link leads
 module _ (c : tie.In-loop Inv-loop μ-loop) where
-  hangs : Hangs (c .before .before .before .before .before .before .before .before .args .table .now) (c .before .before .before .before .before .before .before .before .args .j) (c .before .before .before .before .before .before .before .before .args .e) (c .before .loop .x)
+  hangs :
+      let entry = c .before .before .before .before .before .before .before .before in
+      Hangs (entry .args .table .now) (entry .args .j) (entry .args .e) (c .before .loop .x)
   hangs = c .before .loop .inv .3 (c .loop-test .taken)
 
-  line : (1 ≤ c .before .loop .x) × (c .before .loop .x ≤ c .before .before .before .before .before .before .before .before .args .n)
+  line :
+      let entry = c .before .before .before .before .before .before .before .before in
+      (1 ≤ c .before .loop .x) × (c .before .loop .x ≤ entry .args .n)
   line = let z : c .before .loop .x ≡ 0 → ⊥ = c .loop-test .taken in (omega arith, c .before .loop .inv .2)
 
-  last : Last (c .before .before .before .before .before .before .before .before .args .table .now) (c .before .before .before .before .before .before .before .before .args .j) (c .before .before .before .before .before .before .before .before .args .e) (c .before .loop .x - 1) (getD (c .before .before .before .before .before .before .before .before .args .chains .now) (c .before .before .before .before .before .before .before .before .args .n + c .before .loop .x) 0)
-  last = c .before .before .before .before .before .before .before .before .pre .1 .1 .0 .1 .links (c .before .loop .x) (c .before .before .before .before .before .before .before .before .args .e) (line .1) hangs
+  last :
+      let entry = c .before .before .before .before .before .before .before .before in
+      Last (entry .args .table .now) (entry .args .j) (entry .args .e) (c .before .loop .x - 1) (getD (entry .args .chains .now) (entry .args .n + c .before .loop .x) 0)
+  last =
+      let entry = c .before .before .before .before .before .before .before .before in
+      entry .pre .1 .1 .0 .1 .links (c .before .loop .x) (entry .args .e) (line .1) hangs
 
-  end : HasBody (c .before .before .before .before .before .before .before .before .args .table .now) (cell (c .before .before .before .before .before .before .before .before .args .table .now) (c .before .loop .x) (c .before .before .before .before .before .before .before .before .args .j))
-  end = end-body _ _ (c .before .before .before .before .before .before .before .before .pre .0) _ (c .before .loop .x) (c .before .before .before .before .before .before .before .before .pre .1 .0) (hangs .path)
+  end :
+      let entry = c .before .before .before .before .before .before .before .before in
+      HasBody (entry .args .table .now) (cell (entry .args .table .now) (c .before .loop .x) (entry .args .j))
+  end =
+      let entry = c .before .before .before .before .before .before .before .before in
+      end-body _ _ (entry .pre .0) _ (c .before .loop .x) (entry .pre .1 .0) (hangs .path)
 
-  way : Links (c .before .before .before .before .before .before .before .before .args .table .now) (c .before .before .before .before .before .before .before .before .args .j) (c .before .before .before .before .before .before .before .before .args .d) (cell (c .before .before .before .before .before .before .before .before .args .table .now) (c .before .loop .x) (c .before .before .before .before .before .before .before .before .args .j))
-  way = go (c .before .before .before .before .before .before .before .before .pre .1 .1 .1 .1 .0 .3)
+  way :
+      let entry = c .before .before .before .before .before .before .before .before in
+      Links (entry .args .table .now) (entry .args .j) (entry .args .d) (cell (entry .args .table .now) (c .before .loop .x) (entry .args .j))
+  way =
+      let entry = c .before .before .before .before .before .before .before .before in
+      go (entry .pre .1 .1 .1 .1 .0 .3)
     where
-      link : Link (c .before .before .before .before .before .before .before .before .args .table .now) (c .before .before .before .before .before .before .before .before .args .j) (c .before .before .before .before .before .before .before .before .args .e) (cell (c .before .before .before .before .before .before .before .before .args .table .now) (c .before .loop .x) (c .before .before .before .before .before .before .before .before .args .j))
+      link :
+          let entry = c .before .before .before .before .before .before .before .before in
+          Link (entry .args .table .now) (entry .args .j) (entry .args .e) (cell (entry .args .table .now) (c .before .loop .x) (entry .args .j))
       link = record { line = c .before .loop .x; path = hangs .path; from = hangs .from; to = refl }
 
-      go : (c .before .before .before .before .before .before .before .before .args .e ≡ c .before .before .before .before .before .before .before .before .args .d) ⊎ Links (c .before .before .before .before .before .before .before .before .args .table .now) (c .before .before .before .before .before .before .before .before .args .j) (c .before .before .before .before .before .before .before .before .args .d) (c .before .before .before .before .before .before .before .before .args .e)
-          → Links (c .before .before .before .before .before .before .before .before .args .table .now) (c .before .before .before .before .before .before .before .before .args .j) (c .before .before .before .before .before .before .before .before .args .d) (cell (c .before .before .before .before .before .before .before .before .args .table .now) (c .before .loop .x) (c .before .before .before .before .before .before .before .before .args .j))
-      go (inl z) = once (subst (λ (y : ℕ). Link (c .before .before .before .before .before .before .before .before .args .table .now) (c .before .before .before .before .before .before .before .before .args .j) y (cell (c .before .before .before .before .before .before .before .before .args .table .now) (c .before .loop .x) (c .before .before .before .before .before .before .before .before .args .j))) z link)
+      go :
+          let entry = c .before .before .before .before .before .before .before .before in
+          (entry .args .e ≡ entry .args .d) ⊎ Links (entry .args .table .now) (entry .args .j) (entry .args .d) (entry .args .e)
+          → Links (entry .args .table .now) (entry .args .j) (entry .args .d) (cell (entry .args .table .now) (c .before .loop .x) (entry .args .j))
+      go (inl z) =
+          let entry = c .before .before .before .before .before .before .before .before in
+          once (subst (λ (y : ℕ). Link (entry .args .table .now) (entry .args .j) y (cell (entry .args .table .now) (c .before .loop .x) (entry .args .j))) z link)
       go (inr r) = then r link
 
 mul-widen : tie.Need-mul-widen Inv-loop μ-loop
-mul-widen c = let p = c .before .before .before .before .pre in omega (arith, p .0 .few, body-label _ _ (p .0) (c .before .before .before .before .args .e) (p .1 .1 .1 .1 .0 .2))
+mul-widen c =
+    let entry = c .before .before .before .before in
+    let p = entry .pre in
+    omega (arith, p .0 .few, body-label _ _ (p .0) (entry .args .e) (p .1 .1 .1 .1 .0 .2))
 
 shared-slice-read-widen : tie.Need-shared-slice-read-widen Inv-loop μ-loop
-shared-slice-read-widen c = let p = c .before .before .before .before .before .pre in omega (arith, p .1 .1 .0 .0, body-label _ _ (p .0) (c .before .before .before .before .before .args .e) (p .1 .1 .1 .1 .0 .2))
+shared-slice-read-widen c =
+    let entry = c .before .before .before .before .before in
+    let p = entry .pre in
+    omega (arith, p .1 .1 .0 .0, body-label _ _ (p .0) (entry .args .e) (p .1 .1 .1 .1 .0 .2))
 
 widen-requires : tie.Need-widen-requires Inv-loop μ-loop
 widen-requires c κs = search needs
@@ -69,51 +97,81 @@ loop-holds c =
       l .within,
       l .hangs,
       s .1,
-      growing-start _ _ (p .0) _ (p .1 .0) _ _ _ _ (take (a .args .top) (a .args .stack .now)) _ (length-take-le (a .args .top) (a .args .stack .now) (omega (arith, s .1, p .1 .1 .1 .0 .heights))) (s .0) l,
+      growing-start _ _ (p .0) _ (p .1 .0) _ _ _ _ (take (a .args .top) (a .args .stack .now)) _ (length-take-le (a .args .top) (a .args .stack .now) (omega (arith, s .1, p .1 .1 .1 .0 .heights)))
+          (s .0) l,
     )
 
 cell-of-requires : tie.Need-cell-of-requires Inv-loop μ-loop
 cell-of-requires c κs =
-    let r = column-range _ (c .before .before .before .before .before .before .before .before .pre .1 .0) in
-    (c .before .before .before .before .before .before .before .before .pre .0, (line c .0, line c .1, omega (arith, r), omega (arith, r)))
+    let entry = c .before .before .before .before .before .before .before .before in
+    let r = column-range _ (entry .pre .1 .0) in
+    (entry .pre .0, (line c .0, line c .1, omega (arith, r), omega (arith, r)))
 
 meet-requires : tie.Need-meet-requires Inv-loop μ-loop
 meet-requires c κs =
+    let point = c .before .before .before in
     let a = c .before .before .before .before .before .before .before .before .before .before .before in
     let p = a .pre in
     let l = c .before .before .before .before in
     let f = c .before .before .cell-of .result in
-    let room : Room (a .args .n) (a .args .state .now) (l .loop .square) (l .loop .stack) = record { states = p .1 .1 .1 .0 .states; rows = omega (arith, p .1 .1 .1 .0 .rows, l .loop .inv .0); heights = omega (arith, p .1 .1 .1 .0 .heights, l .loop .inv .1) } in
-    let made = rows-kept _ _ (p .0) _ (p .1 .0) (a .args .d) (a .args .state .now) (a .args .square .now) (l .loop .square) (p .1 .1 .1 .1 .0 .1) (p .1 .1 .1 .1 .1 .0) (l .loop .inv .5 .others) f in
-    (p .0, (room, ((p .1 .1 .1 .1 .0 .0, l .loop .inv .4), (subst (HasBody (a .args .table .now)) (sym (c .before .before .cell-of .ensures)) (end (c .before .before .before)), (l .loop .inv .5 .spread .raised, λ two. row-above _ _ (p .0) _ (p .1 .0) f (l .loop .square) (made two))))))
+    let room : MarksRoom (a .args .n) (a .args .state .now) (l .loop .square)
+    (l .loop .stack) = record { states = p .1 .1 .1 .0 .states; rows = omega (arith, p .1 .1 .1 .0 .rows, l .loop .inv .0); heights = omega (arith, p .1 .1 .1 .0 .heights, l .loop .inv .1) } in
+    let made = rows-kept _ _ (p .0) _ (p .1 .0) (a .args .d) (a .args .state .now) (a .args .square .now) (l .loop .square) (p .1 .1 .1 .1 .0 .1) (p .1 .1 .1 .1 .1 .0) (l .loop .inv .5 .others) f in (
+      p .0,
+      (
+        room,
+        (
+          (p .1 .1 .1 .1 .0 .0, l .loop .inv .4),
+          (
+            subst (HasBody (a .args .table .now)) (sym (c .before .before .cell-of .ensures)) (end point),
+            (l .loop .inv .5 .spread .raised, λ two. row-above _ _ (p .0) _ (p .1 .0) f (l .loop .square) (made two)),
+          ),
+        ),
+      ),
+    )
 
 add-widen : tie.Need-add-widen Inv-loop μ-loop
-add-widen c = omega (arith, c .before .before .before .before .before .before .before .before .before .before .before .before .before .before .before .before .pre .0 .few, line (c .before .before .before .before .before .before .before .before))
+add-widen c =
+    let entry = c .before .before .before .before .before .before .before .before .before .before .before .before .before .before .before .before in
+    let point = c .before .before .before .before .before .before .before .before in
+    omega (arith, entry .pre .0 .few, line point)
 
 mul-widen-2 : tie.Need-mul-widen-2 Inv-loop μ-loop
-mul-widen-2 c = omega (arith, c .before .before .before .before .before .before .before .before .before .before .before .before .before .before .before .before .pre .0 .few, line (c .before .before .before .before .before .before .before .before))
+mul-widen-2 c =
+    let entry = c .before .before .before .before .before .before .before .before .before .before .before .before .before .before .before .before in
+    let point = c .before .before .before .before .before .before .before .before in
+    omega (arith, entry .pre .0 .few, line point)
 
 shared-slice-read-widen-2 : tie.Need-shared-slice-read-widen-2 Inv-loop μ-loop
-shared-slice-read-widen-2 c = omega (arith, c .before .before .before .before .before .before .before .before .before .before .before .before .before .before .before .before .before .pre .1 .1 .0 .0, line (c .before .before .before .before .before .before .before .before .before))
+shared-slice-read-widen-2 c =
+    let back = c .before .before .before .before .before .before .before .before .before .before .before .before in
+    let entry = back .before .before .before .before .before in
+    let point = c .before .before .before .before .before .before .before .before .before in
+    omega (arith, entry .pre .1 .1 .0 .0, line point)
 
 widen-requires-2 : tie.Need-widen-requires-2 Inv-loop μ-loop
 widen-requires-2 c κs = search needs
 
 loop-less : tie.Need-loop-less Inv-loop μ-loop
-loop-less c = omega (arith, c .widen2 .ensures, last (c .before .before .before .before .before .before .before .before .before .before) .within, line (c .before .before .before .before .before .before .before .before .before .before))
+loop-less c =
+    let point = c .before .before .before .before .before .before .before .before .before .before in
+    omega (arith, c .widen2 .ensures, last point .within, line point)
 
 loop-again : tie.Need-loop-again Inv-loop μ-loop
 loop-again c =
+    let back = c .before .before .before .before .before .before .before .before .before .before .before .before in
+    let a = back .before .before .before .before .before .before in
+    let cell-of = c .before .before .before .before .before .before .before .before .before .cell-of in
     let l = c .before .before .before .before .before .before .before .before .before .before .before in
     let q = c .before .before .before .before .before .before .before .before .before .before in
-    let a = c .before .before .before .before .before .before .before .before .before .before .before .before .before .before .before .before .before .before in
     let p = a .pre in
     let m = c .before .before .before .before .before .before .meet in
     let k = m .kept .1 .1 .1 .1 .0 in
     let f = cell (a .args .table .now) (l .loop .x) (a .args .j) in
     let g = growing-turn _ _ (p .0) _ (p .1 .0) _ _ _ _ _ (take (l .loop .height) (l .loop .stack)) _ (l .loop .inv .5) _ (last q) (a .args .state .now) (l .loop .stack) (l .loop .height) refl
     (omega (arith, l .loop .inv .4, l .loop .inv .1, p .1 .1 .1 .0 .heights)) (way q)
-    (rows-kept _ _ (p .0) _ (p .1 .0) (a .args .d) (a .args .state .now) (a .args .square .now) (l .loop .square) (p .1 .1 .1 .1 .0 .1) (p .1 .1 .1 .1 .1 .0) (l .loop .inv .5 .others) f) _ _ (m .result) k _ (c .before .before .before .before .before .before .before .before .before .cell-of .ensures) (m .ensures) in
+    (rows-kept _ _ (p .0) _ (p .1 .0) (a .args .d) (a .args .state .now) (a .args .square .now) (l .loop .square) (p .1 .1 .1 .1 .0 .1) (p .1 .1 .1 .1 .1 .0) (l .loop .inv .5 .others) f) _ _
+    (m .result) k _ (cell-of .ensures) (m .ensures) in
     rw (c .widen2 .ensures) (
       m .kept .1 .1 .1 .0 ∙ l .loop .inv .0,
       k ∙ l .loop .inv .1,
@@ -132,8 +190,11 @@ same-length-2 c = c .before .loop .inv .1
 returns : tie.Need-returns Inv-loop μ-loop
 returns c =
     let l = c .before in
-    let p = c .before .before .before .before .before .before .before .before .pre in
-    (growing-end _ _ (p .0) _ (p .1 .0) _ _ _ _ _ (take (l .loop .height) (l .loop .stack)) _ (c .loop-test .left) (l .loop .inv .5) _ _ refl (omega (arith, l .loop .inv .4, l .loop .inv .1, p .1 .1 .1 .0 .heights)), l .loop .inv .4)
+    let p = c .before .before .before .before .before .before .before .before .pre in (
+      growing-end _ _ (p .0) _ (p .1 .0) _ _ _ _ _ (take (l .loop .height) (l .loop .stack)) _ (c .loop-test .left) (l .loop .inv .5) _ _ refl
+          (omega (arith, l .loop .inv .4, l .loop .inv .1, p .1 .1 .1 .0 .heights)),
+      l .loop .inv .4,
+    )
 
 pub grow-spec : {M : Type 1} → statement M
 grow-spec =

@@ -7,27 +7,34 @@ use lib.ListN.{length, getD, set, length-set}
 use Rattle.order.proofs.Tests.{clash}
 use Rattle.cells.specs.Table.{cell}
 use Rattle.cells.specs.Reaches.{HasPath}
-use Rattle.reach.specs.Chains.{Hangs, Linked}
+use Rattle.reach.specs.Chains.{Hangs, ChainedTo}
 use Rattle.reach.proofs.Links.{column-range, body-label, path-label, end-body, other-column}
 use Rattle.reach.proofs.Chains.{linked-none, linked-skip, linked-push}
 use Rattle.reach.proofs.link.Statement.{statement}
 use Rattle.reach.proofs.link.Tie as tie
 
 abbrev Inv-loop : tie.InvT-loop
-Inv-loop table n j chains₀ l₀ chains l = (1 ≤ l) × (l ≤ n + 1) × (length chains ≡ length chains₀) × Linked table n j (l - 1) chains
+Inv-loop table n j chains₀ l₀ chains l = (1 ≤ l) × (l ≤ n + 1) × (length chains ≡ length chains₀) × ChainedTo table n j (l - 1) chains
 
 abbrev μ-loop : tie.MeasureT-loop
 μ-loop table n j chains₀ l₀ chains l = n + 1 - l
 
 -- where line l has a path, it hangs at a label
 module _ (c : tie.After-cell-of Inv-loop μ-loop) where
-  hangs : Hangs (c .before .before .before .before .before .before .args .table .now) (c .before .before .before .before .before .before .args .j) (c .cell-of .result) (c .before .before .before .before .loop .l)
+  hangs :
+      let entry = c .before .before .before .before .before .before in
+      let loop = c .before .before .before .before .loop in
+      Hangs (entry .args .table .now) (entry .args .j) (c .cell-of .result) (loop .l)
   hangs = record { path = sym (c .before .before .has-path .ensures) ∙ c .before .if1 .taken; from = sym (c .cell-of .ensures) }
 
-  low : c .cell-of .result ≤ c .before .before .before .before .before .before .args .n
+  low :
+      let entry = c .before .before .before .before .before .before in
+      c .cell-of .result ≤ entry .args .n
   low =
+      let loop = c .before .before .before .before .loop in
       let a = c .before .before .before .before .before .before in
-      let b = body-label _ _ (a .pre .0) (cell (a .args .table .now) (c .before .before .before .before .loop .l) (13 - a .args .j)) (end-body _ _ (a .pre .0) (13 - a .args .j) (c .before .before .before .before .loop .l) (other-column _ _ (a .pre .0) _ (a .pre .1 .0)) (hangs .path)) in
+      let b = body-label _ _ (a .pre .0) (cell (a .args .table .now) (loop .l) (13 - a .args .j))
+      (end-body _ _ (a .pre .0) (13 - a .args .j) (loop .l) (other-column _ _ (a .pre .0) _ (a .pre .1 .0)) (hangs .path)) in
       omega (arith, b .1, c .cell-of .ensures)
 
 loop-holds : tie.Need-loop-holds Inv-loop μ-loop
@@ -39,19 +46,27 @@ has-path-requires : tie.Need-has-path-requires Inv-loop μ-loop
 has-path-requires c κs = search needs
 
 sub-cell-of : tie.Need-sub-cell-of Inv-loop μ-loop
-sub-cell-of c = omega (arith, column-range _ (c .before .before .before .before .before .pre .1 .0))
+sub-cell-of c =
+    let entry = c .before .before .before .before .before in
+    omega (arith, column-range _ (entry .pre .1 .0))
 
 cell-of-requires : tie.Need-cell-of-requires Inv-loop μ-loop
 cell-of-requires c κs =
+    let inv = c .before .before .before .loop .inv in
     let a = c .before .before .before .before .before in
     let r = column-range _ (a .pre .1 .0) in
-    (a .pre .0, (c .before .before .before .loop .inv .0, c .before .before .loop-test .taken, omega (arith, r), omega (arith, r)))
+    (a .pre .0, (inv .0, c .before .before .loop-test .taken, omega (arith, r), omega (arith, r)))
 
 mul-chains : tie.Need-mul-chains Inv-loop μ-loop
-mul-chains c = omega (arith, low c, c .before .before .before .before .before .before .pre .0 .few)
+mul-chains c =
+    let entry = c .before .before .before .before .before .before in
+    omega (arith, low c, entry .pre .0 .few)
 
 slice-read-chains : tie.Need-slice-read-chains Inv-loop μ-loop
-slice-read-chains c = omega (arith, low (c .before), c .before .before .before .before .before .before .before .pre .1 .1 .0, c .before .before .before .before .before .loop .inv .2)
+slice-read-chains c =
+    let entry = c .before .before .before .before .before .before .before in
+    let inv = c .before .before .before .before .before .loop .inv in
+    omega (arith, low (c .before), entry .pre .1 .1 .0, inv .2)
 
 add-chains : tie.Need-add-chains Inv-loop μ-loop
 add-chains c = search needs
@@ -66,10 +81,15 @@ cast-chains : tie.Need-cast-chains Inv-loop μ-loop
 cast-chains c = search needs
 
 mul-chains-3 : tie.Need-mul-chains-3 Inv-loop μ-loop
-mul-chains-3 c = omega (arith, low (c .before), c .before .before .before .before .before .before .before .pre .0 .few)
+mul-chains-3 c =
+    let entry = c .before .before .before .before .before .before .before in
+    omega (arith, low (c .before), entry .pre .0 .few)
 
 slice-write-chains-2 : tie.Need-slice-write-chains-2 Inv-loop μ-loop
-slice-write-chains-2 c = simp length-set (omega (arith, low (c .before), c .before .before .before .before .before .before .before .pre .1 .1 .0, c .before .before .before .before .before .loop .inv .2))
+slice-write-chains-2 c =
+    let entry = c .before .before .before .before .before .before .before in
+    let inv = c .before .before .before .before .before .loop .inv in
+    simp length-set (omega (arith, low (c .before), entry .pre .1 .1 .0, inv .2))
 
 add-l : tie.Need-add-l Inv-loop μ-loop
 add-l c = search needs
@@ -89,8 +109,10 @@ loop-again c =
       omega arith,
       omega arith,
       simp length-set (l .loop .inv .2),
-      subst (λ (x : ℕ). Linked (a .args .table .now) (a .args .n) (a .args .j) (l .loop .l - 1 + 1) (set (set (l .loop .chains) (a .args .n + x) (getD (l .loop .chains) (p .cell-of .result) 0)) (p .cell-of .result) x)) (sym k)
-          (linked-push _ _ _ _ _ (l .loop .inv .3) _ (subst (Hangs (a .args .table .now) (a .args .j) (p .cell-of .result)) k (hangs p)) (low p) (omega arith) (omega (arith, a .pre .1 .1 .0, l .loop .inv .2))
+      subst (λ (x : ℕ). ChainedTo (a .args .table .now) (a .args .n) (a .args .j) (l .loop .l - 1 + 1)
+          (set (set (l .loop .chains) (a .args .n + x) (getD (l .loop .chains) (p .cell-of .result) 0)) (p .cell-of .result) x)) (sym k)
+          (linked-push _ _ _ _ _ (l .loop .inv .3) _ (subst (Hangs (a .args .table .now) (a .args .j) (p .cell-of .result)) k (hangs p)) (low p) (omega arith)
+          (omega (arith, a .pre .1 .1 .0, l .loop .inv .2))
           (λ x d h. path-label _ _ (a .pre .0) x (h .path) .0)),
     ))
     (λ w. rw (w .1, z) (
@@ -109,7 +131,7 @@ returns c =
     let l = c .before in
     let z : l .loop .l - 1 ≡ l .before .before .args .n = omega (arith, l .loop .inv .1) in
     let a = l .before .before .args in
-    subst (λ (k : ℕ). Linked (a .table .now) (a .n) (a .j) k (l .loop .chains)) z (l .loop .inv .3)
+    subst (λ (k : ℕ). ChainedTo (a .table .now) (a .n) (a .j) k (l .loop .chains)) z (l .loop .inv .3)
 
 pub link-spec : {M : Type 1} → statement M
 link-spec =

@@ -16,37 +16,48 @@ put-mark-requires c κs =
     (omega (arith, body-label _ _ (p .0) (c .before .before .args .e) (p .1 .1 .0)), row-room _ _ _ _ (p .1 .0 .0) (p .1 .0 .1))
 
 kind-of-requires : tie.Need-kind-of-requires
-kind-of-requires c κs = let p = c .before .before .before .before .before .pre in (p .0, body-label _ _ (p .0) _ (p .1 .1 .0))
+kind-of-requires c κs =
+    let p = c .before .before .before .before .before .pre in
+    (p .0, body-label _ _ (p .0) _ (p .1 .1 .0))
 
 mark-groups-requires : tie.Need-mark-groups-requires
 mark-groups-requires c κs =
+    let put-mark = c .before .before .before .before .before .put-mark in
     let p = c .before .before .before .before .before .before .before .before .pre in
     let b = body-label _ _ (p .0) _ (p .1 .1 .0) in (
       p .0,
       (
-        (p .1 .0 .0, b .0, b .1, omega (arith, p .1 .0 .1, c .before .before .before .before .before .put-mark .kept .0)),
+        (p .1 .0 .0, b .0, b .1, omega (arith, p .1 .0 .1, put-mark .kept .0)),
         (
           sym (c .before .before .kind-of .ensures) ∙ c .before .if1 .taken,
-          put-raised _ _ (p .0) _ _ _ (p .1 .1 .0) _ _ (c .before .before .before .before .before .put-mark .ensures) (omega (arith, b)) (p .1 .1 .1),
+          put-raised _ _ (p .0) _ _ _ (p .1 .1 .0) _ _ (put-mark .ensures) (omega (arith, b)) (p .1 .1 .1),
         ),
       ),
     )
 
 same-length : tie.Need-same-length
-same-length c = c .before .before .mark-groups .kept .1 .1 .0 ∙ c .before .before .before .before .before .before .before .before .put-mark .kept .0
+same-length c =
+    let put-mark = c .before .before .before .before .before .before .before .before .put-mark in
+    c .before .before .mark-groups .kept .1 .1 .0 ∙ put-mark .kept .0
 
 returns : tie.Need-returns
 returns c =
+    let put-mark = c .before .before .before .before .before .before .before .before .put-mark in
+    let kind-of = c .before .before .before .before .before .kind-of in
+    let if1 = c .before .before .before .before .if1 in
     let p = c .before .before .before .before .before .before .before .before .before .before .before .pre in
-    around-value _ _ (p .0) _ _ _ (p .1 .1 .0) _ _ (c .before .before .before .before .before .before .before .before .put-mark .ensures) (sym (c .before .before .before .before .before .kind-of .ensures) ∙ c .before .before .before .before .if1 .taken) _ (c .before .before .mark-groups .ensures)
+    around-value _ _ (p .0) _ _ _ (p .1 .1 .0) _ _ (put-mark .ensures) (sym (kind-of .ensures) ∙ if1 .taken) _ (c .before .before .mark-groups .ensures)
 
 same-length-2 : tie.Need-same-length-2
-same-length-2 c = c .before .before .before .before .put-mark .kept .0
+same-length-2 c =
+    let put-mark = c .before .before .before .before .put-mark in
+    put-mark .kept .0
 
 returns-2 : tie.Need-returns-2
 returns-2 c =
+    let put-mark = c .before .before .before .before .put-mark in
     let p = c .before .before .before .before .before .before .before .pre in
-    around-other _ _ (p .0) _ _ _ (p .1 .1 .0) _ _ (c .before .before .before .before .put-mark .ensures) (λ z. c .if1 .left (c .before .kind-of .ensures ∙ z))
+    around-other _ _ (p .0) _ _ _ (p .1 .1 .0) _ _ (put-mark .ensures) (λ z. c .if1 .left (c .before .kind-of .ensures ∙ z))
 
 pub mark-around-spec : {M : Type 1} → statement M
 mark-around-spec =

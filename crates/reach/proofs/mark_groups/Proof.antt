@@ -16,7 +16,9 @@ abbrev μ-loop : tie.MeasureT-loop
 
 -- there is a mark for the Group at hand
 module _ (c : tie.In-loop Inv-loop μ-loop) where
-  in-square : (c .before .loop .g < 64 * (c .before .before .before .before .args .n / 64 + 1)) × (c .before .before .before .before .args .d * (c .before .before .before .before .args .n / 64 + 1) + (c .before .before .before .before .args .n / 64 + 1) ≤ length (c .before .loop .square))
+  in-square :
+      let entry = c .before .before .before .before in
+      (c .before .loop .g < 64 * (entry .args .n / 64 + 1)) × (entry .args .d * (entry .args .n / 64 + 1) + (entry .args .n / 64 + 1) ≤ length (c .before .loop .square))
   in-square =
       let l = c .before in
       let p = c .before .before .before .before .pre in
@@ -37,34 +39,55 @@ has-mark-requires : tie.Need-has-mark-requires Inv-loop μ-loop
 has-mark-requires c κs = in-square (c .before)
 
 same-length : tie.Need-same-length Inv-loop μ-loop
-same-length c = c .before .before .before .before .loop .inv .0
+same-length c =
+    let inv = c .before .before .before .before .loop .inv in
+    inv .0
 
 returns : tie.Need-returns Inv-loop μ-loop
-returns c = climb-found _ _ (c .before .before .before .before .before .before .before .pre .0) _ _ _ _ _ _ (c .before .before .before .before .loop .inv .1) (c .before .before .before .loop-test .taken) (sym (c .before .has-mark .ensures) ∙ c .if1 .taken)
+returns c =
+    let entry = c .before .before .before .before .before .before .before in
+    let inv = c .before .before .before .before .loop .inv in
+    let loop-test = c .before .before .before .loop-test in
+    climb-found _ _ (entry .pre .0) _ _ _ _ _ _ (inv .1) (loop-test .taken) (sym (c .before .has-mark .ensures) ∙ c .if1 .taken)
 
 put-mark-requires : tie.Need-put-mark-requires Inv-loop μ-loop
-put-mark-requires c κs = in-square (c .before .before .before .before)
+put-mark-requires c κs =
+    let point = c .before .before .before .before in
+    in-square point
 
 cell-of-requires-2 : tie.Need-cell-of-requires-2 Inv-loop μ-loop
-cell-of-requires-2 c κs = (c .before .before .before .before .before .before .before .before .before .before .before .pre .0, (omega (arith, c .before .before .before .before .before .before .before .loop-test .taken), c .before .before .before .before .before .before .before .before .loop .inv .1 .low, omega arith, omega arith))
+cell-of-requires-2 c κs =
+    let entry = c .before .before .before .before .before .before .before .before .before .before .before in
+    let inv = c .before .before .before .before .before .before .before .before .loop .inv in
+    let loop-test = c .before .before .before .before .before .before .before .loop-test in
+    (entry .pre .0, (omega (arith, loop-test .taken), inv .1 .low, omega arith, omega arith))
 
 loop-less : tie.Need-loop-less Inv-loop μ-loop
 loop-less c =
-    let z : c .before .before .before .before .before .before .before .before .before .loop .g ≡ 0 → ⊥ = c .before .before .before .before .before .before .before .before .loop-test .taken in
-    omega (arith, c .cell-of2 .ensures, c .before .before .before .before .before .before .before .before .before .before .before .before .pre .0 .falls (c .before .before .before .before .before .before .before .before .before .loop .g) (omega arith) (c .before .before .before .before .before .before .before .before .before .loop .inv .1 .low))
+    let entry = c .before .before .before .before .before .before .before .before .before .before .before .before in
+    let loop = c .before .before .before .before .before .before .before .before .before .loop in
+    let loop-test = c .before .before .before .before .before .before .before .before .loop-test in
+    let z : loop .g ≡ 0 → ⊥ = loop-test .taken in
+    omega (arith, c .cell-of2 .ensures, entry .pre .0 .falls (loop .g) (omega arith) (loop .inv .1 .low))
 
 loop-again : tie.Need-loop-again Inv-loop μ-loop
 loop-again c =
+    let entry = c .before .before .before .before .before .before .before .before .before .before .before .before in
+    let loop-test = c .before .before .before .before .before .before .before .before .loop-test in
+    let point = c .before .before .before .before .before .before .before .before in
+    let put-mark = c .before .before .before .put-mark in
     let l = c .before .before .before .before .before .before .before .before .before in (
-      c .before .before .before .put-mark .kept .0 ∙ l .loop .inv .0,
-      rw (c .cell-of2 .ensures) (climb-turn _ _ (c .before .before .before .before .before .before .before .before .before .before .before .before .pre .0) _ _ _ _ _ _ (l .loop .inv .1) (c .before .before .before .before .before .before .before .before .loop-test .taken) (in-square (c .before .before .before .before .before .before .before .before) .0) _ (c .before .before .before .put-mark .ensures)),
+      put-mark .kept .0 ∙ l .loop .inv .0,
+      rw (c .cell-of2 .ensures) (climb-turn _ _ (entry .pre .0) _ _ _ _ _ _ (l .loop .inv .1) (loop-test .taken) (in-square point .0) _ (put-mark .ensures)),
     )
 
 same-length-2 : tie.Need-same-length-2 Inv-loop μ-loop
 same-length-2 c = c .before .loop .inv .0
 
 returns-2 : tie.Need-returns-2 Inv-loop μ-loop
-returns-2 c = climb-end _ _ (c .before .before .before .before .pre .0) _ _ _ _ _ _ (c .before .loop .inv .1) (c .loop-test .left)
+returns-2 c =
+    let entry = c .before .before .before .before in
+    climb-end _ _ (entry .pre .0) _ _ _ _ _ _ (c .before .loop .inv .1) (c .loop-test .left)
 
 pub mark-groups-spec : {M : Type 1} → statement M
 mark-groups-spec =

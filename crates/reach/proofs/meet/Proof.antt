@@ -14,8 +14,9 @@ add-w c = search needs
 
 has-mark-requires : tie.Need-has-mark-requires
 has-mark-requires c κs =
-    let p = c .before .before .before .before .pre in
-    (omega (arith, body-label _ _ (p .0) (c .before .before .before .before .args .f) (p .1 .1 .1 .0)), row-room _ _ _ _ (p .1 .1 .0 .0) (p .1 .0 .rows))
+    let entry = c .before .before .before .before in
+    let p = entry .pre in
+    (omega (arith, body-label _ _ (p .0) (entry .args .f) (p .1 .1 .1 .0)), row-room _ _ _ _ (p .1 .1 .0 .0) (p .1 .0 .rows))
 
 same-length : tie.Need-same-length
 same-length c = refl
@@ -24,7 +25,9 @@ returns : tie.Need-returns
 returns c = marked (sym (c .before .has-mark .ensures) ∙ c .if1 .taken) refl refl refl
 
 shared-slice-read-if2 : tie.Need-shared-slice-read-if2
-shared-slice-read-if2 c = let a = c .before .before .before .before .before .before .before in omega (arith, a .pre .1 .0 .states, body-label _ _ (a .pre .0) (a .args .f) (a .pre .1 .1 .1 .0))
+shared-slice-read-if2 c =
+    let a = c .before .before .before .before .before .before .before in
+    omega (arith, a .pre .1 .0 .states, body-label _ _ (a .pre .0) (a .args .f) (a .pre .1 .1 .1 .0))
 
 merge-row-requires : tie.Need-merge-row-requires
 merge-row-requires c κs =
@@ -35,33 +38,50 @@ merge-row-requires c κs =
 
 returns-2 : tie.Need-returns-2
 returns-2 c =
-    added (sym (c .before .before .before .before .before .before .before .before .before .before .before .has-mark .ensures) ∙ c .before .before .before .before .before .before .before .before .before .before .if1 .left)
-    (c .before .before .before .before .before .before .before .before .if2 .taken) refl refl
-    (added-then _ _ _ _ _ _ _ (c .before .before .before .before .before .before .merge-row .ensures) (c .before .before .mark-around .ensures))
+    let has-mark = c .before .before .before .before .before .before .before .before .before .before .before .has-mark in
+    let if1 = c .before .before .before .before .before .before .before .before .before .before .if1 in
+    let if2 = c .before .before .before .before .before .before .before .before .if2 in
+    let merge-row = c .before .before .before .before .before .before .merge-row in
+    added (sym (has-mark .ensures) ∙ if1 .left)
+    (if2 .taken) refl refl
+    (added-then _ _ _ _ _ _ _ (merge-row .ensures) (c .before .before .mark-around .ensures))
 
 mark-around-requires : tie.Need-mark-around-requires
 mark-around-requires c κs =
+    let if2 = c .before .before .before .before .before .if2 in
     let p = c .before .before .before .before .before .before .before .before .before .before .before .before .before .pre in
     let m = c .before .before .before .merge-row in
-    (p .0, ((p .1 .1 .0 .0, omega (arith, p .1 .0 .rows, m .kept .0)), (p .1 .1 .1 .0, row-raised _ _ _ _ _ _ (p .1 .1 .1 .1 .0) (p .1 .1 .1 .1 .1 (c .before .before .before .before .before .if2 .taken)) (m .ensures))))
+    (p .0, ((p .1 .1 .0 .0, omega (arith, p .1 .0 .rows, m .kept .0)), (p .1 .1 .1 .0, row-raised _ _ _ _ _ _ (p .1 .1 .1 .1 .0) (p .1 .1 .1 .1 .1 (if2 .taken)) (m .ensures))))
 
 same-length-2 : tie.Need-same-length-2
-same-length-2 c = c .before .before .mark-around .kept .1 .1 .0 ∙ c .before .before .before .before .before .before .merge-row .kept .0
+same-length-2 c =
+    let merge-row = c .before .before .before .before .before .before .merge-row in
+    c .before .before .mark-around .kept .1 .1 .0 ∙ merge-row .kept .0
 
 mark-around-requires-2 : tie.Need-mark-around-requires-2
-mark-around-requires-2 c κs = let p = c .before .before .before .before .before .before .before .before .before .pre in (p .0, ((p .1 .1 .0 .0, p .1 .0 .rows), (p .1 .1 .1 .0, p .1 .1 .1 .1 .0)))
+mark-around-requires-2 c κs =
+    let p = c .before .before .before .before .before .before .before .before .before .pre in
+    (p .0, ((p .1 .1 .0 .0, p .1 .0 .rows), (p .1 .1 .1 .0, p .1 .1 .1 .1 .0)))
 
 cast-stack : tie.Need-cast-stack
-cast-stack c = let a = c .before .before .before .before .before .before .before .before .before .before .before .before in omega (arith, a .pre .0 .few, body-label _ _ (a .pre .0) (a .args .f) (a .pre .1 .1 .1 .0))
+cast-stack c =
+    let a = c .before .before .before .before .before .before .before .before .before .before .before .before in
+    omega (arith, a .pre .0 .few, body-label _ _ (a .pre .0) (a .args .f) (a .pre .1 .1 .1 .0))
 
 mul-stack : tie.Need-mul-stack
-mul-stack c = let p = c .before .before .before .before .before .before .before .before .before .before .before .before .pre in omega (arith, p .0 .few, p .1 .1 .0)
+mul-stack c =
+    let p = c .before .before .before .before .before .before .before .before .before .before .before .before .pre in
+    omega (arith, p .0 .few, p .1 .1 .0)
 
 slice-write-stack : tie.Need-slice-write-stack
-slice-write-stack c = let p = c .before .before .before .before .before .before .before .before .before .before .before .before .pre in omega (arith, p .1 .0 .heights, p .1 .1 .0)
+slice-write-stack c =
+    let p = c .before .before .before .before .before .before .before .before .before .before .before .before .pre in
+    omega (arith, p .1 .0 .heights, p .1 .1 .0)
 
 add-result : tie.Need-add-result
-add-result c = let p = c .before .before .before .before .before .before .before .before .before .before .before .before .pre in omega (arith, p .0 .few, p .1 .1 .0)
+add-result c =
+    let p = c .before .before .before .before .before .before .before .before .before .before .before .before .pre in
+    omega (arith, p .0 .few, p .1 .1 .0)
 
 same-length-3 : tie.Need-same-length-3
 same-length-3 c = c .before .before .mark-around2 .kept .1 .1 .0
@@ -70,7 +90,10 @@ same-length-4 : tie.Need-same-length-4
 same-length-4 c = simp length-set
 
 returns-3 : tie.Need-returns-3
-returns-3 c = pushed (sym (c .before .before .before .before .before .before .before .has-mark .ensures) ∙ c .before .before .before .before .before .before .if1 .left) refl refl (c .before .before .mark-around2 .ensures)
+returns-3 c =
+    let has-mark = c .before .before .before .before .before .before .before .has-mark in
+    let if1 = c .before .before .before .before .before .before .if1 in
+    pushed (sym (has-mark .ensures) ∙ if1 .left) refl refl (c .before .before .mark-around2 .ensures)
 
 pub meet-spec : {M : Type 1} → statement M
 meet-spec =

@@ -30,9 +30,11 @@ kind-of-requires c κs = search needs
 
 visit-requires : tie.Need-visit-requires Inv-loop μ-loop
 visit-requires c κs =
+    let kind-of = c .before .before .before .before .kind-of in
+    let if1 = c .before .before .before .if1 in
     let p = c .before .before .before .before .before .before .before .before .before .before .before .pre in
     let g = c .before .before .before .before .before .before .loop .inv .2 in
-    (p .0, (p .1 .0, (p .1 .1 .0, (going-room _ _ (p .0) _ _ _ _ _ _ _ g (p .1 .1 .1 .0), (g .rows, rw (sym (c .before .before .before .before .kind-of .ensures) ∙ c .before .before .before .if1 .taken) value-body)))))
+    (p .0, (p .1 .0, (p .1 .1 .0, (going-room _ _ (p .0) _ _ _ _ _ _ _ g (p .1 .1 .1 .0), (g .rows, rw (sym (kind-of .ensures) ∙ if1 .taken) value-body)))))
 
 add-v : tie.Need-add-v Inv-loop μ-loop
 add-v c = search needs
@@ -57,7 +59,8 @@ loop-again c =
       omega arith,
       omega arith,
       l .loop .inv .2,
-      below-more (λ (u : ℕ). 1 ≤ u → kind (a .args .table .now) u ≡ valueCode → getD (l .loop .state) u 0 ≡ 0 → ⊥) (l .loop .v) (l .loop .inv .3) (λ i e. absurd (w .0 .left (c .before .kind-of .ensures ∙ e))),
+      below-more (λ (u : ℕ). 1 ≤ u → kind (a .args .table .now) u ≡ valueCode → getD (l .loop .state) u 0 ≡ 0 → ⊥) (l .loop .v) (l .loop .inv .3)
+          (λ i e. absurd (w .0 .left (c .before .kind-of .ensures ∙ e))),
     ))
     (c .if1 .came)
 

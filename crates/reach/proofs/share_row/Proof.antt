@@ -15,16 +15,24 @@ returns : tie.Need-returns
 returns c = search needs
 
 has-mark-requires : tie.Need-has-mark-requires
-has-mark-requires c κs = let p = c .before .before .before .before .before .pre in (omega (arith, p .1), row-room _ _ _ _ (p .2) (p .4))
+has-mark-requires c κs =
+    let p = c .before .before .before .before .before .pre in
+    (omega (arith, p .1), row-room _ _ _ _ (p .2) (p .4))
 
 merge-row-requires : tie.Need-merge-row-requires
-merge-row-requires c κs = let p = c .before .before .before .before .before .before .before .before .pre in (row-room _ _ _ _ (p .2) (p .4), row-room _ _ _ _ (p .1) (p .4))
+merge-row-requires c κs =
+    let p = c .before .before .before .before .before .before .before .before .pre in
+    (row-room _ _ _ _ (p .2) (p .4), row-room _ _ _ _ (p .1) (p .4))
 
 same-length : tie.Need-same-length
 same-length c = search needs
 
 returns-2 : tie.Need-returns-2
-returns-2 c = (c .before .before .before .before .before .before .before .if1 .left, sym (c .before .before .before .before .before .has-mark .ensures) ∙ c .before .before .before .before .if2 .taken, c .before .before .merge-row .ensures)
+returns-2 c =
+    let if1 = c .before .before .before .before .before .before .before .if1 in
+    let has-mark = c .before .before .before .before .before .has-mark in
+    let if2 = c .before .before .before .before .if2 in
+    (if1 .left, sym (has-mark .ensures) ∙ if2 .taken, c .before .before .merge-row .ensures)
 
 same-length-2 : tie.Need-same-length-2
 same-length-2 c = search needs

@@ -31,10 +31,11 @@ loop-less c = omega arith
 
 loop-again : tie.Need-loop-again Inv-loop μ-loop
 loop-again c =
-    let s = c .before .before .before .args .text .now in
+    let entry = c .before .before .before in
+    let s = entry .args .text .now in
     let i = c .before .before .loop .i in
     let h : i < length s = omega arith in
-    let apart : i ≡ length s - 1 → ⊥ = λ q. omega (arith, ap (λ (n : ℕ). getD s n 0) q ∙ c .before .before .before .pre .1) in (
+    let apart : i ≡ length s - 1 → ⊥ = λ q. omega (arith, ap (λ (n : ℕ). getD s n 0) q ∙ entry .pre .1) in (
       omega arith,
       omega (arith, apart),
       run-more isGraphic s i (length s) h (le-refl (length s)) (lt-ltb _ _ (c .if1 .taken)) ∙ c .before .before .loop .inv .2,

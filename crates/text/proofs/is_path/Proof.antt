@@ -14,7 +14,9 @@ use Rattle.text.proofs.is_path.Statement.{statement}
 use Rattle.text.proofs.is_path.Tie as tie
 
 abbrev Inv-loop : tie.InvT-loop
-Inv-loop text from to at₀ names₀ at names = (from ≤ at) × (at ≤ to) × (names ≤ at + 1) × (names + length (cut 46 (slice at to text)) ≡ 1 + length (cut 46 (slice from to text))) × (allNames (cut 46 (slice at to text)) ≡ allNames (cut 46 (slice from to text)))
+Inv-loop text from to at₀ names₀ at names =
+    (from ≤ at) × (at ≤ to) × (names ≤ at + 1) × (names + length (cut 46 (slice at to text)) ≡ 1 + length (cut 46 (slice from to text)))
+    × (allNames (cut 46 (slice at to text)) ≡ allNames (cut 46 (slice from to text)))
 
 abbrev μ-loop : tie.MeasureT-loop
 μ-loop text from to at₀ names₀ at names = to - at
@@ -37,7 +39,8 @@ returns-2 : tie.Need-returns-2 Inv-loop μ-loop
 returns-2 c =
     let a = c .before .before .before .before .before .before .args in
     let l = c .before .before .before .before .loop in
-    path-false (slice (a .from) (a .to) (a .text .now)) (sym (l .inv .4) ∙ path-fails (a .text .now) (l .at) (a .to) (omega arith) (omega arith) (sym (c .before .before .name-end .ensures) ∙ c .if2 .taken))
+    path-false (slice (a .from) (a .to) (a .text .now)) (sym (l .inv .4)
+    ∙ path-fails (a .text .now) (l .at) (a .to) (omega arith) (omega arith) (sym (c .before .before .name-end .ensures) ∙ c .if2 .taken))
 
 shared-slice-read-if3 : tie.Need-shared-slice-read-if3 Inv-loop μ-loop
 shared-slice-read-if3 c =
@@ -48,17 +51,27 @@ shared-slice-read-if3 c =
 
 returns-3 : tie.Need-returns-3 Inv-loop μ-loop
 returns-3 c =
+    let if1 = c .before .before .before .if1 in
     let a = c .before .before .before .before .before .before .before .before .args in
     let l = c .before .before .before .before .before .before .loop in
     let e = c .before .before .before .before .name-end .ensures in
     path-false (slice (a .from) (a .to) (a .text .now))
-    (sym (l .inv .4) ∙ path-other (a .text .now) (l .at) (a .to) (omega arith) (omega arith) (λ q. c .before .before .before .if1 .left (e ∙ q)) (λ q. c .before .before .if2 .left (e ∙ q)) (λ q. c .if3 .taken (ap (λ n. getD (a .text .now) n 0) e ∙ q)))
+    (sym (l .inv .4) ∙ path-other (a .text .now) (l .at) (a .to) (omega arith) (omega arith) (λ q. if1 .left (e ∙ q)) (λ q. c .before .before .if2 .left (e ∙ q))
+    (λ q. c .if3 .taken (ap (λ n. getD (a .text .now) n 0) e ∙ q)))
 
 -- one name more, which a dot ends
-stepped : (c : tie.Else3 Inv-loop μ-loop) → Named (c .before .before .before .before .before .before .before .before .args .text .now) (c .before .before .before .before .before .before .loop .at) (c .before .before .before .before .before .before .before .before .args .to) (c .before .before .before .before .name-end .result)
+stepped : (c : tie.Else3 Inv-loop μ-loop) →
+    let entry = c .before .before .before .before .before .before .before .before in
+    let loop = c .before .before .before .before .before .before .loop in
+    let name-end = c .before .before .before .before .name-end in
+    Named (entry .args .text .now) (loop .at) (entry .args .to) (name-end .result)
 stepped c =
-    path-step (c .before .before .before .before .before .before .before .before .args .text .now) (c .before .before .before .before .before .before .loop .at) (c .before .before .before .before .before .before .before .before .args .to) (omega arith) (omega arith)
-    (c .before .before .before .before .name-end .result) (c .before .before .before .before .name-end .ensures) (c .before .before .before .if1 .left) (c .before .before .if2 .left) (c .if3 .left)
+    let entry = c .before .before .before .before .before .before .before .before in
+    let loop = c .before .before .before .before .before .before .loop in
+    let name-end = c .before .before .before .before .name-end in
+    let if1 = c .before .before .before .if1 in
+    path-step (entry .args .text .now) (loop .at) (entry .args .to) (omega arith) (omega arith)
+    (name-end .result) (name-end .ensures) (if1 .left) (c .before .before .if2 .left) (c .if3 .left)
 
 add-at : tie.Need-add-at Inv-loop μ-loop
 add-at c = omega (arith, stepped c .inside)
@@ -71,12 +84,13 @@ loop-less c = omega (arith, stepped c .wide, stepped c .inside)
 
 loop-again : tie.Need-loop-again Inv-loop μ-loop
 loop-again c =
+    let inv = c .before .before .before .before .before .before .loop .inv in
     let n = stepped c in (
       omega (arith, n .wide),
       omega (arith, n .inside),
       omega (arith, n .wide),
       omega (arith, n .fewer),
-      sym (n .names) ∙ c .before .before .before .before .before .before .loop .inv .4,
+      sym (n .names) ∙ inv .4,
     )
 
 returns-4 : tie.Need-returns-4 Inv-loop μ-loop

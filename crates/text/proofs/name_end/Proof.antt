@@ -23,14 +23,16 @@ sub-if2 c = omega (arith, c .alphanumeric-end .ensures)
 returns : tie.Need-returns
 unfolding nameEnd
 returns c =
+    let is-letter = c .before .before .before .is-letter in
     let e = c .before .alphanumeric-end .ensures in
-    rw (sym (c .before .before .before .is-letter .ensures) ∙ c .before .before .if1 .taken, ← e, le-leb _ _ (c .if2 .taken))
+    rw (sym (is-letter .ensures) ∙ c .before .before .if1 .taken, ← e, le-leb _ _ (c .if2 .taken))
 
 returns-2 : tie.Need-returns-2
 unfolding nameEnd
 returns-2 c =
+    let is-letter = c .before .before .before .is-letter in
     let e = c .before .alphanumeric-end .ensures in
-    rw (sym (c .before .before .before .is-letter .ensures) ∙ c .before .before .if1 .taken, ← e, lt-leb _ _ (c .if2 .left))
+    rw (sym (is-letter .ensures) ∙ c .before .before .if1 .taken, ← e, lt-leb _ _ (c .if2 .left))
 
 returns-3 : tie.Need-returns-3
 unfolding nameEnd

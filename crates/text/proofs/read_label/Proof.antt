@@ -26,11 +26,15 @@ returns c = rw (sym (c .before .before .read-decimal .ensures) ∙ c .enum-told 
 
 returns-2 : tie.Need-returns-2
 unfolding labelOf
-returns-2 c = rw (sym (c .before .before .before .before .read-decimal .ensures) ∙ c .before .before .v .given .1, c .if1 .taken)
+returns-2 c =
+    let read-decimal = c .before .before .before .before .read-decimal in
+    rw (sym (read-decimal .ensures) ∙ c .before .before .v .given .1, c .if1 .taken)
 
 returns-3 : tie.Need-returns-3
 unfolding labelOf
-returns-3 c = rw (sym (c .before .before .before .before .read-decimal .ensures) ∙ c .before .before .v .given .1) (from-one (c .before .before .v .given .0 .0) (c .if1 .left))
+returns-3 c =
+    let read-decimal = c .before .before .before .before .read-decimal in
+    rw (sym (read-decimal .ensures) ∙ c .before .before .v .given .1) (from-one (c .before .before .v .given .0 .0) (c .if1 .left))
 
 pub read-label-spec : {M : Type 1} → statement M
 read-label-spec =

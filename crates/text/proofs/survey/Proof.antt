@@ -11,7 +11,8 @@ use Rattle.text.proofs.survey.Statement.{statement}
 use Rattle.text.proofs.survey.Tie as tie
 
 abbrev Inv-loop : tie.InvT-loop
-Inv-loop text bad₀ lines₀ i₀ bad lines i = (i ≤ length text) × (bad ≤ i) × (lines ≤ i) × (bad + countBy isBad (drop i text) ≡ countBy isBad text) × (lines + countBy isNewline (drop i text) ≡ countBy isNewline text)
+Inv-loop text bad₀ lines₀ i₀ bad lines i =
+    (i ≤ length text) × (bad ≤ i) × (lines ≤ i) × (bad + countBy isBad (drop i text) ≡ countBy isBad text) × (lines + countBy isNewline (drop i text) ≡ countBy isNewline text)
 
 abbrev μ-loop : tie.MeasureT-loop
 μ-loop text bad₀ lines₀ i₀ bad lines i = length text - i
@@ -26,7 +27,10 @@ bad-byte-requires : tie.Need-bad-byte-requires Inv-loop μ-loop
 bad-byte-requires c κs = search needs
 
 add-bad : tie.Need-add-bad Inv-loop μ-loop
-add-bad c = omega (arith, c .bad-byte .ensures, one-le (isBad (getD (c .before .before .before .before .before .args .text .now) (c .before .before .before .loop .i) 0)))
+add-bad c =
+    let entry = c .before .before .before .before .before in
+    let loop = c .before .before .before .loop in
+    omega (arith, c .bad-byte .ensures, one-le (isBad (getD (entry .args .text .now) (loop .i) 0)))
 
 shared-slice-read-newline : tie.Need-shared-slice-read-newline Inv-loop μ-loop
 shared-slice-read-newline c = omega arith
@@ -35,7 +39,10 @@ newline-requires : tie.Need-newline-requires Inv-loop μ-loop
 newline-requires c κs = search needs
 
 add-lines : tie.Need-add-lines Inv-loop μ-loop
-add-lines c = omega (arith, c .newline .ensures, one-le (isNewline (getD (c .before .before .before .before .before .before .before .args .text .now) (c .before .before .before .before .before .loop .i) 0)))
+add-lines c =
+    let entry = c .before .before .before .before .before .before .before in
+    let loop = c .before .before .before .before .before .loop in
+    omega (arith, c .newline .ensures, one-le (isNewline (getD (entry .args .text .now) (loop .i) 0)))
 
 add-i : tie.Need-add-i Inv-loop μ-loop
 add-i c = omega arith

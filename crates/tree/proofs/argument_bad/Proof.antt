@@ -26,17 +26,21 @@ takes-requires c κs = search needs
 
 returns-2 : tie.Need-returns-2
 returns-2 c =
+    let place-of = c .before .before .before .before .before .place-of in
+    let cell-at2 = c .before .before .before .cell-at2 in
     let k = c .before .before .before .before .before .before .cell-at in
     let d = c .before .before .cell-at3 in
-    rw (← k .ensures, ← c .before .before .before .cell-at2 .ensures, ← d .ensures)
-    (sym (argument-wrong (k .result) (d .result) (omega (arith, c .if2 .taken, c .before .takes .ensures, c .before .before .before .before .before .place-of .ensures))))
+    rw (← k .ensures, ← cell-at2 .ensures, ← d .ensures)
+    (sym (argument-wrong (k .result) (d .result) (omega (arith, c .if2 .taken, c .before .takes .ensures, place-of .ensures))))
 
 returns-3 : tie.Need-returns-3
 returns-3 c =
+    let place-of = c .before .before .before .before .before .place-of in
+    let cell-at2 = c .before .before .before .cell-at2 in
     let k = c .before .before .before .before .before .before .cell-at in
     let d = c .before .before .cell-at3 in
-    rw (← k .ensures, ← c .before .before .before .cell-at2 .ensures, ← d .ensures)
-    (sym (argument-fine (k .result) (d .result) (omega (arith, c .if2 .left, c .before .takes .ensures, c .before .before .before .before .before .place-of .ensures))))
+    rw (← k .ensures, ← cell-at2 .ensures, ← d .ensures)
+    (sym (argument-fine (k .result) (d .result) (omega (arith, c .if2 .left, c .before .takes .ensures, place-of .ensures))))
 
 pub argument-bad-spec : {M : Type 1} → statement M
 argument-bad-spec =

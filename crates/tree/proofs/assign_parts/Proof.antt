@@ -16,7 +16,10 @@ same-length : tie.Need-same-length
 same-length c = search needs
 
 returns : tie.Need-returns
-returns c = rw (c .before .assign3 .ensures, c .before .before .before .before .assign2 .ensures, c .before .before .before .before .before .before .before .assign .ensures)
+returns c =
+    let assign = c .before .before .before .before .before .before .before .assign in
+    let assign2 = c .before .before .before .before .assign2 in
+    rw (c .before .assign3 .ensures, assign2 .ensures, assign .ensures)
 
 pub assign-parts-spec : {M : Type 1} → statement M
 assign-parts-spec =

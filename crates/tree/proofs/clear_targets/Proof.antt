@@ -2,7 +2,7 @@
 use mathlib.Core.Path.{_≡_}
 use Prim.Native.Nat.{_+_, _-_, _≤_}
 use native.Mathlib.Omega.{arith}
-use Rattle.tree.specs.Steps.{Cleared}
+use Rattle.tree.specs.TreeSteps.{Cleared}
 use Rattle.tree.proofs.Passes.{clear-start, clear-turn}
 use Rattle.tree.proofs.clear_targets.Statement.{statement}
 use Rattle.tree.proofs.clear_targets.Tie as tie

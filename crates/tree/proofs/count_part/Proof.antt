@@ -22,8 +22,11 @@ same-length c = search needs
 
 returns : tie.Need-returns
 returns c =
+    let if1 = c .before .before .before .before .before .if1 in
+    let cell-at = c .before .before .before .cell-at in
     let s = c .before .before .before .before .before .before in
-    c .before .put-cell .ensures ∙ ap (λ v. set (s .args .table .now) (8 * (s .args .x - 1) + 7) (pos (v + 1))) (c .before .before .before .cell-at .ensures) ∙ sym (counted-some (s .args .x) (s .args .table .now) (c .before .before .before .before .before .if1 .taken))
+    c .before .put-cell .ensures ∙ ap (λ v. set (s .args .table .now) (8 * (s .args .x - 1) + 7) (pos (v + 1))) (cell-at .ensures)
+    ∙ sym (counted-some (s .args .x) (s .args .table .now) (if1 .taken))
 
 returns-2 : tie.Need-returns-2
 returns-2 c = sym (counted-none (c .before .args .x) (c .before .args .table .now) (c .if1 .left))

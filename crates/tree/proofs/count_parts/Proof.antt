@@ -14,19 +14,27 @@ count-part-requires c κs =
 
 count-part-requires-2 : tie.Need-count-part-requires-2
 count-part-requires-2 c κs =
+    let node-at = c .before .before .before .before .node-at in
     let s = c .before .before .before .before .before .before in
-    count-second (s .args .table .now) (s .args .label) (s .pre) (c .before .before .before .before .node-at .result) (c .before .before .before .before .node-at .ensures) (c .before .before .count-part .last .0) (c .before .before .count-part .ensures)
+    count-second (s .args .table .now) (s .args .label) (s .pre) (node-at .result) (node-at .ensures) (c .before .before .count-part .last .0) (c .before .before .count-part .ensures)
 
 count-part-requires-3 : tie.Need-count-part-requires-3
 count-part-requires-3 c κs =
+    let node-at = c .before .before .before .before .before .before .before .node-at in
+    let count-part = c .before .before .before .before .before .count-part in
     let s = c .before .before .before .before .before .before .before .before .before in
-    count-third (s .args .table .now) (s .args .label) (s .pre) (c .before .before .before .before .before .before .before .node-at .result) (c .before .before .before .before .before .before .before .node-at .ensures) (c .before .before .before .before .before .count-part .last .0) (c .before .before .before .before .before .count-part .ensures) (c .before .before .count-part2 .last .0) (c .before .before .count-part2 .ensures)
+    count-third (s .args .table .now) (s .args .label) (s .pre) (node-at .result) (node-at .ensures) (count-part .last .0) (count-part .ensures) (c .before .before .count-part2 .last .0)
+    (c .before .before .count-part2 .ensures)
 
 same-length : tie.Need-same-length
 same-length c = search needs
 
 returns : tie.Need-returns
-returns c = rw (c .before .count-part3 .ensures, c .before .before .before .before .count-part2 .ensures, c .before .before .before .before .before .before .before .count-part .ensures, c .before .before .before .before .before .before .before .before .before .node-at .ensures)
+returns c =
+    let node-at = c .before .before .before .before .before .before .before .before .before .node-at in
+    let count-part = c .before .before .before .before .before .before .before .count-part in
+    let count-part2 = c .before .before .before .before .count-part2 in
+    rw (c .before .count-part3 .ensures, count-part2 .ensures, count-part .ensures, node-at .ensures)
 
 pub count-parts-spec : {M : Type 1} → statement M
 count-parts-spec =

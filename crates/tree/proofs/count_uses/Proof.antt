@@ -1,14 +1,14 @@
--- What the loop keeps is `Counted`, at the labels passed.
+-- What the loop keeps is `UsesCounted`, at the labels passed.
 use mathlib.Core.Path.{_≡_}
 use Prim.Native.Nat.{_+_, _-_, _≤_}
 use native.Mathlib.Omega.{arith}
-use Rattle.tree.specs.Steps.{Counted}
+use Rattle.tree.specs.TreeSteps.{UsesCounted}
 use Rattle.tree.proofs.Passes.{count-start, count-ready, count-turn}
 use Rattle.tree.proofs.count_uses.Statement.{statement}
 use Rattle.tree.proofs.count_uses.Tie as tie
 
 abbrev Inv-loop : tie.InvT-loop
-Inv-loop table₀ n label₀ table label = (1 ≤ label) × (label ≤ n + 1) × Counted table₀ n (label - 1) table
+Inv-loop table₀ n label₀ table label = (1 ≤ label) × (label ≤ n + 1) × UsesCounted table₀ n (label - 1) table
 
 abbrev μ-loop : tie.MeasureT-loop
 μ-loop table₀ n label₀ table label = n + 1 - label

@@ -5,7 +5,7 @@ use native.Mathlib.Omega.{arith}
 use Rattle.refusals.specs.Refusal.{firstBad}
 use Rattle.refusals.specs.declared.Verdict.the-variants.{Refused}
 use Rattle.refusals.proofs.FirstBad.{first-start, first-fine, first-bad, first-end}
-use Rattle.tree.specs.Steps.{cellBad}
+use Rattle.tree.specs.TreeSteps.{cellBad}
 use Rattle.tree.proofs.Labels.{readable}
 use Rattle.tree.proofs.first_bad.Statement.{statement}
 use Rattle.tree.proofs.first_bad.Tie as tie
@@ -26,10 +26,11 @@ check-requires c κs =
 
 returns : tie.Need-returns Inv-loop μ-loop
 returns c =
+    let loop = c .before .before .before .loop in
     let s = c .before .before .before .before in
-    let k = c .before .before .before .loop .label in
+    let k = loop .label in
     let check = cellBad (s .args .rule) (s .args .table .now) in
-    ap (λ r. Refused r k) (c .before .check .ensures) ∙ sym (first-bad check (s .args .n) k (omega arith) (λ z. c .if1 .taken (c .before .check .ensures ∙ z))) ∙ c .before .before .before .loop .inv .2
+    ap (λ r. Refused r k) (c .before .check .ensures) ∙ sym (first-bad check (s .args .n) k (omega arith) (λ z. c .if1 .taken (c .before .check .ensures ∙ z))) ∙ loop .inv .2
 
 add-label : tie.Need-add-label Inv-loop μ-loop
 add-label c = omega arith
@@ -39,10 +40,11 @@ loop-less c = omega arith
 
 loop-again : tie.Need-loop-again Inv-loop μ-loop
 loop-again c =
+    let loop = c .before .before .before .loop in
     let s = c .before .before .before .before in
-    let k = c .before .before .before .loop .label in
+    let k = loop .label in
     let check = cellBad (s .args .rule) (s .args .table .now) in
-    (omega arith, omega arith, sym (first-fine check (s .args .n) k (omega arith) (sym (c .before .check .ensures) ∙ c .if1 .left)) ∙ c .before .before .before .loop .inv .2)
+    (omega arith, omega arith, sym (first-fine check (s .args .n) k (omega arith) (sym (c .before .check .ensures) ∙ c .if1 .left)) ∙ loop .inv .2)
 
 returns-2 : tie.Need-returns-2 Inv-loop μ-loop
 returns-2 c =

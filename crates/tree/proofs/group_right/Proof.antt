@@ -16,13 +16,17 @@ cell-at-requires-2 c κs = search needs
 
 returns-2 : tie.Need-returns-2
 returns-2 c =
+    let if1 = c .before .before .before .before .if1 in
+    let if2 = c .before .before .before .if2 in
     let s = c .before .before .before .before .before in
-    sym (fits-below (s .args .table .now) (s .args .label) (s .args .definition) (c .before .before .before .before .if1 .left) (c .before .before .before .if2 .taken) (c .before .before .cell-at .result) (c .cell-at2 .result) (c .before .before .cell-at .ensures) (c .before .if3 .taken) (c .cell-at2 .ensures))
+    sym (fits-below (s .args .table .now) (s .args .label) (s .args .definition) (if1 .left) (if2 .taken) (c .before .before .cell-at .result) (c .cell-at2 .result)
+    (c .before .before .cell-at .ensures) (c .before .if3 .taken) (c .cell-at2 .ensures))
 
 returns-3 : tie.Need-returns-3
 returns-3 c =
+    let if1 = c .before .before .before .if1 in
     let s = c .before .before .before .before in
-    sym (fits-above (s .args .table .now) (s .args .label) (s .args .definition) (c .before .before .before .if1 .left) (c .before .before .if2 .taken) (c .before .cell-at .result) (c .before .cell-at .ensures) (c .if3 .left))
+    sym (fits-above (s .args .table .now) (s .args .label) (s .args .definition) (if1 .left) (c .before .before .if2 .taken) (c .before .cell-at .result) (c .before .cell-at .ensures) (c .if3 .left))
 
 returns-4 : tie.Need-returns-4
 returns-4 c = sym (fits-expression (c .before .before .args .table .now) (c .before .before .args .label) (c .before .before .args .definition) (c .before .if1 .left) (c .if2 .left))

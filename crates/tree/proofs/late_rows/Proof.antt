@@ -17,7 +17,9 @@ enum-told-2 : tie.Need-enum-told-2
 enum-told-2 c = search needs
 
 returns : tie.Need-returns
-returns c = or-next (c .before .before .before .first-bad .result) _ (c .first-bad2 .result) _ (c .before .before .before .first-bad .ensures) (c .before .enum-told .given .1) (c .first-bad2 .ensures)
+returns c =
+    let first-bad = c .before .before .before .first-bad in
+    or-next (first-bad .result) _ (c .first-bad2 .result) _ (first-bad .ensures) (c .before .enum-told .given .1) (c .first-bad2 .ensures)
 
 returns-2 : tie.Need-returns-2
 returns-2 c = or-stop (c .before .before .first-bad .result) _ _ (c .enum-told2 .given .1) (c .before .before .first-bad .ensures)

@@ -17,27 +17,36 @@ cell-at-requires c κs = search needs
 
 assign-requires : tie.Need-assign-requires
 assign-requires c κs =
+    let if1 = c .before .before .before .if1 in
     let s = c .before .before .before .before .before .before in
     let n = c .before .before .before .before .node-at in
-    let d = sym (ap (λ (p : Node). p .definition) (n .ensures)) ∙ c .before .before .before .if1 .taken in
+    let d = sym (ap (λ (p : Node). p .definition) (n .ensures)) ∙ if1 .taken in
     (s .pre .room, omega (arith, c .before .cell-at .ensures, s .pre .group d), omega arith)
 
 assign-parts-requires : tie.Need-assign-parts-requires
 assign-parts-requires c κs =
+    let cell-at = c .before .before .before .before .cell-at in
     let s = c .before .before .before .before .before .before .before .before .before in
     let n = c .before .before .before .before .before .before .before .node-at in
-    let g = c .before .before .assign in
-    (inside-same (s .args .table .now) (g .last .0) (n .result) (ap length (g .ensures) ∙ assigned-length (s .args .label) (c .before .before .before .before .cell-at .result) 0 (s .args .table .now) (s .pre .room)) (rw (n .ensures) (s .pre .inside)), s .pre .few, omega arith)
+    let g = c .before .before .assign in (
+      inside-same (s .args .table .now) (g .last .0) (n .result) (ap length (g .ensures) ∙ assigned-length (s .args .label) (cell-at .result) 0 (s .args .table .now) (s .pre .room))
+          (rw (n .ensures) (s .pre .inside)),
+      s .pre .few,
+      omega arith,
+    )
 
 same-length : tie.Need-same-length
 same-length c = search needs
 
 returns : tie.Need-returns
 returns c =
+    let if1 = c .before .before .before .before .before .before .before .before .if1 in
+    let cell-at = c .before .before .before .before .before .before .cell-at in
+    let assign = c .before .before .before .before .assign in
     let s = c .before .before .before .before .before .before .before .before .before .before .before in
     let n = c .before .before .before .before .before .before .before .before .before .node-at in
-    let d = sym (ap (λ (p : Node). p .definition) (n .ensures)) ∙ c .before .before .before .before .before .before .before .before .if1 .taken in
-    rw (c .before .assign-parts .ensures, c .before .before .before .before .assign .ensures, c .before .before .before .before .before .before .cell-at .ensures, n .ensures) (sym (propagated-definition (s .args .label) (s .args .table .now) d))
+    let d = sym (ap (λ (p : Node). p .definition) (n .ensures)) ∙ if1 .taken in
+    rw (c .before .assign-parts .ensures, assign .ensures, cell-at .ensures, n .ensures) (sym (propagated-definition (s .args .label) (s .args .table .now) d))
 
 cell-at-requires-2 : tie.Need-cell-at-requires-2
 cell-at-requires-2 c κs = search needs
@@ -47,27 +56,33 @@ cell-at-requires-3 c κs = search needs
 
 add-assign-parts : tie.Need-add-assign-parts
 add-assign-parts c =
+    let if1 = c .before .before .before .before .before .if1 in
     let s = c .before .before .before .before .before .before .before .before in
     let n = c .before .before .before .before .before .before .node-at in
-    let d = sym (ap (λ (p : Node). p .definition) (n .ensures)) ∙ c .before .before .before .before .before .if1 .left in
+    let d = sym (ap (λ (p : Node). p .definition) (n .ensures)) ∙ if1 .left in
     omega (arith, c .before .cell-at3 .ensures, s .pre .level d)
 
 assign-parts-requires-2 : tie.Need-assign-parts-requires-2
 assign-parts-requires-2 c κs =
+    let if1 = c .before .before .before .before .before .if1 in
+    let cell-at2 = c .before .before .before .cell-at2 in
     let s = c .before .before .before .before .before .before .before .before in
     let n = c .before .before .before .before .before .before .node-at in
-    let d = sym (ap (λ (p : Node). p .definition) (n .ensures)) ∙ c .before .before .before .before .before .if1 .left in
-    (rw (n .ensures) (s .pre .inside), omega (arith, c .before .before .before .cell-at2 .ensures, s .pre .owner d), omega (arith, c .before .cell-at3 .ensures, s .pre .level d))
+    let d = sym (ap (λ (p : Node). p .definition) (n .ensures)) ∙ if1 .left in
+    (rw (n .ensures) (s .pre .inside), omega (arith, cell-at2 .ensures, s .pre .owner d), omega (arith, c .before .cell-at3 .ensures, s .pre .level d))
 
 same-length-2 : tie.Need-same-length-2
 same-length-2 c = search needs
 
 returns-2 : tie.Need-returns-2
 returns-2 c =
+    let if1 = c .before .before .before .before .before .before .before .if1 in
+    let cell-at2 = c .before .before .before .before .before .cell-at2 in
+    let cell-at3 = c .before .before .before .cell-at3 in
     let s = c .before .before .before .before .before .before .before .before .before .before in
     let n = c .before .before .before .before .before .before .before .before .node-at in
-    let d = sym (ap (λ (p : Node). p .definition) (n .ensures)) ∙ c .before .before .before .before .before .before .before .if1 .left in
-    rw (c .before .assign-parts2 .ensures, c .before .before .before .before .before .cell-at2 .ensures, c .before .before .before .cell-at3 .ensures, n .ensures) (sym (propagated-expression (s .args .label) (s .args .table .now) d))
+    let d = sym (ap (λ (p : Node). p .definition) (n .ensures)) ∙ if1 .left in
+    rw (c .before .assign-parts2 .ensures, cell-at2 .ensures, cell-at3 .ensures, n .ensures) (sym (propagated-expression (s .args .label) (s .args .table .now) d))
 
 pub propagate-spec : {M : Type 1} → statement M
 propagate-spec =

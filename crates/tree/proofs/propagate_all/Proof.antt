@@ -2,7 +2,7 @@
 use mathlib.Core.Path.{_≡_}
 use Prim.Native.Nat.{_+_, _-_, _≤_}
 use native.Mathlib.Omega.{arith}
-use Rattle.tree.specs.Steps.{Propagated}
+use Rattle.tree.specs.TreeSteps.{Propagated}
 use Rattle.tree.proofs.Passes.{propagate-start, propagate-ready, propagate-turn}
 use Rattle.tree.proofs.propagate_all.Statement.{statement}
 use Rattle.tree.proofs.propagate_all.Tie as tie

@@ -22,9 +22,13 @@ same-length c = search needs
 
 returns : tie.Need-returns
 returns c =
+    let late-rows-2 = c .before .before .before .late-rows in
     let s = c .before .before .before .before .before .before .before .before in
-    let h = c .before .before .before .before .before .before .propagate-all in
-    (c .before .before .before .late-rows .ensures ∙ late-rows (s .args .table .now) (s .args .n) (s .pre .0) (h .last .0) (h .ensures), owning (s .args .table .now) (s .args .n) (s .pre .0) (h .last .0) (c .before .clear-targets .last .0) (h .ensures) (c .before .clear-targets .ensures))
+    let h = c .before .before .before .before .before .before .propagate-all in (
+      late-rows-2 .ensures ∙ late-rows (s .args .table .now) (s .args .n) (s .pre .0) (h .last .0) (h .ensures),
+      owning (s .args .table .now) (s .args .n) (s .pre .0) (h .last .0)
+          (c .before .clear-targets .last .0) (h .ensures) (c .before .clear-targets .ensures),
+    )
 
 pub read-owners-spec : {M : Type 1} → statement M
 read-owners-spec =

@@ -16,8 +16,9 @@ enum-told c = search needs
 
 read-uses-requires : tie.Need-read-uses-requires
 read-uses-requires c κs =
+    let first-bad = c .before .before .before .first-bad in
     let s = c .before .before .before .before .before in
-    (s .pre, structured (s .args .table .now) (s .args .n) (s .pre .formed) (sym (c .before .before .before .first-bad .ensures) ∙ c .before .enum-told .given .1))
+    (s .pre, structured (s .args .table .now) (s .args .n) (s .pre .formed) (sym (first-bad .ensures) ∙ c .before .enum-told .given .1))
 
 enum-told-2 : tie.Need-enum-told-2
 enum-told-2 c = search needs
@@ -28,9 +29,10 @@ same-length c = search needs
 returns : tie.Need-returns
 unfolding treeBad
 returns c =
+    let enum-told = c .before .before .before .enum-told in
     let v = c .before .before .before .before .before .first-bad in
     let r = c .before .read-uses in
-    (or-next (v .result) _ (r .result) _ (v .ensures) (c .before .before .before .enum-told .given .1) (r .ensures .0), r .ensures .1)
+    (or-next (v .result) _ (r .result) _ (v .ensures) (enum-told .given .1) (r .ensures .0), r .ensures .1)
 
 same-length-2 : tie.Need-same-length-2
 same-length-2 c = search needs

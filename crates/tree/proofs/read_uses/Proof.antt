@@ -22,9 +22,10 @@ enum-told c = search needs
 
 read-owners-requires : tie.Need-read-owners-requires
 read-owners-requires c κs =
+    let first-bad = c .before .before .before .first-bad in
     let s = c .before .before .before .before .before .before .before .before in
     let u = c .before .before .before .before .before .before .count-uses in
-    let fine = sym (uses-rows (s .args .table .now) (s .args .n) (u .last .0) (u .ensures)) ∙ sym (c .before .before .before .first-bad .ensures) ∙ c .before .enum-told .given .1 in
+    let fine = sym (uses-rows (s .args .table .now) (s .args .n) (u .last .0) (u .ensures)) ∙ sym (first-bad .ensures) ∙ c .before .enum-told .given .1 in
     (over-used (s .args .table .now) (s .args .n) (u .last .0) (tree (s .args .table .now) (s .args .n) (s .pre .1) fine) (u .ensures .over), u .ensures .over .natural)
 
 enum-told-2 : tie.Need-enum-told-2
@@ -35,11 +36,13 @@ same-length c = search needs
 
 returns : tie.Need-returns
 returns c =
+    let enum-told = c .before .before .before .enum-told in
     let s = c .before .before .before .before .before .before .before .before .before .before in
     let u = c .before .before .before .before .before .before .before .before .count-uses in
     let v = c .before .before .before .before .before .first-bad in
     let r = c .before .read-owners in (
-      or-next (v .result) _ (r .result) _ (v .ensures ∙ uses-rows (s .args .table .now) (s .args .n) (u .last .0) (u .ensures)) (c .before .before .before .enum-told .given .1) (r .ensures .0 ∙ alike-rows (s .args .table .now) (u .last .0) (s .args .n) (over-alike (s .args .table .now) (u .last .0) (s .args .n) (u .ensures .over))),
+      or-next (v .result) _ (r .result) _ (v .ensures ∙ uses-rows (s .args .table .now) (s .args .n) (u .last .0) (u .ensures)) (enum-told .given .1)
+          (r .ensures .0 ∙ alike-rows (s .args .table .now) (u .last .0) (s .args .n) (over-alike (s .args .table .now) (u .last .0) (s .args .n) (u .ensures .over))),
       written (r .result) (s .args .table .now) (s .args .n) (r .last .0) (owners-written (s .args .table .now) (s .args .n) (s .pre .0) (u .last .0) (r .last .0) (u .ensures .over) (r .ensures .1)),
     )
 
@@ -50,8 +53,11 @@ returns-2 : tie.Need-returns-2
 returns-2 c =
     let s = c .before .before .before .before .before .before .before in
     let u = c .before .before .before .before .before .count-uses in
-    let v = c .before .before .first-bad in
-    (or-stop (v .result) _ _ (c .enum-told2 .given .1) (v .ensures ∙ uses-rows (s .args .table .now) (s .args .n) (u .last .0) (u .ensures)), not-written (v .result) (s .args .table .now) (s .args .n) (u .last .0) (c .enum-told2 .given .1) (u .ensures .over .size))
+    let v = c .before .before .first-bad in (
+      or-stop (v .result) _ _ (c .enum-told2 .given .1) (v .ensures ∙ uses-rows (s .args .table .now) (s .args .n) (u .last .0) (u .ensures)),
+      not-written (v .result) (s .args .table .now)
+          (s .args .n) (u .last .0) (c .enum-told2 .given .1) (u .ensures .over .size),
+    )
 
 pub read-uses-spec : {M : Type 1} → statement M
 read-uses-spec =

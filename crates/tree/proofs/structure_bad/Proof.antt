@@ -15,24 +15,34 @@ group-right-requires : tie.Need-group-right-requires
 group-right-requires c κs = search needs
 
 parts-right-requires : tie.Need-parts-right-requires
-parts-right-requires c κs = (c .before .before .before .pre, c .before .before .node-at .ensures)
+parts-right-requires c κs =
+    let entry = c .before .before .before in
+    (entry .pre, c .before .before .node-at .ensures)
 
 returns : tie.Need-returns
 returns c =
+    let node-at = c .before .before .before .before .node-at in
+    let group-right = c .before .before .before .group-right in
     let s = c .before .before .before .before .before in
-    sym (structure-is (s .args .table .now) (s .args .label) (c .before .before .before .before .node-at .result .definition) (c .before .before .before .group-right .result) (c .before .parts-right .result) (ap (λ (p : Node). p .definition) (c .before .before .before .before .node-at .ensures) ∙ node-definition (s .args .table .now) (s .args .label)) (c .before .before .before .group-right .ensures) (c .before .parts-right .ensures)
+    sym (structure-is (s .args .table .now) (s .args .label) (node-at .result .definition) (group-right .result) (c .before .parts-right .result)
+    (ap (λ (p : Node). p .definition) (node-at .ensures) ∙ node-definition (s .args .table .now) (s .args .label)) (group-right .ensures) (c .before .parts-right .ensures)
     ∙ rw (c .before .before .if1 .taken, c .if2 .taken))
 
 returns-2 : tie.Need-returns-2
 returns-2 c =
+    let node-at = c .before .before .before .before .node-at in
+    let group-right = c .before .before .before .group-right in
     let s = c .before .before .before .before .before in
-    sym (structure-is (s .args .table .now) (s .args .label) (c .before .before .before .before .node-at .result .definition) (c .before .before .before .group-right .result) (c .before .parts-right .result) (ap (λ (p : Node). p .definition) (c .before .before .before .before .node-at .ensures) ∙ node-definition (s .args .table .now) (s .args .label)) (c .before .before .before .group-right .ensures) (c .before .parts-right .ensures)
+    sym (structure-is (s .args .table .now) (s .args .label) (node-at .result .definition) (group-right .result) (c .before .parts-right .result)
+    (ap (λ (p : Node). p .definition) (node-at .ensures) ∙ node-definition (s .args .table .now) (s .args .label)) (group-right .ensures) (c .before .parts-right .ensures)
     ∙ rw (c .before .before .if1 .taken, c .if2 .left))
 
 returns-3 : tie.Need-returns-3
 returns-3 c =
     let s = c .before .before .before in
-    sym (structure-is (s .args .table .now) (s .args .label) (c .before .before .node-at .result .definition) (c .before .group-right .result) (all (partRight (s .args .table .now) (s .args .label)) (parts (s .args .table .now) (s .args .label))) (ap (λ (p : Node). p .definition) (c .before .before .node-at .ensures) ∙ node-definition (s .args .table .now) (s .args .label)) (c .before .group-right .ensures) refl
+    sym (structure-is (s .args .table .now) (s .args .label) (c .before .before .node-at .result .definition) (c .before .group-right .result)
+    (all (partRight (s .args .table .now) (s .args .label)) (parts (s .args .table .now) (s .args .label)))
+    (ap (λ (p : Node). p .definition) (c .before .before .node-at .ensures) ∙ node-definition (s .args .table .now) (s .args .label)) (c .before .group-right .ensures) refl
     ∙ rw (c .if1 .left))
 
 pub structure-bad-spec : {M : Type 1} → statement M

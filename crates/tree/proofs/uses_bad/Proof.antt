@@ -12,10 +12,14 @@ cell-at-requires : tie.Need-cell-at-requires
 cell-at-requires c κs = search needs
 
 returns : tie.Need-returns
-returns c = rw (← c .before .before .before .is-expression .ensures, ← c .before .cell-at .ensures) (sym (uses-wrong (c .before .before .before .is-expression .result) (c .before .cell-at .result) (c .before .before .if1 .taken) (c .if2 .taken)))
+returns c =
+    let is-expression = c .before .before .before .is-expression in
+    rw (← is-expression .ensures, ← c .before .cell-at .ensures) (sym (uses-wrong (is-expression .result) (c .before .cell-at .result) (c .before .before .if1 .taken) (c .if2 .taken)))
 
 returns-2 : tie.Need-returns-2
-returns-2 c = rw (← c .before .before .before .is-expression .ensures, ← c .before .cell-at .ensures) (sym (uses-once (c .before .before .before .is-expression .result) (c .before .cell-at .result) (c .if2 .left)))
+returns-2 c =
+    let is-expression = c .before .before .before .is-expression in
+    rw (← is-expression .ensures, ← c .before .cell-at .ensures) (sym (uses-once (is-expression .result) (c .before .cell-at .result) (c .if2 .left)))
 
 returns-3 : tie.Need-returns-3
 returns-3 c = rw (← c .before .is-expression .ensures, c .if1 .left)

@@ -5,8 +5,8 @@ use lib.ListN.{length-set}
 use mir.Facts.{toZ-ofZ}
 use mir.Syntax.{w64}
 use borrow.Author.Needs.{sfits-of, needs}
-use Rattle.lines.proofs.put_row.Statement.{statement}
-use Rattle.lines.proofs.put_row.Tie as tie
+use Rattle.lines.proofs.put_cells.Statement.{statement}
+use Rattle.lines.proofs.put_cells.Tie as tie
 
 mul-code : tie.Need-mul-code
 mul-code c = search needs
@@ -94,8 +94,8 @@ returns c =
       toZ-ofZ (sfits-of {w = w64} {z = r .c} (g .1 .1 .1 .1 .1 .0 .1)),
     )
 
-pub put-row-spec : {M : Type 1} → statement M
-put-row-spec =
+pub put-cells-spec : {M : Type 1} → statement M
+put-cells-spec =
     tie.close
     (tie.spec
     mul-code

@@ -3,6 +3,7 @@ use mathlib.Core.Path.{_≡_}
 use mathlib.Core.List.{List}
 use Prim.Native.Nat.{ℕ, _≤_}
 use lib.IntN.{ℤ}
+use Rattle.cells.specs.Limits.{labelLimit}
 use Rattle.refusals.specs.declared.Verdict.{Verdict}
 use Rattle.refusals.specs.declared.Verdict.the-variants.{Fine}
 use Rattle.lines.specs.Lines.{labels, headBad}
@@ -12,7 +13,7 @@ use Rattle.reading.specs.Read.{resolvedBad, resolvedTable, sheetBad, tab
 pub record Passed (s : List ℕ) (n : ℕ) : Type 0 where
   pub head : headBad s ≡ Fine
   pub count : n ≡ labels s
-  pub few : n ≤ 1024
+  pub few : n ≤ labelLimit
 
 -- some rows find v, which has to be `wanted`, and where that is nothing they leave the table `made`; where they refuse, the table is for
 -- the caller to clear

@@ -10,19 +10,19 @@ use lib.Seq.{slice, sets}
 use Rattle.kinds.specs.declared.Fields.{Fields}
 use Rattle.kinds.specs.Kinds.{groupCode, fieldsAt}
 use Rattle.text.specs.Bytes.{same}
-use Rattle.text.specs.Pieces.{cut, place, firstOf, fieldsAre}
+use Rattle.text.specs.Pieces.{cut, pieceStart, firstOf, fieldsAre}
 use Rattle.text.specs.Scans.{rest, fieldsFrom}
 use Rattle.refusals.specs.Rows.{formRow}
 use Rattle.refusals.specs.declared.Verdict.{Verdict}
 use Rattle.refusals.specs.declared.Verdict.the-variants.{Fine, Refused}
 use Rattle.lines.specs.Fields.{dash, fieldOf, held, kindCode}
-use Rattle.lines.specs.Lines.{field, formsRight, nameCell, rootLine, lineBad, rows}
+use Rattle.lines.specs.Lines.{field, formsRight, nameCell, rootLine, lineBad, linesCells}
 use Rattle.lines.specs.declared.Ends.{Ends}
 use Rattle.lines.specs.declared.Split.{Split}
 use Rattle.lines.specs.declared.Split.the-variants.{Five, Other}
-use Rattle.lines.specs.declared.Row.{Row}
-use Rattle.lines.specs.declared.Line.{Line}
-use Rattle.lines.specs.declared.Line.the-variants.{Passes, Fails}
+use Rattle.lines.specs.declared.LineCells.{LineCells}
+use Rattle.lines.specs.declared.LineJudged.{LineJudged}
+use Rattle.lines.specs.declared.LineJudged.the-variants.{Passes, Fails}
 use Rattle.lines.specs.declared.Field.{Field}
 use Rattle.lines.specs.declared.Field.the-variants as aField
 use Rattle.lines.specs.declared.Operands.{Operands}
@@ -64,12 +64,12 @@ abbrev pub operandsAt : List ℕ → Ends → Fields → ℕ → Operands
 operandsAt s e k n = operandsOf (fieldOf (k .a) n (slice (e .name + 1) (e .a) s)) (fieldOf (k .b) n (slice (e .a + 1) (e .b) s)) (fieldOf (k .c) n (slice (e .b + 1) (e .c) s))
 
 -- the cells that the code carries, as the list that it writes
-abbrev pub cellsOf : Row → List ℤ
-cellsOf r = r .code ∷ r .start ∷ r .length ∷ r .a ∷ r .b ∷ r .c ∷ pos 0 ∷ pos 0 ∷ []
+abbrev pub eightCells : LineCells → List ℤ
+eightCells r = r .code ∷ r .start ∷ r .length ∷ r .a ∷ r .b ∷ r .c ∷ pos 0 ∷ pos 0 ∷ []
 
 -- the cells of a line by the places of its fields, and by the fields alone
-abbrev pub rowBy : List ℕ → Ends → ℕ → ℤ → ℤ → ℤ → Row
-rowBy s e code a b c = record {
+abbrev pub cellsByEnds : List ℕ → Ends → ℕ → ℤ → ℤ → ℤ → LineCells
+cellsByEnds s e code a b c = record {
   code = pos code;
   start = pos (cond (same (slice (e .kind + 1) (e .name) s) dash) 0 (e .kind + 1));
   length = pos (cond (same (slice (e .kind + 1) (e .name) s) dash) 0 (e .name - (e .kind + 1)));
@@ -79,10 +79,10 @@ rowBy s e code a b c = record {
   end = e .c;
 }
 
-abbrev pub rowAt : ℕ → List ℕ → ℕ → List (List ℕ) → Row
-rowAt n s from fs = record {
+abbrev pub cellsByFields : ℕ → List ℕ → ℕ → List (List ℕ) → LineCells
+cellsByFields n s from fs = record {
   code = pos (kindCode (field fs 0));
-  start = nameCell fs (from + place fs 1);
+  start = nameCell fs (from + pieceStart fs 1);
   length = nameCell fs (length (field fs 1));
   a = held (fieldOf (fieldsAt (kindCode (field fs 0)) .a) n (field fs 2));
   b = held (fieldOf (fieldsAt (kindCode (field fs 0)) .b) n (field fs 3));
@@ -91,7 +91,7 @@ rowAt n s from fs = record {
 }
 
 -- those of label 1
-abbrev pub rootAt : List ℕ → ℕ → Row
+abbrev pub rootAt : List ℕ → ℕ → LineCells
 rootAt s from = record {
   code = pos groupCode;
   start = pos 0;
@@ -103,40 +103,40 @@ rootAt s from = record {
 }
 
 -- a line with five fields of a known kind: row 7, for label 1 and for the others
-abbrev pub rootRead : List ℕ → ℕ → Line
+abbrev pub rootRead : List ℕ → ℕ → LineJudged
 rootRead s from = cond (same (lineFrom s from) rootLine) (Passes (rootAt s from)) (Fails formRow)
 
-abbrev pub rowRead : ℕ → List ℕ → ℕ → Line
-rowRead n s from =
+abbrev pub otherRead : ℕ → List ℕ → ℕ → LineJudged
+otherRead n s from =
     cond (formsRight n (fieldsAt (kindCode (field (fieldsFrom s from) 0))) (fieldsFrom s from))
-    (Passes (rowAt n s from (fieldsFrom s from)))
+    (Passes (cellsByFields n s from (fieldsFrom s from)))
     (Fails formRow)
 
 -- the line that begins at `from`, with label k in a sheet of n labels: its cells, or the row that refuses it
-abbrev pub rowFor : ℕ → ℕ → List ℕ → ℕ → Row
-rowFor n k s from = cond (eqb k 1) (rootAt s from) (rowAt n s from (fieldsFrom s from))
+abbrev pub cellsFor : ℕ → ℕ → List ℕ → ℕ → LineCells
+cellsFor n k s from = cond (eqb k 1) (rootAt s from) (cellsByFields n s from (fieldsFrom s from))
 
-abbrev pub decide : ℕ → Row → Line
+abbrev pub decide : ℕ → LineCells → LineJudged
 decide zero r = Passes r
 decide (suc b) r = Fails (suc b)
 
-unfoldable pub lineRead : ℕ → ℕ → List ℕ → ℕ → Line
-lineRead n k s from = decide (lineBad n k (lineFrom s from)) (rowFor n k s from)
+unfoldable pub lineRead : ℕ → ℕ → List ℕ → ℕ → LineJudged
+lineRead n k s from = decide (lineBad n k (lineFrom s from)) (cellsFor n k s from)
 
-abbrev pub stepOf : Line → Next
+abbrev pub stepOf : LineJudged → Next
 stepOf (Passes r) = At (r .end + 1)
 stepOf (Fails b) = Stop b
 
 -- the table after a line is read: its cells stand from index `base` on
-abbrev pub written : Line → ℕ → List ℤ → List ℤ
-written (Passes r) base t = sets t base (cellsOf r)
-written (Fails b) base t = t
+abbrev pub lineWritten : LineJudged → ℕ → List ℤ → List ℤ
+lineWritten (Passes r) base t = sets t base (eightCells r)
+lineWritten (Fails b) base t = t
 
 -- how many of n labels a pass upward went by before it ended
 abbrev pub passed : Verdict → ℕ → ℕ
 passed Fine n = n
 passed (Refused r k) n = k - 1
 
--- a table in which the cells of labels 1 to k are written, and the others are as they were
+-- a table in which the cells of labels 1 to k are lineWritten, and the others are as they were
 abbrev pub linesWritten : List ℕ → ℕ → ℕ → List ℤ → List ℤ
-linesWritten s n k t = rows s n k ++ drop (8 * k) t
+linesWritten s n k t = linesCells s n k ++ drop (8 * k) t

@@ -7,12 +7,13 @@ use Prim.Native.Nat.{ℕ, suc, _+_, _-_, _*_, _%_, _≤_, _<_}
 use lib.Dec.{leb, eqb}
 use lib.IntN.{ℤ, pos}
 use lib.ListN.{length, set}
+use Rattle.cells.specs.Limits.{labelLimit}
 use Rattle.cells.specs.Cells.{intAt}
 use Rattle.cells.specs.Lists.{count}
 use Rattle.cells.specs.Table.{cell, kind, isDefinition, isExpression, fieldA, fieldB, fieldC, owner, target}
-use Rattle.kinds.specs.Kinds.{groupCode, fieldsAt, isKind, isOperand}
+use Rattle.kinds.specs.Kinds.{groupCode, fieldsAt, isKind, isOperandForm}
 use Rattle.kinds.specs.declared.Form.{Form}
-use Rattle.tree.specs.Tree.{parts, groupRight, partRight, structureBad, uses, notOnce, IsPart, userOf, ownerOf, levelOf, argumentIn, tooDeep}
+use Rattle.tree.specs.Tree.{parts, groupRight, partRight, structureBad, uses, notOnce, IsPart, userOf, ownerOf, levelOf, argumentIn, aboveLevels}
 use Rattle.tree.specs.Treed.{Formed}
 use Rattle.tree.specs.declared.Node.{Node}
 use Rattle.tree.specs.declared.Rule.{Rule}
@@ -22,7 +23,7 @@ use Rattle.tree.specs.declared.Rule.the-variants as rule
 
 -- what a field holds as a body or operand, else 0
 abbrev pub partIn : Form → ℕ → ℕ
-partIn f x = cond (isOperand f) x 0
+partIn f x = cond (isOperandForm f) x 0
 
 unfoldable pub nodeAt : List ℤ → ℕ → Node
 nodeAt t l = record {
@@ -49,7 +50,7 @@ abbrev pub cellBad : Rule → List ℤ → ℕ → ℕ
 cellBad rule.Structure t l = structureBad t l
 cellBad rule.Uses t l = notOnce (isExpression t l) (target t l)
 cellBad rule.Argument t l = argumentIn (kind t l) (kind t (owner t l))
-cellBad rule.Level t l = tooDeep (target t l)
+cellBad rule.Level t l = aboveLevels (target t l)
 
 -- the table in which x, if it is a label, is used once more
 abbrev pub counted : ℕ → List ℤ → List ℤ
@@ -81,18 +82,18 @@ pub record Inside (t : List ℤ) (p : Node) : Type 0 where
 pub record Countable (t : List ℤ) (l : ℕ) : Type 0 where
   pub known : isKind (kind t l) ≡ true
   pub inside : Inside t (nodeAt t l)
-  pub a : target t (nodeAt t l .a) ≤ 3072
-  pub b : target t (nodeAt t l .b) ≤ 3072
-  pub c : target t (nodeAt t l .c) ≤ 3072
+  pub a : target t (nodeAt t l .a) ≤ 3 * labelLimit
+  pub b : target t (nodeAt t l .b) ≤ 3 * labelLimit
+  pub c : target t (nodeAt t l .c) ≤ 3 * labelLimit
 
 pub record Propagable (t : List ℤ) (l : ℕ) : Type 0 where
   pub known : isKind (kind t l) ≡ true
   pub inside : Inside t (nodeAt t l)
   pub room : 8 * l ≤ length t
-  pub few : l ≤ 1024
-  pub group : nodeAt t l .definition ≡ true → fieldA t l ≤ 1024
-  pub owner : nodeAt t l .definition ≡ false → owner t l ≤ 1024
-  pub level : nodeAt t l .definition ≡ false → target t l ≤ 1024
+  pub few : l ≤ labelLimit
+  pub group : nodeAt t l .definition ≡ true → fieldA t l ≤ labelLimit
+  pub owner : nodeAt t l .definition ≡ false → owner t l ≤ labelLimit
+  pub level : nodeAt t l .definition ≡ false → target t l ≤ labelLimit
 
 -- ---- tables that passed rows 8 and 9
 
@@ -119,7 +120,7 @@ pub record Over (t : List ℤ) (n : ℕ) (w : List ℤ) : Type 0 where
   pub natural : Natural w n
 
 -- the parts of labels 1 to k are counted
-pub record Counted (t : List ℤ) (n k : ℕ) (w : List ℤ) : Type 0 where
+pub record UsesCounted (t : List ℤ) (n k : ℕ) (w : List ℤ) : Type 0 where
   pub over : Over t n w
   pub uses : (x : ℕ) → 1 ≤ x → x ≤ n → target w x ≡ uses t k x
 

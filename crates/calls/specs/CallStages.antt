@@ -14,9 +14,9 @@ use Rattle.refusals.specs.declared.Verdict.the-variants.{Fine, Refused}
 use Rattle.refusals.specs.declared.Reply.{Reply}
 use Rattle.lines.specs.Lines.{labels, headBad}
 use Rattle.order.specs.Order as order
-use Rattle.order.specs.Rows.{cycleBad, orderBad}
+use Rattle.order.specs.Rows16to18.{cycleBad, orderBad}
 use Rattle.reading.specs.Read.{sheetBad, sheetTable, tableOf}
-use Rattle.reading.specs.Stages.{Judged}
+use Rattle.reading.specs.ReadStages.{Judged}
 use Rattle.calls.specs.Plan.{planOf, answerBy, listedBy}
 use Rattle.calls.specs.Run.{resultsBy}
 use Rattle.calls.specs.declared.PlanReply.{PlanReply}
@@ -55,14 +55,14 @@ keptBy Fine t = t
 keptBy (Refused r l) t = zeros (length t)
 
 -- the rows of n labels in a table
-abbrev pub rowsOf : ℕ → List ℤ → List ℤ
-rowsOf n w = take (8 * n) w
+abbrev pub cellsTo : ℕ → List ℤ → List ℤ
+cellsTo n w = take (8 * n) w
 
 -- row 16 and the plan of the rows of n labels in a table w
 pub record TablePlans (n : ℕ) (w : List ℤ) (p : ℕ) (r : PlanReply) (t o : List ℤ) : Type 0 where
-  pub reply : r ≡ answerBy (cycleBad (rowsOf n w) n) (order.plan (rowsOf n w) n)
-  pub table : t ≡ keptBy (cycleBad (rowsOf n w) n) w
-  pub plan : o ≡ listedBy (cycleBad (rowsOf n w) n) (order.plan (rowsOf n w) n) p
+  pub reply : r ≡ answerBy (cycleBad (cellsTo n w) n) (order.plan (cellsTo n w) n)
+  pub table : t ≡ keptBy (cycleBad (cellsTo n w) n) w
+  pub plan : o ≡ listedBy (cycleBad (cellsTo n w) n) (order.plan (cellsTo n w) n) p
 
 -- ---- rows 5 to 16, and to 18, of a text that rows 1 to 4 let pass
 

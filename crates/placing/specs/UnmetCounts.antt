@@ -5,7 +5,7 @@ use mathlib.Core.List.{List, [], _∷_}
 use mathlib.Core.Bool.{Bool, true, false, not, _&&_}
 use Prim.Native.Nat.{ℕ, _+_, _*_, _≤_, _<_}
 use lib.ListN.{length, getD, take}
-use Rattle.order.specs.Lists.{count, _∈_, mem, filter}
+use Rattle.order.specs.LabelLists.{count, _∈_, mem, filter}
 use Rattle.order.specs.Placing.{placed}
 use Rattle.marks.specs.Marks.{mark}
 

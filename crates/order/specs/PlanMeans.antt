@@ -20,7 +20,7 @@ Row16 t zero = NoCycle t
 Row16 t (suc v) = SmallestCycle t (suc v)
 
 -- 16 with its place, and no order is proper; or a proper order that is whole; or a proper order where no proper order is whole
-abbrev pub Planned : List ℤ → Answer → Type 0
-Planned t (cycle v) = SmallestCycle t v × ((o : List ℕ) → Proper t o → ⊥)
-Planned t (whole o) = Proper t o × Whole t o
-Planned t (mixed o) = Proper t o × ((p : List ℕ) → Proper t p → Whole t p → ⊥)
+abbrev pub PlanMeans : List ℤ → Answer → Type 0
+PlanMeans t (cycle v) = SmallestCycle t v × ((o : List ℕ) → Proper t o → ⊥)
+PlanMeans t (whole o) = Proper t o × Whole t o
+PlanMeans t (mixed o) = Proper t o × ((p : List ℕ) → Proper t p → Whole t p → ⊥)

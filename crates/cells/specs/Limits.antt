@@ -1,0 +1,25 @@
+-- The limits of document 01, "The sheet", each said here alone.
+use Prim.Native.Nat.{ℕ}
+
+-- "A sheet is 1 to 65,536 bytes"
+abbrev pub sizeLimit : ℕ
+sizeLimit = 65536
+
+-- "Then come 1 to 1,024 lines", which have the labels
+abbrev pub labelLimit : ℕ
+labelLimit = 1024
+
+-- a name is "1 to 16" letters or digits, a path "1 to 8" names
+abbrev pub nameLimit : ℕ
+nameLimit = 16
+
+abbrev pub pathLimit : ℕ
+pathLimit = 8
+
+-- a number is "-1000000000 to 1000000000"
+abbrev pub numberLimit : ℕ
+numberLimit = 1000000000
+
+-- "level above 32" is refused
+abbrev pub levelLimit : ℕ
+levelLimit = 32

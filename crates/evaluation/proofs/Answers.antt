@@ -11,7 +11,8 @@ use Rattle.cells.specs.Table.{kind, fieldA, fieldB, target}
 use Rattle.numbers.specs.Arithmetic.{calculated}
 use Rattle.kinds.specs.declared.Operation.{Operation}
 use Rattle.evaluation.specs.States.{hasNumber, outOfSteps, tooDeep}
-use Rattle.evaluation.specs.Evaluation.{fails, onNumber, unlessFailed, outcomeOf, tieRule, depthLimit, one, bodyBy, callBy, operationBy, branchOf, choiceBy, enteredBy, stepBy, outcome, nothing, stepLimit, valueOutcome, valueOf, evaluated}
+use Rattle.evaluation.specs.Evaluation.{fails, onNumber, unlessFailed, outcomeOf, tieRule, depthLimit, oneArgument, bodyBy, callBy, operationBy, branchOf, choiceBy}
+use Rattle.evaluation.specs.Evaluation.{enteredBy, stepBy, outcome, nothing, stepLimit, valueOutcome, valueOf, evaluated}
 use Rattle.evaluation.specs.declared.Arguments.{Arguments}
 use Rattle.kinds.specs.declared.Clause.{Clause}
 use Rattle.evaluation.specs.declared.Outcome.{Outcome}
@@ -40,7 +41,7 @@ module _ (t r : List ℤ) (l : ℕ) (g : Arguments) (s d : ℕ) {x : ℕ} {o : O
   call-deep f h e = goes (λ y s′. bodyBy (eqb d depthLimit) (outcome t r) t l y s′ d) at f (rw (eq-eqb d depthLimit h) e)
 
   pub call-goes : {u : Outcome} → o .state ≡ hasNumber → (d ≡ depthLimit → ⊥) → {y : ℤ} {z b : ℕ} → y ≡ o .number → z ≡ target t l → b ≡ fieldB t z
-      → u ≡ outcome t r b (one y) (o .left) (d + 1) → u ≡ callBy (outcome t r) t l g s d
+      → u ≡ outcome t r b (oneArgument y) (o .left) (d + 1) → u ≡ callBy (outcome t r) t l g s d
   unfolding callBy bodyBy
   call-goes f h ey ez eb e =
       goes (λ y s′. bodyBy (eqb d depthLimit) (outcome t r) t l y s′ d) at f
@@ -63,7 +64,8 @@ module _ (t r : List ℤ) (l : ℕ) (g : Arguments) (s d : ℕ) {x : ℕ} {o : O
     combines f′ ey ey′ e =
         goes (after op) at f (goes (λ b s″. outcomeOf (calculated tieRule op (o .number) b) s″) at′ f′ (rw ey at (rw ey′ at e)))
 
-  pub chooses : {u : Outcome} → o .state ≡ hasNumber → {y : ℤ} {b : ℕ} → y ≡ o .number → b ≡ branchOf t l y → u ≡ outcome t r b g (o .left) d → u ≡ choiceBy (outcome t r) t l g s d
+  pub chooses : {u : Outcome} → o .state ≡ hasNumber → {y : ℤ} {b : ℕ} → y ≡ o .number → b ≡ branchOf t l y → u ≡ outcome t r b g (o .left) d
+      → u ≡ choiceBy (outcome t r) t l g s d
   unfolding choiceBy
   chooses f ey eb e = goes (λ y s′. outcome t r (branchOf t l y) g s′ d) at f (rw ey at (rw eb at e))
 

@@ -12,18 +12,18 @@ use Rattle.kinds.proofs.Tests.{clash}
 use Rattle.kinds.proofs.Laws.{kind-low, definition-kind, body-definition, path-body}
 use Rattle.kinds.proofs.Clauses.{usesOf, expression-uses, path-uses, a-uses, b-uses, c-uses, number-code, read-value, call-takes, call-some}
 use Rattle.cells.specs.Cells.{equals}
-use Rattle.cells.specs.Table.{kind, fieldA, fieldB, fieldC, owner, target, numberOf}
+use Rattle.cells.specs.Table.{kind, fieldA, fieldB, fieldC, owner, target, lineNumber}
 use Rattle.cells.specs.Accepted.{Accepted, Part, HasBody}
 use Rattle.cells.specs.Reaches.{HasPath, Mentions, Reaches, once, then}
-use Rattle.numbers.specs.Range.{limit}
+use Rattle.cells.specs.Limits.{numberLimit}
 use Rattle.evaluation.specs.Evaluation.{branchOf}
-use Rattle.evaluation.specs.Ready.{Line, Cell}
+use Rattle.evaluation.specs.Ready.{ExpressionAt, Cell}
 use Rattle.kinds.specs.declared.Clause.{Clause}
 use Rattle.kinds.specs.declared.Clause.the-variants as clause
 
 -- expression x of a table of n labels is owned by a definition of D
 pub record Within (t : List ℤ) (n : ℕ) (D : ℕ → Type 0) (x : ℕ) : Type 0 where
-  pub line : Line t n x
+  pub line : ExpressionAt t n x
   pub owned : D (owner t x)
 
 -- definition d has a body that takes arguments
@@ -86,7 +86,7 @@ module _ (t : List ℤ) (n : ℕ) (w : Accepted t n) where
   module _ (D E : ℕ → Type 0) (c : Closed t D E) where
     -- what a line leads to by its clause
     unfoldable pub Leads : Clause → ℕ → Type 0
-    Leads clause.Number l = natAbs (numberOf t l) ≤ limit
+    Leads clause.Number l = natAbs (lineNumber t l) ≤ numberLimit
     Leads (clause.Argument i) l = Unit {0}
     Leads clause.Read l = (kind t (target t l) ≡ valueCode) × E (target t l)
     Leads (clause.Call k) l = Within t n D (fieldA t l) × Within t n D (fieldB t (target t l)) × HasBody t (target t l) × D (target t l)
@@ -107,11 +107,14 @@ module _ (t : List ℤ) (n : ℕ) (w : Accepted t n) where
       pub first : operandA (kind t l) ≡ true → Within t n D (fieldA t l)
       first e = part l (owner t l) (fieldA t l) (w .first l e) (h .owned)
 
-      second : operandB (kind t l) ≡ true → Within t n D (fieldB t l)
+      pub second : operandB (kind t l) ≡ true → Within t n D (fieldB t l)
       second e = part l (owner t l) (fieldB t l) (w .second l e) (h .owned)
 
+      pub third : operandC (kind t l) ≡ true → Within t n D (fieldC t l)
+      third e = part l (owner t l) (fieldC t l) (w .third l e) (h .owned)
+
       branch : operandB (kind t l) ≡ true → operandC (kind t l) ≡ true → (b : Bool) → Within t n D (cond b (fieldC t l) (fieldB t l))
-      branch e f true = part l (owner t l) (fieldC t l) (w .third l f) (h .owned)
+      branch e f true = third f
       branch e f false = second e
 
       aim : HasPath t l → E (target t l)

@@ -1,36 +1,41 @@
 -- What the calls of the cycle ask: an entry leads to the entries of its operands, the cells that it reads are there, and a value that it
 -- reads has been evaluated.
 use mathlib.Core.Path.{_≡_, refl, sym, ap, _∙_, subst}
-use mathlib.Core.Bool.{true}
+use mathlib.Core.Bool.{Bool, true, false, cond}
 use mathlib.Core.List.{List}
 use mathlib.Core.Logic.{inl}
 use Prim.Native.Nat.{ℕ, _+_, _*_, _≤_, _<_}
 use native.Mathlib.Omega.{arith}
 use lib.IntN.{ℤ, natAbs}
+use lib.Dec.{eqb}
 use lib.ListN.{length}
+use borrow.Author.Tests.{eqb-true}
 use Rattle.kinds.specs.Kinds.{valueCode, operandA, clauseOf}
 use Rattle.kinds.proofs.Tests.{clash}
 use Rattle.kinds.proofs.Codes.{value-body}
-use Rattle.kinds.proofs.Clauses.{usesOf, a-uses}
+use Rattle.kinds.proofs.Clauses.{Uses, usesOf, a-uses, b-uses, c-uses}
 use Rattle.kinds.proofs.Plans.{number-plain}
-use Rattle.cells.specs.Table.{kind, fieldA, fieldB, owner, target}
+use Rattle.cells.specs.Table.{cell, kind, fieldB, owner, target}
 use Rattle.cells.specs.Reaches.{Reaches}
-use Rattle.numbers.specs.Range.{limit}
-use Rattle.kinds.specs.declared.Operation.{Operation}
-use Rattle.evaluation.specs.Evaluation.{branchOf, depthLimit, one, outcome, nothing}
-use Rattle.evaluation.specs.Ready.{Ready, ReachedEvaluated, Line, Entry, Entered, EnteredCall, Cell, Room, Evaluable}
-use Rattle.evaluation.specs.Results.{Settled}
+use Rattle.cells.specs.Limits.{numberLimit}
+use Rattle.evaluation.specs.Evaluation.{branchOf, depthLimit, oneArgument, outcome, nothing}
+use Rattle.evaluation.specs.Ready.{Ready, ReachedEvaluated, ExpressionAt, Entry, Entered, EnteredCall, Cell, ResultsRoom, Evaluable}
+use Rattle.evaluation.specs.Results.{Recorded}
 use Rattle.evaluation.specs.declared.Arguments.{Arguments}
 use Rattle.kinds.specs.declared.Clause.{Clause}
 use Rattle.kinds.specs.declared.Clause.the-variants as clause
 use Rattle.evaluation.specs.declared.Outcome.{Outcome}
-use Rattle.evaluation.proofs.Closure.{Within, From, from-closed, from-reaches, Leads, leads, first, body-within, body-label, cell-ok}
+use Rattle.evaluation.proofs.Closure.{Within, From, from-closed, from-reaches, Leads, leads, first, second, third, body-within, body-label, cell-ok}
 use Rattle.evaluation.proofs.Range.{in-range}
 use Rattle.evaluation.proofs.Steps.{left-less}
 
 -- the clauses that evaluate operands, their field a first
 abbrev pub Composite : Clause → Type 0
 Composite k = usesOf k .a ≡ true
+
+-- whether they evaluate the field in a column
+abbrev usesIn : Uses → ℕ → Bool
+usesIn u j = cond (eqb j 3) (u .a) (cond (eqb j 4) (u .b) (cond (eqb j 5) (u .c) false))
 
 -- the clause that the code found
 pub is-kind : {c n : ℕ} {k k′ : Clause} → c ≡ n → k ≡ clauseOf c → k ≡ k′ → k′ ≡ clauseOf n
@@ -41,8 +46,8 @@ handed-on : (t r : List ℤ) (v d : ℕ) → From t v d → ReachedEvaluated t r
 handed-on t r v d f h w k p = h w k (from-reaches t v d w f p)
 
 -- and it has a state from 1 to 5
-pub reached-settled : {t r : List ℤ} {d : ℕ} → Ready t r → ReachedEvaluated t r d → (w : ℕ) → kind t w ≡ valueCode → Reaches t d w → Settled 1 r w
-reached-settled q h w k p = let s = q .settled w in record { least = h w k p; most = s .most; ranged = s .ranged }
+pub reached-recorded : {t r : List ℤ} {d : ℕ} → Ready t r → ReachedEvaluated t r d → (w : ℕ) → kind t w ≡ valueCode → Reaches t d w → Recorded 1 r w
+reached-recorded q h w k p = let s = q .recorded w in record { least = h w k p; most = s .most; ranged = s .ranged }
 
 module _ {t r : List ℤ} {l : ℕ} {g : Arguments} {d : ℕ} where
   pub as-kind : Entry t r l g d → {d′ c : ℕ} {k k′ : Clause} → d′ ≡ d → c ≡ kind t l → k ≡ clauseOf c → k ≡ k′ → Entered k′ t r l g d′
@@ -65,7 +70,7 @@ module _ {t r : List ℤ} {l : ℕ} {g : Arguments} {d : ℕ} where
   enter : (e : Entry t r l g d) {x y : ℕ} → y ≡ x → Within t (e .ready .count) (From t (owner t l)) x → Entry t r y g d
   enter e {x} {y} p h = record {
     ready = e .ready;
-    line = subst (λ (n : ℕ). Line t (e .ready .count) n) (sym p) (h .line);
+    line = subst (λ (n : ℕ). ExpressionAt t (e .ready .count) n) (sym p) (h .line);
     given = e .given;
     shallow = e .shallow;
     reached = subst (λ (n : ℕ). ReachedEvaluated t r (owner t n)) (sym p) (handed-on t r (owner t l) (owner t x) (h .owned) (e .reached));
@@ -94,19 +99,30 @@ module _ {t r : List ℤ} {l : ℕ} {g : Arguments} {d : ℕ} where
         cell-ok t (e .entry .ready .count) (e .entry .ready .accepted) l j (e .entry .line .low) (e .entry .line .high) i
         (λ x _. clash (sym (operand c) ∙ ap operandA x ∙ number-plain))
 
-    pub first-entry : Composite k → {x : ℕ} → x ≡ fieldA t l → Entry t r x g d
-    first-entry c p =
-        enter (e .entry) p (first t (e .entry .ready .count) (e .entry .ready .accepted) Own Reached (from-closed t (owner t l)) l here (operand c))
-
-  pub second-entry : {op : Operation} → Entered (clause.Operation op) t r l g d → {x : ℕ} → x ≡ fieldB t l → Entry t r x g d
-  unfolding Leads
-  second-entry e p = enter (e .entry) p (has e .1)
+    -- an operand that the clause evaluates, whichever it is
+    pub operand-entry : (j : ℕ) {x : ℕ} → x ≡ cell t l j → usesIn (usesOf k) j ≡ true → Entry t r x g d
+    operand-entry j {x} p u = go (eqb j 3) (eqb j 4) (eqb j 5) refl refl refl
+      where
+        into : {i : ℕ} → Within t (e .entry .ready .count) Own (cell t l i) → j ≡ i → Entry t r x g d
+        into h q = enter (e .entry) (p ∙ ap (cell t l) q) h
+        go : (a b c : Bool) → eqb j 3 ≡ a → eqb j 4 ≡ b → eqb j 5 ≡ c → Entry t r x g d
+        go true b c q _ _ =
+            let used = a-uses (kind t l) ∙ ap (λ k. usesOf k .a) (e .of) ∙ rw q at u in
+            into (first t (e .entry .ready .count) (e .entry .ready .accepted) Own Reached (from-closed t (owner t l)) l here used) (eqb-true j 3 q)
+        go false true c q o _ =
+            let used = b-uses (kind t l) ∙ ap (λ k. usesOf k .b) (e .of) ∙ rw (q, o) at u in
+            into (second t (e .entry .ready .count) (e .entry .ready .accepted) Own Reached (from-closed t (owner t l)) l here used) (eqb-true j 4 o)
+        go false false true q o i =
+            let used = c-uses (kind t l) ∙ ap (λ k. usesOf k .c) (e .of) ∙ rw (q, o, i) at u in
+            into (third t (e .entry .ready .count) (e .entry .ready .accepted) Own Reached (from-closed t (owner t l)) l here used) (eqb-true j 5 i)
+        go false false false q o i = clash (sym (rw (q, o, i) at u))
 
   pub branch-entry : Entered clause.Choice t r l g d → (y : ℤ) {x : ℕ} → x ≡ branchOf t l y → Entry t r x g d
   unfolding Leads
   branch-entry e y p = enter (e .entry) p (has e .1 y)
 
-  pub body-entry : {k : ℕ} → Entered (clause.Call k) t r l g d → {x z : ℕ} {y : ℤ} → z ≡ target t l → x ≡ fieldB t z → natAbs y ≤ limit → d + 1 ≤ depthLimit → Entry t r x (one y) (d + 1)
+  pub body-entry : {k : ℕ} → Entered (clause.Call k) t r l g d → {x z : ℕ} {y : ℤ} → z ≡ target t l → x ≡ fieldB t z → natAbs y ≤ numberLimit → {d′ : ℕ} → d′ ≤ depthLimit
+      → Entry t r x (oneArgument y) d′
   unfolding Leads
   body-entry e {x} {z} p q h s =
       let b = enter (e .entry) (q ∙ ap (fieldB t) p) (has e .1) in
@@ -120,7 +136,7 @@ module _ {t r : List ℤ} {l : ℕ} {g : Arguments} {d : ℕ} where
       subst (λ (x : ℕ). Cell t x 4) (sym p) (cell-ok t (q .count) (q .accepted) (target t l) 4 (b .0) (b .1) (omega arith) (λ _ x. omega arith))
 
   -- the target is a value that the definition reaches
-  pub read-asks : Entered clause.Read t r l g d → Cell t l 7 × Room r (target t l) × Settled 1 r (target t l)
+  pub read-asks : Entered clause.Read t r l g d → Cell t l 7 × ResultsRoom r (target t l) × Recorded 1 r (target t l)
   unfolding Leads
   read-asks e =
       let q = e .entry .ready in
@@ -128,13 +144,13 @@ module _ {t r : List ℤ} {l : ℕ} {g : Arguments} {d : ℕ} where
       let b = body-label t (q .count) (q .accepted) (target t l) (rw (h .0) value-body) in (
         line-cell (e .entry) 7 (omega arith) (λ x. omega arith),
         record { low = b .0; room = omega (arith, b .1, q .room) },
-        reached-settled q (e .entry .reached) (target t l) (h .0) (h .1),
+        reached-recorded q (e .entry .reached) (target t l) (h .0) (h .1),
       )
 
 -- ---- after an operand
 
 module _ (t r : List ℤ) (x : ℕ) (g : Arguments) (s d : ℕ) {o : Outcome} (p : o ≡ outcome t r x g s d) where
-  pub number-ranged : Entry t r x g d → {y : ℤ} → y ≡ o .number → natAbs y ≤ limit
+  pub number-ranged : Entry t r x g d → {y : ℤ} → y ≡ o .number → natAbs y ≤ numberLimit
   number-ranged e q =
       rw (q, p) (in-range t r (e .ready) x g s d (e .line) (e .given) .ranged)
 
@@ -150,7 +166,7 @@ module _ {t r : List ℤ} {v : ℕ} (e : Evaluable t r v) where
   pub value-cell : Cell t v 4
   value-cell = cell-ok t (e .ready .count) (e .ready .accepted) v 4 (label .0) (label .1) (omega arith) (λ _ x. omega arith)
 
-  pub value-room : Room r v
+  pub value-room : ResultsRoom r v
   value-room = record { low = label .0; room = omega (arith, label .1, e .ready .room) }
 
   pub value-entry : {x : ℕ} → x ≡ fieldB t v → Entry t r x nothing 0
@@ -158,7 +174,7 @@ module _ {t r : List ℤ} {v : ℕ} (e : Evaluable t r v) where
       let b = body-within t (e .ready .count) (e .ready .accepted) (From t v) (Reaches t v) (from-closed t v) v (rw (e .value) value-body) (inl refl) in
       record {
         ready = e .ready;
-        line = subst (λ (n : ℕ). Line t (e .ready .count) n) (sym p) (b .line);
+        line = subst (λ (n : ℕ). ExpressionAt t (e .ready .count) n) (sym p) (b .line);
         given = omega arith;
         shallow = omega arith;
         reached = subst (λ (n : ℕ). ReachedEvaluated t r (owner t n)) (sym p) (handed-on t r v (owner t (fieldB t v)) (b .owned) (e .reached));

@@ -87,5 +87,6 @@ outcome-zero s e q = rw e q
 
 -- ---- three cells stored
 
-pub stores : (r : List ℤ) (at : ℕ) {a a′ b b′ c c′ : ℤ} → a ≡ a′ → b ≡ b′ → c ≡ c′ → set (set (set r at a) (at + 1) b) (at + 2) c ≡ sets r at (a′ ∷ b′ ∷ c′ ∷ [])
+pub stores : (r : List ℤ) (at : ℕ) {a a′ b b′ c c′ : ℤ} → a ≡ a′ → b ≡ b′ → c ≡ c′
+    → set (set (set r at a) (at + 1) b) (at + 2) c ≡ sets r at (a′ ∷ b′ ∷ c′ ∷ [])
 stores r at p q e = simp (towards-suc, p, q, e)

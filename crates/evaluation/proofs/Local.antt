@@ -11,7 +11,7 @@ use lib.IntN.{ℤ}
 use Rattle.kinds.specs.Kinds.{valueCode, clauseOf}
 use Rattle.kinds.proofs.Codes.{value-body}
 use Rattle.cells.specs.Cells.{equals}
-use Rattle.cells.specs.Table.{kind, fieldA, fieldB, fieldC, owner, target, numberOf}
+use Rattle.cells.specs.Table.{kind, fieldA, fieldB, fieldC, owner, target, lineNumber}
 use Rattle.cells.specs.Accepted.{Accepted}
 use Rattle.cells.specs.Reaches.{Reaches}
 use Rattle.evaluation.specs.Results.{stateAt, numberAt}
@@ -29,7 +29,7 @@ pub record SameLine (t t′ : List ℤ) (x : ℕ) : Type 0 where
   pub second : fieldB t x ≡ fieldB t′ x
   pub third : fieldC t x ≡ fieldC t′ x
   pub aim : target t x ≡ target t′ x
-  pub number : numberOf t x ≡ numberOf t′ x
+  pub number : lineNumber t x ≡ lineNumber t′ x
 
 -- the stored answer of x is the same in two results; its steps are not read
 pub record SameAnswer (r r′ : List ℤ) (x : ℕ) : Type 0 where

@@ -9,13 +9,14 @@ use native.Mathlib.Nat.{le-refl}
 use lib.Dec.{eqb}
 use lib.IntN.{ℤ}
 use Rattle.kinds.specs.Kinds.{clauseOf}
-use Rattle.cells.specs.Table.{kind, fieldA, fieldB, target, numberOf}
+use Rattle.cells.specs.Table.{kind, fieldA, fieldB, target, lineNumber}
 use Rattle.numbers.specs.Arithmetic.{calculated}
 use Rattle.numbers.specs.declared.Calculated.{Calculated}
 use Rattle.numbers.specs.declared.Calculated.the-variants as calculation
 use Rattle.evaluation.specs.States.{hasNumber}
 use Rattle.evaluation.specs.Results.{stateAt, numberAt}
-use Rattle.evaluation.specs.Evaluation.{Way, gives, fails, onNumber, unlessFailed, answerAt, outcomeOf, tieRule, stepLimit, depthLimit, bodyBy, callBy, operationBy, branchOf, choiceBy, enteredBy, stepBy, within, outcome, valueOutcome, evaluated}
+use Rattle.evaluation.specs.Evaluation.{Way, gives, fails, onNumber, unlessFailed, answerAt, outcomeOf, tieRule, stepLimit, depthLimit, bodyBy, callBy, operationBy, branchOf}
+use Rattle.evaluation.specs.Evaluation.{choiceBy, enteredBy, stepBy, withFuel, outcome, valueOutcome, evaluated}
 use Rattle.evaluation.specs.declared.Arguments.{Arguments}
 use Rattle.kinds.specs.declared.Clause.{Clause}
 use Rattle.kinds.specs.declared.Clause.the-variants as clause
@@ -64,7 +65,7 @@ Same P x x′ = P x × (x ≡ x′)
 module _ (t t′ r r′ : List ℤ) (P : ℕ → Type 0) where
   -- what a line of a kind asks of two sheets and a set of labels
   unfoldable pub Asks : Clause → ℕ → Type 0
-  Asks clause.Number l = numberOf t l ≡ numberOf t′ l
+  Asks clause.Number l = lineNumber t l ≡ lineNumber t′ l
   Asks (clause.Argument i) l = Unit {0}
   Asks clause.Read l = (s : ℕ) → answerAt r (target t l) s ≡ answerAt r′ (target t′ l) s
   Asks (clause.Call n) l = Same P (fieldA t l) (fieldA t′ l) × Same P (fieldB t (target t l)) (fieldB t′ (target t′ l))
@@ -117,8 +118,8 @@ module _ (t r : List ℤ) where
   none = record { same = refl; less = omega arith }
 
   -- fuel beyond the steps left changes nothing
-  within-agreed : (f f′ : ℕ) (l : ℕ) (g : Arguments) (s d : ℕ) → s ≤ f → s ≤ f′ → Agreed s (within f t r l g s d) (within f′ t r l g s d)
-  unfolding within stepBy
+  within-agreed : (f f′ : ℕ) (l : ℕ) (g : Arguments) (s d : ℕ) → s ≤ f → s ≤ f′ → Agreed s (withFuel f t r l g s d) (withFuel f′ t r l g s d)
+  unfolding withFuel stepBy
   within-agreed zero zero l g s d h h′ = none
   within-agreed zero (suc f′) l g zero d h h′ = none
   within-agreed zero (suc f′) l g (suc s) d h h′ = absurd (omega arith)
@@ -126,7 +127,7 @@ module _ (t r : List ℤ) where
   within-agreed (suc f) zero l g (suc s) d h h′ = absurd (omega arith)
   within-agreed (suc f) (suc f′) l g zero d h h′ = none
   within-agreed (suc f) (suc f′) l g (suc s) d h h′ =
-      let a = entered-agreed t t r r all (within f t r) (within f′ t r) s
+      let a = entered-agreed t t r r all (withFuel f t r) (withFuel f′ t r) s
       (λ l g n d p i. within-agreed f f′ l g n d (omega arith) (omega arith)) (clauseOf (kind t l)) l g d (asks (clauseOf (kind t l)) l) in
       record { same = a .same; less = omega (arith, a .less) }
 
@@ -136,10 +137,10 @@ module _ (t r : List ℤ) where
 
   -- the rules, with no fuel
   pub unrolled : (l : ℕ) (g : Arguments) (s d : ℕ) → stepBy (outcome t r) t r l g s d ≡ outcome t r l g s d
-  unfolding outcome within stepBy
+  unfolding outcome withFuel stepBy
   unrolled l g zero d = refl
   unrolled l g (suc s) d =
-      entered-agreed t t r r all (outcome t r) (within s t r) s
+      entered-agreed t t r r all (outcome t r) (withFuel s t r) s
       (λ l g n d p i. within-agreed n s l g n d (le-refl n) i) (clauseOf (kind t l)) l g d (asks (clauseOf (kind t l)) l) .same
 
 -- ---- the steps that a value takes

@@ -14,15 +14,15 @@ use lib.Seq.{length-sets}
 use Rattle.cells.specs.Cells.{natOf, intAt, zeros}
 use Rattle.cells.specs.Accepted.{Accepted}
 use Rattle.cells.proofs.Stores.{intAt-zeros, sets-before, sets-past, sets-in}
-use Rattle.numbers.specs.Range.{limit}
+use Rattle.cells.specs.Limits.{numberLimit}
 use Rattle.evaluation.specs.States.{hasNumber, lastState}
-use Rattle.evaluation.specs.Results.{stateAt, numberAt, stored, store, Settled}
+use Rattle.evaluation.specs.Results.{stateAt, numberAt, stored, store, Recorded}
 use Rattle.evaluation.specs.Evaluation.{valueOutcome, valueOf, evaluated}
-use Rattle.evaluation.specs.Ready.{Ready, Room, Evaluable}
+use Rattle.evaluation.specs.Ready.{Ready, ResultsRoom, Evaluable}
 use Rattle.evaluation.specs.declared.Outcome.{Outcome}
 use Rattle.evaluation.specs.declared.Value.{Value}
-use Rattle.evaluation.proofs.Range.{Good, value-settled}
-use Rattle.evaluation.proofs.Entries.{reached-settled, value-room}
+use Rattle.evaluation.proofs.Range.{Good, value-recorded}
+use Rattle.evaluation.proofs.Entries.{reached-recorded, value-room}
 
 module _ (r : List ℤ) (l : ℕ) (v : Value) where
   pub store-length : length (store r l v) ≡ length r
@@ -52,7 +52,7 @@ module _ (r : List ℤ) (l : ℕ) (v : Value) where
   cell-own : 1 ≤ l → 3 * l ≤ length r → (j : ℕ) → j < 3 → intAt (store r l v) (3 * (l - 1) + j) ≡ intAt (pos (v .state) ∷ v .number ∷ pos (v .steps) ∷ []) j
   cell-own h g j k = sets-in (pos (v .state) ∷ v .number ∷ pos (v .steps) ∷ []) r (3 * (l - 1)) j k (omega arith)
 
-pub stored-own : (r : List ℤ) (l : ℕ) (v : Value) → Room r l → stored (store r l v) l ≡ v
+pub stored-own : (r : List ℤ) (l : ℕ) (v : Value) → ResultsRoom r l → stored (store r l v) l ≡ v
 stored-own r zero v h = absurd (omega (arith, h .low))
 stored-own r (suc m) v h =
     let a : intAt (store r (suc m) v) (3 * m) ≡ pos (v .state) = rw add-zero at (own 0 (omega arith)) in
@@ -68,25 +68,26 @@ stored-own r (suc m) v h =
 -- ---- results that are ready
 
 -- a stored value as a property of what is read back
-settled-by : {low : ℕ} {r : List ℤ} {l : ℕ} {v : Value} → stored r l ≡ v → low ≤ v .state → v .state ≤ lastState → (v .state ≡ hasNumber → natAbs (v .number) ≤ limit) → Settled low r l
-settled-by {low} {r} {l} {v} e a b c = record {
+recorded-by : {low : ℕ} {r : List ℤ} {l : ℕ} {v : Value} → stored r l ≡ v → low ≤ v .state → v .state ≤ lastState → (v .state ≡ hasNumber → natAbs (v .number) ≤ numberLimit)
+    → Recorded low r l
+recorded-by {low} {r} {l} {v} e a b c = record {
   least = rw (ap (λ (v : Value). v .state) e) a;
   most = rw (ap (λ (v : Value). v .state) e) b;
   ranged = λ h. rw (ap (λ (v : Value). v .number) e) (c (sym (ap (λ (v : Value). v .state) e) ∙ h));
 }
 
-pub settled-own : (low : ℕ) (r : List ℤ) (l : ℕ) (o : Outcome) → Room r l → Good low o → Settled low (store r l (valueOf o)) l
-settled-own low r l o h g = settled-by (stored-own r l (valueOf o) h) (g .least) (g .most) (λ _. g .ranged)
+pub recorded-own : (low : ℕ) (r : List ℤ) (l : ℕ) (o : Outcome) → ResultsRoom r l → Good low o → Recorded low (store r l (valueOf o)) l
+recorded-own low r l o h g = recorded-by (stored-own r l (valueOf o) h) (g .least) (g .most) (λ _. g .ranged)
 
-pub settled-other : (low : ℕ) (r : List ℤ) (l : ℕ) (v : Value) (m : ℕ) → m ≢ l → 1 ≤ l → Settled low r m → Settled low (store r l v) m
-settled-other low r l v m d h s = settled-by (stored-other r l v m d h) (s .least) (s .most) (s .ranged)
+pub recorded-other : (low : ℕ) (r : List ℤ) (l : ℕ) (v : Value) (m : ℕ) → m ≢ l → 1 ≤ l → Recorded low r m → Recorded low (store r l v) m
+recorded-other low r l v m d h s = recorded-by (stored-other r l v m d h) (s .least) (s .most) (s .ranged)
 
 pub ready-zeros : (t : List ℤ) (n m : ℕ) → Accepted t n → 3 * n ≤ m → Ready t (zeros m)
 ready-zeros t n m w h = record {
   count = n;
   accepted = w;
   room = rw (length-replicate {0} {A = ℤ} m (pos 0)) h;
-  settled = blank;
+  recorded = blank;
 }
   where
     state : (l : ℕ) → stateAt (zeros m) l ≡ 0
@@ -97,30 +98,30 @@ ready-zeros t n m w h = record {
     number zero = refl
     number (suc l) = intAt-zeros m (3 * l + 1)
 
-    blank : (l : ℕ) → Settled 0 (zeros m) l
+    blank : (l : ℕ) → Recorded 0 (zeros m) l
     blank l = record { least = omega arith; most = omega (arith, state l); ranged = λ e. rw (number l) (omega arith) }
 
 -- what `evaluate_into` leaves
 module _ (t r : List ℤ) (v : ℕ) (e : Evaluable t r v) where
   -- v has been evaluated,
-  pub evaluated-own : Settled 1 (store r v (evaluated t r v)) v
-  evaluated-own = settled-own 1 r v (valueOutcome t r v) (value-room e) (value-settled t r (e .ready .count) (e .ready .accepted) v (e .value) (reached-settled (e .ready) (e .reached)))
+  pub evaluated-own : Recorded 1 (store r v (evaluated t r v)) v
+  evaluated-own = recorded-own 1 r v (valueOutcome t r v) (value-room e) (value-recorded t r (e .ready .count) (e .ready .accepted) v (e .value) (reached-recorded (e .ready) (e .reached)))
 
-  -- and what was settled still is
-  pub settled-still : (low : ℕ) → low ≤ 1 → (l : ℕ) → Settled low r l → Settled low (store r v (evaluated t r v)) l
-  settled-still low h l s = go (eqb l v) refl
+  -- and what was recorded still is
+  pub recorded-still : (low : ℕ) → low ≤ 1 → (l : ℕ) → Recorded low r l → Recorded low (store r v (evaluated t r v)) l
+  recorded-still low h l s = go (eqb l v) refl
     where
-      go : (b : Bool) → eqb l v ≡ b → Settled low (store r v (evaluated t r v)) l
+      go : (b : Bool) → eqb l v ≡ b → Recorded low (store r v (evaluated t r v)) l
       go true p =
           let o = evaluated-own in
-          subst (λ (x : ℕ). Settled low (store r v (evaluated t r v)) x) (sym (eqb-true l v p))
+          subst (λ (x : ℕ). Recorded low (store r v (evaluated t r v)) x) (sym (eqb-true l v p))
           (record { least = omega (arith, o .least); most = o .most; ranged = o .ranged })
-      go false p = settled-other low r v (evaluated t r v) l (eqb-false l v p) (value-room e .low) s
+      go false p = recorded-other low r v (evaluated t r v) l (eqb-false l v p) (value-room e .low) s
 
   pub ready-stored : Ready t (store r v (evaluated t r v))
   ready-stored = record {
     count = e .ready .count;
     accepted = e .ready .accepted;
     room = rw (store-length r v (evaluated t r v)) (e .ready .room);
-    settled = λ l. settled-still 0 (omega arith) l (e .ready .settled l);
+    recorded = λ l. recorded-still 0 (omega arith) l (e .ready .recorded l);
   }

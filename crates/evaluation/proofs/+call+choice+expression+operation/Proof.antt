@@ -7,7 +7,8 @@ use mir.Syntax.{w64}
 use mir.Val.{toZ, ofZ}
 use Rattle.cells.proofs.Signed.{whole}
 use Rattle.evaluation.specs.Evaluation.{gives, callBy, operationBy, choiceBy, enteredBy}
-use Rattle.evaluation.proofs.Entries.{line-cell, number-cell, operand-cell, first-entry, second-entry, branch-entry, body-entry, body-cell, read-asks, as-kind, as-call, is-kind, number-ranged, left-less-by}
+use Rattle.evaluation.proofs.Entries.{line-cell, number-cell, operand-cell, operand-entry, branch-entry, body-entry, body-cell, read-asks, as-kind, as-call}
+use Rattle.evaluation.proofs.Entries.{is-kind, number-ranged, left-less-by}
 use Rattle.evaluation.proofs.Answers.{first-fails, call-deep, call-goes, second-fails, combines, chooses, no-step, entered}
 use Prim.Native.Nat.{ℕ, _+_, _*_, _<_}
 use borrow.Fn.Kinds.{In}
@@ -82,7 +83,28 @@ abbrev choice-claims : ℕ → choice-lts.Claims
 choice-claims t = (field-reads.Asked, field-reads.Learnt, expression-below t, expression.Post, failure-reads.Asked, failure-reads.Learnt, branch-of-reads.Asked, branch-of-reads.Learnt)
 
 abbrev expression-claims : ℕ → expression-lts.Claims
-expression-claims t = (failure-reads.Asked, failure-reads.Learnt, step-reads.Asked, step-reads.Learnt, field-reads.Asked, field-reads.Learnt, clause-of-reads.Asked, clause-of-reads.Learnt, number-of-reads.Asked, number-of-reads.Learnt, success-reads.Asked, success-reads.Learnt, read-reads.Asked, read-reads.Learnt, call-below t, call.Post, operation-below t, operation.Post, choice-below t, choice.Post)
+expression-claims t = (
+  failure-reads.Asked,
+  failure-reads.Learnt,
+  step-reads.Asked,
+  step-reads.Learnt,
+  field-reads.Asked,
+  field-reads.Learnt,
+  clause-of-reads.Asked,
+  clause-of-reads.Learnt,
+  number-of-reads.Asked,
+  number-of-reads.Learnt,
+  success-reads.Asked,
+  success-reads.Learnt,
+  read-reads.Asked,
+  read-reads.Learnt,
+  call-below t,
+  call.Post,
+  operation-below t,
+  operation.Post,
+  choice-below t,
+  choice.Post,
+)
 
 abbrev operation-claims : ℕ → operation-lts.Claims
 operation-claims t = (field-reads.Asked, field-reads.Learnt, expression-below t, expression.Post, failure-reads.Asked, failure-reads.Learnt, combine-reads.Asked, combine-reads.Learnt)
@@ -91,57 +113,100 @@ call-field-requires : (t : ℕ) → call-lts.Need-field-requires (call-claims t)
 call-field-requires t c κs = operand-cell (c .pre .1 .entered) refl _ (omega arith)
 
 call-expression-requires : (t : ℕ) → call-lts.Need-expression-requires (call-claims t) (call-at t) call.Post
-call-expression-requires t c κs = (omega (arith, c .before .pre .0), first-entry (c .before .pre .1 .entered) refl (c .field .ensures))
+call-expression-requires t c κs = (omega (arith, c .before .pre .0), operand-entry (c .before .pre .1 .entered) _ (c .field .ensures) refl)
 
 call-failure-requires : (t : ℕ) → call-lts.Need-failure-requires (call-claims t) (call-at t) call.Post
 call-failure-requires t c κs = search needs
 
 call-returns : (t : ℕ) → call-lts.Need-returns (call-claims t) (call-at t) call.Post
 unfolding callBy
-call-returns t c = first-fails _ _ (c .before .before .before .before .before .args .label) _ _ _ (c .before .before .before .before .field .ensures) (c .before .before .before .expression .ensures) _ (c .before .if1 .taken) (c .failure .ensures)
+call-returns t c =
+    let entry = c .before .before .before .before .before in
+    let field = c .before .before .before .before .field in
+    let expression = c .before .before .before .expression in
+    first-fails _ _ (entry .args .label) _ _ _ (field .ensures) (expression .ensures) _ (c .before .if1 .taken) (c .failure .ensures)
 
 call-failure-requires-2 : (t : ℕ) → call-lts.Need-failure-requires-2 (call-claims t) (call-at t) call.Post
 call-failure-requires-2 t c κs = search needs
 
 call-returns-2 : (t : ℕ) → call-lts.Need-returns-2 (call-claims t) (call-at t) call.Post
-call-returns-2 t c = call-deep _ _ _ _ _ _ (c .before .before .before .before .before .field .ensures) (c .before .before .before .before .expression .ensures) (c .before .before .if1 .left) (c .before .if2 .taken) (c .failure2 .ensures)
+call-returns-2 t c =
+    let field = c .before .before .before .before .before .field in
+    let expression = c .before .before .before .before .expression in
+    call-deep _ _ _ _ _ _ (field .ensures) (expression .ensures) (c .before .before .if1 .left) (c .before .if2 .taken) (c .failure2 .ensures)
 
 call-field-requires-2 : (t : ℕ) → call-lts.Need-field-requires-2 (call-claims t) (call-at t) call.Post
-call-field-requires-2 t c κs = operand-cell (c .before .before .before .before .before .pre .1 .entered) refl _ (omega arith)
+call-field-requires-2 t c κs =
+    let entry = c .before .before .before .before .before in
+    operand-cell (entry .pre .1 .entered) refl _ (omega arith)
 
 call-field-requires-3 : (t : ℕ) → call-lts.Need-field-requires-3 (call-claims t) (call-at t) call.Post
-call-field-requires-3 t c κs = body-cell (c .before .before .before .before .before .before .pre .1 .entered) (c .field2 .ensures)
+call-field-requires-3 t c κs =
+    let entry = c .before .before .before .before .before .before in
+    body-cell (entry .pre .1 .entered) (c .field2 .ensures)
 
 call-add-t14 : (t : ℕ) → call-lts.Need-add-t14 (call-claims t) (call-at t) call.Post
-call-add-t14 t c = record { fits = omega (arith, c .before .before .before .before .before .before .before .before .pre .1 .entered .entry .shallow) }
+call-add-t14 t c =
+    let entry = c .before .before .before .before .before .before .before .before in
+    record { fits = omega (arith, entry .pre .1 .entered .entry .shallow) }
 
 call-expression-requires-2 : (t : ℕ) → call-lts.Need-expression-requires-2 (call-claims t) (call-at t) call.Post
-call-expression-requires-2 t c κs = (omega (arith, c .before .before .before .before .before .before .before .before .pre .0, left-less-by _ _ _ _ _ _ (c .before .before .before .before .before .before .expression .ensures)), body-entry (c .before .before .before .before .before .before .before .before .pre .1 .entered) (c .before .before .field2 .ensures) (c .before .field3 .ensures) (number-ranged _ _ _ _ _ _ (c .before .before .before .before .before .before .expression .ensures) (first-entry (c .before .before .before .before .before .before .before .before .pre .1 .entered) refl (c .before .before .before .before .before .before .before .field .ensures)) (whole (c .before .before .before .before .before .before .expression .result .number) (c .struct-told .given .0 .1))) (omega (arith, c .before .before .before .before .before .before .before .before .pre .1 .entered .entry .shallow, c .before .before .before .if2 .left)))
+call-expression-requires-2 t c κs =
+    let entry = c .before .before .before .before .before .before .before .before in
+    let field = c .before .before .before .before .before .before .before .field in
+    let expression = c .before .before .before .before .before .before .expression in
+    let if2 = c .before .before .before .if2 in (
+      omega (arith, entry .pre .0, left-less-by _ _ _ _ _ _ (expression .ensures)),
+      body-entry (entry .pre .1 .entered) (c .before .before .field2 .ensures) (c .before .field3 .ensures)
+          (number-ranged _ _ _ _ _ _ (expression .ensures) (operand-entry (entry .pre .1 .entered) _ (field .ensures) refl) (whole (expression .result .number) (c .struct-told .given .0 .1)))
+          (omega (arith, entry .pre .1 .entered .entry .shallow, if2 .left)),
+    )
 
 call-returns-3 : (t : ℕ) → call-lts.Need-returns-3 (call-claims t) (call-at t) call.Post
-call-returns-3 t c = call-goes _ _ _ _ _ _ (c .before .before .before .before .before .before .before .before .field .ensures) (c .before .before .before .before .before .before .before .expression .ensures) (c .before .before .before .before .before .if1 .left) (c .before .before .before .before .if2 .left) (whole (c .before .before .before .before .before .before .before .expression .result .number) (c .before .struct-told .given .0 .1)) (c .before .before .before .field2 .ensures) (c .before .before .field3 .ensures) (c .expression2 .ensures)
+call-returns-3 t c =
+    let field = c .before .before .before .before .before .before .before .before .field in
+    let expression = c .before .before .before .before .before .before .before .expression in
+    let if1 = c .before .before .before .before .before .if1 in
+    let if2 = c .before .before .before .before .if2 in
+    let field2 = c .before .before .before .field2 in
+    call-goes _ _ _ _ _ _ (field .ensures) (expression .ensures) (if1 .left) (if2 .left) (whole (expression .result .number) (c .before .struct-told .given .0 .1)) (field2 .ensures)
+    (c .before .before .field3 .ensures) (c .expression2 .ensures)
 
 choice-field-requires : (t : ℕ) → choice-lts.Need-field-requires (choice-claims t) (choice-at t) choice.Post
 choice-field-requires t c κs = operand-cell (c .pre .1) refl _ (omega arith)
 
 choice-expression-requires : (t : ℕ) → choice-lts.Need-expression-requires (choice-claims t) (choice-at t) choice.Post
-choice-expression-requires t c κs = (omega (arith, c .before .pre .0), first-entry (c .before .pre .1) refl (c .field .ensures))
+choice-expression-requires t c κs = (omega (arith, c .before .pre .0), operand-entry (c .before .pre .1) _ (c .field .ensures) refl)
 
 choice-failure-requires : (t : ℕ) → choice-lts.Need-failure-requires (choice-claims t) (choice-at t) choice.Post
 choice-failure-requires t c κs = search needs
 
 choice-returns : (t : ℕ) → choice-lts.Need-returns (choice-claims t) (choice-at t) choice.Post
 unfolding choiceBy
-choice-returns t c = first-fails _ _ (c .before .before .before .before .before .args .label) _ _ _ (c .before .before .before .before .field .ensures) (c .before .before .before .expression .ensures) _ (c .before .if1 .taken) (c .failure .ensures)
+choice-returns t c =
+    let entry = c .before .before .before .before .before in
+    let field = c .before .before .before .before .field in
+    let expression = c .before .before .before .expression in
+    first-fails _ _ (entry .args .label) _ _ _ (field .ensures) (expression .ensures) _ (c .before .if1 .taken) (c .failure .ensures)
 
 choice-branch-of-requires : (t : ℕ) → choice-lts.Need-branch-of-requires (choice-claims t) (choice-at t) choice.Post
-choice-branch-of-requires t c κs = (operand-cell (c .before .before .before .before .before .pre .1) refl _ (omega arith), operand-cell (c .before .before .before .before .before .pre .1) refl _ (omega arith))
+choice-branch-of-requires t c κs =
+    let entry = c .before .before .before .before .before in
+    (operand-cell (entry .pre .1) refl _ (omega arith), operand-cell (entry .pre .1) refl _ (omega arith))
 
 choice-expression-requires-2 : (t : ℕ) → choice-lts.Need-expression-requires-2 (choice-claims t) (choice-at t) choice.Post
-choice-expression-requires-2 t c κs = (omega (arith, c .before .before .before .before .before .before .pre .0, left-less-by _ _ _ _ _ _ (c .before .before .before .before .expression .ensures)), branch-entry (c .before .before .before .before .before .before .pre .1) (toZ w64 (ofZ w64 (c .before .before .before .before .expression .result .number))) (c .branch-of .ensures))
+choice-expression-requires-2 t c κs =
+    let entry = c .before .before .before .before .before .before in
+    let expression = c .before .before .before .before .expression in
+    (omega (arith, entry .pre .0, left-less-by _ _ _ _ _ _ (expression .ensures)), branch-entry (entry .pre .1) (toZ w64 (ofZ w64 (expression .result .number))) (c .branch-of .ensures))
 
 choice-returns-2 : (t : ℕ) → choice-lts.Need-returns-2 (choice-claims t) (choice-at t) choice.Post
-choice-returns-2 t c = chooses _ _ _ _ _ _ (c .before .before .before .before .before .before .field .ensures) (c .before .before .before .before .before .expression .ensures) (c .before .before .before .if1 .left) (whole (c .before .before .before .before .before .expression .result .number) (c .before .before .struct-told .given .0 .1)) (c .before .branch-of .ensures) (c .expression2 .ensures)
+choice-returns-2 t c =
+    let field = c .before .before .before .before .before .before .field in
+    let expression = c .before .before .before .before .before .expression in
+    let if1 = c .before .before .before .if1 in
+    chooses _ _ _ _ _ _ (field .ensures) (expression .ensures) (if1 .left) (whole (expression .result .number) (c .before .before .struct-told .given .0 .1)) (c .before .branch-of .ensures)
+    (c .expression2 .ensures)
 
 expression-failure-requires : (t : ℕ) → expression-lts.Need-failure-requires (expression-claims t) (expression-at t) expression.Post
 expression-failure-requires t c κs = search needs
@@ -162,7 +227,9 @@ expression-enum-told : (t : ℕ) → expression-lts.Need-enum-told (expression-c
 expression-enum-told t c = search needs
 
 expression-number-of-requires : (t : ℕ) → expression-lts.Need-number-of-requires (expression-claims t) (expression-at t) expression.Post
-expression-number-of-requires t c κs = number-cell (c .before .before .before .before .before .before .pre .1)
+expression-number-of-requires t c κs =
+    let entry = c .before .before .before .before .before .before in
+    number-cell (entry .pre .1)
 
 expression-success-requires : (t : ℕ) → expression-lts.Need-success-requires (expression-claims t) (expression-at t) expression.Post
 expression-success-requires t c κs = search needs
@@ -177,25 +244,45 @@ expression-enum-told-3 : (t : ℕ) → expression-lts.Need-enum-told-3 (expressi
 expression-enum-told-3 t c = search needs
 
 expression-read-requires : (t : ℕ) → expression-lts.Need-read-requires (expression-claims t) (expression-at t) expression.Post
-expression-read-requires t c κs = read-asks (as-kind (c .before .before .before .before .before .before .pre .1) (c .before .before .before .before .step .ensures .1) (c .before .before .before .field .ensures) (c .before .before .clause-of .ensures) (c .enum-told3 .given .1))
+expression-read-requires t c κs =
+    let entry = c .before .before .before .before .before .before in
+    let step = c .before .before .before .before .step in
+    let field = c .before .before .before .field in
+    read-asks (as-kind (entry .pre .1) (step .ensures .1) (field .ensures) (c .before .before .clause-of .ensures) (c .enum-told3 .given .1))
 
 expression-enum-told-4 : (t : ℕ) → expression-lts.Need-enum-told-4 (expression-claims t) (expression-at t) expression.Post
 expression-enum-told-4 t c = search needs
 
 expression-call-requires : (t : ℕ) → expression-lts.Need-call-requires (expression-claims t) (expression-at t) expression.Post
-expression-call-requires t c κs = (omega (arith, c .before .before .before .before .before .before .pre .0, c .before .before .before .before .step .ensures .0, c .before .before .before .before .before .if1 .left), as-call (c .before .before .before .before .before .before .pre .1) (c .before .before .before .before .step .ensures .1) (c .before .before .before .field .ensures) (c .before .before .clause-of .ensures) (c .enum-told4 .given .1))
+expression-call-requires t c κs =
+    let entry = c .before .before .before .before .before .before in
+    let if1 = c .before .before .before .before .before .if1 in
+    let step = c .before .before .before .before .step in
+    let field = c .before .before .before .field in
+    (omega (arith, entry .pre .0, step .ensures .0, if1 .left), as-call (entry .pre .1) (step .ensures .1) (field .ensures) (c .before .before .clause-of .ensures) (c .enum-told4 .given .1))
 
 expression-enum-known-clause : (t : ℕ) → expression-lts.Need-enum-known-clause (expression-claims t) (expression-at t) expression.Post
 expression-enum-known-clause t c = search needs
 
 expression-operation-requires : (t : ℕ) → expression-lts.Need-operation-requires (expression-claims t) (expression-at t) expression.Post
-expression-operation-requires t c κs = (omega (arith, c .before .before .before .before .before .before .before .pre .0, c .before .before .before .before .before .step .ensures .0, c .before .before .before .before .before .before .if1 .left), as-kind (c .before .before .before .before .before .before .before .pre .1) (c .before .before .before .before .before .step .ensures .1) (c .before .before .before .before .field .ensures) (c .before .before .before .clause-of .ensures) (c .before .clause .given .1))
+expression-operation-requires t c κs =
+    let entry = c .before .before .before .before .before .before .before in
+    let if1 = c .before .before .before .before .before .before .if1 in
+    let step = c .before .before .before .before .before .step in
+    let field = c .before .before .before .before .field in
+    let clause-of = c .before .before .before .clause-of in
+    (omega (arith, entry .pre .0, step .ensures .0, if1 .left), as-kind (entry .pre .1) (step .ensures .1) (field .ensures) (clause-of .ensures) (c .before .clause .given .1))
 
 expression-enum-told-5 : (t : ℕ) → expression-lts.Need-enum-told-5 (expression-claims t) (expression-at t) expression.Post
 expression-enum-told-5 t c = search needs
 
 expression-choice-requires : (t : ℕ) → expression-lts.Need-choice-requires (expression-claims t) (expression-at t) expression.Post
-expression-choice-requires t c κs = (omega (arith, c .before .before .before .before .before .before .pre .0, c .before .before .before .before .step .ensures .0, c .before .before .before .before .before .if1 .left), as-kind (c .before .before .before .before .before .before .pre .1) (c .before .before .before .before .step .ensures .1) (c .before .before .before .field .ensures) (c .before .before .clause-of .ensures) (c .enum-told5 .given .1))
+expression-choice-requires t c κs =
+    let entry = c .before .before .before .before .before .before in
+    let if1 = c .before .before .before .before .before .if1 in
+    let step = c .before .before .before .before .step in
+    let field = c .before .before .before .field in
+    (omega (arith, entry .pre .0, step .ensures .0, if1 .left), as-kind (entry .pre .1) (step .ensures .1) (field .ensures) (c .before .before .clause-of .ensures) (c .enum-told5 .given .1))
 
 expression-enum-told-6 : (t : ℕ) → expression-lts.Need-enum-told-6 (expression-claims t) (expression-at t) expression.Post
 expression-enum-told-6 t c = search needs
@@ -205,62 +292,133 @@ expression-failure-requires-2 t c κs = search needs
 
 expression-returns-2 : (t : ℕ) → expression-lts.Need-returns-2 (expression-claims t) (expression-at t) expression.Post
 unfolding enteredBy
-expression-returns-2 t c = entered _ _ _ _ _ _ (c .before .before .before .before .before .before .before .if1 .left) (c .before .before .before .before .before .before .step .ensures .0) (c .before .before .before .before .before .before .step .ensures .1) (is-kind (c .before .before .before .before .before .field .ensures) (c .before .before .before .before .clause-of .ensures) (c .before .before .enum-told .given .1)) (c .success .ensures ∙ ap (λ y. gives y (c .before .before .before .before .before .before .step .result .left)) (whole (c .before .number-of .result) (c .before .number-of .ok) ∙ c .before .number-of .ensures))
+expression-returns-2 t c =
+    let if1 = c .before .before .before .before .before .before .before .if1 in
+    let step = c .before .before .before .before .before .before .step in
+    let field = c .before .before .before .before .before .field in
+    let clause-of = c .before .before .before .before .clause-of in
+    entered _ _ _ _ _ _ (if1 .left) (step .ensures .0) (step .ensures .1) (is-kind (field .ensures) (clause-of .ensures) (c .before .before .enum-told .given .1))
+    (c .success .ensures ∙ ap (λ y. gives y (step .result .left)) (whole (c .before .number-of .result) (c .before .number-of .ok) ∙ c .before .number-of .ensures))
 
 expression-returns-3 : (t : ℕ) → expression-lts.Need-returns-3 (expression-claims t) (expression-at t) expression.Post
 unfolding enteredBy
-expression-returns-3 t c = entered _ _ _ _ _ _ (c .before .before .before .before .before .before .before .if1 .left) (c .before .before .before .before .before .before .step .ensures .0) (c .before .before .before .before .before .before .step .ensures .1) (is-kind (c .before .before .before .before .before .field .ensures) (c .before .before .before .before .clause-of .ensures) (c .before .before .enum-told2 .given .1)) (c .success2 .ensures ∙ ap (λ y. gives y (c .before .before .before .before .before .before .step .result .left)) (whole (c .before .before .before .before .before .before .before .before .args .given .first) (c .before .struct-told .given .0 .1)))
+expression-returns-3 t c =
+    let entry = c .before .before .before .before .before .before .before .before in
+    let if1 = c .before .before .before .before .before .before .before .if1 in
+    let step = c .before .before .before .before .before .before .step in
+    let field = c .before .before .before .before .before .field in
+    let clause-of = c .before .before .before .before .clause-of in
+    entered _ _ _ _ _ _ (if1 .left) (step .ensures .0) (step .ensures .1) (is-kind (field .ensures) (clause-of .ensures) (c .before .before .enum-told2 .given .1))
+    (c .success2 .ensures ∙ ap (λ y. gives y (step .result .left)) (whole (entry .args .given .first) (c .before .struct-told .given .0 .1)))
 
 expression-returns-4 : (t : ℕ) → expression-lts.Need-returns-4 (expression-claims t) (expression-at t) expression.Post
 unfolding enteredBy
-expression-returns-4 t c = entered _ _ _ _ _ _ (c .before .before .before .before .before .before .if1 .left) (c .before .before .before .before .before .step .ensures .0) (c .before .before .before .before .before .step .ensures .1) (is-kind (c .before .before .before .before .field .ensures) (c .before .before .before .clause-of .ensures) (c .before .enum-told3 .given .1)) (c .read .ensures)
+expression-returns-4 t c =
+    let if1 = c .before .before .before .before .before .before .if1 in
+    let step = c .before .before .before .before .before .step in
+    let field = c .before .before .before .before .field in
+    let clause-of = c .before .before .before .clause-of in
+    entered _ _ _ _ _ _ (if1 .left) (step .ensures .0) (step .ensures .1) (is-kind (field .ensures) (clause-of .ensures) (c .before .enum-told3 .given .1)) (c .read .ensures)
 
 expression-returns-5 : (t : ℕ) → expression-lts.Need-returns-5 (expression-claims t) (expression-at t) expression.Post
 unfolding enteredBy
-expression-returns-5 t c = entered _ _ _ _ _ _ (c .before .before .before .before .before .before .if1 .left) (c .before .before .before .before .before .step .ensures .0) (c .before .before .before .before .before .step .ensures .1) (is-kind (c .before .before .before .before .field .ensures) (c .before .before .before .clause-of .ensures) (c .before .enum-told4 .given .1)) (c .call .ensures)
+expression-returns-5 t c =
+    let if1 = c .before .before .before .before .before .before .if1 in
+    let step = c .before .before .before .before .before .step in
+    let field = c .before .before .before .before .field in
+    let clause-of = c .before .before .before .clause-of in
+    entered _ _ _ _ _ _ (if1 .left) (step .ensures .0) (step .ensures .1) (is-kind (field .ensures) (clause-of .ensures) (c .before .enum-told4 .given .1)) (c .call .ensures)
 
 expression-returns-6 : (t : ℕ) → expression-lts.Need-returns-6 (expression-claims t) (expression-at t) expression.Post
 unfolding enteredBy
-expression-returns-6 t c = entered _ _ _ _ _ _ (c .before .before .before .before .before .before .before .if1 .left) (c .before .before .before .before .before .before .step .ensures .0) (c .before .before .before .before .before .before .step .ensures .1) (is-kind (c .before .before .before .before .before .field .ensures) (c .before .before .before .before .clause-of .ensures) (c .before .before .clause .given .1)) (c .operation .ensures)
+expression-returns-6 t c =
+    let if1 = c .before .before .before .before .before .before .before .if1 in
+    let step = c .before .before .before .before .before .before .step in
+    let field = c .before .before .before .before .before .field in
+    let clause-of = c .before .before .before .before .clause-of in
+    entered _ _ _ _ _ _ (if1 .left) (step .ensures .0) (step .ensures .1) (is-kind (field .ensures) (clause-of .ensures) (c .before .before .clause .given .1)) (c .operation .ensures)
 
 expression-returns-7 : (t : ℕ) → expression-lts.Need-returns-7 (expression-claims t) (expression-at t) expression.Post
 unfolding enteredBy
-expression-returns-7 t c = entered _ _ _ _ _ _ (c .before .before .before .before .before .before .if1 .left) (c .before .before .before .before .before .step .ensures .0) (c .before .before .before .before .before .step .ensures .1) (is-kind (c .before .before .before .before .field .ensures) (c .before .before .before .clause-of .ensures) (c .before .enum-told5 .given .1)) (c .choice .ensures)
+expression-returns-7 t c =
+    let if1 = c .before .before .before .before .before .before .if1 in
+    let step = c .before .before .before .before .before .step in
+    let field = c .before .before .before .before .field in
+    let clause-of = c .before .before .before .clause-of in
+    entered _ _ _ _ _ _ (if1 .left) (step .ensures .0) (step .ensures .1) (is-kind (field .ensures) (clause-of .ensures) (c .before .enum-told5 .given .1)) (c .choice .ensures)
 
 expression-returns-8 : (t : ℕ) → expression-lts.Need-returns-8 (expression-claims t) (expression-at t) expression.Post
 unfolding enteredBy
-expression-returns-8 t c = entered _ _ _ _ _ _ (c .before .before .before .before .before .before .if1 .left) (c .before .before .before .before .before .step .ensures .0) (c .before .before .before .before .before .step .ensures .1) (is-kind (c .before .before .before .before .field .ensures) (c .before .before .before .clause-of .ensures) (c .before .enum-told6 .given .1)) (c .failure2 .ensures)
+expression-returns-8 t c =
+    let if1 = c .before .before .before .before .before .before .if1 in
+    let step = c .before .before .before .before .before .step in
+    let field = c .before .before .before .before .field in
+    let clause-of = c .before .before .before .clause-of in
+    entered _ _ _ _ _ _ (if1 .left) (step .ensures .0) (step .ensures .1) (is-kind (field .ensures) (clause-of .ensures) (c .before .enum-told6 .given .1)) (c .failure2 .ensures)
 
 operation-field-requires : (t : ℕ) → operation-lts.Need-field-requires (operation-claims t) (operation-at t) operation.Post
 operation-field-requires t c κs = operand-cell (c .pre .1) refl _ (omega arith)
 
 operation-expression-requires : (t : ℕ) → operation-lts.Need-expression-requires (operation-claims t) (operation-at t) operation.Post
-operation-expression-requires t c κs = (omega (arith, c .before .pre .0), first-entry (c .before .pre .1) refl (c .field .ensures))
+operation-expression-requires t c κs = (omega (arith, c .before .pre .0), operand-entry (c .before .pre .1) _ (c .field .ensures) refl)
 
 operation-failure-requires : (t : ℕ) → operation-lts.Need-failure-requires (operation-claims t) (operation-at t) operation.Post
 operation-failure-requires t c κs = search needs
 
 operation-returns : (t : ℕ) → operation-lts.Need-returns (operation-claims t) (operation-at t) operation.Post
 unfolding operationBy
-operation-returns t c = first-fails _ _ (c .before .before .before .before .before .args .label) _ _ _ (c .before .before .before .before .field .ensures) (c .before .before .before .expression .ensures) _ (c .before .if1 .taken) (c .failure .ensures)
+operation-returns t c =
+    let entry = c .before .before .before .before .before in
+    let field = c .before .before .before .before .field in
+    let expression = c .before .before .before .expression in
+    first-fails _ _ (entry .args .label) _ _ _ (field .ensures) (expression .ensures) _ (c .before .if1 .taken) (c .failure .ensures)
 
 operation-field-requires-2 : (t : ℕ) → operation-lts.Need-field-requires-2 (operation-claims t) (operation-at t) operation.Post
-operation-field-requires-2 t c κs = operand-cell (c .before .before .before .before .pre .1) refl _ (omega arith)
+operation-field-requires-2 t c κs =
+    let entry = c .before .before .before .before in
+    operand-cell (entry .pre .1) refl _ (omega arith)
 
 operation-expression-requires-2 : (t : ℕ) → operation-lts.Need-expression-requires-2 (operation-claims t) (operation-at t) operation.Post
-operation-expression-requires-2 t c κs = (omega (arith, c .before .before .before .before .before .pre .0, left-less-by _ _ _ _ _ _ (c .before .before .before .expression .ensures)), second-entry (c .before .before .before .before .before .pre .1) (c .field2 .ensures))
+operation-expression-requires-2 t c κs =
+    let entry = c .before .before .before .before .before in
+    let expression = c .before .before .before .expression in
+    (omega (arith, entry .pre .0, left-less-by _ _ _ _ _ _ (expression .ensures)), operand-entry (entry .pre .1) _ (c .field2 .ensures) refl)
 
 operation-failure-requires-2 : (t : ℕ) → operation-lts.Need-failure-requires-2 (operation-claims t) (operation-at t) operation.Post
 operation-failure-requires-2 t c κs = search needs
 
 operation-returns-2 : (t : ℕ) → operation-lts.Need-returns-2 (operation-claims t) (operation-at t) operation.Post
-operation-returns-2 t c = second-fails _ _ _ _ _ _ (c .before .before .before .before .before .before .before .before .field .ensures) (c .before .before .before .before .before .before .before .expression .ensures) (c .before .before .before .before .before .if1 .left) (c .before .before .before .before .field2 .ensures) (c .before .before .before .expression2 .ensures) _ (c .before .if2 .taken) (c .failure2 .ensures)
+operation-returns-2 t c =
+    let field = c .before .before .before .before .before .before .before .before .field in
+    let expression = c .before .before .before .before .before .before .before .expression in
+    let if1 = c .before .before .before .before .before .if1 in
+    let field2 = c .before .before .before .before .field2 in
+    let expression2 = c .before .before .before .expression2 in
+    second-fails _ _ _ _ _ _ (field .ensures) (expression .ensures) (if1 .left) (field2 .ensures) (expression2 .ensures) _ (c .before .if2 .taken) (c .failure2 .ensures)
 
 operation-combine-requires : (t : ℕ) → operation-lts.Need-combine-requires (operation-claims t) (operation-at t) operation.Post
-operation-combine-requires t c κs = (number-ranged _ _ _ _ _ _ (c .before .before .before .before .before .before .before .before .expression .ensures) (first-entry (c .before .before .before .before .before .before .before .before .before .before .pre .1) refl (c .before .before .before .before .before .before .before .before .before .field .ensures)) (whole (c .before .before .before .before .before .before .before .before .expression .result .number) (c .before .struct-told .given .0 .1)), number-ranged _ _ _ _ _ _ (c .before .before .before .before .expression2 .ensures) (second-entry (c .before .before .before .before .before .before .before .before .before .before .pre .1) (c .before .before .before .before .before .field2 .ensures)) (whole (c .before .before .before .before .expression2 .result .number) (c .struct-told2 .given .0 .1)))
+operation-combine-requires t c κs =
+    let entry = c .before .before .before .before .before .before .before .before .before .before in
+    let field = c .before .before .before .before .before .before .before .before .before .field in
+    let expression = c .before .before .before .before .before .before .before .before .expression in
+    let field2 = c .before .before .before .before .before .field2 in
+    let expression2 = c .before .before .before .before .expression2 in (
+      number-ranged _ _ _ _ _ _ (expression .ensures) (operand-entry (entry .pre .1) _ (field .ensures) refl)
+          (whole (expression .result .number) (c .before .struct-told .given .0 .1)),
+      number-ranged _ _ _ _ _ _ (expression2 .ensures) (operand-entry (entry .pre .1) _ (field2 .ensures) refl)
+          (whole (expression2 .result .number) (c .struct-told2 .given .0 .1)),
+    )
 
 operation-returns-3 : (t : ℕ) → operation-lts.Need-returns-3 (operation-claims t) (operation-at t) operation.Post
-operation-returns-3 t c = combines _ _ _ _ _ _ (c .before .before .before .before .before .before .before .before .before .before .field .ensures) (c .before .before .before .before .before .before .before .before .before .expression .ensures) (c .before .before .before .before .before .before .before .if1 .left) (c .before .before .before .before .before .before .field2 .ensures) (c .before .before .before .before .before .expression2 .ensures) _ (c .before .before .before .if2 .left) (whole (c .before .before .before .before .before .before .before .before .before .expression .result .number) (c .before .before .struct-told .given .0 .1)) (whole (c .before .before .before .before .before .expression2 .result .number) (c .before .struct-told2 .given .0 .1)) (c .combine .ensures)
+operation-returns-3 t c =
+    let field = c .before .before .before .before .before .before .before .before .before .before .field in
+    let expression = c .before .before .before .before .before .before .before .before .before .expression in
+    let if1 = c .before .before .before .before .before .before .before .if1 in
+    let field2 = c .before .before .before .before .before .before .field2 in
+    let expression2 = c .before .before .before .before .before .expression2 in
+    let if2 = c .before .before .before .if2 in
+    combines _ _ _ _ _ _ (field .ensures) (expression .ensures) (if1 .left) (field2 .ensures) (expression2 .ensures) _ (if2 .left)
+    (whole (expression .result .number) (c .before .before .struct-told .given .0 .1)) (whole (expression2 .result .number) (c .before .struct-told2 .given .0 .1)) (c .combine .ensures)
 
 pub +call+choice+expression+operation-spec : {M : Type 1} → statement M
 +call+choice+expression+operation-spec =

@@ -21,7 +21,9 @@ nat-of-requires : tie.Need-nat-of-requires
 nat-of-requires c κs = search needs
 
 cast-state : tie.Need-cast-state
-cast-state c = let s = c .before .before in record { fits = omega (arith, state-is (s .args .results .now) (s .args .label) (s .pre .0 .low) (c .before .nat-of-arg .given) (c .nat-of .ensures), s .pre .1 .most) }
+cast-state c =
+    let s = c .before .before in
+    record { fits = omega (arith, state-is (s .args .results .now) (s .args .label) (s .pre .0 .low) (c .before .nat-of-arg .given) (c .nat-of .ensures), s .pre .1 .most) }
 
 add-success : tie.Need-add-success
 add-success c = search needs
@@ -36,13 +38,23 @@ success-requires : tie.Need-success-requires
 success-requires c κs = search needs
 
 returns : tie.Need-returns
-returns c = let s = c .before .before .before .before .before in let p = state-is (s .args .results .now) (s .args .label) (s .pre .0 .low) (c .before .before .before .before .nat-of-arg .given) (c .before .before .before .nat-of .ensures) in answer-number (s .args .results .now) (s .args .label) (s .args .left) (sym p ∙ c .before .before .if1 .taken) (number-is (s .args .results .now) (s .args .label) (s .pre .0 .low) (c .before .success-arg .given)) (c .success .ensures)
+returns c =
+    let nat-of-arg = c .before .before .before .before .nat-of-arg in
+    let nat-of = c .before .before .before .nat-of in
+    let s = c .before .before .before .before .before in
+    let p = state-is (s .args .results .now) (s .args .label) (s .pre .0 .low) (nat-of-arg .given) (nat-of .ensures) in
+    answer-number (s .args .results .now) (s .args .label) (s .args .left) (sym p ∙ c .before .before .if1 .taken)
+    (number-is (s .args .results .now) (s .args .label) (s .pre .0 .low) (c .before .success-arg .given)) (c .success .ensures)
 
 failure-requires : tie.Need-failure-requires
 failure-requires c κs = search needs
 
 returns-2 : tie.Need-returns-2
-returns-2 c = let s = c .before .before .before .before in let p = state-is (s .args .results .now) (s .args .label) (s .pre .0 .low) (c .before .before .before .nat-of-arg .given) (c .before .before .nat-of .ensures) in answer-failed (s .args .results .now) (s .args .label) (s .args .left) (λ e. c .before .if1 .left (p ∙ e)) p (c .failure .ensures)
+returns-2 c =
+    let nat-of-arg = c .before .before .before .nat-of-arg in
+    let s = c .before .before .before .before in
+    let p = state-is (s .args .results .now) (s .args .label) (s .pre .0 .low) (nat-of-arg .given) (c .before .before .nat-of .ensures) in
+    answer-failed (s .args .results .now) (s .args .label) (s .args .left) (λ e. c .before .if1 .left (p ∙ e)) p (c .failure .ensures)
 
 pub answer-at-spec : {M : Type 1} → statement M
 answer-at-spec =

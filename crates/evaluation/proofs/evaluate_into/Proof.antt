@@ -9,13 +9,18 @@ evaluate-requires : tie.Need-evaluate-requires
 evaluate-requires c κs = search needs
 
 put-value-requires : tie.Need-put-value-requires
-put-value-requires c κs = value-room (c .before .before .before .pre)
+put-value-requires c κs =
+    let entry = c .before .before .before in
+    value-room (entry .pre)
 
 same-length : tie.Need-same-length
 same-length c = search needs
 
 returns : tie.Need-returns
-returns c = let s = c .before .before .before .before .before in c .before .put-value .ensures ∙ ap (λ v. store (s .args .results .now) (s .args .label) v) (c .before .before .before .evaluate .ensures)
+returns c =
+    let evaluate = c .before .before .before .evaluate in
+    let s = c .before .before .before .before .before in
+    c .before .put-value .ensures ∙ ap (λ v. store (s .args .results .now) (s .args .label) v) (evaluate .ensures)
 
 pub evaluate-into-spec : {M : Type 1} → statement M
 evaluate-into-spec = tie.close (tie.spec evaluate-requires put-value-requires same-length returns)

@@ -48,7 +48,10 @@ same-length : tie.Need-same-length
 same-length c = search needs
 
 returns : tie.Need-returns
-returns c = let s = c .before .before .before in stores (s .args .results .now) _ (toZ-pos w64 {n = s .args .v .state} (omega arith)) (whole (s .args .v .number) (c .before .struct-told .given .0 .1)) (toZ-pos w64 {n = s .args .v .steps} (omega arith))
+returns c =
+    let s = c .before .before .before in
+    stores (s .args .results .now) _ (toZ-pos w64 {n = s .args .v .state} (omega arith)) (whole (s .args .v .number) (c .before .struct-told .given .0 .1))
+    (toZ-pos w64 {n = s .args .v .steps} (omega arith))
 
 pub put-value-spec : {M : Type 1} → statement M
 put-value-spec =

@@ -15,7 +15,7 @@ use Rattle.order.specs.LabelLists.{_∈_}
 use Rattle.order.specs.Order.{Proper}
 use Rattle.order.specs.Following.{ProperList, labelsOf}
 use Rattle.order.specs.Evaluating.{down}
-use Rattle.order.proofs.Lists.{in-here, in-right}
+use Rattle.order.proofs.Lists.{in-here, in-left, in-right}
 use Rattle.order.proofs.Mixed.{listed-value}
 use Rattle.order.proofs.Following.{proper-list}
 use Rattle.evaluation.specs.Evaluation.{evaluated}
@@ -52,6 +52,16 @@ module _ (order : List ℤ) (k i : ℕ) (h : k ≤ length order) (j : i < k) whe
       ∙ ap (λ (l : List ℤ). labelsOf l ++ left order k i) (take-take i k order (omega arith))
       ∙ ap (λ (l : List ℕ). labelsOf (take i order) ++ l) next
 
+-- what stands before index i stands before any index above it
+still-before : (order : List ℤ) {i j : ℕ} → j ≤ i → (x : ℕ) → x ∈ labelsOf (take j order) → x ∈ labelsOf (take i order)
+still-before order {i} {j} h x m =
+    let behind = labelsOf (drop j (take i order)) in
+    let cut : labelsOf (take i order) ≡ labelsOf (take j order) ++ behind =
+        ap labelsOf (sym (take-append-drop j (take i order)))
+        ∙ labels-append (take j (take i order)) (drop j (take i order))
+        ∙ ap (λ (l : List ℤ). labelsOf l ++ behind) (take-take j i order h) in
+    rw cut (in-left x (labelsOf (take j order)) behind m)
+
 -- ---- the loop
 
 -- at index i, from results r₀ at index 0: those before it have been evaluated
@@ -72,13 +82,13 @@ module _ (t order : List ℤ) (k : ℕ) (r₀ : List ℤ) where
     pub names-value : {v j : ℕ} → v ≡ natAt order j → j < k → kind t v ≡ valueCode
     names-value {v} {j} e h = rw e (g .asked .values j h)
 
-    -- and what the one at index i reaches has been evaluated
-    pub reached-before : {v : ℕ} → v ≡ natAt order i → i < k → ReachedEvaluated t r v
-    reached-before e j w h p = g .sofar w (g .asked .after i j w h (rw e at p)) .least
+    -- and what one that stands no later than index i reaches has been evaluated
+    pub reached-before : {v j : ℕ} → v ≡ natAt order j → j < k → j ≤ i → ReachedEvaluated t r v
+    reached-before {v} {j} e h u w q p = g .sofar w (still-before order u w (g .asked .after j h w q (rw e at p))) .least
 
     pub turn : i < k → {v : ℕ} {r′ : List ℤ} → v ≡ natAt order i → r′ ≡ evaluateInto t r v → Going t order k r₀ r′ (i + 1)
     turn j {v} {r′} e q =
-        let w : Evaluable t r v = record { ready = g .ready; value = names-value e j; reached = reached-before e j } in
+        let w : Evaluable t r v = record { ready = g .ready; value = names-value e j; reached = reached-before e j (omega arith) } in
         record {
           asked = g .asked;
           upto = omega arith;

@@ -23,7 +23,7 @@ evaluate-into-requires c κs =
     record {
       ready = g .ready;
       value = names-value _ _ _ _ g (c .before .nat-at .ensures) (omega (arith, c .before .before .loop-test .taken));
-      reached = reached-before _ _ _ _ g (c .before .nat-at .ensures) (c .before .before .loop-test .taken);
+      reached = reached-before _ _ _ _ g (c .before .nat-at .ensures) (omega (arith, c .before .before .loop-test .taken)) (omega arith);
     }
 
 add-i : tie.Need-add-i Inv-loop μ-loop

@@ -231,3 +231,27 @@ fn every_edit_is_listed_once() {
         assert_eq!(count, 1, "{edit} in the tables of docs/CONTRACTS.md");
     }
 }
+
+/// Where a page quotes a record of `specs/`, it stands there so.
+#[test]
+fn records_are_quoted_as_they_stand() {
+    let mut definitions = String::new();
+    for of in fs::read_dir(root().join("crates")).expect("crates") {
+        let folder = of.expect("a crate").path().join("specs");
+        for file in fs::read_dir(folder).into_iter().flatten() {
+            let path = file.expect("a file").path();
+            definitions += &fs::read_to_string(path).unwrap_or_default();
+            definitions += "\n\n";
+        }
+    }
+    let page = fs::read_to_string(root().join("docs/CONTRACTS.md")).expect("a page");
+    let blocks = page.split("\n```").skip(1).step_by(2);
+    let records: Vec<&str> = blocks
+        .flat_map(|block| block.trim().split("\n\n"))
+        .filter(|part| part.starts_with("pub record "))
+        .collect();
+    assert!(records.len() > 10, "{records:?}");
+    for record in records {
+        assert!(definitions.contains(&format!("{record}\n\n")), "{record}");
+    }
+}

@@ -4,6 +4,8 @@ use std::fs;
 use std::io;
 use std::path::{Path, PathBuf};
 
+use specification::files;
+use specification::graph::Graph;
 use specification::repository::Repository;
 
 /// A copy of the crates and the documents, removed at the end.
@@ -149,6 +151,28 @@ fn a_word_for_two_things_is_found() {
     assert!(found[1].starts_with("`planted`: crates/order/specs/Order.antt:"));
     let files = "crates/order/specs/Order.antt, crates/text/specs/Order.antt";
     assert_eq!(found[2..], [files]);
+}
+
+/// The theorems that CONTRACTS.md lists as those behind demand 3.
+#[test]
+fn demand_3_rests_on_what_is_listed_behind_it() {
+    let root = Path::new(env!("CARGO_MANIFEST_DIR")).join("../..");
+    let graph = Graph::new(files::read(&root).expect("crates"));
+    let behind = graph.reached(graph.named("demand-3"));
+    let page = fs::read_to_string(root.join("docs/CONTRACTS.md")).expect("a page");
+    let table = page.split("\nThe theorems about orders behind it").nth(1);
+    let rows = table.expect("a table").lines().skip(4);
+    let cells = rows.map_while(|row| row.strip_prefix("| ")?.split(" | ").next());
+    let names: Vec<&str> = cells
+        .flat_map(|cell| cell.split('`').skip(1).step_by(2))
+        .collect();
+    assert!(names.contains(&"follow-exactly"), "{names:?}");
+    for name in names {
+        let mut laws = graph.named(name).iter();
+        assert!(laws.any(|law| behind.contains(law)), "{name}");
+    }
+    let beside = graph.named("same-cells");
+    assert!(beside.iter().all(|law| !behind.contains(law)));
 }
 
 #[test]

@@ -9,14 +9,15 @@ sizeLimit = 65536
 abbrev pub labelLimit : ℕ
 labelLimit = 1024
 
--- a name is "1 to 16" letters or digits, a path "1 to 8" names
+-- "A name is 1 to 16 ASCII letters or digits"
 abbrev pub nameLimit : ℕ
 nameLimit = 16
 
+-- "A path is 1 to 8 names"
 abbrev pub pathLimit : ℕ
 pathLimit = 8
 
--- a number is "-1000000000 to 1000000000"
+-- a number is "-1000000000 to 1000000000": the largest, and the size of the smallest
 abbrev pub numberLimit : ℕ
 numberLimit = 1000000000
 

@@ -105,6 +105,7 @@ module _ {t r : List ℤ} {l : ℕ} {g : Arguments} {d : ℕ} where
       where
         into : {i : ℕ} → Within t (e .entry .ready .count) Own (cell t l i) → j ≡ i → Entry t r x g d
         into h q = enter (e .entry) (p ∙ ap (cell t l) q) h
+
         go : (a b c : Bool) → eqb j 3 ≡ a → eqb j 4 ≡ b → eqb j 5 ≡ c → Entry t r x g d
         go true b c q _ _ =
             let used = a-uses (kind t l) ∙ ap (λ k. usesOf k .a) (e .of) ∙ rw q at u in
@@ -121,8 +122,9 @@ module _ {t r : List ℤ} {l : ℕ} {g : Arguments} {d : ℕ} where
   unfolding Leads
   branch-entry e y p = enter (e .entry) p (has e .1 y)
 
-  pub body-entry : {k : ℕ} → Entered (clause.Call k) t r l g d → {x z : ℕ} {y : ℤ} → z ≡ target t l → x ≡ fieldB t z → natAbs y ≤ numberLimit → {d′ : ℕ} → d′ ≤ depthLimit
-      → Entry t r x (oneArgument y) d′
+  -- at any depth that is allowed
+  pub body-entry : {k : ℕ} → Entered (clause.Call k) t r l g d → {x z : ℕ} {y : ℤ} → z ≡ target t l → x ≡ fieldB t z → natAbs y ≤ numberLimit
+      → {d′ : ℕ} → d′ ≤ depthLimit → Entry t r x (oneArgument y) d′
   unfolding Leads
   body-entry e {x} {z} p q h s =
       let b = enter (e .entry) (q ∙ ap (fieldB t) p) (has e .1) in

@@ -57,9 +57,9 @@ still-before : (order : List ℤ) {i j : ℕ} → j ≤ i → (x : ℕ) → x �
 still-before order {i} {j} h x m =
     let behind = labelsOf (drop j (take i order)) in
     let cut : labelsOf (take i order) ≡ labelsOf (take j order) ++ behind =
-        ap labelsOf (sym (take-append-drop j (take i order)))
-        ∙ labels-append (take j (take i order)) (drop j (take i order))
-        ∙ ap (λ (l : List ℤ). labelsOf l ++ behind) (take-take j i order h) in
+    ap labelsOf (sym (take-append-drop j (take i order)))
+    ∙ labels-append (take j (take i order)) (drop j (take i order))
+    ∙ ap (λ (l : List ℤ). labelsOf l ++ behind) (take-take j i order h) in
     rw cut (in-left x (labelsOf (take j order)) behind m)
 
 -- ---- the loop

@@ -1,9 +1,12 @@
 -- A sample sheet with what document 01 says of it, and what the definitions of the calls give for it.
+use mathlib.Core.Bool.{cond}
 use mathlib.Core.List.{List, [], _∷_, _++_, map}
 use Prim.Native.Nat.{ℕ, zero, suc, _-_, _*_}
 use Prim.Native.String.{String}
 use lib.IntN.{ℤ, pos}
-use lib.ListN.{length, getD}
+use lib.Dec.{eqb}
+use lib.ListN.{length}
+use Rattle.kinds.specs.Kinds.{groupCode, valueCode, functionCode, wantedBy}
 use Rattle.cells.specs.Cells.{zeros}
 use Rattle.cells.specs.Table.{kind, owner, target}
 use Rattle.refusals.specs.declared.Reply.{Reply}
@@ -85,10 +88,17 @@ printLinesOf (mixed ls) = ls
 abbrev pub labelsListed : List PrintLine → List ℤ
 labelsListed ls = map (λ x. pos (x .label)) ls
 
+-- what a line of definition o tells whose path must end at this kind, and ends at e
+abbrev pub mentionOf : ℕ → ℕ → ℕ → List Fact
+mentionOf end o e = cond (eqb end valueCode) (reads o e ∷ []) (cond (eqb end functionCode) (calls o e ∷ []) [])
+
 -- what label l tells, with this kind code, owner o and target e
 abbrev pub factOf : ℕ → ℕ → ℕ → ℕ → List Fact
 factOf code l o e =
-    getD ([] ∷ (group l o ∷ []) ∷ (value l o ∷ []) ∷ (function l o ∷ []) ∷ [] ∷ [] ∷ (reads o e ∷ []) ∷ (calls o e ∷ []) ∷ []) code []
+    cond (eqb code groupCode) (group l o ∷ [])
+    (cond (eqb code valueCode) (value l o ∷ [])
+    (cond (eqb code functionCode) (function l o ∷ [])
+    (mentionOf (wantedBy code) o e)))
 
 -- what k labels of a table tell, from l on
 abbrev pub factsFrom : List ℤ → ℕ → ℕ → List Fact

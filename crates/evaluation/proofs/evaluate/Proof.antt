@@ -21,7 +21,8 @@ sub-t8 c = omega (arith, left-less-by _ _ _ _ _ _ (c .before .expression .ensure
 returns : tie.Need-returns
 returns c =
     let e = c .before .before in
-    value-is _ _ (e .before .before .before .args .label) (e .before .before .field .ensures) (e .before .fresh .ensures .0) (e .before .fresh .ensures .1) (e .expression .ensures)
+    let entry = e .before .before .before in
+    value-is _ _ (entry .args .label) (e .before .before .field .ensures) (e .before .fresh .ensures .0) (e .before .fresh .ensures .1) (e .expression .ensures)
     (whole (e .expression .result .number) (c .struct-told .given .0 .1))
 
 pub evaluate-spec : {M : Type 1} → statement M

@@ -42,7 +42,8 @@ meets-requires : tie.Need-meets-requires Inv-loop μ-loop
 meets-requires c κs =
     let p = c .before .before .before .before .before .before .pre in
     let l = c .before .before .before in
-    (p .1 .0 _ (held-row _ _ (take (l .loop .k) (labelsOf (l .before .before .before .args .order .now))) _ (l .loop .inv .2) _ (held (c .before))), omega (arith, p .0, l .loop .inv .0))
+    let a = l .before .before .before .args in
+    (p .1 .0 _ (held-row _ _ (take (l .loop .k) (labelsOf (a .order .now))) _ (l .loop .inv .2) _ (held (c .before))), omega (arith, p .0, l .loop .inv .0))
 
 add-result : tie.Need-add-result Inv-loop μ-loop
 add-result c = search needs
@@ -57,7 +58,8 @@ returns c =
     let loop-test = c .before .before .before .before .loop-test in
     let nat-at = c .before .before .before .nat-at in
     let l = c .before .before .before .before .before in
-    sym (early-here (l .before .before .before .args .order .now) _ _ _ _ (l .loop .inv .2) (loop-test .taken) _ (nat-at .ensures) _ (c .before .meets .ensures .0 (c .if1 .taken))) ∙ l .loop .inv .4
+    let a = l .before .before .before .args in
+    sym (early-here (a .order .now) _ _ _ _ (l .loop .inv .2) (loop-test .taken) _ (nat-at .ensures) _ (c .before .meets .ensures .0 (c .if1 .taken))) ∙ l .loop .inv .4
 
 drop-mark-requires : tie.Need-drop-mark-requires Inv-loop μ-loop
 drop-mark-requires c κs =

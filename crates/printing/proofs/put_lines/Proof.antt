@@ -27,8 +27,8 @@ nat-at-requires c κs = search needs
 
 put-line-requires : tie.Need-put-line-requires Inv-loop μ-loop
 put-line-requires c κs =
-    let start = c .before .before .before in
-    start .before .before .before .before .pre .1
+    let entry = c .before .before .before .before .before .before .before in
+    entry .pre .1
 
 add-i : tie.Need-add-i Inv-loop μ-loop
 add-i c = omega arith

@@ -202,9 +202,10 @@ visit-visit-requires t c κs =
     let cell-of = c .before .before .before .before .before .cell-of in
     let a = c .before .before .before .before .before .before .before .before .before .before .before .before .before .before .before .before in
     let p = a .pre .1 in
-    let l = c .before .before .before .before .before .before .before in (
+    let l = c .before .before .before .before .before .before .before in
+    let if1 = l .before .before .before .if1 in (
       subst (λ (m : ℕ). unbegun (a .args .n) (l .loop .state) < m) (a .pre .0)
-          (fewer _ _ (p .0) _ _ _ _ (here t l) (l .before .before .before .if1 .left) (p .1 .1 .1 .1 .1) (p .1 .1 .1 .1 .0) _ (l .loop .inv .0 .since)),
+          (fewer _ _ (p .0) _ _ _ _ (here t l) (if1 .left) (p .1 .1 .1 .1 .1) (p .1 .1 .1 .1 .0) _ (l .loop .inv .0 .since)),
       (p .0, (p .1 .0, (p .1 .1 .0, (room t l, (l .loop .inv .0 .rows, subst (HasBody (a .args .table .now)) (sym (cell-of .ensures)) (body t point)))))),
     )
 
@@ -253,11 +254,12 @@ visit-returns-2 t c =
     let p = a .pre .1 in
     let w = c .before .before .before .before .before .before in
     let l = c .before .before .before .before .before .before .before .before .before .before in
+    let if1 = l .before .before .before .if1 in
     let h = hangs t point-2 in
     let k = c .before .before .before .share-row in
     let s = subst (Shared (a .args .n) (w .if2 .state) (a .args .d) (cell-of .result) (w .if2 .square) (k .last .1 .1 .0)) (c .if3 .taken) (k .ensures) in
     let g = going t w in
-    finish _ _ (p .0) _ _ _ _ (here t l) (l .before .before .before .if1 .left) (p .1 .1 .1 .1 .1) (p .1 .1 .1 .1 .0) _ _ _ _ _ _ g
+    finish _ _ (p .0) _ _ _ _ (here t l) (if1 .left) (p .1 .1 .1 .1 .1) (p .1 .1 .1 .1 .0) _ _ _ _ _ _ g
     (shared _ _ (p .0) _ (p .1 .0) _ _ _ _ (p .1 .1 .1 .1 .1) (record { line = l .loop .x; path = h .path; from = h .from; to = sym (cell-of .ensures) })
     (g .rows .made _ (s .0)) (s .1) (g .rows .blank _ (not-made t w)) (s .2))
 
@@ -357,7 +359,8 @@ visit-returns-3 t c =
     let fill = c .before .before .before .before .fill in
     let p = entry .pre .1 in
     let l = c .before .before .before .before .before .before .before .before .before in
-    finish _ _ (p .0) _ _ _ _ (here t l) (l .before .before .before .if1 .left) (p .1 .1 .1 .1 .1) (p .1 .1 .1 .1 .0) _ _ _ _ _ _ (l .loop .inv .0) (fill .ensures)
+    let if1 = l .before .before .before .if1 in
+    finish _ _ (p .0) _ _ _ _ (here t l) (if1 .left) (p .1 .1 .1 .1 .1) (p .1 .1 .1 .1 .0) _ _ _ _ _ _ (l .loop .inv .0) (fill .ensures)
 
 pub +visit-spec : {M : Type 1} → statement M
 +visit-spec = close μ-visit λ t. visit-lts.spec (claims t)

@@ -54,11 +54,11 @@ abbrev pub keptBy : Verdict → List ℤ → List ℤ
 keptBy Fine t = t
 keptBy (Refused r l) t = zeros (length t)
 
--- the rows of n labels in a table
+-- the cells of n labels in a table
 abbrev pub cellsTo : ℕ → List ℤ → List ℤ
 cellsTo n w = take (8 * n) w
 
--- row 16 and the plan of the rows of n labels in a table w
+-- row 16 and the plan of n labels in a table w
 pub record TablePlans (n : ℕ) (w : List ℤ) (p : ℕ) (r : PlanReply) (t o : List ℤ) : Type 0 where
   pub reply : r ≡ answerBy (cycleBad (cellsTo n w) n) (order.plan (cellsTo n w) n)
   pub table : t ≡ keptBy (cycleBad (cellsTo n w) n) w

@@ -87,7 +87,7 @@ fn clear_both(first: &mut [i64], second: &mut [i64])
 
 // ---- Plan
 
-// Row 16, and the plan of a table whose rows of n labels are accepted. Planning leaves the cells behind the order as they were, so they
+// Row 16, and the plan of a table whose cells of n labels are accepted. Planning leaves the cells behind the order as they were, so they
 // are cleared here.
 fn plan_table(n: usize, table: &mut [i64], plan: &mut [i64]) -> PlanReply
     requires { ⌜ Accepted (cellsTo n (now table)) n × (8 * n ≤ length (now table)) × (n ≤ length (now plan)) ⌝ }

@@ -1,4 +1,4 @@
--- A table has eight cells a label, labels from 1: label l's row starts at index 8 * (l - 1).
+-- A table has eight cells a label, labels from 1: label l's start at index 8 * (l - 1).
 -- Structure is read in ℕ: a cell is 0 of label 0, past the end, and where it is negative.
 use mathlib.Core.Bool.{Bool}
 use Prim.Native.Nat.{ℕ, zero, suc, _+_, _*_}

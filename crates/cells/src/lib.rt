@@ -12,7 +12,7 @@ ghost use Rattle.cells.specs.Table.{cell};
 
 // ---- names for what cells hold
 
-// The eight cells of a label's row: kind code, byte start and length of the name field, a, b, c, owner, target.
+// The eight cells of a label: kind code, byte start and length of the name field, a, b, c, owner, target.
 pub const KIND: usize = 0;
 
 pub const NAME_START: usize = 1;
@@ -120,7 +120,7 @@ pub fn clear(t: &mut [i64])
 
 // ---- cells by label
 
-// Cell j of the label's row.
+// Cell j of the label.
 pub fn cell_at(t: &[i64], label: usize, j: usize) -> usize
     requires { ⌜ j < 8 ⌝ }
     ensures { λ r. ⌜ r ≡ cell (now (t .entry)) label j ⌝ }
@@ -128,7 +128,7 @@ pub fn cell_at(t: &[i64], label: usize, j: usize) -> usize
     if label == 0 {
         return 0;
     }
-    // such a row is past the end, and its index may not fit
+    // such a label is past the end, and the index may not fit
     if t.len() < label {
         return 0;
     }
@@ -143,7 +143,7 @@ pub fn natural_cell(t: &[i64], label: usize, j: usize) -> usize
     t[8 * (label - 1) + j] as usize
 }
 
-// Cell j of the label's row becomes v.
+// Cell j of the label becomes v.
 pub fn put_cell(t: &mut [i64], label: usize, j: usize, v: usize)
     requires { ⌜ (1 ≤ label) × (8 * label ≤ length (now t)) × (j < 8) × (v ≤ sizeLimit) ⌝ }
     ensures { λ _. ⌜ now (t .exit) ≡ set (now (t .entry)) (8 * (label - 1) + j) (pos v) ⌝ }

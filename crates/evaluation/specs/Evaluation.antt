@@ -69,7 +69,7 @@ Way = ℕ → Arguments → ℕ → ℕ → Outcome
 abbrev pub oneArgument : ℤ → Arguments
 oneArgument y = record { first = y }
 
--- "at depth 64 the state is then 5, else the target's body is worked out oneArgument deeper"
+-- "at depth 64 the state is then 5, else the target's body is worked out one deeper"
 unfoldable pub bodyBy : Bool → Way → List ℤ → ℕ → ℤ → ℕ → ℕ → Outcome
 bodyBy true rec t l y s d = fails tooDeep s
 bodyBy false rec t l y s d = rec (fieldB t (target t l)) (oneArgument y) s (d + 1)
@@ -88,7 +88,7 @@ operationBy rec t op l g s d =
 abbrev pub branchOf : List ℤ → ℕ → ℤ → ℕ
 branchOf t l y = cond (equals 0 y) (fieldC t l) (fieldB t l)
 
--- "I works out a, then oneArgument branch only."
+-- "I works out a, then one branch only."
 unfoldable pub choiceBy : Way → List ℤ → Way
 choiceBy rec t l g s d = unlessFailed (rec (fieldA t l) g s d) (λ y s′. rec (branchOf t l y) g s′ d)
 
@@ -102,14 +102,14 @@ enteredBy rec t r (clause.Operation op) l g s d = operationBy rec t op l g s d
 enteredBy rec t r clause.Choice l g s d = choiceBy rec t l g s d
 enteredBy rec t r clause.None l g s d = fails 0 s
 
--- "Entering an expression takes oneArgument step; with none left the state is 4."
+-- "Entering an expression takes one step; with none left the state is 4."
 unfoldable pub stepBy : Way → List ℤ → List ℤ → Way
 stepBy rec t r l g zero d = fails outOfSteps 0
 stepBy rec t r l g (suc s) d = enteredBy rec t r (clauseOf (kind t l)) l g s d
 
 -- ---- the recursion closed
 
--- at most `fuel` entries, oneArgument in the other
+-- at most `fuel` entries, one in the other
 unfoldable pub withFuel : ℕ → List ℤ → List ℤ → Way
 withFuel zero t r l g s d = fails outOfSteps 0
 withFuel (suc fuel) t r l g s d = stepBy (withFuel fuel t r) t r l g s d

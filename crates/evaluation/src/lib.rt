@@ -108,7 +108,7 @@ fn failure(state: u32, left: u32) -> Outcome
 
 // ---- cells
 
-// Cell j of the label's row.
+// Cell j of the label.
 fn field(table: &[i64], label: usize, j: usize) -> usize
     requires { ⌜ Cell (now table) label j ⌝ }
     ensures { λ r. ⌜ r ≡ cell (now (table .entry)) label j ⌝ }

@@ -1,4 +1,4 @@
--- Results in cells: a label's labelCells, what is read back from it, and a buffer that a function of labels fills.
+-- Results in cells: a label's three, what is read back from it, and a buffer that a function of labels fills.
 use mathlib.Core.Path.{_≡_, refl, sym, ap, _∙_}
 use mathlib.Core.List.{List, _++_, append-assoc}
 use Prim.Native.Nat.{ℕ, zero, suc, _+_, _-_, _*_, _≤_, _<_}
@@ -15,7 +15,7 @@ use Rattle.evaluation.specs.declared.Value.{Value}
 use Rattle.evaluation.specs.Results.{stored}
 use Rattle.figures.specs.Figures.{blank, valueCells, resultsOf, bufferOf}
 
--- ---- what is read back from a labelCells
+-- ---- what is read back from a label's cells
 
 abbrev valueIn : List ℤ → Value
 valueIn cells = record { number = intAt cells 1; state = natAt cells 0; steps = natAt cells 2 }
@@ -56,7 +56,7 @@ row-of f (suc n) rest (suc l) h k =
         rw e (ap (take 3) (drop-at (resultsOf f n) (valueCells (f (suc n)) ++ rest) (3 * n) (rows-length f n)))
     go (no d) older = older (omega arith)
 
--- past the last label a labelCells does not depend on the labels
+-- past the last label there are the same cells, whatever the labels have
 row-past : (f : ℕ → Value) (n : ℕ) (rest : List ℤ) (k : ℕ) → n ≤ k → labelCells 3 (resultsOf f n ++ rest) (suc k) ≡ take 3 (drop (3 * (k - n)) rest)
 row-past f n rest k h =
     let e : 3 * k ≡ 3 * n + 3 * (k - n) = omega arith in

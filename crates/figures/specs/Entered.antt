@@ -31,7 +31,7 @@ FirstNumber t r l g s d = firstOutcome t r l g s d .state ≡ hasNumber
 -- entered in evaluating what l's rule evaluates.
 pub data Enters (t r : List ℤ) (x : ℕ) : ℕ → Arguments → ℕ → ℕ → Type 0 where
   itself : {g : Arguments} {s d : ℕ} → Enters t r x x g (suc s) d
-  -- "C works out its argument; at depth 64 the state is then 5, else the target's body is worked out oneArgument deeper"
+  -- "C works out its argument; at depth 64 the state is then 5, else the target's body is worked out one deeper"
   argument : (l k : ℕ) {g : Arguments} {s d : ℕ} → GoesBy t (clause.Call k) l → Enters t r x (fieldA t l) g s d → Enters t r x l g (suc s) d
   body : (l k : ℕ) {g : Arguments} {s d : ℕ} → GoesBy t (clause.Call k) l → FirstNumber t r l g s d → (d ≡ depthLimit → ⊥)
       → Enters t r x (fieldB t (target t l)) (oneArgument (firstOutcome t r l g s d .number)) (firstOutcome t r l g s d .left) (d + 1) → Enters t r x l g (suc s) d
@@ -39,7 +39,7 @@ pub data Enters (t r : List ℤ) (x : ℕ) : ℕ → Arguments → ℕ → ℕ �
   first : (l : ℕ) (op : Operation) {g : Arguments} {s d : ℕ} → GoesBy t (clause.Operation op) l → Enters t r x (fieldA t l) g s d → Enters t r x l g (suc s) d
   second : (l : ℕ) (op : Operation) {g : Arguments} {s d : ℕ} → GoesBy t (clause.Operation op) l → FirstNumber t r l g s d
       → Enters t r x (fieldB t l) g (firstOutcome t r l g s d .left) d → Enters t r x l g (suc s) d
-  -- "I works out a, then oneArgument branch only"
+  -- "I works out a, then one branch only"
   test : (l : ℕ) {g : Arguments} {s d : ℕ} → GoesBy t clause.Choice l → Enters t r x (fieldA t l) g s d → Enters t r x l g (suc s) d
   branch : (l : ℕ) {g : Arguments} {s d : ℕ} → GoesBy t clause.Choice l → FirstNumber t r l g s d
       → Enters t r x (branchOf t l (firstOutcome t r l g s d .number)) g (firstOutcome t r l g s d .left) d → Enters t r x l g (suc s) d

@@ -1,4 +1,4 @@
--- Chains of members, and allLabels gathered in lists.
+-- Chains of members, and labels gathered in lists.
 use mathlib.Core.Path.{_≡_, refl, sym, ap, _∙_, subst}
 use mathlib.Core.Logic.{_⊎_, inl, inr}
 use mathlib.Core.List.{List, [], _∷_, _++_, append-assoc, append-nil}
@@ -21,7 +21,7 @@ use Rattle.placing.specs.UnmetCounts.{Rising}
 use Rattle.reach.specs.Chains.{Empty}
 use Rattle.groups.specs.Members.{Chain, Chained, Gathered, Relinked}
 
--- ---- allLabels that pass a test, upward
+-- ---- labels that pass a test, upward
 
 pub labels-few : (f : ℕ → Bool) (n : ℕ) → length (filter f (allLabels n)) ≤ n
 labels-few f n = omega (arith, filter-le f (allLabels n), length-upFrom 1 n)
@@ -200,7 +200,7 @@ module _ (n : ℕ) (next whole items : List ℕ) where
       go [] e c = record { cells = sym (append-nil (take m items)) ∙ e; within = w .within }
       go (x ∷ l) e c = absurd (omega (arith, c .0, c .1))
 
--- ---- filtering the allLabels upward
+-- ---- filtering the labels upward
 
 module _ (f : ℕ → Bool) (n : ℕ) (items : List ℕ) (l m : ℕ) (lo : l ≤ n) (e : take m items ++ filter f (upFrom l (n + 1 - l)) ≡ filter f (allLabels n)) where
   next-label : filter f (upFrom l (n + 1 - l)) ≡ cond (f l) (l ∷ filter f (upFrom (l + 1) (n + 1 - (l + 1)))) (filter f (upFrom (l + 1) (n + 1 - (l + 1))))
@@ -230,7 +230,7 @@ no-more f n items l m h g e =
 
 -- ---- a chain put in order, from its end
 
--- the allLabels of L from i on are linked, and nothing else changed
+-- the labels of L from i on are linked, and nothing else changed
 pub record Relinking (n : ℕ) (next₀ L next : List ℕ) (head i : ℕ) : Type 0 where
   pub chain : Chain n next head (drop i L)
   pub others : (y : ℕ) → ((x : ℕ) → x ∈ drop i L → y ≡ n + x → ⊥) → getD next y 0 ≡ getD next₀ y 0

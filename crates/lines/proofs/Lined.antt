@@ -1,4 +1,4 @@
--- What linesCells 1 to 7 give of the table that they leave.
+-- What rows 1 to 7 give of the table that they leave.
 use mathlib.Core.Path.{_≡_, refl, ap, sym, _∙_}
 use mathlib.Core.Bool.{Bool, true, false, cond, _&&_}
 use mathlib.Core.List.{List, _++_}
@@ -91,7 +91,7 @@ held-label n w r = go (labelOf n w) refl r
     go (decimal.Is v) e f = label-least n w v e
     go decimal.Not e f = absurd (true-false (sym f))
 
--- ---- a line that linesCells 5 to 7 let pass
+-- ---- a line that rows 5 to 7 let pass
 
 -- an operand field, where the kind wants one, holds a label
 abbrev Right : Form → ℕ → List ℕ → Type 0
@@ -130,7 +130,7 @@ module _ (n k : ℕ) (l : List ℕ) (e : lineBad n k l ≡ 0) where
   abbrev formed : Bool
   formed = cond (eqb k 1) (same l rootLine) (formsRight n (fieldsAt code) fs)
 
-  -- what row 7 finds, and linesCells 6 and 7
+  -- what row 7 finds, and rows 6 and 7
   abbrev formBad : ℕ
   formBad = cond formed 0 formRow
 

@@ -90,7 +90,7 @@ module _ (n k : ℕ) (s : List ℕ) (at : ℕ) where
       go zero f = omega (arith, line-inside s at h ends, row-end, same-end row f)
       go (suc b) f = let z : _≡_ {A = ℕ} 0 1 = cc in absurd (omega arith)
 
--- ---- the linesCells lineWritten so far
+-- ---- the cells written so far
 
 row-length : (n k p : ℕ) (fs : List (List ℕ)) → length (lineCells n k p fs) ≡ 8
 unfolding fieldCells

@@ -137,6 +137,6 @@ abbrev pub passed : Verdict → ℕ → ℕ
 passed Fine n = n
 passed (Refused r k) n = k - 1
 
--- a table in which the cells of labels 1 to k are lineWritten, and the others are as they were
+-- a table in which the cells of labels 1 to k are written, and the others are as they were
 abbrev pub linesWritten : List ℕ → ℕ → ℕ → List ℤ → List ℤ
 linesWritten s n k t = linesCells s n k ++ drop (8 * k) t

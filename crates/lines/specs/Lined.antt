@@ -1,4 +1,4 @@
--- What holds of the table that linesCells 1 to 7 leave.
+-- What holds of the table that rows 1 to 7 leave.
 use mathlib.Core.Path.{_≡_}
 use mathlib.Core.Bool.{true}
 use mathlib.Core.List.{List, _++_}

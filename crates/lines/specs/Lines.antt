@@ -18,7 +18,7 @@ use Rattle.refusals.specs.declared.Verdict.{Verdict}
 use Rattle.refusals.specs.declared.Verdict.the-variants.{Fine, Refused}
 use Rattle.lines.specs.Fields.{dash, fieldOf, isRight, held, kindCode}
 
--- ---- linesCells 1 to 3, at pieceStart 0
+-- ---- rows 1 to 3, at place 0
 
 -- a sheet is 1 to 65,536 bytes of lines, each ended by byte 10; all others are 32 to 126
 unfoldable pub isText : List ℕ → Bool
@@ -46,7 +46,7 @@ headBad s =
     (unless (leb 1 (labels s) && leb (labels s) labelLimit) labelsRow
     Fine))
 
--- ---- linesCells 5 to 7, one pass down the lines, the lowest number first in a line
+-- ---- rows 5 to 7, one pass down the lines, the lowest number first in a line
 
 -- what label 1 always is
 unfoldable pub rootLine : List ℕ
@@ -88,7 +88,7 @@ linesBad s n = firstBad (lineCheck s n) 1 n
 abbrev pub rootCells : List ℤ
 rootCells = pos groupCode ∷ zeros 7
 
--- those of any other line, which begins at pieceStart p of the text and has the fields fs
+-- those of any other line, which begins at place p of the text and has the fields fs
 abbrev pub nameCell : List (List ℕ) → ℕ → ℤ
 nameCell fs x = pos (cond (same (field fs 1) dash) 0 x)
 

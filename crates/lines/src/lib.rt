@@ -296,7 +296,7 @@ fn read_line(text: &[u8], from: usize, n: usize, label: usize) -> LineJudged
 
 // ---- the pass down the lines
 
-// The eight cells of a row, lineWritten from index `base` on; owner and target are left 0 for later passes.
+// The eight cells of a line, written from index `base` on; owner and target are left 0 for later passes.
 fn put_cells(table: &mut [i64], base: usize, row: LineCells)
     requires { ⌜ base + 8 ≤ length (now table) ⌝ }
     ensures { λ _. ⌜ now (table .exit) ≡ sets (now (table .entry)) base (eightCells row) ⌝ }
@@ -340,7 +340,7 @@ fn step(text: &[u8], at: usize, n: usize, label: usize, table: &mut [i64]) -> Ne
     }
 }
 
-// Rows 5 to 7, one pass down the lines. The cells of each line that passes are lineWritten; the others of the table stay.
+// Rows 5 to 7, one pass down the lines. The cells of each line that passes are written; the others of the table stay.
 pub fn read_lines(text: &[u8], n: usize, table: &mut [i64]) -> Verdict
     requires { ⌜ (headBad (now text) ≡ Verdict.Fine) × (n ≡ labels (now text)) × (8 * n ≤ length (now table)) ⌝ }
     ensures { λ r. ⌜ r ≡ linesBad (now (text .entry)) n ⌝ }

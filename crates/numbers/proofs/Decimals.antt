@@ -128,7 +128,7 @@ pub decimal-is : (max : ℕ) (f : List ℕ) (v : ℕ) → Written max f v → de
 unfolding decimalOf digitsOf
 decimal-is max f v w = rw (w .plain, w .digits, w .is, le-leb v max (w .most))
 
--- ---- what the definitions give is at most the numberLimit
+-- ---- what the definitions give is at most the limit
 
 pub decimal-size : (max : ℕ) (f : List ℕ) (v : ℕ) → decimalOf max f ≡ decimal.Is v → v ≤ max
 decimal-size max f v e = written max f v e .most
@@ -164,7 +164,7 @@ bounded (c ∷ f) = go (eqb c 45)
 pub number-size : (f : List ℕ) (z : ℤ) → numberOf f ≡ number.Is z → natAbs z ≤ numberLimit
 number-size f z e = subst Bounded e (bounded f)
 
--- ---- a larger numberLimit gives the same decimal, and a decimal is a number
+-- ---- a larger limit gives the same decimal, and a decimal is a number
 
 pub decimal-more : (max more : ℕ) (f : List ℕ) (v : ℕ) → max ≤ more → decimalOf max f ≡ decimal.Is v → decimalOf more f ≡ decimal.Is v
 decimal-more max more f v h e =

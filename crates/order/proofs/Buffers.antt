@@ -50,7 +50,7 @@ row-other w k (suc j) r vs e d = ext-getD (pos 0) (take w (drop (w * j) (sets r 
         let m : i < w = omega (arith, size (sets r (w * k) vs)) in
         at (sets r (w * k) vs) i m ∙ side i m (decLt j k) ∙ sym (at r i m)
 
--- ---- two buffers of one length are one list if they agree in each labelCells
+-- ---- two buffers of one length are one list if they agree in each label's cells
 
 rows-same : (w : ℕ) → 0 < w → (k : ℕ) (a b : List ℤ) → length a ≤ k → length a ≡ length b
     → ((j : ℕ) → take w (drop (w * j) a) ≡ take w (drop (w * j) b)) → a ≡ b
@@ -74,7 +74,7 @@ rows-same w h (suc k) a b l e f =
 pub buffers-same : (w : ℕ) → 0 < w → (a b : List ℤ) → length a ≡ length b → ((l : ℕ) → labelCells w a l ≡ labelCells w b l) → a ≡ b
 buffers-same w h a b e f = rows-same w h (length a) a b (omega arith) e (λ j. f (suc j))
 
--- ---- (f), where a label's result is its labelCells and evaluation keeps the buffer's length
+-- ---- (f), where a label's result is its cells and evaluation keeps the buffer's length
 
 module _ (t : List ℤ) (w : ℕ) (some : 0 < w) (E : Evaluation t (List ℤ) (List ℤ)) (rows : (r : List ℤ) (l : ℕ) → E .stored r l ≡ labelCells w r l)
     (kept : (r : List ℤ) (v : ℕ) → length (E .evaluate r v) ≡ length r) where

@@ -52,7 +52,7 @@ reaches-trans r (once m) = then r m
 reaches-trans r (then q m) = then (reaches-trans r q) m
 
 module _ (t : List ℤ) (n : ℕ) (ok : Accepted t n) where
-  -- ---- allLabels are 1 to n
+  -- ---- labels are 1 to n
 
   cell-out : (l j : ℕ) → n < l → cell t l j ≡ 0
   cell-out zero j h = refl

@@ -26,7 +26,7 @@ isV t l = eqb (kind t l) valueCode
 abbrev pub allLabels : ℕ → List ℕ
 allLabels n = upFrom 1 n
 
--- the V allLabels, upward
+-- the V labels, upward
 abbrev pub values : List ℤ → ℕ → List ℕ
 values t n = filter (isV t) (allLabels n)
 
@@ -81,9 +81,9 @@ pub record Proper (t : List ℤ) (o : List ℕ) : Type 0 where
   -- wherever the order is split at a v, the values that v reaches stand before it
   pub after : (a : List ℕ) (v : ℕ) (b : List ℕ) → o ≡ a ++ v ∷ b → (w : ℕ) → kind t w ≡ valueCode → Reaches t v w → w ∈ a
 
--- ---- "whole if for every Group the V allLabels under it, at any depth, are consecutive"
+-- ---- "whole if for every Group the V labels under it, at any depth, are consecutive"
 
--- the allLabels of o that are so are consecutive: o is three lists, where all of the middle are so and none of the others
+-- the labels of o that are so are consecutive: o is three lists, where all of the middle are so and none of the others
 pub record Consecutive (So : ℕ → Type 0) (o : List ℕ) : Type 0 where
   pub front : List ℕ
   pub block : List ℕ
@@ -133,7 +133,7 @@ someStuck t n = any (λ g. isG t g && groupStuck t n g) (allLabels n)
 abbrev pub mixedPlan : List ℤ → ℕ → List ℕ
 mixedPlan t n = placed (reaches t n) (values t n)
 
--- ---- the plan; row 16, "V reaches itself", a pass upward through the allLabels, whose place is the label
+-- ---- the plan; row 16, "V reaches itself", a pass upward through the labels, whose place is the label
 
 abbrev pub firstCycle : List ℤ → ℕ → Option ℕ
 firstCycle t n = first (λ v. reaches t n v v) (values t n)

@@ -12,7 +12,7 @@ use Rattle.order.specs.LabelLists.{mem, any, first}
 abbrev pub waits : (ℕ → ℕ → Bool) → List ℕ → List ℕ → ℕ → Bool
 waits needs items done p = any (λ q. needs p q && not (mem q done)) items
 
--- the item to placeNext after those done: the first, and so the smallest where items go upward
+-- the item to place after those done: the first, and so the smallest where items go upward
 abbrev pub next : (ℕ → ℕ → Bool) → List ℕ → List ℕ → Option ℕ
 next needs items done = first (λ p. not (mem p done) && not (waits needs items done p)) items
 

@@ -1,4 +1,4 @@
--- Searchable 12 to 15 read of text and table the kinds, the owners and the bytes of the names alone: two texts with tables that agree in these
+-- Rows 12 to 15 read of text and table the kinds, the owners and the bytes of the names alone: two texts with tables that agree in these
 -- give the same, wherever the names stand. Two tables over one text that are alike but for the targets are such.
 use mathlib.Core.Path.{_≡_, refl, ap, sym, _∙_}
 use mathlib.Core.List.{List, [], _∷_}

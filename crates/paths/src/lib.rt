@@ -524,7 +524,7 @@ fn check_targets(table: &[i64], n: usize) -> Verdict
     Verdict::Fine
 }
 
-// Searchable 14 and 15, with the heads in the target cells.
+// Rows 14 and 15, with the heads in the target cells.
 fn resolve_later(text: &[u8], table: &mut [i64], n: usize, starts: &[u16], links: &[u16]) -> Verdict
     requires { ⌜ Searchable (now text) (now table) n × AllLinked (now text) (now table) n (now starts) (now links) ⌝ }
     requires { ⌜ ((l : ℕ) → 1 ≤ l → l ≤ n → target (now table) l ≡ headCell (now text) (now table) n l) ⌝ }
@@ -537,7 +537,7 @@ fn resolve_later(text: &[u8], table: &mut [i64], n: usize, starts: &[u16], links
     }
 }
 
-// Searchable 13 to 15.
+// Rows 13 to 15.
 fn resolve_heads(text: &[u8], table: &mut [i64], n: usize, starts: &[u16], links: &[u16]) -> Verdict
     requires { ⌜ Searchable (now text) (now table) n × AllLinked (now text) (now table) n (now starts) (now links) ⌝ }
     ensures { λ r. ⌜ r ≡ headRows (now (text .entry)) (now (table .entry)) n ⌝ }
@@ -549,7 +549,7 @@ fn resolve_heads(text: &[u8], table: &mut [i64], n: usize, starts: &[u16], links
     }
 }
 
-// Searchable 12 to 15, once each Group has its buckets.
+// Rows 12 to 15, once each Group has its buckets.
 fn resolve(text: &[u8], table: &mut [i64], n: usize, starts: &[u16], links: &mut [u16]) -> Verdict
     requires { ⌜ Searchable (now text) (now table) n × LinkedBelow (now text) (now table) n 1 (now starts) (now links) ⌝ }
     ensures { λ r. ⌜ r ≡ pathsBad (now (text .entry)) (now (table .entry)) n ⌝ }
@@ -561,7 +561,7 @@ fn resolve(text: &[u8], table: &mut [i64], n: usize, starts: &[u16], links: &mut
     }
 }
 
-// Searchable 12 to 15, with scratch that is all zeros.
+// Rows 12 to 15, with scratch that is all zeros.
 fn read_with(
     text: &[u8],
     table: &mut [i64],
@@ -599,7 +599,7 @@ fn read_large(text: &[u8], table: &mut [i64], n: usize) -> Verdict
     read_with(text, table, n, &mut starts, &mut links)
 }
 
-// Searchable 12 to 15. Where they find nothing, the target of each R and C stands in its cell; where they refuse, the table is for the
+// Rows 12 to 15. Where they find nothing, the target of each R and C stands in its cell; where they refuse, the table is for the
 // caller to clear.
 pub fn read_paths(text: &[u8], table: &mut [i64], n: usize) -> Verdict
     requires { ⌜ Searchable (now text) (now table) n ⌝ }

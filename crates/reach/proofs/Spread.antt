@@ -46,7 +46,7 @@ unfolding markCount
 count-few n M = omega (arith, filter-le M (allLabels n), length-upFrom 1 n)
 
 module _ (t : List ℤ) (n : ℕ) (ok : Accepted t n) (j : ℕ) (col : Column j) where
-  -- ---- the stack is no higher than there are allLabels
+  -- ---- the stack is no higher than there are labels
 
   pub stack-short : (d e : ℕ) (M : ℕ → Bool) (S : List ℕ) → Spread t j d e M S → length S ≤ n
   stack-short d e M S h = let m = length-mono S (allLabels n) (λ x. at x (zero-or-in (count x S))) in omega (arith, length-upFrom 1 n)

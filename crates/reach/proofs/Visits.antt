@@ -36,7 +36,7 @@ pub record Going (t : List ℤ) (n j : ℕ) (state₀ square₀ stack₀ state s
   pub rows : MarkRows t n j state square
   pub since : Since state₀ state
 
--- how many allLabels are not begun
+-- how many labels are not begun
 abbrev pub unbegun : ℕ → List ℕ → ℕ
 unbegun n state = length (filter (λ e. eqb (getD state e 0) 0) (allLabels n))
 

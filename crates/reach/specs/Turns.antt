@@ -38,7 +38,7 @@ pub record Spread (t : List ℤ) (j d e : ℕ) (M : ℕ → Bool) (S : List ℕ)
   pub held : (x : ℕ) → count x S ≤ one (M x)
   pub bodies : (x : ℕ) → x ∈ S → HasBody t x
 
--- how many allLabels are marked: it grows by what is put on the stack, so that a row comes to an end
+-- how many labels are marked: it grows by what is put on the stack, so that a row comes to an end
 unfoldable pub markCount : ℕ → (ℕ → Bool) → ℕ
 markCount n M = length (filter M (allLabels n))
 

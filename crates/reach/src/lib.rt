@@ -154,7 +154,7 @@ fn meet(
     top + 1
 }
 
-// MarkRow d meets all that e links to. Answers the stack's height.
+// Row d of the marks meets all that e links to. Answers the stack's height.
 fn grow(
     table: &[i64],
     n: usize,
@@ -294,7 +294,7 @@ fn reach_rows(
     }
 }
 
-// MarkRow 16: the smallest V that reaches itself, or 0.
+// Row 16: the smallest V that reaches itself, or 0.
 fn first_cycle(table: &[i64], n: usize, j: usize, square: &[u64]) -> usize
     requires { ⌜ Accepted (now table) n ⌝ }
     requires { ⌜ Column j ⌝ }
@@ -314,7 +314,7 @@ fn first_cycle(table: &[i64], n: usize, j: usize, square: &[u64]) -> usize
     0
 }
 
-// MarkRow 16 and the row of every V, in a blank square, with scratch that is all 0.
+// Row 16, and the row of marks of every V, in a blank square, with scratch that is all 0.
 fn cycle_in(
     table: &[i64],
     n: usize,

@@ -1,4 +1,4 @@
--- Zeros behind the linesCells of a table change nothing: linesCells 8 to 15 find what they find in the linesCells alone, and leave the same zeros behind.
+-- Zeros behind the cells of a table change nothing: rows 8 to 15 find what they find in those cells alone, and leave the same zeros behind.
 use mathlib.Core.Path.{_≡_, refl, ap, _∙_}
 use mathlib.Core.List.{List, [], _∷_, _++_, append-nil}
 use Prim.Native.Nat.{ℕ, zero, suc, _+_, _-_, _*_, _≤_, _<_}
@@ -40,7 +40,7 @@ column-padded j a f (suc n) t z room =
     ap (λ (w : List ℤ). set w (8 * n + j) (pos (f (suc n)))) (column-padded j a f n t z (omega arith))
     ∙ set-append-left (withColumn j f n t) z (8 * n + j) (pos (f (suc n))) (omega (arith, column-length j f n t))
 
--- ---- linesCells 8 to 15, owners and targets, of a table t of n labels and k zeros
+-- ---- rows 8 to 15, owners and targets, of a table t of n labels and k zeros
 
 module _ (t : List ℤ) (k n : ℕ) (room : 8 * n ≤ length t) where
   abbrev w : List ℤ
@@ -99,7 +99,7 @@ module _ (s : List ℕ) where
     unfolding linedTable sheetCells
     sheet-table = resolved-padded (sheetCells s) (m - 8 * labels s) (labels s) rows-long s
 
-  -- with a table long enough, row 4 finds nothing, and Read what the other linesCells find
+  -- with a table long enough, row 4 finds nothing, and Read what the other rows find
   pub read-long : (m : ℕ) → 8 * labels s ≤ m → readBad s m ≡ orElse (headBad s) (sheetBad s)
   unfolding readBad tableShort
   read-long m room = rw (le-leb (8 * labels s) m room)

@@ -35,16 +35,16 @@ pub refused : (v : Verdict) (n r p : ℕ) → replyOf v n ≡ reply.Refused r p 
 refused Fine n r p e = let z : _≡_ {A = ℕ} 0 1 = cc in absurd (omega arith)
 refused (Refused x y) n r p e = cc
 
--- linesCells that refuse leave the table to the caller
+-- rows that refuse leave the table to the caller
 pub refused-judged : (wanted : Verdict) (made : List ℤ) (r p : ℕ) (t : List ℤ) → Refused r p ≡ wanted → Judged wanted made (Refused r p) t
 refused-judged wanted made r p t e = record {
   found = e;
   left = λ q. let z : _≡_ {A = ℕ} 0 1 = cc in absurd (omega arith);
 }
 
--- ---- linesCells 5 to 15, after the lines of a table t found v and left u
+-- ---- rows 5 to 15, after the lines of a table t found v and left u
 
--- the linesCells of all labels, and zeros behind them
+-- the cells of all labels, and zeros behind them
 cleared : (s : List ℕ) (n : ℕ) (t : List ℤ) → 8 * n ≤ length t → clearFrom (8 * n) (linesWritten s n n t) ≡ linesCells s n n ++ zeros (length t - 8 * n)
 cleared s n t h =
     let l = written-length s n n t h in
@@ -76,9 +76,9 @@ module _ (s : List ℕ) (n : ℕ) (t u : List ℤ) (v : Verdict) (is : n ≡ lab
   unfolding sheetBad
   sheet-refused r p y f = refused-judged _ _ r p y (rw (lines-are ∙ f))
 
--- ---- linesCells 1 to 3, and row 4
+-- ---- rows 1 to 3, and row 4
 
--- linesCells 1 to 3 replied q
+-- rows 1 to 3 replied q
 module _ (s : List ℕ) (q : Reply) (e : q ≡ replyOf (headBad s) (labels s)) where
   pub head-passed : (k : ℕ) → q ≡ reply.Answered k → Passed s k
   head-passed k f =
@@ -86,7 +86,7 @@ module _ (s : List ℕ) (q : Reply) (e : q ≡ replyOf (headBad s) (labels s)) w
       record { head = a .0; count = a .1; few = omega (arith, a .1, headed s (a .0) .high) }
 
 module _ (s : List ℕ) (m : ℕ) where
-  -- reply r and table t of what linesCells 1 to 15 found
+  -- reply r and table t of what rows 1 to 15 found
   leaves : (v : Verdict) (r : Reply) (t : List ℤ) → readBad s m ≡ v → r ≡ replyOf v (labels s) → t ≡ tableOf v s m → ReadLeaves s m r t
   unfolding readReply readTable
   leaves v r t e f g = record { reply = rw e f; table = rw e g }
@@ -101,7 +101,7 @@ module _ (s : List ℕ) (m : ℕ) where
     unfolding readBad tableShort
     table-short t g e = leaves (Refused 4 1) _ t (rw (h .head, lt-leb (8 * labels s) m (omega (arith, h .count)))) refl e
 
-    -- the table is long enough; linesCells 5 to 15 found v and left t
+    -- the table is long enough; rows 5 to 15 found v and left t
     module _ (room : 8 * n ≤ m) (v : Verdict) (t : List ℤ) (b : SheetReads s m v t) where
       rows-are : readBad s m ≡ v
       unfolding readBad tableShort

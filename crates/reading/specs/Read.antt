@@ -27,7 +27,7 @@ ownedTable t n = withColumn 6 (ownerOf t n) n t
 unfoldable pub resolvedTable : List ℕ → List ℤ → ℕ → List ℤ
 resolvedTable s t n = withColumn 7 (targetCell s (ownedTable t n) n) n (ownedTable t n)
 
--- linesCells 8 to 15, of a table t of n lines
+-- rows 8 to 15, of a table t of n lines
 unfoldable pub resolvedBad : List ℕ → List ℤ → ℕ → Verdict
 resolvedBad s t n = orElse (treeBad t n) (pathsBad s (ownedTable t n) n)
 
@@ -35,18 +35,18 @@ resolvedBad s t n = orElse (treeBad t n) (pathsBad s (ownedTable t n) n)
 unfoldable pub sheetCells : List ℕ → List ℤ
 sheetCells s = linesCells s (labels s) (labels s)
 
--- linesCells 5 to 15, and the table of a sheet that they let pass: eight cells a label
+-- rows 5 to 15, and the table of a sheet that they let pass: eight cells a label
 unfoldable pub sheetBad : List ℕ → Verdict
 sheetBad s = orElse (linesBad s (labels s)) (resolvedBad s (sheetCells s) (labels s))
 
 unfoldable pub sheetTable : List ℕ → List ℤ
 sheetTable s = resolvedTable s (sheetCells s) (labels s)
 
--- "A sheet reads when linesCells 1 to 15, row 4 aside, find nothing in it"
+-- "A sheet reads when rows 1 to 15, row 4 aside, find nothing in it"
 abbrev pub Reads : List ℕ → Type 0
 Reads s = orElse (headBad s) (sheetBad s) ≡ Fine
 
--- linesCells 1 to 15, in the order of the paper's table
+-- rows 1 to 15, in the order of the paper's table
 abbrev pub bodyBad : List ℕ → ℕ → Verdict
 bodyBad s m = orElse (tableShort s m) (sheetBad s)
 

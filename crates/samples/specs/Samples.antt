@@ -98,7 +98,7 @@ mixedOrder = record {
 }
 
 -- 4. "`even` (if the argument then `odd` of it less 1, else 1) and `odd` (likewise, else 0) in two Groups: `even` of 0 is 1 in 5 steps, of
--- 1 is 0 in 11": the sheet whose last printLine is the argument, where `even` of it is a number in some steps
+-- 1 is 0 in 11": the sheet whose last line is the argument, where `even` of it is a number in some steps
 abbrev pub evenOf : String → ℤ → ℕ → String → Sample
 evenOf argument number steps printed = record {
   sheet =

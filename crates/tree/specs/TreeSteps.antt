@@ -73,7 +73,7 @@ propagated l t =
     (assignedAll (nodeAt t l) l 1 (assigned l (fieldA t l) 0 t))
     (assignedAll (nodeAt t l) (owner t l) (target t l + 1) t)
 
--- what these writes ask: the parts have rows in the table, and what is written fits
+-- what these writes ask: the parts have cells in the table, and what is written fits
 pub record Inside (t : List ℤ) (p : Node) : Type 0 where
   pub a : 8 * p .a ≤ length t
   pub b : 8 * p .b ≤ length t

@@ -1,4 +1,4 @@
--- What is lineWritten, and what comes next, by what the line is.
+-- What is written, and what comes next, by what the line is.
 use mathlib.Core.Path.{_∙_, sym, ap}
 use Prim.Native.Nat.{_-_, _*_}
 use native.Mathlib.Omega.{arith}

@@ -1,21 +1,15 @@
 -- Tests: what `and`, `or` and `not` of tests say.
-use mathlib.Core.Path.{_≡_, refl, sym}
+use mathlib.Core.Path.{_≡_, refl, sym, _∙_}
 use mathlib.Core.Logic.{_⊎_, inl, inr}
 use mathlib.Core.Bool.{Bool, true, false, not, _&&_, _||_}
-use Prim.Native.Nat.{ℕ, _<_}
+use Prim.Native.Nat.{_<_}
 use native.Mathlib.Omega.{arith}
+pub use Rattle.kinds.proofs.Tests.{clash, and-left, and-right}
 use Rattle.cells.specs.Lists.{one}
 
-pub clash : {A : Type 0} (t : Bool) → t ≡ true → t ≡ false → A
-clash t p q = absurd (let z : _≡_ {A = ℕ} 0 1 = cc in omega arith)
-
-pub and-left : (a b : Bool) → (a && b) ≡ true → a ≡ true
-and-left true b e = refl
-and-left false b e = e
-
-pub and-right : (a b : Bool) → (a && b) ≡ true → b ≡ true
-and-right true b e = e
-and-right false b e = clash false e refl
+-- a test's two answers at once
+pub both-ways : {A : Type 0} (t : Bool) → t ≡ true → t ≡ false → A
+both-ways t p q = clash (sym p ∙ q)
 
 pub and-intro : (a b : Bool) → a ≡ true → b ≡ true → (a && b) ≡ true
 and-intro a b p q = rw (p, q)
@@ -36,7 +30,7 @@ or-none-left true b e = e
 or-none-left false b e = refl
 
 pub or-none-right : (a b : Bool) → (a || b) ≡ false → b ≡ false
-or-none-right true b e = clash true refl e
+or-none-right true b e = both-ways true refl e
 or-none-right false b e = e
 
 -- a test is false if it cannot be true
@@ -56,7 +50,7 @@ and-not false false p q = p
 
 pub not-and : (a b : Bool) → (not a && b) ≡ false → b ≡ true → a ≡ true
 not-and true b p q = refl
-not-and false b p q = clash b q p
+not-and false b p q = both-ways b q p
 
 pub one-true : (t : Bool) → t ≡ true → one t ≡ 1
 one-true t e = rw e

@@ -62,8 +62,7 @@ target t l = cell t l 7
 
 -- the number of an N line: its field a, which is any integer
 abbrev pub lineNumber : List ℤ → ℕ → ℤ
-lineNumber t zero = pos 0
-lineNumber t (suc k) = intAt t (8 * k + 3)
+lineNumber t l = entry t l 3
 
 -- the table t in which cell j of each label from 1 to n is what f says of the label
 abbrev pub withColumn : ℕ → (ℕ → ℕ) → ℕ → List ℤ → List ℤ

@@ -22,7 +22,7 @@ use Rattle.order.specs.Order.{isV, values, reaches, place16}
 use Rattle.cells.specs.Lists.{orIfZero}
 use Rattle.order.specs.Following.{labelsOf, firstPosition, notNew, missing, early, place17, place18}
 use Rattle.order.specs.Rows16to18.{cycleBad, orderBad}
-use Rattle.order.proofs.Tests.{clash, not-so, and-left, and-right, and-intro}
+use Rattle.order.proofs.Tests.{both-ways, not-so, and-left, and-right, and-intro}
 use Rattle.order.proofs.Lists.{split, any-true, any-intro, any-refute, count-upFrom}
 use Rattle.order.proofs.Tables.{v-kind, kind-label, in-values, value-of, reaches-exact}
 use Rattle.order.proofs.Following.{place17-exactly}
@@ -36,7 +36,7 @@ use Rattle.following.proofs.Steps.{same-position}
 
 same-test : (a b : Bool) → (a ≡ true → b ≡ true) → (b ≡ true → a ≡ true) → a ≡ b
 same-test true b f g = sym (f refl)
-same-test false b f g = sym (not-so b (λ e. clash false (g e) refl))
+same-test false b f g = sym (not-so b (λ e. both-ways false (g e) refl))
 
 place-first : (a b : ℕ) → (a ≡ 0 → ⊥) → orIfZero a b ≡ a
 place-first zero b h = absurd (h refl)
@@ -79,7 +79,7 @@ module _ (t : List ℤ) (n : ℕ) (ok : Accepted t n) (row : List ℕ) (is : Val
           none : (v : ℕ) → v ∈ values t n → not (mem v (labelsOf cells)) ≡ false
           none v i = not-so (not (mem v (labelsOf cells))) (λ m.
               let a : mark left (width n) 0 v ≡ true = rest v ∙ and-intro (mark row (width n) 0 v) (not (mem v (labelsOf cells))) (is v ∙ value-of t n ok v i) m in
-              clash (mark left (width n) 0 v) a (f .before v (omega (arith, mark-in left (width n) 0 v a))))
+              both-ways (mark left (width n) 0 v) a (f .before v (omega (arith, mark-in left (width n) 0 v a))))
 
   -- ---- row 18
 

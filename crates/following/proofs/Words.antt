@@ -16,7 +16,7 @@ use Rattle.kinds.specs.Kinds.{valueCode}
 use Rattle.cells.specs.Table.{kind}
 use Rattle.cells.specs.Accepted.{Accepted}
 use Rattle.order.specs.Order.{isV}
-use Rattle.order.proofs.Tests.{clash, so-or-not, not-so, and-left, and-right, and-intro}
+use Rattle.order.proofs.Tests.{both-ways, so-or-not, not-so, and-left, and-right, and-intro}
 use Rattle.order.proofs.Tables.{v-kind, kind-v, kind-label}
 use Rattle.marks.specs.Marks.{bit, mark, Added}
 use Rattle.marks.proofs.Bits.{bit-and, bit-none, lowest-is}
@@ -43,7 +43,7 @@ module _ (square left : List ℕ) (w v : ℕ) where
         go (no g) =
             let i : q / 64 ≡ j = omega arith in
             let z : bitAnd (getD square (v * w + q / 64) 0) (getD left (q / 64) 0) ≡ 0 = rw i e in
-            clash (mark square w v q && mark left w 0 q) (and-intro (mark square w v q) (mark left w 0 q) a b)
+            both-ways (mark square w v q && mark left w 0 q) (and-intro (mark square w v q) (mark left w 0 q) a b)
             (sym (both q (omega arith)) ∙ ap (λ (x : ℕ). bit x (q % 64)) z ∙ bit-none (q % 64))
 
     -- words with one
@@ -71,7 +71,7 @@ below-same q v z = go (decLt q v)
 -- the values below v are marked
 module _ (t : List ℤ) (n : ℕ) (ok : Accepted t n) (row : List ℕ) where
   pub values-start : ((q : ℕ) → mark row (width n) 0 q ≡ false) → (q : ℕ) → mark row (width n) 0 q ≡ (ltb q 1 && isV t q)
-  values-start none q = none q ∙ sym (not-so (ltb q 1 && isV t q) (λ e. clash (ltb q 1) (and-left (ltb q 1) (isV t q) e) (le-ltb q 1 (low (and-right (ltb q 1) (isV t q) e)))))
+  values-start none q = none q ∙ sym (not-so (ltb q 1 && isV t q) (λ e. both-ways (ltb q 1) (and-left (ltb q 1) (isV t q) e) (le-ltb q 1 (low (and-right (ltb q 1) (isV t q) e)))))
     where
       low : isV t q ≡ true → 1 ≤ q
       low e = kind-label t n ok q (omega (arith, v-kind t q e)) .0
@@ -81,7 +81,7 @@ module _ (t : List ℤ) (n : ℕ) (ok : Accepted t n) (row : List ℕ) where
     where
       go : (isV t q ≡ true) ⊎ (isV t q ≡ false) → (ltb q v && isV t q) ≡ isV t q
       go (inl e) = rw (lt-ltb q v (omega (arith, kind-label t n ok q (omega (arith, v-kind t q e)) .1)))
-      go (inr e) = not-so (ltb q v && isV t q) (λ m. clash (isV t q) (and-right (ltb q v) (isV t q) m) e) ∙ sym e
+      go (inr e) = not-so (ltb q v && isV t q) (λ m. both-ways (isV t q) (and-right (ltb q v) (isV t q) m) e) ∙ sym e
 
 module _ (t : List ℤ) (row : List ℕ) (w v : ℕ) (old : (q : ℕ) → mark row w 0 q ≡ (ltb q v && isV t q)) where
   own : (q : ℕ) → q ≡ v → isV t v ≡ (ltb q (v + 1) && isV t q)
@@ -102,7 +102,7 @@ module _ (t : List ℤ) (row : List ℕ) (w v : ℕ) (old : (q : ℕ) → mark r
       same z (inr m) = not-so (mark row′ w 0 q) (λ e. only (add .only q e)) ∙ sym m
         where
           only : (mark row w 0 q ≡ true) ⊎ (q ≡ v) → ⊥
-          only (inl i) = clash (mark row w 0 q) i m
+          only (inl i) = both-ways (mark row w 0 q) i m
           only (inr i) = z i
 
       go : Dec (q ≡ v) → mark row′ w 0 q ≡ (ltb q (v + 1) && isV t q)

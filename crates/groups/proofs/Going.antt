@@ -12,7 +12,7 @@ use Rattle.cells.specs.Accepted.{Accepted}
 use Rattle.order.specs.LabelLists.{_∈_}
 use Rattle.order.specs.Placing.{placed, stuck}
 use Rattle.order.specs.Order.{isG, allLabels, members, needs, ordered, groupStuck, someStuck}
-use Rattle.order.proofs.Tests.{clash, and-intro}
+use Rattle.order.proofs.Tests.{both-ways, and-intro}
 use Rattle.order.proofs.Lists.{in-here, any-intro, any-refute, count-below, count-above}
 use Rattle.order.proofs.Placing.{placed-sub}
 use Rattle.order.proofs.Tables.{in-labels, def-label, member-of, owner-group, owner-below}
@@ -94,7 +94,7 @@ module _ (t : List ℤ) (n : ℕ) (ok : Accepted t n) where
     going-stuck e = any-intro (λ g. isG t g && groupStuck t n g) (allLabels n) g (in-labels t n ok g low high) (and-intro (isG t g) (groupStuck t n g) (is-g (members t n g) refl) e)
       where
         is-g : (l : List ℕ) → members t n g ≡ l → isG t g ≡ true
-        is-g [] z = clash (groupStuck t n g) e (ap (stuck (needs t n)) z)
+        is-g [] z = both-ways (groupStuck t n g) e (ap (stuck (needs t n)) z)
         is-g (x ∷ l) z =
             let m : x ∈ members t n g = subst (λ (k : List ℕ). x ∈ k) (sym z) (in-here x l) in
             let w = member-of t n ok g x m in

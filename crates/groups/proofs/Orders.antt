@@ -18,7 +18,7 @@ use Rattle.cells.specs.Accepted.{Accepted}
 use Rattle.order.specs.LabelLists.{one, count, _∈_, mem, any, first}
 use Rattle.order.specs.Placing.{waits, next, rounds, placed}
 use Rattle.order.specs.Order.{isG, isV, allLabels, isMember, members, values, reaches, needs, ordered, groupStuck, mixedPlan, place16, NoCycle}
-use Rattle.order.proofs.Tests.{clash, so-or-not, not-so}
+use Rattle.order.proofs.Tests.{both-ways, so-or-not, not-so}
 use Rattle.order.proofs.Lists.{in-here, in-there, zero-or-in, length-mono, length-upFrom}
 use Rattle.order.proofs.Placing.{placed-sub, placed-all}
 use Rattle.order.proofs.Tables.{v-kind, v-not-g, v-def, def-label, member-of, members-once, value-of, in-labels, reaches-exact}
@@ -78,8 +78,8 @@ items-many l items m h = sym (length-take-le m items (h .within)) ∙ ap length 
 
 -- what gives no values is neither a Group nor a value
 pub no-holder : (t : List ℤ) (p : ℕ) → givesValues (kind t p) ≡ false → Holder t p → ⊥
-no-holder t p h (inl e) = clash (givesValues (kind t p)) (rw e group-gives) h
-no-holder t p h (inr e) = clash (givesValues (kind t p)) (rw e value-gives) h
+no-holder t p h (inl e) = both-ways (givesValues (kind t p)) (rw e group-gives) h
+no-holder t p h (inr e) = both-ways (givesValues (kind t p)) (rw e value-gives) h
 
 module _ (t : List ℤ) (n : ℕ) (ok : Accepted t n) where
   -- ---- kinds
@@ -204,9 +204,9 @@ module _ (t : List ℤ) (n : ℕ) (ok : Accepted t n) where
             let w = needs-elim t n ok p q a in
             let x : w .1 .0 ≡ p = alone p (w .1 .0) vp (w .1 .2) in
             let y : w .1 .1 ≡ q = alone q (w .1 .1) vq (w .1 .3) in
-            clash (reaches t n p q) (sym (ap (λ (z : ℕ). reaches t n z q) x) ∙ (sym (ap (λ (z : ℕ). reaches t n (w .1 .0) z) y) ∙ w .1 .4)) b
+            both-ways (reaches t n p q) (sym (ap (λ (z : ℕ). reaches t n z q) x) ∙ (sym (ap (λ (z : ℕ). reaches t n (w .1 .0) z) y) ∙ w .1 .4)) b
         go (inr a) (inl b) =
-            clash (needs t n p q) (needs-intro t n ok p q p q other (itself p vp) (itself q vq) b) a
+            both-ways (needs t n p q) (needs-intro t n ok p q p q other (itself p vp) (itself q vq) b) a
           where
             other : p ≡ q → ⊥
             other e = nc p (v-kind t p vp) (reaches-exact t n ok p p .0 (subst (λ (z : ℕ). reaches t n p z ≡ true) (sym e) b))

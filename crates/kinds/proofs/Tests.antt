@@ -4,7 +4,6 @@ use mathlib.Core.Bool.{Bool, true, false, _&&_}
 use Prim.Native.Nat.{ℕ}
 use native.Mathlib.Omega.{arith}
 
--- a test's two answers at once
 pub clash : {X : Type 0} → _≡_ {A = Bool} true false → X
 clash e = let z : _≡_ {A = ℕ} 0 1 = cc in absurd (omega arith)
 

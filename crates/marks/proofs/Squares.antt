@@ -15,7 +15,7 @@ use lib.Seq.{getD-set-same, getD-set-other}
 use borrow.Author.Count.{below-more}
 use borrow.Author.Tests.{lt-ltb, le-ltb}
 use Rattle.order.specs.LabelLists.{one, count}
-use Rattle.order.proofs.Tests.{clash, or-cases, or-left, or-right}
+use Rattle.order.proofs.Tests.{both-ways, or-cases, or-left, or-right}
 use Rattle.order.proofs.Lists.{count-append}
 use Rattle.marks.specs.Marks.{bit, mark, InSquare, Added, Dropped, places, First}
 use Rattle.marks.proofs.Bits.{bit-or, bit-and, bit-none, put-own, put-other, drop-own, drop-other, lowest-is, lowest-below, count-low, count-high, count-place}
@@ -52,7 +52,7 @@ mark-in s w p q e = go (decLt q (64 * w))
   where
     go : Dec (q < 64 * w) → q < 64 * w
     go (yes h) = h
-    go (no h) = clash (mark s w p q) e (outside s w p q (omega arith))
+    go (no h) = both-ways (mark s w p q) e (outside s w p q (omega arith))
 
 -- ---- a store that changes one bit of a word
 

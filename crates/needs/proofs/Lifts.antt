@@ -12,7 +12,7 @@ use Rattle.kinds.proofs.Codes.{group-definition, value-definition}
 use Rattle.cells.specs.Table.{kind, isDefinition, owner}
 use Rattle.cells.specs.Accepted.{Accepted, HasBody}
 use Rattle.order.specs.Order.{up, Within, needs, reaches}
-use Rattle.order.proofs.Tests.{clash, so-or-not}
+use Rattle.order.proofs.Tests.{both-ways, so-or-not}
 use Rattle.order.proofs.Tables.{kind-label, kind-v, v-kind, reaches-exact}
 use Rattle.order.proofs.Tree.{within-owner}
 use Rattle.order.proofs.Needs.{holds, holds-intro, holds-v, holds-in, needs-intro, needs-elim}
@@ -43,7 +43,7 @@ module _ (t : List ℤ) (n : ℕ) (ok : Accepted t n) where
   lifting-start s r = record { sound = sound; own = λ v p k h. r .values v k p .1 h; up = λ m p a b c. absurd (omega arith) }
     where
       sound : (q p : ℕ) → Holder t q → mark s (width n) q p ≡ true → Wanted t q p
-      sound q p (inl k) m = clash (mark s (width n) q p) m (r .groups q k p)
+      sound q p (inl k) m = both-ways (mark s (width n) q p) m (r .groups q k p)
       sound q p (inr k) m = record { value = q; is = k; within = (0, refl); touches = r .values q k p .0 m }
 
   module _ (k : ℕ) (s : List ℕ) (h : Lifting t n k s) (low : 2 ≤ k) (high : k ≤ n) where
@@ -167,7 +167,7 @@ module _ (t : List ℤ) (n : ℕ) (ok : Accepted t n) where
         go (yes z) (inr e) _ = let b = holder-label p hp in ap (λ (x : ℕ). mark s′ (width n) x p) z ∙ c .gone p (b .0) (omega (arith, b)) ∙ sym e
         go (no z) (inl e) _ = c .kept q p z ∙ all q p hq (wanted p q hp e .1) ∙ sym e
         go (no z) (inr e) (inr m) = m ∙ sym e
-        go (no z) (inr e) (inl m) = clash (needs t n p q) (needed p q (λ y. z (sym y)) hp hq (h .sound q p hq (sym (c .kept q p z) ∙ m))) e
+        go (no z) (inr e) (inl m) = both-ways (needs t n p q) (needed p q (λ y. z (sym y)) hp hq (h .sound q p hq (sym (c .kept q p z) ∙ m))) e
 
 -- ---- the diagonal
 

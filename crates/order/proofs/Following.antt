@@ -16,7 +16,7 @@ use Rattle.cells.specs.Reaches.{Reaches}
 use Rattle.order.specs.LabelLists.{one, count, _∈_, mem}
 use Rattle.order.specs.Order.{isV, values, reaches, Proper}
 use Rattle.order.specs.Following.{ProperList, labelsOf, firstPosition, notNew, missing, early, place17, place18, NotNew, Missing, Early, NoneBad, Found, Row17, Row18}
-use Rattle.order.proofs.Tests.{clash, so-or-not, not-so, and-left, and-right, and-intro, or-cases, or-left, or-right}
+use Rattle.order.proofs.Tests.{both-ways, so-or-not, not-so, and-left, and-right, and-intro, or-cases, or-left, or-right}
 use Rattle.order.proofs.Lists.{zero-or-in, mem-of, of-mem, any-true, any-intro, count-parts, count-here, split, in-here, in-there}
 use Rattle.order.proofs.Positions.{found, first-none, first-one, found-one}
 use Rattle.order.proofs.Tables.{v-kind, kind-v, in-values, value-of, reaches-exact}
@@ -32,13 +32,13 @@ in-or-not v l = go (zero-or-in (count v l))
     go (inr m) = inl m
 
 not-mem : (v : ℕ) (l : List ℕ) → (not (mem v l) ≡ true) ↔ (v ∈ l → ⊥)
-not-mem v l = (λ h m. clash (mem v l) (mem-of v l m) (not-true (mem v l) h), λ h. ap not (not-so (mem v l) (λ e. h (of-mem v l e))))
+not-mem v l = (λ h m. both-ways (mem v l) (mem-of v l m) (not-true (mem v l) h), λ h. ap not (not-so (mem v l) (λ e. h (of-mem v l e))))
 
 not-new : (t : List ℤ) (a : List ℕ) (v : ℕ) → (notNew t a v ≡ true) ↔ NotNew t a v
 not-new t a v = (λ h. there (or-cases (not (isV t v)) (mem v a) h), back)
   where
     there : (not (isV t v) ≡ true) ⊎ (mem v a ≡ true) → NotNew t a v
-    there (inl h) = inl (λ k. clash (isV t v) (kind-v t v k) (not-true (isV t v) h))
+    there (inl h) = inl (λ k. both-ways (isV t v) (kind-v t v k) (not-true (isV t v) h))
     there (inr h) = inr (of-mem v a h)
 
     back : NotNew t a v → notNew t a v ≡ true
@@ -66,7 +66,7 @@ none-proper t l new all late = record { once = λ v. once v (so-or-not (isV t v)
                 absurd (new (a ++ v ∷ w .0) v (w .1) e₁ (inr (omega (arith, count-parts {o = a ++ v ∷ w .0} v a (v ∷ w .0) refl, count-here v (w .0)))))
 
     is-v : (v : ℕ) → v ∈ l → (isV t v ≡ false → ⊥)
-    is-v v m e = let w = split v l m in new (w .0) v (w .1) (w .2) (inl (λ k. clash (isV t v) (kind-v t v k) e))
+    is-v v m e = let w = split v l m in new (w .0) v (w .1) (w .2) (inl (λ k. both-ways (isV t v) (kind-v t v k) e))
 
     once : (v : ℕ) → (isV t v ≡ true) ⊎ (isV t v ≡ false) → (v ∈ l) ⊎ (v ∈ l → ⊥) → count v l ≡ one (isV t v)
     once v (inl e) (inl m) = rw e (once-in v m)
@@ -175,7 +175,7 @@ module _ (t : List ℤ) (n : ℕ) (ok : Accepted t n) where
         go : (r : ℕ) → firstPosition (notNew t) [] 1 (labelsOf cells) ≡ r → Found (NotNew t) (labelsOf cells) r
             → (missing t n (labelsOf cells) ≡ true) ⊎ (missing t n (labelsOf cells) ≡ false) → Row17 t (labelsOf cells) (place17 t n cells)
         go zero e f (inl m) = rw (e, m) (inr (f, missing-exact (labelsOf cells) .0 m, sym (length-map cells natOf)))
-        go zero e f (inr m) = rw (e, m) (f, λ i. clash (missing t n (labelsOf cells)) (missing-exact (labelsOf cells) .1 i) m)
+        go zero e f (inr m) = rw (e, m) (f, λ i. both-ways (missing t n (labelsOf cells)) (missing-exact (labelsOf cells) .1 i) m)
         go (suc k) e f _ = rw e (inl f)
 
     row-18 : Row18 t (labelsOf cells) (place18 t n cells)

@@ -11,7 +11,7 @@ use Rattle.cells.specs.Table.{owner, isDefinition}
 use Rattle.cells.specs.Accepted.{Accepted}
 use Rattle.order.specs.LabelLists.{count, _∈_}
 use Rattle.order.specs.Order.{isG, isV, allLabels, members, Within, within, reaches, Proper, Consecutive, Whole, needs, groupStuck, someStuck}
-use Rattle.order.proofs.Tests.{clash, not-so, and-right}
+use Rattle.order.proofs.Tests.{both-ways, not-so, and-right}
 use Rattle.order.proofs.Lists.{any-true, count-parts, count-here, split, in-there, in-left, in-right, in-append, in-single}
 use Rattle.order.proofs.Placing.{not-stuck}
 use Rattle.order.proofs.Joined.{ahead, ahead-past, ahead-in}
@@ -42,7 +42,7 @@ module _ (t : List ℤ) (n : ℕ) (ok : Accepted t n) (o : List ℕ) (p : Proper
           alone : (v : ℕ) → v ∈ a ++ q ∷ b → (v ≡ q → ⊥) → Within t q v → ⊥
           alone v m z h =
               let m₁ : v ∈ o = rw e m in
-              clash (isG t q) (leaf t n ok q v (pos-of t n ok q (v-def t q iq)) (v-def t v (kind-v t v (listed-value p v m₁))) h z) (v-not-g t q iq)
+              both-ways (isG t q) (leaf t n ok q v (pos-of t n ok q (v-def t q iq)) (v-def t v (kind-v t v (listed-value p v m₁))) h z) (v-not-g t q iq)
 
   -- so are the values within a member that holds one, in a whole order
   side : Whole t o → (q x : ℕ) → isDefinition t q ≡ true → holds t q x ≡ true → Consecutive (Within t q) o
@@ -99,5 +99,5 @@ module _ (t : List ℤ) (n : ℕ) (ok : Accepted t n) (o : List ℕ) (p : Proper
   pub whole-free : Whole t o → someStuck t n ≡ false
   whole-free w = not-so (someStuck t n) (λ h.
       let g = any-true (λ g. isG t g && groupStuck t n g) (allLabels n) h in
-      clash (groupStuck t n (g .0)) (and-right (isG t (g .0)) (groupStuck t n (g .0)) (g .2))
+      both-ways (groupStuck t n (g .0)) (and-right (isG t (g .0)) (groupStuck t n (g .0)) (g .2))
       (not-stuck (needs t n) (members t n (g .0)) (members-once t n ok (g .0)) (λ q. ahead (within t q) o) (begins-behind w (g .0))))

@@ -9,7 +9,7 @@ use native.Mathlib.Decide.{ℕ-discrete}
 use lib.ListN.{length}
 use Rattle.order.specs.LabelLists.{count, _∈_, joined}
 use Rattle.order.specs.Order.{Consecutive}
-use Rattle.order.proofs.Tests.{so-or-not, not-so, clash}
+use Rattle.order.proofs.Tests.{so-or-not, not-so, both-ways}
 use Rattle.order.proofs.Lists.{count-append, count-here, count-there, in-here, in-there, in-left, in-right, in-cons, in-append, count-parts, split}
 use Rattle.order.proofs.Placing.{Late, late-append}
 
@@ -103,7 +103,7 @@ module _ (f : ℕ → Bool) where
     where
       go : (f x ≡ true) ⊎ (f x ≡ false) → (y ≡ x) ⊎ (y ∈ a) → (y ∈ a → ahead f (a ++ b) < length a) → ahead f ((x ∷ a) ++ b) < length (x ∷ a)
       go (inl e) _ r = rw e (omega arith)
-      go (inr e) (inl q) r = clash (f x) (rw q at t) e
+      go (inr e) (inl q) r = both-ways (f x) (rw q at t) e
       go (inr e) (inr k) r = let i = r k in rw e (omega arith)
 
 -- joined lists are in order, if each is, and if what reaches from one into another makes the one need the other
@@ -118,4 +118,4 @@ joined-late R N f (p ∷ l) nl once late cross =
     go : (x y : ℕ) → x ∈ f p → (q : ℕ) × (q ∈ l) × (y ∈ f q) → R x y ≡ false
     go x y mx (q, mq, my) = not-so (R x y) (λ r.
         let d : p ≡ q → ⊥ = λ (e : p ≡ q). let m : p ∈ l = rw (← e) at mq in omega (arith, once p, count-here p l) in
-        clash (N p q) (cross p q x y (in-here p l) (in-there q p l mq) d mx my r) (nl .0 q (in-there q p l mq)))
+        both-ways (N p q) (cross p q x y (in-here p l) (in-there q p l mq) d mx my r) (nl .0 q (in-there q p l mq)))

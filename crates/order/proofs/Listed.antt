@@ -10,7 +10,7 @@ use Rattle.cells.specs.Table.{isDefinition}
 use Rattle.cells.specs.Accepted.{Accepted}
 use Rattle.order.specs.LabelLists.{one, count}
 use Rattle.order.specs.Order.{isG, isV, reaches, NoCycle, listed}
-use Rattle.order.proofs.Tests.{clash, so-or-not, not-so, one-true, one-false}
+use Rattle.order.proofs.Tests.{both-ways, so-or-not, not-so, one-true, one-false}
 use Rattle.order.proofs.Lists.{count-here, count-there, in-single}
 use Rattle.order.proofs.Placing.{Late}
 use Rattle.order.proofs.Tables.{v-not-g, pos-of}
@@ -33,7 +33,7 @@ module _ (t : List ℤ) (n : ℕ) (ok : Accepted t n) (group : ℕ → List ℕ)
           self (no z) = count-there v p [] z ∙ sym (one-false (holds t p v) (λ h. z (only-itself t n ok p v d (v-not-g t p e) h)))
       go (inr e) (inl g) = rw (e, g) (ih g)
       go (inr e) (inr g) =
-          rw (e, g) (sym (one-false (holds t p v) (λ h. clash (isV t p) (rw (only-itself t n ok p v d g h) at (holds-v t n ok p v h)) e)))
+          rw (e, g) (sym (one-false (holds t p v) (λ h. both-ways (isV t p) (rw (only-itself t n ok p v d g h) at (holds-v t n ok p v h)) e)))
 
   -- none reaches itself or a later one, if a Group's list is so
   pub listed-late : NoCycle t → (isG t p ≡ true → Late (reaches t n) (group p)) → Late (reaches t n) (listed t group p)
@@ -45,4 +45,4 @@ module _ (t : List ℤ) (n : ℕ) (ok : Accepted t n) (group : ℕ → List ℕ)
       go (inr e) (inr g) = rw (e, g) tt
 
   pub listed-group : isG t p ≡ true → listed t group p ≡ group p
-  listed-group g = rw (not-so (isV t p) (λ e. clash (isG t p) g (v-not-g t p e)), g)
+  listed-group g = rw (not-so (isV t p) (λ e. both-ways (isG t p) g (v-not-g t p e)), g)

@@ -11,7 +11,7 @@ use lib.Dec.{eqb, ltb}
 use lib.ListN.{length}
 use borrow.Author.Tests.{eqb-true, eqb-false, eq-eqb, ne-eqb, ltb-true, ltb-false, lt-ltb}
 use Rattle.order.specs.LabelLists.{one, count, _∈_, mem, upFrom, filter, any, first}
-use Rattle.order.proofs.Tests.{clash, or-cases, or-none-left, or-none-right, not-so, so-or-not}
+use Rattle.order.proofs.Tests.{both-ways, or-cases, or-none-left, or-none-right, not-so, so-or-not}
 
 -- ---- counting
 
@@ -83,7 +83,7 @@ count-filter-pass f x (y ∷ l) h = go (f y) refl (count-filter-pass f x l h)
     go : (t : Bool) → f y ≡ t → count x (filter f l) ≡ count x l → count x (filter f (y ∷ l)) ≡ count x (y ∷ l)
     go true e r = rw (e, r)
     go false e r =
-        let d : eqb x y ≡ false = ne-eqb x y (λ (q : x ≡ y). clash (f y) (rw q at h) e) in
+        let d : eqb x y ≡ false = ne-eqb x y (λ (q : x ≡ y). both-ways (f y) (rw q at h) e) in
         rw (e, d, r) (omega arith)
 
 pub count-filter-fail : (f : ℕ → Bool) (x : ℕ) (l : List ℕ) → f x ≡ false → count x (filter f l) ≡ 0
@@ -92,7 +92,7 @@ count-filter-fail f x (y ∷ l) h = go (f y) refl (count-filter-fail f x l h)
   where
     go : (t : Bool) → f y ≡ t → count x (filter f l) ≡ 0 → count x (filter f (y ∷ l)) ≡ 0
     go true e r =
-        let d : eqb x y ≡ false = ne-eqb x y (λ (q : x ≡ y). clash (f y) e (rw q at h)) in
+        let d : eqb x y ≡ false = ne-eqb x y (λ (q : x ≡ y). both-ways (f y) e (rw q at h)) in
         rw (e, d, r) (omega arith)
     go false e r = rw (e, r)
 
@@ -130,7 +130,7 @@ length-upFrom m zero = refl
 length-upFrom m (suc k) = ap suc (length-upFrom (suc m) k)
 
 pub any-true : (f : ℕ → Bool) (l : List ℕ) → any f l ≡ true → (x : ℕ) × (x ∈ l) × (f x ≡ true)
-any-true f [] h = clash false h refl
+any-true f [] h = both-ways false h refl
 any-true f (y ∷ l) h = go (or-cases (f y) (any f l) h) (any-true f l)
   where
     go : (f y ≡ true) ⊎ (any f l ≡ true) → (any f l ≡ true → (x : ℕ) × (x ∈ l) × (f x ≡ true)) → (x : ℕ) × (x ∈ y ∷ l) × (f x ≡ true)
@@ -150,10 +150,10 @@ any-intro f l x m h = go (so-or-not (any f l))
   where
     go : (any f l ≡ true) ⊎ (any f l ≡ false) → any f l ≡ true
     go (inl e) = e
-    go (inr e) = clash (f x) h (any-none f l e x m)
+    go (inr e) = both-ways (f x) h (any-none f l e x m)
 
 pub any-refute : (f : ℕ → Bool) (l : List ℕ) → ((x : ℕ) → x ∈ l → f x ≡ false) → any f l ≡ false
-any-refute f l h = not-so (any f l) (λ e. let s = any-true f l e in clash (f (s .0)) (s .2) (h (s .0) (s .1)))
+any-refute f l h = not-so (any f l) (λ e. let s = any-true f l e in both-ways (f (s .0)) (s .2) (h (s .0) (s .1)))
 
 pub first-some : (f : ℕ → Bool) (l : List ℕ) (p : ℕ) → first f l ≡ some p → (p ∈ l) × (f p ≡ true)
 first-some f [] p h = absurd (let z : _≡_ {A = ℕ} 0 1 = cc in omega arith)
@@ -192,7 +192,7 @@ first-least f g m (suc k) v h w a b p = go (so-or-not (g m)) (so-or-not (f m)) (
   where
     go : (g m ≡ true) ⊎ (g m ≡ false) → (f m ≡ true) ⊎ (f m ≡ false) → Dec (w ≡ m)
         → (first f (filter g (upFrom (suc m) k)) ≡ some v → suc m ≤ w → f w ≡ false) → f w ≡ false
-    go (inr q) _ (yes e) r = clash (g w) p (rw e q)
+    go (inr q) _ (yes e) r = both-ways (g w) p (rw e q)
     go (inr q) _ (no e) r = r (rw q at h) (omega arith)
     go (inl q) (inl i) _ r =
         let h₁ : some m ≡ some v = rw (q, i) at h in

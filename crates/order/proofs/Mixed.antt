@@ -14,7 +14,7 @@ use Rattle.cells.specs.Reaches.{Reaches}
 use Rattle.order.specs.LabelLists.{one, count, _∈_, filter}
 use Rattle.order.specs.Placing.{stuck}
 use Rattle.order.specs.Order.{isV, values, reaches, NoCycle, Proper, mixedPlan}
-use Rattle.order.proofs.Tests.{clash, not-so, one-true, one-in}
+use Rattle.order.proofs.Tests.{both-ways, not-so, one-true, one-in}
 use Rattle.order.proofs.Lists.{count-parts, count-here, split, in-append, tally-lt}
 use Rattle.order.proofs.Placing.{Late, late-tail, placed-late, placed-all, not-stuck}
 use Rattle.order.proofs.Tables.{v-kind, kind-v, count-values, value-of, values-once, reaches-exact, reaches-chain}
@@ -53,7 +53,7 @@ module _ (t : List ℤ) (n : ℕ) (ok : Accepted t n) where
           go (inl m) = m
           go (inr m) =
               let l : Late (reaches t n) (a ++ v ∷ b) = rw e at late in
-              clash (reaches t n v w) (reaches-exact t n ok v w .1 r) (late-tail (reaches t n) a (v ∷ b) l .0 w m)
+              both-ways (reaches t n v w) (reaches-exact t n ok v w .1 r) (late-tail (reaches t n) a (v ∷ b) l .0 w m)
 
   pub no-cycle : NoCycle t → (v : ℕ) → isV t v ≡ true → reaches t n v v ≡ false
   no-cycle nc v e = not-so (reaches t n v v) (λ r. nc v (v-kind t v e) (reaches-exact t n ok v v .0 r))

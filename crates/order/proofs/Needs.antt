@@ -11,7 +11,7 @@ use Rattle.cells.specs.Table.{isDefinition}
 use Rattle.cells.specs.Accepted.{Accepted}
 use Rattle.order.specs.LabelLists.{any}
 use Rattle.order.specs.Order.{isG, isV, values, Within, within, reaches, reachesInto, needs}
-use Rattle.order.proofs.Tests.{clash, and-left, and-right, and-intro}
+use Rattle.order.proofs.Tests.{both-ways, and-left, and-right, and-intro}
 use Rattle.order.proofs.Lists.{any-true, any-intro}
 use Rattle.order.proofs.Tables.{v-def, pos-of, in-values, value-of}
 use Rattle.order.proofs.Tree.{within-sound, within-complete, leaf}
@@ -65,4 +65,4 @@ module _ (t : List ℤ) (n : ℕ) (ok : Accepted t n) where
     where
       pick : Dec (v ≡ p) → v ≡ p
       pick (yes e) = e
-      pick (no e) = clash (isG t p) (leaf t n ok p v (pos-of t n ok p d) (v-def t v (holds-v p v h)) (holds-in p v h) e) ng
+      pick (no e) = both-ways (isG t p) (leaf t n ok p v (pos-of t n ok p d) (v-def t v (holds-v p v h)) (holds-in p v h) e) ng

@@ -13,7 +13,7 @@ use Rattle.cells.specs.Accepted.{Accepted}
 use Rattle.order.specs.LabelLists.{count, _∈_}
 use Rattle.order.specs.Order.{isV, allLabels, values, reaches, NoCycle, Proper, Whole, firstCycle, someStuck, Answer, cycle, whole, mixed, plan, orderOf, place16}
 use Rattle.order.specs.PlanMeans.{SmallestCycle, Row16, PlanMeans}
-use Rattle.order.proofs.Tests.{clash}
+use Rattle.order.proofs.Tests.{both-ways}
 use Rattle.order.proofs.Lists.{zero-or-in, first-some, first-none, first-least, length-mono, length-upFrom}
 use Rattle.order.proofs.Tables.{v-kind, kind-v, v-def, kind-label, pos-of, in-labels, in-values, value-of, reaches-exact}
 use Rattle.order.proofs.Mixed.{listed-once, listed-value, mixed-proper, cycle-improper}
@@ -44,12 +44,12 @@ module _ (t : List ℤ) (n : ℕ) (ok : Accepted t n) where
     where
       below : (u : ℕ) → u < v → isV t u ≡ true → reaches t n u u ≡ true → ⊥
       below u l k r =
-          clash (reaches t n u u) r (first-least (λ v. reaches t n v v) (isV t) 1 n v e u (pos-of t n ok u (v-def t u k)) l k)
+          both-ways (reaches t n u u) r (first-least (λ v. reaches t n v v) (isV t) 1 n v e u (pos-of t n ok u (v-def t u k)) l k)
 
   -- or nothing, where there is none
   pub cycle-none : firstCycle t n ≡ none → NoCycle t
   cycle-none e v k r =
-      clash (reaches t n v v) (reaches-exact t n ok v v .1 r) (first-none (λ v. reaches t n v v) (values t n) e v (in-values t n ok v (kind-v t v k)))
+      both-ways (reaches t n v v) (reaches-exact t n ok v v .1 r) (first-none (λ v. reaches t n v v) (values t n) e v (in-values t n ok v (kind-v t v k)))
 
   -- so its place is that of the table, and no other is
   row-16 : Row16 t (place16 t n)
@@ -69,7 +69,7 @@ module _ (t : List ℤ) (n : ℕ) (ok : Accepted t n) where
     where
       go : (c : Option ℕ) → firstCycle t n ≡ c → (s : Bool) → someStuck t n ≡ s → PlanMeans t (plan t n)
       go (some v) e s f = let c = cycle-smallest v e in rw e (c, cycle-improper t v (c .value) (c .itself))
-      go none e true f = rw (e, f) (mixed-proper t n ok (cycle-none e), λ o p w. clash (someStuck t n) f (whole-free t n ok o p w))
+      go none e true f = rw (e, f) (mixed-proper t n ok (cycle-none e), λ o p w. both-ways (someStuck t n) f (whole-free t n ok o p w))
       go none e false f = rw (e, f) (whole-proper t n ok f (cycle-none e), whole-whole t n ok f)
 
   -- what it writes is a proper order, unless it refuses, and no longer than n

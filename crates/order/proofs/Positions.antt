@@ -8,7 +8,7 @@ use native.Mathlib.Omega.{arith}
 use native.Mathlib.Decide.{decLt}
 use lib.ListN.{length}
 use Rattle.order.specs.Following.{firstPosition, NoneBad, FirstPosition, Found}
-use Rattle.order.proofs.Tests.{clash, so-or-not}
+use Rattle.order.proofs.Tests.{both-ways, so-or-not}
 
 -- ---- the first that is bad, as a relation
 
@@ -31,7 +31,7 @@ module _ (bad : List ℕ → ℕ → Bool) where
   none-cons seen y l e h [] v b q i =
       let z : y ≡ v = cc in
       let i₁ : bad seen v ≡ true = rw append-nil at i in
-      clash (bad seen y) (rw z i₁) e
+      both-ways (bad seen y) (rw z i₁) e
   none-cons seen y l e h (x ∷ a) v b q i =
       let z : y ≡ x = cc in
       let z₁ : l ≡ a ++ v ∷ b = cc in

@@ -11,7 +11,7 @@ use Rattle.cells.specs.Table.{owner, isDefinition}
 use Rattle.cells.specs.Accepted.{Accepted}
 use Rattle.order.specs.LabelLists.{one, count, _∈_}
 use Rattle.order.specs.Order.{isG, isV, allLabels, members, Within, reaches, NoCycle, Proper, Consecutive, Whole, needs, ordered, listed, groupPlan, wholePlan, groupStuck, someStuck}
-use Rattle.order.proofs.Tests.{clash, so-or-not, not-so, and-intro, one-true, one-false, one-in}
+use Rattle.order.proofs.Tests.{both-ways, so-or-not, not-so, and-intro, one-true, one-false, one-in}
 use Rattle.order.proofs.Lists.{zero-or-in, any-intro}
 use Rattle.order.proofs.Placing.{Late, placed-late, placed-sub, placed-all}
 use Rattle.order.proofs.Joined.{joined-none, joined-one, joined-late, joined-block}
@@ -27,7 +27,7 @@ module _ (t : List ℤ) (n : ℕ) (ok : Accepted t n) (free : someStuck t n ≡ 
   pub group-free : (g : ℕ) → isG t g ≡ true → groupStuck t n g ≡ false
   group-free g ig = not-so (groupStuck t n g) (λ h.
       let b = def-label t n ok g (g-def t g ig) in
-      clash (someStuck t n) (any-intro (λ g. isG t g && groupStuck t n g) (allLabels n) g (in-labels t n ok g (b .0) (b .1)) (and-intro (isG t g) (groupStuck t n g) ig h)) free)
+      both-ways (someStuck t n) (any-intro (λ g. isG t g && groupStuck t n g) (allLabels n) g (in-labels t n ok g (b .0) (b .1)) (and-intro (isG t g) (groupStuck t n g) ig h)) free)
 
   pub ordered-member : (g p : ℕ) → p ∈ ordered t n g → (isDefinition t p ≡ true) × (owner t p ≡ g)
   ordered-member g p m = member-of t n ok g p (placed-sub (needs t n) (members t n g) p m)
@@ -56,7 +56,7 @@ module _ (t : List ℤ) (n : ℕ) (ok : Accepted t n) (free : someStuck t n ≡ 
       go (inl h) = at (member-above t n ok g v hg (v-def t v (holds-v t n ok g v h)) (holds-in t n ok g v h) other)
         where
           other : v ≡ g → ⊥
-          other e = clash (isG t g) ig (v-not-g t g (rw e at (holds-v t n ok g v h)))
+          other e = both-ways (isG t g) ig (v-not-g t g (rw e at (holds-v t n ok g v h)))
 
           at : (p : ℕ) × (isDefinition t p ≡ true) × (owner t p ≡ g) × (Within t p v) → count v (groupPlan t n (suc k) g) ≡ one (holds t g v)
           at (p, d, e, u) =
@@ -76,7 +76,7 @@ module _ (t : List ℤ) (n : ℕ) (ok : Accepted t n) (free : someStuck t n ≡ 
           nothing p m =
               let w = ordered-member g p m in
               each p m
-              ∙ one-false (holds t p v) (λ i. clash (holds t g v) (holds-intro t n ok g v hg (holds-v t n ok p v i)
+              ∙ one-false (holds t p v) (λ i. both-ways (holds t g v) (holds-intro t n ok g v hg (holds-v t n ok p v i)
               (subst (λ (z : ℕ). Within t z v) (w .1) (within-owner t n ok p v (holds-in t n ok p v i)))) h)
 
   pub group-count : (k g v : ℕ) → isG t g ≡ true → n < g + k → count v (groupPlan t n k g) ≡ one (holds t g v)

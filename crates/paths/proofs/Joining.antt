@@ -7,11 +7,12 @@ use native.Mathlib.Omega.{arith}
 use lib.Dec.{eqb}
 use lib.IntN.{ℤ}
 use lib.ListN.{length}
+use Rattle.kinds.specs.Kinds.{wantedBy}
 use Rattle.cells.specs.Table.{kind, target, withColumn, hasPath}
 use Rattle.cells.proofs.Columns.{column-own, column-same, column-over, column-length}
 use Rattle.refusals.specs.Refusal.{firstBad}
 use Rattle.refusals.proofs.FirstBad.{first-same}
-use Rattle.paths.specs.Paths.{targetOf, targetCell, wanted, laterBad, targetBad, laterRows}
+use Rattle.paths.specs.Paths.{targetOf, targetCell, laterBad, targetBad, laterRows}
 use Rattle.paths.specs.TargetCells.{headCell, wrongTarget}
 use Rattle.paths.proofs.Alike.{Alike, column-alike, path-alike, head-cell-alike, target-alike, target-cell-alike}
 
@@ -25,7 +26,7 @@ module _ (s : List ℕ) (t u : List ℤ) (n : ℕ) (e : u ≡ withColumn 7 (targ
   held x h g = rw e (column-own 7 (targetCell s t n) (omega arith) n t x h g room)
 
   wrong-go : (x : ℕ) (h : Bool)
-      → _≡_ {A = ℕ} (cond (h && not (eqb (kind t (cond h (targetOf s t n x) 0)) (wanted (kind t x)))) 15 0) (cond (h && not (eqb (kind t (targetOf s t n x)) (wanted (kind t x)))) 15 0)
+      → _≡_ {A = ℕ} (cond (h && not (eqb (kind t (cond h (targetOf s t n x) 0)) (wantedBy (kind t x)))) 15 0) (cond (h && not (eqb (kind t (targetOf s t n x)) (wantedBy (kind t x)))) 15 0)
   wrong-go x true = refl
   wrong-go x false = refl
 

@@ -8,7 +8,7 @@ use lib.Dec.{eqb}
 use lib.IntN.{ℤ}
 use lib.ListN.{drop}
 use borrow.Author.Tests.{eq-eqb, ne-eqb, eqb-true, eqb-false, not-false}
-use Rattle.kinds.specs.Kinds.{groupCode}
+use Rattle.kinds.specs.Kinds.{groupCode, wantedBy}
 use Rattle.cells.specs.Table.{kind, owner, isDefinition, hasPath}
 use Rattle.refusals.specs.Rows.{duplicateRow, headRow, laterRow, targetRow}
 use Rattle.refusals.specs.Refusal.{firstBad}
@@ -19,7 +19,7 @@ use Rattle.text.specs.Pieces.{firstOf}
 use Rattle.text.proofs.Bytes.{true-false}
 use Rattle.paths.specs.Names.{nameOf, firstLabel, isNamed, member}
 use Rattle.cells.specs.Lists.{orIfZero}
-use Rattle.paths.specs.Paths.{settled, headFrom, descended, namesOf, headOf, targetOf, wanted, duplicateBad, pathHeadBad, laterBad, targetBad, laterRows, headRows, pathsBad}
+use Rattle.paths.specs.Paths.{settled, headFrom, descended, namesOf, headOf, targetOf, duplicateBad, pathHeadBad, laterBad, targetBad, laterRows, headRows, pathsBad}
 use Rattle.paths.specs.Leads.{IsMember, Heads, here, outward, Descends, ended, inward, HeadSettles, Leads, NamesApart, PathsKept}
 use Rattle.paths.proofs.FirstLabel.{Passing, first-found, none-passes}
 use Rattle.paths.proofs.LastBelow.{one-only}
@@ -230,14 +230,14 @@ module _ (s : List ℕ) (t : List ℤ) (n : ℕ) where
       ends : (x : ℕ) → hasPath t x ≡ true → laterBad s t n x ≡ 0 → Leads s t n x (targetOf s t n x)
       ends x p q = target-leads x (targetOf s t n x) refl (eqb-false (targetOf s t n x) 0 (quiet (hasPath t x) (eqb (targetOf s t n x) 0) laterRow (omega arith) q p))
 
-      fits : (x : ℕ) → hasPath t x ≡ true → targetBad s t n x ≡ 0 → kind t (targetOf s t n x) ≡ wanted (kind t x)
+      fits : (x : ℕ) → hasPath t x ≡ true → targetBad s t n x ≡ 0 → kind t (targetOf s t n x) ≡ wantedBy (kind t x)
       fits x p q =
-          let r = eqb (kind t (targetOf s t n x)) (wanted (kind t x)) in
-          eqb-true (kind t (targetOf s t n x)) (wanted (kind t x)) (not-false r (quiet (hasPath t x) (not r) targetRow (omega arith) q p))
+          let r = eqb (kind t (targetOf s t n x)) (wantedBy (kind t x)) in
+          eqb-true (kind t (targetOf s t n x)) (wantedBy (kind t x)) (not-false r (quiet (hasPath t x) (not r) targetRow (omega arith) q p))
 
   module _ (falls : (l : ℕ) → 1 ≤ l → l ≤ n → owner t l < l) where
     module _ (k : PathsKept s t n) (x : ℕ) (low : 1 ≤ x) (high : x ≤ n) where
-      led : hasPath t x ≡ true → (m : ℕ) × Leads s t n x m × (targetOf s t n x ≡ m) × (kind t m ≡ wanted (kind t x))
+      led : hasPath t x ≡ true → (m : ℕ) × Leads s t n x m × (targetOf s t n x ≡ m) × (kind t m ≡ wantedBy (kind t x))
       led p = let r = k .targets x low high p in (r .0, r .1, leads-target (k .apart) falls x (r .0) high (r .1), r .2)
 
       head-kept : pathHeadBad s t n x ≡ 0
@@ -251,8 +251,8 @@ module _ (s : List ℕ) (t : List ℤ) (n : ℕ) where
       target-kept : targetBad s t n x ≡ 0
       unfolding targetBad
       target-kept =
-          keeps-quiet (hasPath t x) (not (eqb (kind t (targetOf s t n x)) (wanted (kind t x)))) targetRow
-          (λ p. let r = led p in ap not (eq-eqb (kind t (targetOf s t n x)) (wanted (kind t x)) (ap (kind t) (r .2) ∙ r .3)))
+          keeps-quiet (hasPath t x) (not (eqb (kind t (targetOf s t n x)) (wantedBy (kind t x)))) targetRow
+          (λ p. let r = led p in ap not (eq-eqb (kind t (targetOf s t n x)) (wantedBy (kind t x)) (ap (kind t) (r .2) ∙ r .3)))
 
     pub kept-paths : PathsKept s t n → pathsBad s t n ≡ Fine
     unfolding pathsBad

@@ -5,11 +5,11 @@ use mathlib.Core.List.{List, [], _∷_}
 use Prim.Native.Nat.{ℕ, _≤_, _<_}
 use lib.IntN.{ℤ}
 use lib.ListN.{drop}
-use Rattle.kinds.specs.Kinds.{groupCode}
+use Rattle.kinds.specs.Kinds.{groupCode, wantedBy}
 use Rattle.cells.specs.Table.{kind, owner, isDefinition, hasPath}
 use Rattle.text.specs.Pieces.{firstOf}
 use Rattle.paths.specs.Names.{nameOf, sameName}
-use Rattle.paths.specs.Paths.{namesOf, wanted}
+use Rattle.paths.specs.Paths.{namesOf}
 
 -- "The members of a Group are the definitions whose a is its label": m, of the labels 1 to n, is such a member of Group g, and w is its name
 pub record IsMember (s : List ℕ) (t : List ℤ) (n g : ℕ) (w : List ℕ) (m : ℕ) : Type 0 where
@@ -52,4 +52,4 @@ NamesApart s t n =
 -- "R needs a V, C needs an F"
 pub record PathsKept (s : List ℕ) (t : List ℤ) (n : ℕ) : Type 0 where
   pub apart : NamesApart s t n
-  pub targets : (x : ℕ) → 1 ≤ x → x ≤ n → hasPath t x ≡ true → (m : ℕ) × Leads s t n x m × (kind t m ≡ wanted (kind t x))
+  pub targets : (x : ℕ) → 1 ≤ x → x ≤ n → hasPath t x ≡ true → (m : ℕ) × Leads s t n x m × (kind t m ≡ wantedBy (kind t x))

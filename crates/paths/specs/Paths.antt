@@ -48,11 +48,7 @@ headOf s t n x = headFrom s t n (firstOf (namesOf s t x)) (owner t (owner t x))
 unfoldable pub targetOf : List ℕ → List ℤ → ℕ → ℕ → ℕ
 targetOf s t n x = descended s t n (headOf s t n x) (drop 1 (namesOf s t x))
 
--- "R needs a V, C needs an F"
-abbrev pub wanted : ℕ → ℕ
-wanted k = wantedBy k
-
--- rows 13 to 15
+-- rows 13 to 15; "R needs a V, C needs an F", which is what the row of each kind wants
 unfoldable pub pathHeadBad : List ℕ → List ℤ → ℕ → ℕ → ℕ
 pathHeadBad s t n x = cond (hasPath t x && eqb (headOf s t n x) 0) headRow 0
 
@@ -60,7 +56,7 @@ unfoldable pub laterBad : List ℕ → List ℤ → ℕ → ℕ → ℕ
 laterBad s t n x = cond (hasPath t x && eqb (targetOf s t n x) 0) laterRow 0
 
 unfoldable pub targetBad : List ℕ → List ℤ → ℕ → ℕ → ℕ
-targetBad s t n x = cond (hasPath t x && not (eqb (kind t (targetOf s t n x)) (wanted (kind t x)))) targetRow 0
+targetBad s t n x = cond (hasPath t x && not (eqb (kind t (targetOf s t n x)) (wantedBy (kind t x)))) targetRow 0
 
 -- rows 12 to 15, each its own pass upward through the labels
 abbrev pub laterRows : List ℕ → List ℤ → ℕ → Verdict

@@ -5,9 +5,10 @@ use Prim.Native.Nat.{ℕ}
 use lib.Dec.{eqb}
 use lib.IntN.{ℤ}
 use lib.ListN.{drop}
+use Rattle.kinds.specs.Kinds.{wantedBy}
 use Rattle.cells.specs.Table.{kind, target, hasPath}
 use Rattle.refusals.specs.Rows.{targetRow}
-use Rattle.paths.specs.Paths.{descended, namesOf, headOf, wanted}
+use Rattle.paths.specs.Paths.{descended, namesOf, headOf}
 
 -- where the head of an R or C settles: what its cell holds between rows 13 and 14
 abbrev pub headCell : List ℕ → List ℤ → ℕ → ℕ → ℕ
@@ -19,4 +20,4 @@ targetBy s t n x head = cond (hasPath t x) (descended s t n head (drop 1 (namesO
 
 -- row 15 by the target that the cell holds
 abbrev pub wrongTarget : List ℤ → ℕ → ℕ
-wrongTarget t x = cond (hasPath t x && not (eqb (kind t (target t x)) (wanted (kind t x)))) targetRow 0
+wrongTarget t x = cond (hasPath t x && not (eqb (kind t (target t x)) (wantedBy (kind t x)))) targetRow 0

@@ -12,7 +12,7 @@ use lib.ListN.{length, getD, set, take}
 use lib.Seq.{take-suc-set}
 use Rattle.order.specs.LabelLists.{one, count, _∈_, mem, filter}
 use Rattle.order.specs.Placing.{waits, next, rounds, placed}
-use Rattle.order.proofs.Tests.{clash, so-or-not}
+use Rattle.order.proofs.Tests.{both-ways, so-or-not}
 use Rattle.order.proofs.Lists.{in-append, in-single, of-mem, zero-or-in}
 use Rattle.marks.specs.Marks.{mark, Dropped, First}
 use Rattle.marks.proofs.Squares.{mark-in}
@@ -47,7 +47,7 @@ module _ (R : ℕ → ℕ → Bool) (items : List ℕ) (rising : Rising items) (
         go : (mem p done ≡ true) ⊎ (mem p done ≡ false) → (waits R items done p ≡ true) ⊎ (waits R items done p ≡ false) → (not (mem p done) && not (waits R items done p)) ≡ false
         go (inl e) _ = rw e
         go (inr e) (inl d) = rw (e, d)
-        go (inr e) (inr d) = clash (mark ready w 0 p) (st .free p .1 (i, e, st .counts p i ∙ zero-any (blocks R done p) items d)) m
+        go (inr e) (inr d) = both-ways (mark ready w 0 p) (st .free p .1 (i, e, st .counts p i ∙ zero-any (blocks R done p) items d)) m
 
     next-is : (r : ℕ) → First ready w r → r < 64 * w → next R items done ≡ some r
     next-is r f h =
@@ -135,7 +135,7 @@ module _ (R : ℕ → ℕ → Bool) (items : List ℕ) (rising : Rising items) (
               where
                 go : (mark ready₁ w 0 p ≡ true) ⊎ ((p ∈ take m list) × (getD unmet′ p 0 ≡ 0)) → Dec (p ≡ r)
                     → (p ∈ items) × (mem p (take (k + 1) (set order k r)) ≡ false) × (getD unmet′ p 0 ≡ 0)
-                go (inl e) (yes y) = clash (mark ready₁ w 0 p) e (ap (mark ready₁ w 0) y ∙ drop .gone)
+                go (inl e) (yes y) = both-ways (mark ready₁ w 0 p) e (ap (mark ready₁ w 0) y ∙ drop .gone)
                 go (inl e) (no y) =
                     let o = g .state .free p .0 (sym (drop .others 0 p (λ _ z. y z)) ∙ e) in
                     (o .0, ap (mem p) done ∙ mem-other p r (take k order) y ∙ o .1, omega (arith, low .counts p, o .2))
@@ -147,7 +147,7 @@ module _ (R : ℕ → ℕ → Bool) (items : List ℕ) (rising : Rising items) (
               where
                 go : (count p (take m list) ≡ 0) ⊎ (p ∈ take m list) → Dec (p ≡ r) → mark ready′ w 0 p ≡ true
                 go (inr l) _ = low .new p l z
-                go (inl l) (yes y) = clash (mem p (take (k + 1) (set order k r))) (ap (mem p) done ∙ ap (λ (v : ℕ). mem v (take k order ++ r ∷ [])) y ∙ mem-same r (take k order)) e
+                go (inl l) (yes y) = both-ways (mem p (take (k + 1) (set order k r))) (ap (mem p) done ∙ ap (λ (v : ℕ). mem v (take k order ++ r ∷ [])) y ∙ mem-same r (take k order)) e
                 go (inl l) (no y) =
                     low .kept p (drop .others 0 p (λ _ x. y x) ∙ g .state .free p .1 (i, sym (ap (mem p) done ∙ mem-other p r (take k order) y) ∙ e, omega (arith, low .counts p)))
 

@@ -12,7 +12,7 @@ use lib.Dec.{eqb, ltb}
 use lib.ListN.{length, getD, take, drop, take-append-drop}
 use lib.Seq.{take-suc, getD-take, length-take-le, take-take}
 use Rattle.order.specs.LabelLists.{one, count, _∈_, mem, filter, any, first}
-use Rattle.order.proofs.Tests.{clash, so-or-not}
+use Rattle.order.proofs.Tests.{both-ways, so-or-not}
 use Rattle.order.proofs.Lists.{count-append, count-here, count-there, in-here, in-there, in-right, in-cons, in-append, in-single, mem-of, zero-or-in}
 use Rattle.placing.specs.UnmetCounts.{Rising, blocks}
 
@@ -83,7 +83,7 @@ zero-any f [] h = refl
 zero-any f (x ∷ l) h = go (f x) refl (zero-any f l)
   where
     go : (t : Bool) → f x ≡ t → (any f l ≡ false → length (filter f l) ≡ 0) → length (filter f (x ∷ l)) ≡ 0
-    go true e r = clash true refl (rw e at h)
+    go true e r = both-ways true refl (rw e at h)
     go false e r = omega (arith, filter-cons f x l, ap one e, r (rw e at h))
 
 -- ---- lists that rise

@@ -13,7 +13,7 @@ use Rattle.cells.specs.Accepted.{Accepted}
 use Rattle.cells.specs.Reaches.{Reaches}
 use Rattle.order.specs.Order.{place16}
 use Rattle.order.specs.PlanMeans.{SmallestCycle, Row16}
-use Rattle.order.proofs.Tests.{clash}
+use Rattle.order.proofs.Tests.{both-ways}
 use Rattle.order.proofs.Planned.{place16-exactly}
 use Rattle.marks.specs.Marks.{mark}
 use Rattle.reach.specs.Links.{Column}
@@ -36,4 +36,4 @@ module _ (t : List ℤ) (n : ℕ) (ok : Accepted t n) where
     cycle-marked m = itself-exact t j v col .0 (touch-body t n ok j col (rows .values v k v .0 m) (rw k value-body))
 
     pub cycle-unmarked : mark square (width n) v v ≡ false → Reaches t v v → ⊥
-    cycle-unmarked m r = clash (mark square (width n) v v) (rows .values v k v .1 (record { end = v; links = itself-exact t j v col .1 r; around = inl refl })) m
+    cycle-unmarked m r = both-ways (mark square (width n) v v) (rows .values v k v .1 (record { end = v; links = itself-exact t j v col .1 r; around = inl refl })) m

@@ -13,7 +13,7 @@ use Rattle.kinds.proofs.Codes.{group-bodiless}
 use Rattle.cells.specs.Table.{cell, kind, isDefinition, hasBody, owner, target}
 use Rattle.cells.specs.Accepted.{Accepted, HasBody}
 use Rattle.cells.specs.Reaches.{HasPath, Mentions, Reaches, once as mention, then as and}
-use Rattle.order.proofs.Tests.{clash}
+use Rattle.order.proofs.Tests.{both-ways}
 use Rattle.order.proofs.Tables.{g-kind, kind-v, v-def, kind-label}
 use Rattle.order.proofs.Tree.{within-owner, leaf}
 use Rattle.reach.specs.Links.{Column, Link, Links, once, then, Around, Touches}
@@ -30,7 +30,7 @@ module _ (t : List ℤ) (n : ℕ) (ok : Accepted t n) where
   body-label y b = kind-label t n ok y (kind-low (kind t y) (definition-kind (kind t y) (body-definition (kind t y) b)))
 
   pub body-group : (y : ℕ) → HasBody t y → kind t y ≡ groupCode → ⊥
-  body-group y b k = clash (hasBody t y) b (rw k group-bodiless)
+  body-group y b k = both-ways (hasBody t y) b (rw k group-bodiless)
 
   pub in-row : (q : ℕ) → q ≤ n → q < 64 * width n
   in-row q h = omega arith

@@ -15,7 +15,7 @@ use Rattle.cells.specs.Table.{cell, kind, owner}
 use Rattle.cells.specs.Accepted.{Accepted, HasBody}
 use Rattle.order.specs.LabelLists.{one, count, _∈_}
 use Rattle.order.specs.Order.{allLabels}
-use Rattle.order.proofs.Tests.{clash, one-in}
+use Rattle.order.proofs.Tests.{both-ways, one-in}
 use Rattle.order.proofs.Lists.{count-append, count-here, count-there, in-append, in-single, in-left, in-right, in-here, length-mono, length-upFrom, filter-le, tally-lt, zero-or-in}
 use Rattle.order.proofs.Tables.{in-labels}
 use Rattle.marks.specs.Marks.{mark, Added}
@@ -226,10 +226,10 @@ module _ (t : List ℤ) (n : ℕ) (ok : Accepted t n) (j : ℕ) (col : Column j)
 
   pub spread-none : (d : ℕ) (M : ℕ → Bool) → ((q : ℕ) → M q ≡ false) → Spread t j d d M []
   spread-none d M z = record {
-    sound = λ q m. clash (M q) m (z q);
-    around = λ y q m. clash (M y) m (z y);
-    raised = λ g k m. clash (M g) m (z g);
-    closed = λ y q m. clash (M y) m (z y);
+    sound = λ q m. both-ways (M q) m (z q);
+    around = λ y q m. both-ways (M y) m (z y);
+    raised = λ g k m. both-ways (M g) m (z g);
+    closed = λ y q m. both-ways (M y) m (z y);
     held = λ x. omega arith;
     bodies = λ x i. absurd (omega arith);
   }
@@ -364,7 +364,7 @@ module _ (t : List ℤ) (n : ℕ) (ok : Accepted t n) (j : ℕ) (col : Column j)
   shared d e s s′ b l row m blank add = record { row = λ q x. here q (add .only q x); all = all; others = add .others }
     where
       here : (q : ℕ) → (mark s (width n) d q ≡ true) ⊎ (mark s (width n) e q ≡ true) → Touches t j d q
-      here q (inl x) = clash (mark s (width n) d q) x (blank q)
+      here q (inl x) = both-ways (mark s (width n) d q) x (blank q)
       here q (inr x) = touch-on t n ok j col (once l) (row q .0 x)
 
       all : (q : ℕ) → Touches t j d q → mark s′ (width n) d q ≡ true

@@ -12,7 +12,7 @@ use lib.IntN.{ℤ, pos}
 use lib.ListN.{length}
 use borrow.Author.Tests.{eqb-true, leb-true, leb-false}
 use Rattle.cells.specs.Limits.{labelLimit}
-use Rattle.kinds.specs.Kinds.{valueCode, numberCode}
+use Rattle.kinds.specs.Kinds.{valueCode, numberCode, wantedBy}
 use Rattle.kinds.specs.Kinds as kinds
 use Rattle.kinds.proofs.Laws.{kind-low, definition-kind, expression-kind, not-expression, body-definition, path-expression, path-body}
 use Rattle.cells.specs.Cells.{natOf, intAt}
@@ -31,7 +31,7 @@ use Rattle.tree.proofs.Codes.{expression-kind as line-kind, label-low, label-hi
 use Rattle.tree.proofs.Parts.{Alike as TreeAlike, alike-expression, alike-definition, alike-parts}
 use Rattle.tree.proofs.Owners.{owner-group}
 use Rattle.tree.proofs.Treed.{treed}
-use Rattle.paths.specs.Paths.{targetOf, targetCell, wanted, duplicateBad, pathHeadBad, laterBad, targetBad, pathsBad}
+use Rattle.paths.specs.Paths.{targetOf, targetCell, duplicateBad, pathHeadBad, laterBad, targetBad, pathsBad}
 use Rattle.paths.specs.Leads.{NamesApart, Leads}
 use Rattle.paths.proofs.Leads.{paths-kept, target-leads, leads-unique}
 use Rattle.paths.proofs.Alike.{Alike, column-alike, paths-alike, target-alike}
@@ -56,8 +56,8 @@ owned-alike t w a d x (Owned.operand _ u _ o f p) = Owned.operand d u x (owned-a
 path-low : (k : ℕ) → kinds.hasPath k ≡ true → 1 ≤ k
 path-low k p = kind-low k (expression-kind k (path-expression k p))
 
-wanted-low : (k : ℕ) → kinds.hasPath k ≡ true → 1 ≤ wanted k
-wanted-low k p = kind-low (wanted k) (definition-kind (wanted k) (body-definition (wanted k) (path-body k p)))
+wanted-low : (k : ℕ) → kinds.hasPath k ≡ true → 1 ≤ wantedBy k
+wanted-low k p = kind-low (wantedBy k) (definition-kind (wantedBy k) (body-definition (wantedBy k) (path-body k p)))
 
 module _ (s : List ℕ) (t : List ℤ) (n : ℕ) (is : Lined s t n) (tree : treeBad t n ≡ Fine) (paths : pathsBad s (ownedTable t n) n ≡ Fine) where
   abbrev u : List ℤ
@@ -170,26 +170,26 @@ module _ (s : List ℕ) (t : List ℤ) (n : ℕ) (is : Lined s t n) (tree : tree
   unfolding pathsBad
   found = both-fine (firstBad (laterBad s u n) 1 n) (firstBad (targetBad s u n) 1 n) (both-fine (firstBad (pathHeadBad s u n) 1 n) _ (both-fine (firstBad (duplicateBad s u) 1 n) _ paths .1) .1) .1
 
-  aimed : (l : ℕ) → 1 ≤ l → l ≤ n → hasPath u l ≡ true → kind u (targetOf s u n l) ≡ wanted (kind u l)
+  aimed : (l : ℕ) → 1 ≤ l → l ≤ n → hasPath u l ≡ true → kind u (targetOf s u n l) ≡ wantedBy (kind u l)
   unfolding targetBad
-  aimed l h g e = go (eqb (kind u (targetOf s u n l)) (wanted (kind u l))) refl (first-none (targetBad s u n) n 1 found l h (omega arith))
+  aimed l h g e = go (eqb (kind u (targetOf s u n l)) (wantedBy (kind u l))) refl (first-none (targetBad s u n) n 1 found l h (omega arith))
     where
-      go : (b : Bool) → eqb (kind u (targetOf s u n l)) (wanted (kind u l)) ≡ b → targetBad s u n l ≡ 0 → kind u (targetOf s u n l) ≡ wanted (kind u l)
-      go true q z = eqb-true (kind u (targetOf s u n l)) (wanted (kind u l)) q
+      go : (b : Bool) → eqb (kind u (targetOf s u n l)) (wantedBy (kind u l)) ≡ b → targetBad s u n l ≡ 0 → kind u (targetOf s u n l) ≡ wantedBy (kind u l)
+      go true q z = eqb-true (kind u (targetOf s u n l)) (wantedBy (kind u l)) q
       go false q z = let y : _≡_ {A = ℕ} 15 0 = rw (e, q) at z in absurd (omega arith)
 
   target-own : (l : ℕ) → 1 ≤ l → l ≤ n → target w l ≡ targetCell s u n l
   unfolding resolvedTable
   target-own l h g = column-own 7 (targetCell s u n) (omega arith) n u l h g (omega (arith, owned-length, is .room))
 
-  target-at : (l : ℕ) → hasPath w l ≡ true → 1 ≤ kind w l → (target w l ≡ targetOf s u n l) × (kind w (target w l) ≡ wanted (kind w l))
+  target-at : (l : ℕ) → hasPath w l ≡ true → 1 ≤ kind w l → (target w l ≡ targetOf s u n l) × (kind w (target w l) ≡ wantedBy (kind w l))
   target-at l p low =
       let q = same l 0 (omega arith) in
       let has : hasPath u l ≡ true = rw q at p in
       let h = label-low t l n (formed s t n is) (omega (arith, same-lines l 0 (omega arith))) in
       let g = label-high t l n (formed s t n is) (omega (arith, same-lines l 0 (omega arith))) in
       let at : target w l ≡ targetOf s u n l = target-own l h g ∙ rw has in
-      (at, rw at (same (targetOf s u n l) 0 (omega arith) ∙ aimed l h g has ∙ ap wanted (sym q)))
+      (at, rw at (same (targetOf s u n l) 0 (omega arith) ∙ aimed l h g has ∙ ap wantedBy (sym q)))
 
   target-of : (x : ℕ) → hasPath w x ≡ true → (target w x ≡ targetOf s u n x) × (target w x ≡ 0 → ⊥)
   target-of x p =

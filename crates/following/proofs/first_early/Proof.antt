@@ -6,7 +6,7 @@ use native.Mathlib.Omega.{arith}
 use borrow.Author.Needs.{needs}
 use lib.ListN.{length, take}
 use Rattle.order.specs.Following.{labelsOf, firstPosition}
-use Rattle.order.proofs.Tests.{clash}
+use Rattle.order.proofs.Tests.{both-ways}
 use Rattle.marks.specs.Marks.{mark}
 use Rattle.marks.proofs.Squares.{mark-in}
 use Rattle.following.specs.Left.{Left, lacks, awaits}
@@ -88,7 +88,7 @@ loop-again c =
       omega (arith, h),
       left-turn o _ _ _ _ (l .loop .inv .2) h _ (v .nat-at .ensures) _ (d .ensures),
       wrong-turn o _ _ _ _ (l .loop .inv .2) h _ (v .nat-at .ensures) (held v) ∙ l .loop .inv .3,
-      early-turn o _ _ _ _ (l .loop .inv .2) h _ (v .nat-at .ensures) _ (λ m. clash _ (meets .ensures .1 m) (if1 .left)) ∙ l .loop .inv .4,
+      early-turn o _ _ _ _ (l .loop .inv .2) h _ (v .nat-at .ensures) _ (λ m. both-ways _ (meets .ensures .1 m) (if1 .left)) ∙ l .loop .inv .4,
     )
 
 same-length-2 : tie.Need-same-length-2 Inv-loop μ-loop

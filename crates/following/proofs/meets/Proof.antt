@@ -5,7 +5,7 @@ use native.Mathlib.Omega.{arith}
 use borrow.Author.Needs.{needs}
 use lib.Bits.{bitAnd, and-le-r}
 use lib.ListN.{getD}
-use Rattle.order.proofs.Tests.{clash}
+use Rattle.order.proofs.Tests.{both-ways}
 use Rattle.marks.specs.Marks.{mark}
 use Rattle.following.proofs.Words.{apart-turn, meets-here, meets-none}
 use Rattle.following.proofs.meets.Statement.{statement}
@@ -60,7 +60,7 @@ loop-again c =
     (omega arith, apart-turn _ _ _ _ _ (loop-test .taken) (inv .1) (c .if1 .left))
 
 returns-2 : tie.Need-returns-2 Inv-loop μ-loop
-returns-2 c = (λ e. clash false e refl, λ m. absurd (meets-none _ _ _ _ (λ q h. c .before .loop .inv .1 q (omega (arith, c .loop-test .left))) m))
+returns-2 c = (λ e. both-ways false e refl, λ m. absurd (meets-none _ _ _ _ (λ q h. c .before .loop .inv .1 q (omega (arith, c .loop-test .left))) m))
 
 pub meets-spec : {M : Type 1} → statement M
 meets-spec =

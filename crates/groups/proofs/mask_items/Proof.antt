@@ -11,7 +11,7 @@ use Rattle.cells.specs.Table.{kind}
 use Rattle.order.specs.LabelLists.{_∈_}
 use lib.Seq.{take-all}
 use Rattle.marks.specs.Marks.{mark}
-use Rattle.order.proofs.Tests.{clash}
+use Rattle.order.proofs.Tests.{both-ways}
 use Rattle.needs.specs.Needs.{Holder}
 use Rattle.placing.proofs.Lists.{in-at}
 use Rattle.groups.proofs.Orders.{no-holder, item-label, mask-put, mask-skip}
@@ -50,7 +50,7 @@ clear-marks-requires c κs =
 
 loop-holds : tie.Need-loop-holds Inv-loop μ-loop
 loop-holds c =
-    (refl, omega arith, λ p. (λ m. clash _ m (c .before .before .clear-marks .ensures p), λ y. absurd (omega (arith, y .0))))
+    (refl, omega arith, λ p. (λ m. both-ways _ m (c .before .before .clear-marks .ensures p), λ y. absurd (omega (arith, y .0))))
 
 mul-widen : tie.Need-mul-widen Inv-loop μ-loop
 mul-widen c = search needs

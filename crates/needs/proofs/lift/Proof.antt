@@ -9,7 +9,7 @@ use Rattle.kinds.specs.Kinds.{groupCode, valueCode}
 use Rattle.kinds.specs.GivesValues.{givesValues}
 use Rattle.kinds.proofs.Plans.{group-gives, value-gives, gives-cases}
 use Rattle.cells.specs.Table.{kind}
-use Rattle.order.proofs.Tests.{clash}
+use Rattle.order.proofs.Tests.{both-ways}
 use Rattle.reach.proofs.Reading.{row-room}
 use Rattle.needs.specs.Needs.{Lifting}
 use Rattle.reach.specs.MarkRows.{width}
@@ -25,8 +25,8 @@ abbrev μ-loop : tie.MeasureT-loop
 
 -- what gives no values is neither a Group nor a value
 no-holder : (k : ℕ) → givesValues k ≡ false → (k ≡ groupCode) ⊎ (k ≡ valueCode) → ⊥
-no-holder k h (inl e) = clash (givesValues k) (rw e group-gives) h
-no-holder k h (inr e) = clash (givesValues k) (rw e value-gives) h
+no-holder k h (inl e) = both-ways (givesValues k) (rw e group-gives) h
+no-holder k h (inr e) = both-ways (givesValues k) (rw e value-gives) h
 
 loop-holds : tie.Need-loop-holds Inv-loop μ-loop
 loop-holds c = let p = c .before .pre in (refl, p .0 .some, omega arith, lifting-start _ _ (p .0) _ (p .1 .1))

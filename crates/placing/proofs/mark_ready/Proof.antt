@@ -9,7 +9,7 @@ use lib.ListN.{length, getD, take}
 use Rattle.order.specs.LabelLists.{_∈_}
 use Rattle.marks.specs.Marks.{mark}
 use lib.Seq.{take-all}
-use Rattle.order.proofs.Tests.{clash}
+use Rattle.order.proofs.Tests.{both-ways}
 use Rattle.placing.proofs.Lists.{in-at}
 use Rattle.placing.proofs.Counts.{ready-put, ready-skip}
 use Rattle.placing.proofs.mark_ready.Statement.{statement}
@@ -34,7 +34,7 @@ module _ (c : tie.After-widen Inv-loop μ-loop) where
 loop-holds : tie.Need-loop-holds Inv-loop μ-loop
 loop-holds c =
     let entry = c .before .before .before in
-    (refl, omega arith, λ p. (λ m. clash (mark (entry .args .ready .now) (entry .args .w) 0 p) m (entry .pre .1 p), λ y. absurd (omega (arith, y .0))))
+    (refl, omega arith, λ p. (λ m. both-ways (mark (entry .args .ready .now) (entry .args .w) 0 p) m (entry .pre .1 p), λ y. absurd (omega (arith, y .0))))
 
 mul-widen : tie.Need-mul-widen Inv-loop μ-loop
 mul-widen c = search needs

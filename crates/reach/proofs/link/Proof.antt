@@ -4,7 +4,7 @@ use Prim.Native.Nat.{ℕ, _+_, _-_, _≤_}
 use native.Mathlib.Omega.{arith}
 use borrow.Author.Needs.{needs}
 use lib.ListN.{length, getD, set, length-set}
-use Rattle.order.proofs.Tests.{clash}
+use Rattle.order.proofs.Tests.{both-ways}
 use Rattle.cells.specs.Table.{cell}
 use Rattle.cells.specs.Reaches.{HasPath}
 use Rattle.reach.specs.Chains.{Hangs, ChainedTo}
@@ -119,7 +119,7 @@ loop-again c =
       omega arith,
       omega arith,
       l .loop .inv .2,
-      linked-skip _ _ _ _ _ (l .loop .inv .3) (λ d h. clash _ (subst (HasPath (a .args .table .now)) (sym k) (h .path)) (sym (c .before .has-path .ensures) ∙ w .0 .left)),
+      linked-skip _ _ _ _ _ (l .loop .inv .3) (λ d h. both-ways _ (subst (HasPath (a .args .table .now)) (sym k) (h .path)) (sym (c .before .has-path .ensures) ∙ w .0 .left)),
     ))
     (c .if1 .came)
 

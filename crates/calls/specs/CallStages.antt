@@ -27,7 +27,7 @@ use Rattle.calls.specs.declared.PlanReply.{PlanReply}
 abbrev pub shortBy : ℕ → ℕ → ℕ → Verdict
 shortBy least cells place = cond (leb least cells) Fine (Refused buffersRow place)
 
--- the reply of a call in whose buffers row 4 finds b: the number of labels where they find nothing
+-- the reply of a call in whose buffers row 4 finds b: the number of labels where rows 1 to 4 find nothing
 abbrev pub headReply : List ℕ → Verdict → Reply
 headReply s b = replyOf (orElse (headBad s) b) (labels s)
 

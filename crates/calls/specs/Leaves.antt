@@ -33,7 +33,7 @@ pub record RunLeaves (s : List ℕ) (m p q : ℕ) (r : PlanReply) (t o u : List 
   pub results : u ≡ runResults s m p q
   pub kept : Reads s → runBuffers s m p q ≡ Fine → PlanKept (sheetTable s) r o
 
--- "Follow is lent an order list instead of a plan, works down it, and answers its length": the list is o
+-- "Follow is lent an order list (signed 64-bit) instead of a plan, works down it, and answers its length": the list is o
 pub record FollowLeaves (s : List ℕ) (o : List ℤ) (m q : ℕ) (r : Reply) (t u : List ℤ) : Type 0 where
   pub reply : r ≡ followReply s o m q
   pub table : t ≡ followTable s o m q

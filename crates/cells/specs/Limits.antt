@@ -1,4 +1,4 @@
--- The limits of document 01, "The sheet", each said here alone.
+-- The limits of document 01, "The sheet", and of row 11, each said here alone.
 use Prim.Native.Nat.{ℕ}
 
 -- "A sheet is 1 to 65,536 bytes"

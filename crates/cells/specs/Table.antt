@@ -22,7 +22,7 @@ entry t (suc k) j = intAt t (8 * k + j)
 abbrev pub kind : List ℤ → ℕ → ℕ
 kind t l = cell t l 0
 
--- what line l is, by its kind; what is no label is nothing of it
+-- what line l is, by its kind; label 0, and one past the last, is none of these
 abbrev pub isDefinition : List ℤ → ℕ → Bool
 isDefinition t l = kinds.isDefinition (kind t l)
 

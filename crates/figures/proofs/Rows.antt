@@ -1,4 +1,4 @@
--- Results in cells: a label's three, what is read back from it, and a buffer that a function of labels fills.
+-- Results in cells: those of a label, what is read back from them, and a buffer that a function of labels fills.
 use mathlib.Core.Path.{_≡_, refl, sym, ap, _∙_}
 use mathlib.Core.List.{List, _++_, append-assoc}
 use Prim.Native.Nat.{ℕ, zero, suc, _+_, _-_, _*_, _≤_, _<_}

@@ -151,7 +151,7 @@ module _ (t : List ℤ) (n : ℕ) (ok : Accepted t n) where
 
     -- the buffer holds them
     pub figures-stored : (l : ℕ) → stored (resultCells t n m) l ≡ figures t n l
-    figures-stored l = go (ℕ-discrete (kind t l) 2)
+    figures-stored l = go (ℕ-discrete (kind t l) valueCode)
       where
         go : Dec (kind t l ≡ valueCode) → stored cells l ≡ figures t n l
         go (yes k) = stored-row cells l (figures t n l) (figure-row l k)

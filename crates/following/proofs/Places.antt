@@ -88,7 +88,7 @@ module _ (t : List ℤ) (n : ℕ) (ok : Accepted t n) (row : List ℕ) (is : Val
     none-wrong = wrong-is ∙ place-none (firstPosition (notNew t) [] 1 (labelsOf cells)) _ z
 
     listed-kind : (v : ℕ) → v ∈ labelsOf cells → kind t v ≡ valueCode
-    listed-kind v m = go (ℕ-discrete (kind t v) 2)
+    listed-kind v m = go (ℕ-discrete (kind t v) valueCode)
       where
         go : Dec (kind t v ≡ valueCode) → kind t v ≡ valueCode
         go (yes k) = k

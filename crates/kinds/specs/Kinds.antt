@@ -142,17 +142,19 @@ operandB c = isExpression c && isOperandForm (fieldsAt c .b)
 unfoldable pub operandC : ℕ → Bool
 operandC c = isExpression c && isOperandForm (fieldsAt c .c)
 
--- a path under name, and the code of the kind that it must end at
+-- a path under name
 unfoldable pub hasPath : ℕ → Bool
 hasPath c = isPathForm (fieldsAt c .name)
 
+-- the code of the kind that its path must end at
 unfoldable pub wantedBy : ℕ → ℕ
 wantedBy c = kindAt c .wanted
 
--- how many arguments its body is given, and the place of the argument that it stands for; 0 where it stands for none
+-- how many arguments its body is given
 unfoldable pub takes : ℕ → ℕ
 takes c = kindAt c .takes
 
+-- the place of the argument that a clause gives; 0 where it gives none
 abbrev pub placeIn : Clause → ℕ
 placeIn clause.None = 0
 placeIn clause.Number = 0
@@ -162,8 +164,10 @@ placeIn (clause.Call n) = 0
 placeIn (clause.Operation op) = 0
 placeIn clause.Choice = 0
 
+-- the clause of "Working out" that evaluates it
 unfoldable pub clauseOf : ℕ → Clause
 clauseOf c = kindAt c .clause
 
+-- the place of the argument that it stands for; 0 where it stands for none
 abbrev pub argumentPlace : ℕ → ℕ
 argumentPlace c = placeIn (clauseOf c)

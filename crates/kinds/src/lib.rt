@@ -1,4 +1,5 @@
-// Document 01's table of kinds. What a kind is stands in its row and nowhere else; the other crates ask here.
+// Document 01's table of kinds, and what a kind is: the other crates ask here. The constant table holds the fields alone, since it is laid
+// out anew wherever it is looked up; the other columns of a row are matches on its code.
 
 ghost use mathlib.Core.Path.{_≡_};
 ghost use mathlib.Core.Bool.{true};
@@ -169,7 +170,7 @@ pub fn code_of(letter: u8) -> usize
     0
 }
 
-// ---- what a row says, by its code
+// ---- the other columns of a row, by its code
 
 // Whether lines of this kind are definitions.
 pub fn is_definition(code: usize) -> bool
@@ -243,7 +244,7 @@ pub fn clause_of(code: usize) -> Clause
 }
 
 // The place of the argument that they stand for; 0 where they stand for none.
-pub fn place_of(code: usize) -> usize
+pub fn argument_place(code: usize) -> usize
     ensures { λ r. ⌜ r ≡ argumentPlace code ⌝ }
 {
     match clause_of(code) {

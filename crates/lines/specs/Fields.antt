@@ -46,7 +46,7 @@ abbrev pub isRight : Field → Bool
 isRight (Holds x) = true
 isRight Wrong = false
 
--- what its cell holds; of a line that passes row 7 no field is wrong
+-- what its cell holds; of a line that passes row 7, but for label 1's, no field is wrong
 abbrev pub held : Field → ℤ
 held (Holds x) = x
 held Wrong = pos 0

@@ -88,10 +88,11 @@ linesBad s n = firstBad (lineCheck s n) 1 n
 abbrev pub rootCells : List ℤ
 rootCells = pos groupCode ∷ zeros 7
 
--- those of any other line, which begins at place p of the text and has the fields fs
+-- one of the two of the name field: x, or 0 for `-`
 abbrev pub nameCell : List (List ℕ) → ℕ → ℤ
 nameCell fs x = pos (cond (same (field fs 1) dash) 0 x)
 
+-- those of any other line, which begins at place p of the text and has the fields fs
 unfoldable pub fieldCells : ℕ → ℕ → List (List ℕ) → List ℤ
 fieldCells n p fs =
     let k = fieldsAt (kindCode (field fs 0)) in

@@ -1,4 +1,4 @@
--- Results in a buffer of w cells a label: the laws of its rows, and (f) cell for cell.
+-- Results in a buffer of w cells a label: the laws of a label's cells, and (f) cell for cell.
 use mathlib.Core.Path.{_≡_, refl, sym, ap, _∙_}
 use mathlib.Core.List.{List, [], _∷_, _++_, append-assoc}
 use Prim.Native.Nat.{ℕ, zero, suc, _+_, _-_, _*_, _≤_, _<_}
@@ -15,7 +15,7 @@ use Rattle.order.specs.Order.{Proper}
 use Rattle.order.specs.Evaluating.{Evaluation, down, Solves, labelCells}
 use Rattle.order.proofs.Evaluating.{order-free, run-solution, run-rest}
 
--- ---- rows after a store of label k + 1's
+-- ---- cells after a store of label k + 1's
 
 pub row-own : (w k : ℕ) (r vs : List ℤ) → length vs ≡ w → w * suc k ≤ length r → labelCells w (sets r (w * k) vs) (suc k) ≡ vs
 row-own w k r vs e h =
@@ -52,14 +52,14 @@ row-other w k (suc j) r vs e d = ext-getD (pos 0) (take w (drop (w * j) (sets r 
 
 -- ---- two buffers of one length are one list if they agree in each label's cells
 
-rows-same : (w : ℕ) → 0 < w → (k : ℕ) (a b : List ℤ) → length a ≤ k → length a ≡ length b
+cells-same : (w : ℕ) → 0 < w → (k : ℕ) (a b : List ℤ) → length a ≤ k → length a ≡ length b
     → ((j : ℕ) → take w (drop (w * j) a) ≡ take w (drop (w * j) b)) → a ≡ b
-rows-same w h zero [] [] l e f = refl
-rows-same w h zero [] (y ∷ b) l e f = absurd (omega arith)
-rows-same w h zero (x ∷ a) b l e f = absurd (omega arith)
-rows-same w h (suc k) a b l e f =
+cells-same w h zero [] [] l e f = refl
+cells-same w h zero [] (y ∷ b) l e f = absurd (omega arith)
+cells-same w h zero (x ∷ a) b l e f = absurd (omega arith)
+cells-same w h (suc k) a b l e f =
     sym (take-append-drop w a) ∙ ap (λ (x : List ℤ). x ++ drop w a) head
-    ∙ ap (λ (x : List ℤ). take w b ++ x) (rows-same w h k (drop w a) (drop w b) (omega (arith, length-drop w a)) (length-drop w a ∙ ap (λ (i : ℕ). i - w) e ∙ sym (length-drop w b)) tail)
+    ∙ ap (λ (x : List ℤ). take w b ++ x) (cells-same w h k (drop w a) (drop w b) (omega (arith, length-drop w a)) (length-drop w a ∙ ap (λ (i : ℕ). i - w) e ∙ sym (length-drop w b)) tail)
     ∙ take-append-drop w b
   where
     head : take w a ≡ take w b
@@ -72,11 +72,11 @@ rows-same w h (suc k) a b l e f =
     tail j = ap (take w) (sym (next a j)) ∙ f (suc j) ∙ ap (take w) (next b j)
 
 pub buffers-same : (w : ℕ) → 0 < w → (a b : List ℤ) → length a ≡ length b → ((l : ℕ) → labelCells w a l ≡ labelCells w b l) → a ≡ b
-buffers-same w h a b e f = rows-same w h (length a) a b (omega arith) e (λ j. f (suc j))
+buffers-same w h a b e f = cells-same w h (length a) a b (omega arith) e (λ j. f (suc j))
 
 -- ---- (f), where a label's result is its cells and evaluation keeps the buffer's length
 
-module _ (t : List ℤ) (w : ℕ) (some : 0 < w) (E : Evaluation t (List ℤ) (List ℤ)) (rows : (r : List ℤ) (l : ℕ) → E .stored r l ≡ labelCells w r l)
+module _ (t : List ℤ) (w : ℕ) (some : 0 < w) (E : Evaluation t (List ℤ) (List ℤ)) (stores : (r : List ℤ) (l : ℕ) → E .stored r l ≡ labelCells w r l)
     (kept : (r : List ℤ) (v : ℕ) → length (E .evaluate r v) ≡ length r) where
   run-length : (o : List ℕ) (r : List ℤ) → length (down (E .evaluate) o r) ≡ length r
   run-length [] r = refl
@@ -86,13 +86,13 @@ module _ (t : List ℤ) (w : ℕ) (some : 0 < w) (E : Evaluation t (List ℤ) (L
   pub same-cells : (o₁ o₂ : List ℕ) → Proper t o₁ → Proper t o₂ → (r : List ℤ) → E .Fits r → down (E .evaluate) o₁ r ≡ down (E .evaluate) o₂ r
   same-cells o₁ o₂ p₁ p₂ r fit =
       buffers-same w some (down (E .evaluate) o₁ r) (down (E .evaluate) o₂ r) (run-length o₁ r ∙ sym (run-length o₂ r))
-      (λ l. sym (rows (down (E .evaluate) o₁ r) l) ∙ order-free t E o₁ o₂ p₁ p₂ r fit l ∙ rows (down (E .evaluate) o₂ r) l)
+      (λ l. sym (stores (down (E .evaluate) o₁ r) l) ∙ order-free t E o₁ o₂ p₁ p₂ r fit l ∙ stores (down (E .evaluate) o₂ r) l)
 
   -- and they are those of the one buffer that satisfies the evaluation at every value and is as it was at the other labels
   pub only-cells : (o : List ℕ) → Proper t o → (r s : List ℤ) → E .Fits r → E .Fits s → length s ≡ length r → Solves t E s
       → ((l : ℕ) → (kind t l ≡ valueCode → ⊥) → labelCells w s l ≡ labelCells w r l) → down (E .evaluate) o r ≡ s
-  only-cells o p r s f g e h rest = buffers-same w some (down (E .evaluate) o r) s (run-length o r ∙ sym e) (λ l. go l (ℕ-discrete (kind t l) 2))
+  only-cells o p r s f g e h rest = buffers-same w some (down (E .evaluate) o r) s (run-length o r ∙ sym e) (λ l. go l (ℕ-discrete (kind t l) valueCode))
     where
       go : (l : ℕ) → Dec (kind t l ≡ valueCode) → labelCells w (down (E .evaluate) o r) l ≡ labelCells w s l
-      go l (yes k) = sym (rows (down (E .evaluate) o r) l) ∙ run-solution t E o p r s f g h l k ∙ rows s l
-      go l (no k) = sym (rows (down (E .evaluate) o r) l) ∙ run-rest t E o p r f l k ∙ rows r l ∙ sym (rest l k)
+      go l (yes k) = sym (stores (down (E .evaluate) o r) l) ∙ run-solution t E o p r s f g h l k ∙ stores s l
+      go l (no k) = sym (stores (down (E .evaluate) o r) l) ∙ run-rest t E o p r f l k ∙ stores r l ∙ sym (rest l k)

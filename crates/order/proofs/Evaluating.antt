@@ -108,7 +108,7 @@ module _ {S R : Type 0} (t : List ℤ) (E : Evaluation t S R) where
 
   -- and two proper orders, worked down from one store, leave the same result at every label
   pub order-free : (o₁ o₂ : List ℕ) → Proper t o₁ → Proper t o₂ → (s : S) → E .Fits s → (l : ℕ) → E .stored (run o₁ s) l ≡ E .stored (run o₂ s) l
-  order-free o₁ o₂ p₁ p₂ s fit l = go (ℕ-discrete (kind t l) 2)
+  order-free o₁ o₂ p₁ p₂ s fit l = go (ℕ-discrete (kind t l) valueCode)
     where
       go : Dec (kind t l ≡ valueCode) → E .stored (run o₁ s) l ≡ E .stored (run o₂ s) l
       go (yes k) = run-solution o₁ p₁ s (run o₂ s) fit (run-fits o₂ (listed-value p₂) s fit) (run-solves o₂ p₂ s fit) l k

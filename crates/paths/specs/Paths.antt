@@ -19,7 +19,7 @@ unfoldable pub duplicateBad : List ℕ → List ℤ → ℕ → ℕ
 duplicateBad s t l =
     cond (isDefinition t l && not (eqb (firstLabel (isNamed s t (owner t l) (nameOf s t l)) 1 (l - 1)) 0)) duplicateRow 0
 
--- "The head is looked for among that Group's members, then in the Group around it, outward; the first Group with such a member settles
+-- "The head (first name) is looked for among that Group's members, then in the Group around it, outward; the first Group with such a member settles
 -- the head": from Group g, at most k Groups; 0 where none has such a member
 abbrev pub settled : List ℕ → List ℤ → ℕ → List ℕ → ℕ → ℕ → ℕ
 settled s t n w zero g = 0
@@ -48,13 +48,14 @@ headOf s t n x = headFrom s t n (firstOf (namesOf s t x)) (owner t (owner t x))
 unfoldable pub targetOf : List ℕ → List ℤ → ℕ → ℕ → ℕ
 targetOf s t n x = descended s t n (headOf s t n x) (drop 1 (namesOf s t x))
 
--- rows 13 to 15; "R needs a V, C needs an F", which is what the row of each kind wants
+-- rows 13 to 15
 unfoldable pub pathHeadBad : List ℕ → List ℤ → ℕ → ℕ → ℕ
 pathHeadBad s t n x = cond (hasPath t x && eqb (headOf s t n x) 0) headRow 0
 
 unfoldable pub laterBad : List ℕ → List ℤ → ℕ → ℕ → ℕ
 laterBad s t n x = cond (hasPath t x && eqb (targetOf s t n x) 0) laterRow 0
 
+-- "R needs a V, C needs an F": what a path must end at is read off the table of kinds
 unfoldable pub targetBad : List ℕ → List ℤ → ℕ → ℕ → ℕ
 targetBad s t n x = cond (hasPath t x && not (eqb (kind t (targetOf s t n x)) (wantedBy (kind t x)))) targetRow 0
 

@@ -46,10 +46,11 @@ mixedWord = bytesOf "mixed"
 abbrev pub nameField : List ℕ → List ℤ → ℕ → List ℕ
 nameField s t l = slice (nameStart t l) (nameStart t l + nameLength t l) s
 
--- "label, name, whole or mixed, state, number, steps"
+-- its "state, number, steps"
 abbrev pub resultFields : List ℤ → ℕ → List (List ℕ)
 resultFields r l = decimal (stateAt r l) ∷ integer (numberAt r l) ∷ decimal (stepsAt r l) ∷ []
 
+-- "label, name, whole or mixed, state, number, steps"
 unfoldable pub valueLine : List ℕ → List ℤ → List ℤ → List ℕ → ℕ → List ℕ
 valueLine s t r word l = lineOf (decimal l ∷ nameField s t l ∷ word ∷ resultFields r l)
 

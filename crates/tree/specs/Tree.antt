@@ -106,7 +106,8 @@ levelOf t n x = length (climb t n x x)
 
 -- ---- rows 10 and 11
 
--- "P owned by a V": an argument that the body of its owner is not given; k and d are the codes of the two
+-- "P owned by a V": an argument that the body of its owner is not given. A V's body is given none, and P stands for the first of an F's; k
+-- and d are the codes of the two
 abbrev pub argumentIn : ℕ → ℕ → ℕ
 argumentIn k d = cond (ltb (takes d) (argumentPlace k)) argumentRow 0
 

@@ -149,7 +149,7 @@ fn uses_bad(table: &[i64], label: usize) -> u64
 fn argument_bad(table: &[i64], label: usize) -> u64
     ensures { λ r. ⌜ r ≡ cellBad Rule.Argument (now (table .entry)) label ⌝ }
 {
-    let place = kinds::place_of(cells::cell_at(table, label, cells::KIND));
+    let place = kinds::argument_place(cells::cell_at(table, label, cells::KIND));
     if place == 0 {
         return 0;
     }

@@ -36,6 +36,18 @@ fn has_word(text: &str, name: &str) -> bool {
     })
 }
 
+/// Whether a file of definitions or proofs says what a name is: a name that it
+/// brings in stands elsewhere.
+fn declares(text: &str, name: &str) -> bool {
+    let modifiers = ["pub", "abbrev", "unfoldable", "record", "data"];
+    let is_declared = |line: &str| {
+        let mut words = line.split_whitespace();
+        let first = words.find(|word| !modifiers.contains(word));
+        first == Some(name) && (line.contains(" : ") || line.ends_with(" :"))
+    };
+    text.lines().any(is_declared)
+}
+
 /// What is wrong with a file of `crates/` and the names listed after it.
 fn check_file(path: &str, names: &[&str]) -> Vec<String> {
     let file = root().join(path);
@@ -44,7 +56,11 @@ fn check_file(path: &str, names: &[&str]) -> Vec<String> {
     }
     let text = fs::read_to_string(file).unwrap_or_default();
     let last = |name: &str| name.rsplit("::").next().unwrap_or(name).to_string();
-    let is_missing = |name: &&&str| !has_word(&text, &last(name));
+    let is_there = |name: &str| match path.ends_with(".antt") {
+        true => declares(&text, name),
+        false => has_word(&text, name),
+    };
+    let is_missing = |name: &&&str| !is_there(&last(name));
     let missing = names.iter().filter(is_missing);
     missing
         .map(|name| format!("{path} has no {name}"))
@@ -189,6 +205,8 @@ fn a_wrong_name_is_found() {
     let file = "crates/order/specs/Order.antt";
     assert!(check_line(&format!("`{file}`: `plan`, `needs`")).is_empty());
     assert_eq!(check_line(&format!("`{file}`: `plan`, `noPlan`")).len(), 1);
+    // brought in there, and said elsewhere
+    assert_eq!(check_line(&format!("`{file}`: `isDefinition`")).len(), 1);
     assert_eq!(check_line("`crates/order/specs/Orders.antt`").len(), 1);
     assert!(check_edits("`order/groups_by_label`").is_empty());
     assert_eq!(check_edits("`order/groups_by_name`").len(), 1);

@@ -9,11 +9,11 @@ use Rattle.tree.proofs.argument_bad.Tie as tie
 cell-at-requires : tie.Need-cell-at-requires
 cell-at-requires c κs = search needs
 
-place-of-requires : tie.Need-place-of-requires
-place-of-requires c κs = search needs
+argument-place-requires : tie.Need-argument-place-requires
+argument-place-requires c κs = search needs
 
 returns : tie.Need-returns
-returns c = rw (← c .before .before .cell-at .ensures) (sym (argument-none (c .before .before .cell-at .result) _ (sym (c .before .place-of .ensures) ∙ c .if1 .taken)))
+returns c = rw (← c .before .before .cell-at .ensures) (sym (argument-none (c .before .before .cell-at .result) _ (sym (c .before .argument-place .ensures) ∙ c .if1 .taken)))
 
 cell-at-requires-2 : tie.Need-cell-at-requires-2
 cell-at-requires-2 c κs = search needs
@@ -26,28 +26,28 @@ takes-requires c κs = search needs
 
 returns-2 : tie.Need-returns-2
 returns-2 c =
-    let place-of = c .before .before .before .before .before .place-of in
+    let argument-place = c .before .before .before .before .before .argument-place in
     let cell-at2 = c .before .before .before .cell-at2 in
     let k = c .before .before .before .before .before .before .cell-at in
     let d = c .before .before .cell-at3 in
     rw (← k .ensures, ← cell-at2 .ensures, ← d .ensures)
-    (sym (argument-wrong (k .result) (d .result) (omega (arith, c .if2 .taken, c .before .takes .ensures, place-of .ensures))))
+    (sym (argument-wrong (k .result) (d .result) (omega (arith, c .if2 .taken, c .before .takes .ensures, argument-place .ensures))))
 
 returns-3 : tie.Need-returns-3
 returns-3 c =
-    let place-of = c .before .before .before .before .before .place-of in
+    let argument-place = c .before .before .before .before .before .argument-place in
     let cell-at2 = c .before .before .before .cell-at2 in
     let k = c .before .before .before .before .before .before .cell-at in
     let d = c .before .before .cell-at3 in
     rw (← k .ensures, ← cell-at2 .ensures, ← d .ensures)
-    (sym (argument-fine (k .result) (d .result) (omega (arith, c .if2 .left, c .before .takes .ensures, place-of .ensures))))
+    (sym (argument-fine (k .result) (d .result) (omega (arith, c .if2 .left, c .before .takes .ensures, argument-place .ensures))))
 
 pub argument-bad-spec : {M : Type 1} → statement M
 argument-bad-spec =
     tie.close
     (tie.spec
     cell-at-requires
-    place-of-requires
+    argument-place-requires
     returns
     cell-at-requires-2
     cell-at-requires-3

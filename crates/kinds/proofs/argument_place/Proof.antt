@@ -3,8 +3,8 @@ use mathlib.Core.Path.{_∙_, sym, ap}
 use borrow.Author.Needs.{needs}
 use Rattle.kinds.specs.Kinds.{placeIn}
 use Rattle.kinds.proofs.Clauses.{no-place}
-use Rattle.kinds.proofs.place_of.Statement.{statement}
-use Rattle.kinds.proofs.place_of.Tie as tie
+use Rattle.kinds.proofs.argument_place.Statement.{statement}
+use Rattle.kinds.proofs.argument_place.Tie as tie
 
 clause-of-requires : tie.Need-clause-of-requires
 clause-of-requires c κs = search needs
@@ -20,5 +20,5 @@ returns c =
 returns-2 : tie.Need-returns-2
 returns-2 c = sym (no-place (c .before .clause-of .result) (c .match .keys2)) ∙ ap placeIn (c .before .clause-of .ensures)
 
-pub place-of-spec : {M : Type 1} → statement M
-place-of-spec = tie.close (tie.spec clause-of-requires enum-known-place returns returns-2)
+pub argument-place-spec : {M : Type 1} → statement M
+argument-place-spec = tie.close (tie.spec clause-of-requires enum-known-place returns returns-2)

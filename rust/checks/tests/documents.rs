@@ -250,18 +250,47 @@ fn every_edit_is_listed_once() {
     }
 }
 
+/// All texts of a folder and of those in it, one behind the other.
+fn all_texts(folder: &Path) -> String {
+    let mut texts = String::new();
+    for entry in fs::read_dir(folder).into_iter().flatten() {
+        let path = entry.expect("a file").path();
+        texts += &match path.is_dir() {
+            true => all_texts(&path),
+            false => fs::read_to_string(path).unwrap_or_default() + "\n\n",
+        };
+    }
+    texts
+}
+
+/// Those of this folder of every crate.
+fn texts(folder: &str) -> String {
+    let crates = fs::read_dir(root().join("crates")).expect("crates");
+    crates
+        .map(|of| all_texts(&of.expect("a crate").path().join(folder)))
+        .collect()
+}
+
+/// Where an edit fails is a function or a law that is there.
+#[test]
+fn what_edits_fail_at_is_there() {
+    let (code, proofs) = (texts("src"), texts("proofs"));
+    let page = fs::read_to_string(root().join("docs/CONTRACTS.md")).expect("a page");
+    let is_edit = |row: &Vec<&str>| row.len() == 4 && row[1].contains('/');
+    let rows: Vec<Vec<&str>> = page.lines().map(cells).filter(is_edit).collect();
+    assert_eq!(rows.len(), edits().len());
+    for row in rows {
+        for (name, _) in quoted(row[3]) {
+            let is_function = code.contains(&format!("fn {name}("));
+            assert!(is_function || declares(&proofs, name), "{name}: {}", row[1]);
+        }
+    }
+}
+
 /// Where a page quotes a record of `specs/`, it stands there so.
 #[test]
 fn records_are_quoted_as_they_stand() {
-    let mut definitions = String::new();
-    for of in fs::read_dir(root().join("crates")).expect("crates") {
-        let folder = of.expect("a crate").path().join("specs");
-        for file in fs::read_dir(folder).into_iter().flatten() {
-            let path = file.expect("a file").path();
-            definitions += &fs::read_to_string(path).unwrap_or_default();
-            definitions += "\n\n";
-        }
-    }
+    let definitions = texts("specs");
     let page = fs::read_to_string(root().join("docs/CONTRACTS.md")).expect("a page");
     let blocks = page.split("\n```").skip(1).step_by(2);
     let records: Vec<&str> = blocks

@@ -341,6 +341,12 @@ module _ {s : List ℕ} {t : List ℤ} {n : ℕ} {starts links : List ℕ} (rows
   pub linked-walkable : Walkable starts links g
   linked-walkable = walkable rows (h .all) (omega arith) g in-table
 
+  pub linked-stretch : Stretch starts g
+  linked-stretch = linked-walkable .stretch
+
+  pub linked-room : startOf starts (g + 1) ≤ length links
+  linked-room = linked-walkable .room
+
   pub found-member : (w : List ℕ) → walk s t links w (firstIn starts links g (hashOf w)) ≡ member s t n g w
   found-member w = found-last rows (h .all) (omega arith) g in-table w ∙ member-last s t n (h .apart) g w
 

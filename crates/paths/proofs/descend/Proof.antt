@@ -63,7 +63,7 @@ member-in-requires c κs =
     let low = stop-low (a .text .now) (l .at + 1) (a .to) (omega arith) (omega arith) in
     let high = stop-high (a .text .now) (l .at + 1) (a .to) (omega arith) (omega arith) in
     let stop = c .before .name-stop2 .ensures in
-    ((linked-walkable (p .0) (p .1) (l .m) (l .inv .0), rw (c .hash-name .ensures) (hash-small _)), (omega arith, omega arith, p .0 .names))
+    ((linked-walkable (p .0) (p .1) _ (omega (arith, l .inv .0)), rw (c .hash-name .ensures) (hash-small _)), (omega arith, omega arith, p .0 .names))
 
 loop-less : tie.Need-loop-less Inv-loop μ-loop
 loop-less c =

@@ -6,7 +6,7 @@ use Rattle.paths.specs.Names.{member}
 use Rattle.paths.specs.Buckets.{startOf}
 use Rattle.paths.specs.Paths.{headFrom}
 use Rattle.paths.proofs.SameName.{hash-small}
-use Rattle.paths.proofs.Chains.{Walking, linked-walkable, member-walking, walking-less, walking-hit, walking-turn, walking-end}
+use Rattle.paths.proofs.Chains.{Walking, linked-stretch, linked-room, member-walking, walking-less, walking-hit, walking-turn, walking-end}
 use Rattle.paths.proofs.Resolving.{head-end, head-found, head-next}
 use native.Mathlib.Omega.{arith}
 use Rattle.paths.proofs.search.Statement.{statement}
@@ -38,9 +38,8 @@ first-in-requires c κs =
     let p = entry .pre in
     let a = entry .args in
     let p = p .0 in
-    let h = linked-walkable (p .0) (p .1) (c .before .groups .g) (omega arith) in
     let small = hash-small (slice (a .from) (a .to) (a .text .now)) in
-    (h .stretch, omega (arith, c .before .before .hash-name .ensures), h .room)
+    (linked-stretch (p .0) (p .1) _ (omega arith), omega (arith, c .before .before .hash-name .ensures), linked-room (p .0) (p .1) _ (omega arith))
 
 loop-holds : tie.Need-loop-holds Inv-loop μ-loop Inv-groups μ-groups
 loop-holds c =

@@ -8,6 +8,8 @@
 //! repository, and one that begins with ```` ```part FILE ```` is a part of it. All blocks of a page share a folder in which `lindypo`, `run`
 //! and the folders that commands speak of stand.
 
+use std::cell::RefCell;
+use std::collections::{HashMap, HashSet};
 use std::env;
 use std::fs;
 use std::os::unix::fs::{symlink, PermissionsExt};
@@ -271,16 +273,18 @@ fn pages() -> Vec<PathBuf> {
     files.filter(is_page).collect()
 }
 
-/// The anchors of a page's headings: small letters and digits, a hyphen for each
-/// space.
+/// The anchors of a page: those of its headings, in small letters and digits with a
+/// hyphen for each space, and those that are written into it.
 fn anchors(page: &str) -> Vec<String> {
+    let written = page.split("<a id=\"").skip(1);
+    let written = written.filter_map(|rest| Some(rest.split_once('"')?.0.to_string()));
     let headings = page.lines().filter(|line| line.starts_with('#'));
     let anchor = |heading: &str| {
         let words = heading.trim_start_matches('#').trim().to_lowercase();
         let is_kept = |c: &char| c.is_alphanumeric() || "-_ ".contains(*c);
         words.replace(' ', "-").chars().filter(is_kept).collect()
     };
-    headings.map(anchor).collect()
+    headings.map(anchor).chain(written).collect()
 }
 
 /// What the links of a page lead to, but for those that leave the repository.
@@ -297,8 +301,18 @@ fn leads(page: &Path, link: &str) -> bool {
         ("", _) => page.to_path_buf(),
         (file, folder) => folder.unwrap_or(Path::new("")).join(file),
     };
-    let has_anchor = || anchors(&read_text(&target)).contains(&anchor.to_string());
-    top().join(&target).exists() && (anchor.is_empty() || has_anchor())
+    top().join(&target).exists() && (anchor.is_empty() || has_anchor(target, anchor))
+}
+
+/// Whether a page has an anchor. One page has thousands of links to itself, so each
+/// is read once.
+fn has_anchor(page: PathBuf, anchor: &str) -> bool {
+    thread_local!(static KNOWN: RefCell<HashMap<PathBuf, HashSet<String>>> = RefCell::default());
+    KNOWN.with_borrow_mut(|known| {
+        let read = |page: &PathBuf| anchors(&read_text(page)).into_iter().collect();
+        let anchors = known.entry(page.clone()).or_insert_with(|| read(&page));
+        anchors.contains(anchor)
+    })
 }
 
 #[test]
@@ -321,4 +335,5 @@ fn a_link_that_leads_nowhere() {
     );
     assert_eq!(links("a [b](c) ![d](e#f) [g](https://h)"), ["c", "e#f"]);
     assert_eq!(anchors("# A b\ntext\n## 1: the c"), ["a-b", "1-the-c"]);
+    assert_eq!(anchors("text <a id=\"d.E\"></a>`f`"), ["d.E"]);
 }

@@ -2,7 +2,7 @@
 use mathlib.Core.Path.{_≡_, refl, sym, ap, _∙_, subst}
 use mathlib.Core.Bool.{Bool, true, false}
 use mathlib.Core.List.{List, [], _∷_}
-use mathlib.Core.Logic.{_⊎_, inl, inr, _≢_}
+use mathlib.Core.Logic.{_≢_}
 use Prim.Native.Nat.{ℕ, zero, suc, _+_, _-_, _*_, _≤_, _<_}
 use native.Mathlib.Omega.{arith}
 use native.Mathlib.Nat.{add-zero}
@@ -10,7 +10,7 @@ use borrow.Author.Tests.{eqb-true, eqb-false, ltb-true, ltb-false}
 use lib.Dec.{eqb, ltb}
 use lib.IntN.{ℤ, pos, natAbs}
 use lib.ListN.{length, length-replicate}
-use lib.Seq.{length-sets}
+use lib.Seq.{sets, length-sets}
 use Rattle.cells.specs.Cells.{natOf, intAt, zeros}
 use Rattle.cells.specs.Accepted.{Accepted}
 use Rattle.cells.proofs.Stores.{intAt-zeros, sets-before, sets-past, sets-in}
@@ -24,46 +24,43 @@ use Rattle.evaluation.specs.declared.Value.{Value}
 use Rattle.evaluation.proofs.Range.{Good, value-recorded}
 use Rattle.evaluation.proofs.Entries.{reached-recorded, value-room}
 
-module _ (r : List ℤ) (l : ℕ) (v : Value) where
-  pub store-length : length (store r l v) ≡ length r
-  store-length = length-sets r (3 * (l - 1)) (pos (v .state) ∷ v .number ∷ pos (v .steps) ∷ [])
+pub store-length : (r : List ℤ) (l : ℕ) (v : Value) → length (store r l v) ≡ length r
+store-length r zero v = refl
+store-length r (suc k) v = length-sets r (3 * k) (pos (v .state) ∷ v .number ∷ pos (v .steps) ∷ [])
 
-  -- every other cell stays
-  pub store-other : (i : ℕ) → (i < 3 * (l - 1)) ⊎ (3 * (l - 1) + 3 ≤ i) → intAt (store r l v) i ≡ intAt r i
-  store-other i (inl h) = sets-before (pos (v .state) ∷ v .number ∷ pos (v .steps) ∷ []) r (3 * (l - 1)) i h
-  store-other i (inr h) = sets-past (pos (v .state) ∷ v .number ∷ pos (v .steps) ∷ []) r (3 * (l - 1)) i h
+-- where the code stores them
+pub store-at : (r : List ℤ) (l : ℕ) (v : Value) → 1 ≤ l → store r l v ≡ sets r (3 * (l - 1)) (pos (v .state) ∷ v .number ∷ pos (v .steps) ∷ [])
+store-at r zero v h = absurd (omega arith)
+store-at r (suc k) v h = let e : k ≡ suc k - 1 = omega arith in ap (λ (j : ℕ). sets r (3 * j) (pos (v .state) ∷ v .number ∷ pos (v .steps) ∷ [])) e
 
-  cell-other : (m j : ℕ) → suc m ≢ l → j < 3 → 1 ≤ l → intAt (store r l v) (3 * m + j) ≡ intAt r (3 * m + j)
-  cell-other m j d h k = store-other (3 * m + j) (side (ltb m (l - 1)) refl)
+module _ (r : List ℤ) (k : ℕ) (v : Value) where
+  cell-other : (m j : ℕ) → suc m ≢ suc k → j < 3 → intAt (store r (suc k) v) (3 * m + j) ≡ intAt r (3 * m + j)
+  cell-other m j d h = go (ltb m k) refl
     where
-      side : (b : Bool) → ltb m (l - 1) ≡ b → (3 * m + j < 3 * (l - 1)) ⊎ (3 * (l - 1) + 3 ≤ 3 * m + j)
-      side true e = inl (omega (arith, ltb-true m (l - 1) e))
-      side false e = inr (omega (arith, ltb-false m (l - 1) e, d))
+      go : (b : Bool) → ltb m k ≡ b → intAt (store r (suc k) v) (3 * m + j) ≡ intAt r (3 * m + j)
+      go true e = sets-before (pos (v .state) ∷ v .number ∷ pos (v .steps) ∷ []) r (3 * k) (3 * m + j) (omega (arith, ltb-true m k e))
+      go false e = sets-past (pos (v .state) ∷ v .number ∷ pos (v .steps) ∷ []) r (3 * k) (3 * m + j) (omega (arith, ltb-false m k e, d))
 
-  -- and so do the results of every other label
-  pub stored-other : (m : ℕ) → m ≢ l → 1 ≤ l → stored (store r l v) m ≡ stored r m
-  stored-other zero d h = refl
-  stored-other (suc m) d h =
-      let a : intAt (store r l v) (3 * m) ≡ intAt r (3 * m) = rw add-zero at (cell-other m 0 d (omega arith) h) in
-      let b = cell-other m 1 d (omega arith) h in
-      let c = cell-other m 2 d (omega arith) h in
-      λ i. record { number = b i; state = natOf (a i); steps = natOf (c i) }
+  cell-own : 3 * suc k ≤ length r → (j : ℕ) → j < 3 → intAt (store r (suc k) v) (3 * k + j) ≡ intAt (pos (v .state) ∷ v .number ∷ pos (v .steps) ∷ []) j
+  cell-own g j h = sets-in (pos (v .state) ∷ v .number ∷ pos (v .steps) ∷ []) r (3 * k) j h (omega arith)
 
-  cell-own : 1 ≤ l → 3 * l ≤ length r → (j : ℕ) → j < 3 → intAt (store r l v) (3 * (l - 1) + j) ≡ intAt (pos (v .state) ∷ v .number ∷ pos (v .steps) ∷ []) j
-  cell-own h g j k = sets-in (pos (v .state) ∷ v .number ∷ pos (v .steps) ∷ []) r (3 * (l - 1)) j k (omega arith)
+-- the results of every other label stay
+pub stored-other : (r : List ℤ) (l : ℕ) (v : Value) (m : ℕ) → m ≢ l → stored (store r l v) m ≡ stored r m
+stored-other r zero v m d = refl
+stored-other r (suc k) v zero d = refl
+stored-other r (suc k) v (suc m) d =
+    let a : intAt (store r (suc k) v) (3 * m) ≡ intAt r (3 * m) = rw add-zero at (cell-other r k v m 0 d (omega arith)) in
+    let b = cell-other r k v m 1 d (omega arith) in
+    let c = cell-other r k v m 2 d (omega arith) in
+    λ i. record { number = b i; state = natOf (a i); steps = natOf (c i) }
 
 pub stored-own : (r : List ℤ) (l : ℕ) (v : Value) → ResultsRoom r l → stored (store r l v) l ≡ v
 stored-own r zero v h = absurd (omega (arith, h .low))
-stored-own r (suc m) v h =
-    let a : intAt (store r (suc m) v) (3 * m) ≡ pos (v .state) = rw add-zero at (own 0 (omega arith)) in
-    let b : intAt (store r (suc m) v) (3 * m + 1) ≡ v .number = own 1 (omega arith) in
-    let c : intAt (store r (suc m) v) (3 * m + 2) ≡ pos (v .steps) = own 2 (omega arith) in
+stored-own r (suc k) v h =
+    let a : intAt (store r (suc k) v) (3 * k) ≡ pos (v .state) = rw add-zero at (cell-own r k v (h .room) 0 (omega arith)) in
+    let b = cell-own r k v (h .room) 1 (omega arith) in
+    let c = cell-own r k v (h .room) 2 (omega arith) in
     λ i. record { number = b i; state = natOf (a i); steps = natOf (c i) }
-  where
-    own : (j : ℕ) → j < 3 → intAt (store r (suc m) v) (3 * m + j) ≡ intAt (pos (v .state) ∷ v .number ∷ pos (v .steps) ∷ []) j
-    own j k =
-        let e : m ≡ suc m - 1 = omega arith in
-        ap (λ (n : ℕ). intAt (store r (suc m) v) (3 * n + j)) e ∙ cell-own r (suc m) v (h .low) (h .room) j k
 
 -- ---- results that are ready
 
@@ -79,8 +76,8 @@ recorded-by {low} {r} {l} {v} e a b c = record {
 pub recorded-own : (low : ℕ) (r : List ℤ) (l : ℕ) (o : Outcome) → ResultsRoom r l → Good low o → Recorded low (store r l (valueOf o)) l
 recorded-own low r l o h g = recorded-by (stored-own r l (valueOf o) h) (g .least) (g .most) (λ _. g .ranged)
 
-pub recorded-other : (low : ℕ) (r : List ℤ) (l : ℕ) (v : Value) (m : ℕ) → m ≢ l → 1 ≤ l → Recorded low r m → Recorded low (store r l v) m
-recorded-other low r l v m d h s = recorded-by (stored-other r l v m d h) (s .least) (s .most) (s .ranged)
+pub recorded-other : (low : ℕ) (r : List ℤ) (l : ℕ) (v : Value) (m : ℕ) → m ≢ l → Recorded low r m → Recorded low (store r l v) m
+recorded-other low r l v m d s = recorded-by (stored-other r l v m d) (s .least) (s .most) (s .ranged)
 
 pub ready-zeros : (t : List ℤ) (n m : ℕ) → Accepted t n → 3 * n ≤ m → Ready t (zeros m)
 ready-zeros t n m w h = record {
@@ -116,7 +113,7 @@ module _ (t r : List ℤ) (v : ℕ) (e : Evaluable t r v) where
           let o = evaluated-own in
           subst (λ (x : ℕ). Recorded low (store r v (evaluated t r v)) x) (sym (eqb-true l v p))
           (record { least = omega (arith, o .least); most = o .most; ranged = o .ranged })
-      go false p = recorded-other low r v (evaluated t r v) l (eqb-false l v p) (value-room e .low) s
+      go false p = recorded-other low r v (evaluated t r v) l (eqb-false l v p) s
 
   pub ready-stored : Ready t (store r v (evaluated t r v))
   ready-stored = record {

@@ -33,15 +33,11 @@ use Rattle.figures.proofs.Rows.{same-stored, stored-row, stored-zeros, 
 
 pub store-own : (r : List ℤ) (l : ℕ) (v : Value) → 1 ≤ l → 3 * l ≤ length r → labelCells 3 (store r l v) l ≡ valueCells v
 store-own r zero v h k = absurd (omega arith)
-store-own r (suc l) v h k =
-    let e : suc l - 1 ≡ l = omega arith in
-    rw e (row-own 3 l r (valueCells v) refl k)
+store-own r (suc l) v h k = row-own 3 l r (valueCells v) refl k
 
-pub store-other : (r : List ℤ) (l : ℕ) (v : Value) (m : ℕ) → 1 ≤ l → (m ≡ l → ⊥) → labelCells 3 (store r l v) m ≡ labelCells 3 r m
-store-other r zero v m h d = absurd (omega arith)
-store-other r (suc l) v m h d =
-    let e : suc l - 1 ≡ l = omega arith in
-    rw e (row-other 3 l m r (valueCells v) refl d)
+pub store-other : (r : List ℤ) (l : ℕ) (v : Value) (m : ℕ) → (m ≡ l → ⊥) → labelCells 3 (store r l v) m ≡ labelCells 3 r m
+store-other r zero v m d = refl
+store-other r (suc l) v m d = row-other 3 l m r (valueCells v) refl d
 
 module _ (t : List ℤ) (n : ℕ) (ok : Accepted t n) where
   pub value-label : (v : ℕ) → kind t v ≡ valueCode → (1 ≤ v) × (v ≤ n)
@@ -62,7 +58,7 @@ module _ (t : List ℤ) (n : ℕ) (ok : Accepted t n) where
     evaluate = evaluateInto t;
     fits = λ r v k h. omega (arith, store-length r v (evaluated t r v));
     own = λ r v k h. let b = value-label v k in store-own r v (evaluated t r v) (b .0) (omega (arith, b .1));
-    other = λ r v w k h d. store-other r v (evaluated t r v) w (value-label v k .0) d;
+    other = λ r v w k h d. store-other r v (evaluated t r v) w d;
     local = λ r r′ v k f g h. ap valueCells (value-rows r r′ v k h);
   }
 

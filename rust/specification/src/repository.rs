@@ -53,7 +53,8 @@ impl Repository {
 
     /// The names that stand for two things, a line each.
     pub fn twice(&self) -> Vec<String> {
-        twice::twice(&self.graph)
+        let belief = belief::belief(&self.graph, &self.lines);
+        twice::twice(&self.graph, &belief.definitions)
     }
 
     /// The page of what a reader has to believe.

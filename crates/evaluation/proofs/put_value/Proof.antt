@@ -1,9 +1,11 @@
+use mathlib.Core.Path.{sym, _∙_}
 use native.Mathlib.Omega.{arith}
 use lib.ListN.{length-set}
 use mir.Syntax.{w64}
 use mir.Facts.{toZ-pos}
 use Rattle.cells.proofs.Signed.{whole}
 use Rattle.evaluation.proofs.Leaves.{stores}
+use Rattle.evaluation.proofs.Stored.{store-at}
 use borrow.Author.Needs.{needs}
 use Rattle.evaluation.proofs.put_value.Statement.{statement}
 use Rattle.evaluation.proofs.put_value.Tie as tie
@@ -52,6 +54,7 @@ returns c =
     let s = c .before .before .before in
     stores (s .args .results .now) _ (toZ-pos w64 {n = s .args .v .state} (omega arith)) (whole (s .args .v .number) (c .before .struct-told .given .0 .1))
     (toZ-pos w64 {n = s .args .v .steps} (omega arith))
+    ∙ sym (store-at (s .args .results .now) (s .args .label) (s .args .v) (s .pre .low))
 
 pub put-value-spec : {M : Type 1} → statement M
 put-value-spec =

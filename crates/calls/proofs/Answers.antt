@@ -23,7 +23,7 @@ use Rattle.order.proofs.Planned.{cycle-smallest, planned, order-short}
 use Rattle.planning.specs.Plans.{PlanIs}
 use Rattle.planning.specs.declared.Planned.{Planned}
 use Rattle.planning.specs.declared.Planned.the-variants as made
-use Rattle.calls.specs.Plan.{answerBy, listedBy, planRefusal, lengthOf}
+use Rattle.calls.specs.Plan.{answerBy, listedBy, planRefusal, lengthOf, isAnswer}
 use Rattle.calls.specs.Demand.{PlanKept}
 use Rattle.calls.specs.CallStages.{keptBy, cellsTo, TablePlans}
 use Rattle.calls.specs.declared.PlanReply.{PlanReply}
@@ -56,18 +56,12 @@ cycleOf (cycle v) = Refused cycleRow v
 cycleOf (whole o) = Fine
 cycleOf (mixed o) = Fine
 
--- a reply that is an answer
-abbrev pub answers : PlanReply → Bool
-answers (reply.Refused r l) = false
-answers (reply.Whole k) = true
-answers (reply.Mixed k) = true
-
-pub answers-number : (r : PlanReply) → answers r ≡ true → planRefusal r ≡ 0
+pub answers-number : (r : PlanReply) → isAnswer r ≡ true → planRefusal r ≡ 0
 answers-number (reply.Refused r l) e = let z : _≡_ {A = ℕ} 0 1 = cc in absurd (omega arith)
 answers-number (reply.Whole k) e = refl
 answers-number (reply.Mixed k) e = refl
 
-pub answers-fine : (v : Verdict) (a : Answer) → answers (answerBy v a) ≡ true → v ≡ Fine
+pub answers-fine : (v : Verdict) (a : Answer) → isAnswer (answerBy v a) ≡ true → v ≡ Fine
 answers-fine Fine a e = refl
 answers-fine (Refused r l) a e = let z : _≡_ {A = ℕ} 0 1 = cc in absurd (omega arith)
 
@@ -134,10 +128,10 @@ module _ (t : List ℤ) (n : ℕ) (ok : Accepted t n) where
   plan-kept p = rw cycle-of (means t p (plan t n) (planned t n ok))
 
   -- an answer, and no refusal, is what row 16 lets pass, and its length is no more than n
-  pub fine-answers : cycleBad t n ≡ Fine → answers (answerBy (cycleBad t n) (plan t n)) ≡ true
+  pub fine-answers : cycleBad t n ≡ Fine → isAnswer (answerBy (cycleBad t n) (plan t n)) ≡ true
   fine-answers e = rw e (go (plan t n) (sym cycle-of ∙ e))
     where
-      go : (a : Answer) → cycleOf a ≡ Fine → answers (answerBy Fine a) ≡ true
+      go : (a : Answer) → cycleOf a ≡ Fine → isAnswer (answerBy Fine a) ≡ true
       go (cycle v) f = let z : _≡_ {A = ℕ} 0 1 = cc in absurd (omega arith)
       go (whole o) f = refl
       go (mixed o) f = refl

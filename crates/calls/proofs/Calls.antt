@@ -22,7 +22,7 @@ use Rattle.reading.specs.ReadStages.{Passed}
 use Rattle.reading.proofs.Accepted.{reads, read-accepted}
 use Rattle.figures.specs.Figures.{resultCells}
 use Rattle.calls.specs.Buffers.{planShort, resultsShort, planBuffers, runBuffers}
-use Rattle.calls.specs.Plan.{plannedBad, planOf, answerBy, listedBy, lengthOf, planBad, planReply, planTable, planCells}
+use Rattle.calls.specs.Plan.{plannedBad, planOf, answerBy, listedBy, lengthOf, planBad, planReply, planTable, planCells, isAnswer}
 use Rattle.calls.specs.Run.{resultsBy, runBad, runReply, runTable, runPlan, runResults}
 use Rattle.calls.specs.Demand.{PlanKept}
 use Rattle.calls.specs.Leaves.{PlanLeaves, RunLeaves}
@@ -30,7 +30,7 @@ use Rattle.calls.specs.CallStages.{headReply, sheetPlanned, cellsTo, Pla
 use Rattle.calls.specs.declared.PlanReply.{PlanReply}
 use Rattle.calls.specs.declared.PlanReply.the-variants as reply
 use Rattle.calls.proofs.Rooms.{table-room, plan-room, results-room, opened, shut}
-use Rattle.calls.proofs.Answers.{answers, answers-number, answers-fine, fine-answers, length-few, plan-kept}
+use Rattle.calls.proofs.Answers.{answers-number, answers-fine, fine-answers, length-few, plan-kept}
 use Rattle.calls.proofs.Sheets.{rows-taken, refused-plans, rows-open, rows-shut, promise}
 
 -- ---- a call that is lent a table of m cells and other buffers, in which row 4 finds w; rows 1 to 4 replied x
@@ -87,9 +87,9 @@ module _ (s : List ℕ) (m p n : ℕ) (r : PlanReply) (t o : List ℤ) (h : Pass
       (reads s (h .head) (c .0), c .1)
 
   -- an answer x, of length k
-  module _ (x : PlanReply) (is : r ≡ x) (a : answers x ≡ true) (k : ℕ) (l : lengthOf x ≡ k) where
+  module _ (x : PlanReply) (is : r ≡ x) (a : isAnswer x ≡ true) (k : ℕ) (l : lengthOf x ≡ k) where
     fine : sheetPlanned s ≡ Fine
-    fine = answers-fine (sheetPlanned s) (planOf s) (ap answers (sym (st .reply) ∙ is) ∙ a)
+    fine = answers-fine (sheetPlanned s) (planOf s) (ap isAnswer (sym (st .reply) ∙ is) ∙ a)
 
     -- by row 16 alone
     by-cycle : (x ≡ answerBy (cycleBad (sheetTable s) (labels s)) (planOf s)) × (o ≡ listedBy (cycleBad (sheetTable s) (labels s)) (planOf s) p)
@@ -124,8 +124,8 @@ module _ (s : List ℕ) (m p n : ℕ) (r : PlanReply) (t o : List ℤ) (h : Pass
       go (Refused y z) g = rw g f
       go Fine g =
           let c = sheet-fine g in
-          let w : answers r ≡ true = rw (st .reply, g, ← c .1) (fine-answers (sheetTable s) (labels s) (read-accepted s (c .0)) (c .1)) in
-          let z : _≡_ {A = Bool} true false = sym w ∙ ap answers e in
+          let w : isAnswer r ≡ true = rw (st .reply, g, ← c .1) (fine-answers (sheetTable s) (labels s) (read-accepted s (c .0)) (c .1)) in
+          let z : _≡_ {A = Bool} true false = sym w ∙ ap isAnswer e in
           let y : _≡_ {A = ℕ} 0 1 = cc in absurd (omega arith)
 
 module _ (s : List ℕ) (m p q : ℕ) where

@@ -1,4 +1,5 @@
 -- Document 01's Plan: the text s, a table lent with m cells and a plan lent with p.
+use mathlib.Core.Bool.{Bool, true, false}
 use mathlib.Core.List.{List, _++_, map}
 use Prim.Native.Nat.{ℕ, _-_}
 use lib.IntN.{ℤ, pos}
@@ -75,3 +76,9 @@ abbrev pub wholeOrMixed : PlanReply → ℕ
 wholeOrMixed (reply.Refused r l) = 0
 wholeOrMixed (reply.Whole k) = 1
 wholeOrMixed (reply.Mixed k) = 2
+
+-- a reply that is an answer
+abbrev pub isAnswer : PlanReply → Bool
+isAnswer (reply.Refused r l) = false
+isAnswer (reply.Whole k) = true
+isAnswer (reply.Mixed k) = true

@@ -7,7 +7,7 @@ use lib.IntN.{ℤ, pos}
 use lib.ListN.{length}
 use Rattle.kinds.specs.Kinds.{valueCode}
 use Rattle.cells.specs.Cells.{zeros}
-use Rattle.cells.specs.Table.{kind}
+use Rattle.cells.specs.Table.{kind, fieldB, fieldC, target, lineNumber}
 use Rattle.order.specs.Order.{isV}
 use Rattle.order.specs.Evaluating.{labelCells}
 use Rattle.evaluation.specs.declared.Value.{Value}
@@ -60,3 +60,14 @@ pub record Evaluated (t r : List ℤ) : Type 0 where
 -- results once value v has been evaluated from them and stored
 abbrev pub evaluateInto : List ℤ → List ℤ → ℕ → List ℤ
 evaluateInto t r v = store r v (evaluated t r v)
+
+-- ---- two tables
+
+-- the same kinds, fields a, b and c, and targets
+pub record SameExpressions (t u : List ℤ) : Type 0 where
+  pub kinds : (l : ℕ) → kind u l ≡ kind t l
+  -- the whole cell a
+  pub numbers : (l : ℕ) → lineNumber u l ≡ lineNumber t l
+  pub b : (l : ℕ) → fieldB u l ≡ fieldB t l
+  pub c : (l : ℕ) → fieldC u l ≡ fieldC t l
+  pub targets : (l : ℕ) → target u l ≡ target t l

@@ -2,7 +2,7 @@
 use mathlib.Core.Path.{_≡_, refl}
 use mathlib.Core.List.{List, [], _∷_, _++_, map}
 use Prim.Native.Nat.{ℕ}
-use Rattle.numbers.specs.Decimal.{allDigits, value, digitsOf, decimalOf, numberOf}
+use Rattle.numbers.specs.Decimal.{allDigits, digitsValue, digitsOf, decimalOf, numberOf}
 use Rattle.refusals.specs.Refusal.{orElse}
 use Rattle.refusals.specs.declared.Verdict.{Verdict}
 use Rattle.refusals.specs.declared.Verdict.the-variants.{Fine, Refused}
@@ -71,6 +71,6 @@ found : map textBad sheets ≡ Refused 1 0
     ∷ Refused 7 2
     ∷ Fine
     ∷ []
-unfolding sheets headBad isText isAllowed labels line firstLine linesBad lineBad rootLine kinds kindAt codeOf fieldOf isName isPath isLetter isAlphanumeric labelOf numberOf decimalOf digitsOf value
+unfolding sheets headBad isText isAllowed labels line firstLine linesBad lineBad rootLine kinds kindAt codeOf fieldOf isName isPath isLetter isAlphanumeric labelOf numberOf decimalOf digitsOf digitsValue
     allDigits
 found = refl

@@ -13,7 +13,7 @@ use lib.IntN.{ℤ, pos, natAbs}
 use Rattle.cells.specs.Cells.{withSign}
 use Rattle.cells.proofs.Signed.{clash, withSign-size}
 use Rattle.cells.specs.Limits.{numberLimit}
-use Rattle.numbers.specs.Decimal.{isDigit, allDigits, value, noLeadingZero, digitsOf, decimalOf, signedOf, numberOf}
+use Rattle.numbers.specs.Decimal.{isDigit, allDigits, digitsValue, noLeadingZero, digitsOf, decimalOf, signedOf, numberOf}
 use Rattle.numbers.specs.Bounds.{AtMost}
 use Rattle.numbers.specs.declared.Decimal.{Decimal}
 use Rattle.numbers.specs.declared.Decimal.the-variants as decimal
@@ -41,7 +41,7 @@ digit-high c h = rw (lt-leb c 57 h) (and-false (leb 48 c))
 
 -- the first byte, for a digit and for any other
 pub digits-step : (max v c : ℕ) (f : List ℕ) → isDigit c ≡ true → digitsOf max v (c ∷ f) ≡ digitsOf max (10 * v + (c - 48)) f
-unfolding digitsOf allDigits value
+unfolding digitsOf allDigits digitsValue
 digits-step max v c f h = rw h
 
 pub digits-bad : (max v c : ℕ) (f : List ℕ) → isDigit c ≡ false → digitsOf max v (c ∷ f) ≡ decimal.Not
@@ -49,17 +49,17 @@ unfolding digitsOf allDigits
 digits-bad max v c f h = rw h
 
 -- a value only grows
-grows : (v : ℕ) (f : List ℕ) → v ≤ value v f
-unfolding value
+grows : (v : ℕ) (f : List ℕ) → v ≤ digitsValue v f
+unfolding digitsValue
 grows v [] = omega arith
-grows v (c ∷ f) = let h : 10 * v + (c - 48) ≤ value (10 * v + (c - 48)) f = grows (10 * v + (c - 48)) f in omega arith
+grows v (c ∷ f) = let h : 10 * v + (c - 48) ≤ digitsValue (10 * v + (c - 48)) f = grows (10 * v + (c - 48)) f in omega arith
 
 pub digits-over : (max v : ℕ) (f : List ℕ) → max < v → digitsOf max v f ≡ decimal.Not
 unfolding digitsOf
-digits-over max v f h = rw (lt-leb (value v f) max (omega (arith, grows v f)), and-false)
+digits-over max v f h = rw (lt-leb (digitsValue v f) max (omega (arith, grows v f)), and-false)
 
 pub digits-end : (max v : ℕ) → v ≤ max → digitsOf max v [] ≡ decimal.Is v
-unfolding digitsOf allDigits value
+unfolding digitsOf allDigits digitsValue
 digits-end max v h = rw (le-leb v max h)
 
 -- ---- a decimal and a number, by what the code tests of text[from..to]
@@ -105,21 +105,21 @@ module _ (from to : ℕ) (s : List ℕ) where
 pub record Written (max : ℕ) (f : List ℕ) (v : ℕ) : Type 0 where
   pub plain : noLeadingZero f ≡ true
   pub digits : allDigits f ≡ true
-  pub is : value 0 f ≡ v
+  pub is : digitsValue 0 f ≡ v
   pub most : v ≤ max
 
 pub written : (max : ℕ) (f : List ℕ) (v : ℕ) → decimalOf max f ≡ decimal.Is v → Written max f v
 unfolding decimalOf digitsOf
-written max f v = go (noLeadingZero f) (allDigits f) (leb (value 0 f) max) refl refl refl
+written max f v = go (noLeadingZero f) (allDigits f) (leb (digitsValue 0 f) max) refl refl refl
   where
     never : decimal.Not ≡ decimal.Is v → Written max f v
     never e = let z : _≡_ {A = ℕ} 0 1 = cc in absurd (omega arith)
 
-    go : (x y z : Bool) → noLeadingZero f ≡ x → allDigits f ≡ y → leb (value 0 f) max ≡ z
-        → cond x (cond (y && z) (decimal.Is (value 0 f)) decimal.Not) decimal.Not ≡ decimal.Is v → Written max f v
+    go : (x y z : Bool) → noLeadingZero f ≡ x → allDigits f ≡ y → leb (digitsValue 0 f) max ≡ z
+        → cond x (cond (y && z) (decimal.Is (digitsValue 0 f)) decimal.Not) decimal.Not ≡ decimal.Is v → Written max f v
     go true true true a b c e =
-        let is : value 0 f ≡ v = cc in
-        record { plain = a; digits = b; is = is; most = omega (arith, is, leb-true (value 0 f) max c) }
+        let is : digitsValue 0 f ≡ v = cc in
+        record { plain = a; digits = b; is = is; most = omega (arith, is, leb-true (digitsValue 0 f) max c) }
     go true true false a b c e = never e
     go true false z a b c e = never e
     go false y z a b c e = never e

@@ -9,7 +9,7 @@ use lib.Dec.{eqb}
 use lib.IntN.{ℤ, pos, negsuc, natAbs}
 use Rattle.cells.proofs.Signed.{clash}
 use Rattle.cells.specs.Limits.{numberLimit}
-use Rattle.numbers.specs.Decimal.{isDigit, allDigits, value, noLeadingZero, decimalOf, numberOf}
+use Rattle.numbers.specs.Decimal.{isDigit, allDigits, digitsValue, noLeadingZero, decimalOf, numberOf}
 use Rattle.numbers.specs.declared.Decimal.the-variants as read
 use Rattle.numbers.specs.declared.Number.the-variants as number
 use Rattle.numbers.proofs.Decimals.{digit-is, Written, decimal-is, decimal-number}
@@ -17,8 +17,8 @@ use Rattle.numbers.specs.Numerals.{digits, decimal, integer}
 
 -- ---- value and digits, with one digit more
 
-value-behind : (v : ℕ) (f : List ℕ) (c : ℕ) → value v (f ++ c ∷ []) ≡ 10 * value v f + (c - 48)
-unfolding value
+value-behind : (v : ℕ) (f : List ℕ) (c : ℕ) → digitsValue v (f ++ c ∷ []) ≡ 10 * digitsValue v f + (c - 48)
+unfolding digitsValue
 value-behind v [] c = refl
 value-behind v (x ∷ f) c = value-behind (10 * v + (x - 48)) f c
 
@@ -31,8 +31,8 @@ all-behind (x ∷ f) c h d = go (isDigit x) h (λ e. all-behind f c e d)
     go true e older = older e
     go false e older = clash (sym e)
 
-digits-right : (k n : ℕ) → n ≤ k → (value 0 (digits k n) ≡ n) × (allDigits (digits k n) ≡ true)
-unfolding digits value allDigits
+digits-right : (k n : ℕ) → n ≤ k → (digitsValue 0 (digits k n) ≡ n) × (allDigits (digits k n) ≡ true)
+unfolding digits digitsValue allDigits
 digits-right zero n h = (omega arith, refl)
 digits-right (suc k) zero h = (refl, refl)
 digits-right (suc k) (suc n) h =
@@ -74,7 +74,7 @@ digits-lead (suc k) (suc n) h g = go (eqb (suc n / 10) 0) refl (λ p. digits-lea
 -- ---- the whole number
 
 decimal-written : (max n : ℕ) → n ≤ max → Written max (decimal n) n
-unfolding decimal allDigits value
+unfolding decimal allDigits digitsValue
 decimal-written max zero h = record { plain = refl; digits = refl; is = refl; most = h }
 decimal-written max (suc n) h =
     let r = digits-right (suc n) (suc n) (omega arith) in

@@ -5,7 +5,7 @@ use Prim.Native.Nat.{ℕ}
 use lib.IntN.{ℤ, pos, negℤ}
 use Rattle.numbers.specs.Rounding.{rounded, quotient}
 use Rattle.numbers.specs.Arithmetic.{rangedOf, result, calculated}
-use Rattle.numbers.specs.Decimal.{allDigits, value, digitsOf, decimalOf, numberOf}
+use Rattle.numbers.specs.Decimal.{allDigits, digitsValue, digitsOf, decimalOf, numberOf}
 use Rattle.numbers.specs.declared.Tie.the-variants.{Away, Even}
 use Rattle.kinds.specs.declared.Operation.the-variants.{Sum, Difference, Product, Quotient}
 use Rattle.numbers.specs.declared.Calculated.the-variants.{Number, OutOfRange, ZeroDivisor}
@@ -48,5 +48,5 @@ numbers :
     × (numberOf (49 ∷ 48 ∷ 48 ∷ 48 ∷ 48 ∷ 48 ∷ 48 ∷ 48 ∷ 48 ∷ 49 ∷ []) ≡ Not)
     × (numberOf (49 ∷ 50 ∷ 97 ∷ []) ≡ Not)
     × (numberOf [] ≡ Not)
-unfolding allDigits value digitsOf decimalOf numberOf
+unfolding allDigits digitsValue digitsOf decimalOf numberOf
 numbers = (refl, refl, refl, refl, refl, refl, refl, refl, refl, refl, refl)

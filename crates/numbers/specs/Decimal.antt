@@ -18,9 +18,9 @@ allDigits [] = true
 allDigits (c ∷ f) = isDigit c && allDigits f
 
 -- the decimal value of digits that stand after digits of the value v
-unfoldable pub value : ℕ → List ℕ → ℕ
-value v [] = v
-value v (c ∷ f) = value (10 * v + (c - 48)) f
+unfoldable pub digitsValue : ℕ → List ℕ → ℕ
+digitsValue v [] = v
+digitsValue v (c ∷ f) = digitsValue (10 * v + (c - 48)) f
 
 -- not empty, and no leading zero: a 0 in front stands alone
 abbrev pub noLeadingZero : List ℕ → Bool
@@ -30,7 +30,7 @@ noLeadingZero (c ∷ d ∷ f) = not (eqb c 48)
 
 -- digits, after digits of the value v, whose value is at most max
 unfoldable pub digitsOf : ℕ → ℕ → List ℕ → Decimal
-digitsOf max v f = cond (allDigits f && leb (value v f) max) (decimal.Is (value v f)) decimal.Not
+digitsOf max v f = cond (allDigits f && leb (digitsValue v f) max) (decimal.Is (digitsValue v f)) decimal.Not
 
 -- decimal, no leading zero, at most max
 unfoldable pub decimalOf : ℕ → List ℕ → Decimal

@@ -41,7 +41,7 @@ module _ {S R : Type 0} (t : List ℤ) (E : Evaluation t S R) where
       ∙ E .other s x w (h x (in-here x a)) fit (λ (e : w ≡ x). i (subst (λ (z : ℕ). w ∈ z ∷ a) e (in-here w a)))
 
   -- the results of a proper order satisfy the evaluation at every value
-  pub run-solves : (o : List ℕ) → Proper t o → (s : S) → E .Fits s → Solves t E (run o s)
+  pub run-solves : (o : List ℕ) → Proper t o → (s : S) → E .Fits s → Solves t E (down (E .evaluate) o s)
   run-solves o p s fit v k = at (split v o (omega (arith, listed-once p v k)))
     where
       at : (a : List ℕ) × (b : List ℕ) × (o ≡ a ++ v ∷ b) → E .stored (run o s) v ≡ E .result (run o s) v
@@ -107,7 +107,7 @@ module _ {S R : Type 0} (t : List ℤ) (E : Evaluation t S R) where
   run-rest o p s fit l k = run-other o (listed-value p) l (λ m. k (listed-value p l m)) s fit
 
   -- and two proper orders, worked down from one store, leave the same result at every label
-  pub order-free : (o₁ o₂ : List ℕ) → Proper t o₁ → Proper t o₂ → (s : S) → E .Fits s → (l : ℕ) → E .stored (run o₁ s) l ≡ E .stored (run o₂ s) l
+  pub order-free : (o₁ o₂ : List ℕ) → Proper t o₁ → Proper t o₂ → (s : S) → E .Fits s → (l : ℕ) → E .stored (down (E .evaluate) o₁ s) l ≡ E .stored (down (E .evaluate) o₂ s) l
   order-free o₁ o₂ p₁ p₂ s fit l = go (ℕ-discrete (kind t l) valueCode)
     where
       go : Dec (kind t l ≡ valueCode) → E .stored (run o₁ s) l ≡ E .stored (run o₂ s) l

@@ -164,3 +164,9 @@ orZero (some v) = v
 
 abbrev pub place16 : List ℤ → ℕ → ℕ
 place16 t n = orZero (firstCycle t n)
+
+-- two tables with the same kinds, owners and targets
+pub record SameStructure (t u : List ℤ) : Type 0 where
+  pub kinds : (l : ℕ) → kind u l ≡ kind t l
+  pub owners : (l : ℕ) → owner u l ≡ owner t l
+  pub targets : (l : ℕ) → target u l ≡ target t l

@@ -28,12 +28,11 @@ use Rattle.evaluation.proofs.Range.{Good, value-recorded}
 use Rattle.figures.specs.Figures.{resultCells}
 use Rattle.figures.proofs.Working.{value-label, figures-value, figures-stored}
 use Rattle.figures.proofs.Early.{figures-recorded}
-use Rattle.calls.specs.Plan.{planRefusal, planPlace, lengthOf}
+use Rattle.calls.specs.Plan.{planRefusal, planPlace, lengthOf, isAnswer}
 use Rattle.calls.specs.Run.{runReply, runTable, runPlan, runResults}
 use Rattle.calls.specs.Leaves.{RunLeaves}
 use Rattle.calls.specs.declared.PlanReply.{PlanReply}
 use Rattle.calls.specs.declared.PlanReply.the-variants as reply
-use Rattle.calls.proofs.Answers.{answers}
 use Rattle.numbers.specs.Numerals.{decimal, integer}
 use Rattle.printing.specs.Print.{lineOf, columnsLine, refusalLine, wholeWord, mixedWord, nameField, valueLine, valueLines, refusalPrint, printBy, printWith, printBound}
 use Rattle.printing.specs.Writing.{lastIndex, Wrote, PrintWritten}
@@ -106,7 +105,7 @@ module _ (t : List ℤ) (n m : ℕ) (ok : Accepted t n) (nc : NoCycle t) (fit : 
 
 -- ---- the print of an answer
 
-module _ (s : List ℕ) (m p q : ℕ) (a : answers (runReply s m p q) ≡ true) where
+module _ (s : List ℕ) (m p q : ℕ) (a : isAnswer (runReply s m p q) ≡ true) where
   abbrev order : List ℕ
   order = labelsOf (take (lengthOf (runReply s m p q)) (runPlan s m p q))
 
@@ -157,8 +156,8 @@ refusal-length row place h g =
 module _ (s : List ℕ) (m p q : ℕ) where
   print-short : (x : PlanReply) → runReply s m p q ≡ x → planRefusal x ≤ lastIndex → planPlace x ≤ lastIndex → length (printWith s m p q) ≤ printBound
   unfolding wholeWord mixedWord
-  print-short (reply.Whole k) e h g = rw e (rw e at (answer-length s m p q (ap answers e) wholeWord (omega arith)))
-  print-short (reply.Mixed k) e h g = rw e (rw e at (answer-length s m p q (ap answers e) mixedWord (omega arith)))
+  print-short (reply.Whole k) e h g = rw e (rw e at (answer-length s m p q (ap isAnswer e) wholeWord (omega arith)))
+  print-short (reply.Mixed k) e h g = rw e (rw e at (answer-length s m p q (ap isAnswer e) mixedWord (omega arith)))
   print-short (reply.Refused row place) e h g = rw e (refusal-length row place h g)
 
   -- Run left the reply x, and its print was written

@@ -25,11 +25,11 @@ use Rattle.reading.specs.Name.{nameBegin, nameSize, namePart}
 use Rattle.reading.proofs.Padding.{cell-padded}
 use Rattle.reading.proofs.Accepted.{read-names}
 use Rattle.calls.specs.Buffers.{planShort, resultsShort, runBuffers}
-use Rattle.calls.specs.Plan.{planOf, answerBy, listedBy, lengthOf}
+use Rattle.calls.specs.Plan.{planOf, answerBy, listedBy, lengthOf, isAnswer}
 use Rattle.calls.specs.Run.{runBad, runReply, runTable, runPlan}
 use Rattle.calls.specs.Leaves.{RunLeaves}
 use Rattle.calls.specs.declared.PlanReply.{PlanReply}
-use Rattle.calls.proofs.Answers.{answers, answers-number, answers-fine}
+use Rattle.calls.proofs.Answers.{answers-number, answers-fine}
 use Rattle.calls.proofs.Sheets.{planned-reads, kept}
 use Rattle.printing.specs.Print.{nameField, printBy, printWith}
 use Rattle.printing.specs.Writing.{NamesIn}
@@ -56,7 +56,7 @@ long-enough s e =
 
 -- ---- where it answers
 
-module _ (s : List ℕ) (m p q : ℕ) (a : answers (runReply s m p q) ≡ true) where
+module _ (s : List ℕ) (m p q : ℕ) (a : isAnswer (runReply s m p q) ≡ true) where
   pub run-fine : runBad s m p q ≡ Fine
   unfolding runReply
   run-fine = answers-fine (runBad s m p q) (planOf s) a
@@ -110,9 +110,9 @@ module _ (s : List ℕ) (m p q : ℕ) (r : PlanReply) (t o u : List ℤ) (left :
   pub printed : printBy s x t o u ≡ printWith s m p q
   printed = rw (replied, left .table, left .plan, left .results)
 
-  module _ (a : answers x ≡ true) where
-    answered : answers (runReply s m p q) ≡ true
-    answered = ap answers replied ∙ a
+  module _ (a : isAnswer x ≡ true) where
+    answered : isAnswer (runReply s m p q) ≡ true
+    answered = ap isAnswer replied ∙ a
 
     pub names-in : NamesIn s t
     names-in l =

@@ -49,7 +49,7 @@ module _ (s : List ℕ) (m : ℕ) (z : ℤ) where
       record {
         begins = first ∙ rw (f .0);
         size = second ∙ rw (f .0);
-        within = omega (arith, first, second, read-names s (read-fine s m (f .0)) at);
+        inside = omega (arith, first, second, read-names s (read-fine s m (f .0)) at);
         table = k .table;
       }
 
@@ -57,7 +57,7 @@ module _ (s : List ℕ) (m : ℕ) (z : ℤ) where
   unfolding readReply nameBegin nameSize
   part-refused r l p w k a b =
       let f = refused (readBad s m) (labels s) r l (sym (k .reply)) in
-      record { begins = rw (f) a; size = rw (f) b; within = omega arith; table = k .table }
+      record { begins = rw (f) a; size = rw (f) b; inside = omega arith; table = k .table }
 
   -- the part from its start to its end, of the text at `text`
   pub part-handed : (p : TextPart) (w : List ℤ) (text : ℕ × ℕ) → PartLeaves s m z p w

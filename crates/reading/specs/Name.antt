@@ -42,7 +42,7 @@ pub record PartLeaves (s : List ℕ) (m : ℕ) (z : ℤ) (p : TextPart) (t : Lis
   pub begins : p .start ≡ nameBegin s m z
   pub size : p .length ≡ nameSize s m z
   -- it lies in the text
-  pub within : p .start + p .length ≤ length s
+  pub inside : p .start + p .length ≤ length s
   -- "writes the table as Read does"
   pub table : t ≡ readTable s m
 

@@ -8,7 +8,7 @@ use native.Mathlib.Numerals.{add-one}
 use native.Mathlib.Omega.{arith}
 use Rattle.refusals.specs.declared.Verdict.{Verdict}
 use Rattle.refusals.specs.declared.Verdict.the-variants.{Fine, Refused}
-use Rattle.refusals.specs.Refusal.{hit, firstBad}
+use Rattle.refusals.specs.Refusal.{hit, firstBad, FirstFound}
 
 hit-bad : (r k : ℕ) (v : Verdict) → (r ≡ 0 → ⊥) → hit r k v ≡ Refused r k
 hit-bad zero k v h = absurd (h refl)
@@ -51,18 +51,10 @@ none-first check zero k h = refl
 none-first check (suc m) k h =
     rw (h k (omega arith) (omega arith)) (none-first check m (suc k) (λ j l g. h j (omega arith) (omega arith)))
 
--- a refusal: its place is a label, its number is what the check gives there, and the check gives 0 at every label before
-pub record Found (check : ℕ → ℕ) (k m r p : ℕ) : Type 0 where
-  pub low : k ≤ p
-  pub high : p < k + m
-  pub number : check p ≡ r
-  pub bad : r ≡ 0 → ⊥
-  pub before : (j : ℕ) → k ≤ j → j < p → check j ≡ 0
-
 -- the step of the law below, by what the check gives at k; `rest` is the law for the labels after k
 found-step : (check : ℕ → ℕ) (m k r p : ℕ)
-    → (firstBad check (suc k) m ≡ Refused r p → Found check (suc k) m r p)
-    → (x : ℕ) → check k ≡ x → hit x k (firstBad check (suc k) m) ≡ Refused r p → Found check k (suc m) r p
+    → (firstBad check (suc k) m ≡ Refused r p → FirstFound check (suc k) m r p)
+    → (x : ℕ) → check k ≡ x → hit x k (firstBad check (suc k) m) ≡ Refused r p → FirstFound check k (suc m) r p
 found-step check m k r p rest zero c f =
     let g = rest f in
     record {
@@ -83,7 +75,7 @@ found-step check m k r p rest (suc x) c f =
       before = λ j l h. absurd (omega arith);
     }
 
-pub first-found : (check : ℕ → ℕ) (m k r p : ℕ) → firstBad check k m ≡ Refused r p → Found check k m r p
+pub first-found : (check : ℕ → ℕ) (m k r p : ℕ) → firstBad check k m ≡ Refused r p → FirstFound check k m r p
 first-found check zero k r p e = let z : _≡_ {A = ℕ} 0 1 = cc in absurd (omega arith)
 first-found check (suc m) k r p e = found-step check m k r p (first-found check m (suc k) r p) (check k) refl e
 

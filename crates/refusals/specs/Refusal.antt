@@ -1,5 +1,6 @@
 -- A refusal, and the shape that rows 5 to 15 share: a check of one label, and the first label that fails it.
-use Prim.Native.Nat.{ℕ, zero, suc}
+use mathlib.Core.Path.{_≡_}
+use Prim.Native.Nat.{ℕ, zero, suc, _+_, _≤_, _<_}
 use Rattle.refusals.specs.declared.Verdict.{Verdict}
 use Rattle.refusals.specs.declared.Verdict.the-variants.{Fine, Refused}
 use Rattle.refusals.specs.declared.Reply.{Reply}
@@ -37,6 +38,14 @@ hit (suc r) k v = Refused (suc r) k
 abbrev pub firstBad : (ℕ → ℕ) → ℕ → ℕ → Verdict
 firstBad check k zero = Fine
 firstBad check k (suc m) = let v = firstBad check (suc k) m in hit (check k) k v
+
+-- what a refusal by it means: its place is a label, its number is what the check gives there, and the check gives 0 at every label before
+pub record FirstFound (check : ℕ → ℕ) (k m r p : ℕ) : Type 0 where
+  pub low : k ≤ p
+  pub high : p < k + m
+  pub number : check p ≡ r
+  pub bad : r ≡ 0 → ⊥
+  pub before : (j : ℕ) → k ≤ j → j < p → check j ≡ 0
 
 -- the verdict of a row that is told by its place, 0 where it finds nothing
 abbrev pub foundAt : ℕ → ℕ → Verdict

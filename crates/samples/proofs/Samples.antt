@@ -2,7 +2,7 @@
 -- its bytes on, the definitions of the calls give what the table says. The checker computes it.
 use mathlib.Core.Path.{_≡_, refl}
 use mathlib.Core.List.{map}
-use Rattle.numbers.specs.Decimal.{allDigits, value, digitsOf, decimalOf, numberOf}
+use Rattle.numbers.specs.Decimal.{allDigits, digitsValue, digitsOf, decimalOf, numberOf}
 use Rattle.numbers.specs.Rounding.{rounded, quotient}
 use Rattle.numbers.specs.Arithmetic.{rangedOf, result, calculated}
 use Rattle.text.specs.Bytes.{isAllowed, isLetter, isAlphanumeric}
@@ -29,7 +29,7 @@ use Rattle.samples.specs.Samples.{samples}
 
 pub samples-hold : map given samples ≡ map said samples
 unfolding samples isText isAllowed line labels firstLine headBad fieldCells kinds kindAt codeOf isKind isDefinition isExpression hasPath wantedBy takes clauseOf fieldOf labelOf numberOf decimalOf
-    digitsOf value allDigits linesBad lineBad rootLine isName isPath isLetter isAlphanumeric parts structureBad definitionOf ownerOf levelOf treeBad sameName member paths.duplicateBad paths.headFrom
+    digitsOf digitsValue allDigits linesBad lineBad rootLine isName isPath isLetter isAlphanumeric parts structureBad definitionOf ownerOf levelOf treeBad sameName member paths.duplicateBad paths.headFrom
     paths.headOf paths.targetOf paths.pathHeadBad paths.laterBad paths.targetBad paths.pathsBad tableShort ownedTable resolvedTable resolvedBad sheetCells sheetBad sheetTable readBad readReply
     readTable
     nameBegin nameSize namePart cycleBad planShort resultsShort openBad plannedBad planOf planBad planReply planCells runBad runReply runTable runPlan runResults digits decimal columnsLine refusalLine

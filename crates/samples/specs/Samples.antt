@@ -155,8 +155,8 @@ endlessCalls = record {
 }
 
 -- 7. "-3250 / 100 is -33, 3249 / 100 is 32"
-abbrev pub nearest : Sample
-nearest = record {
+abbrev pub nearestQuotient : Sample
+nearestQuotient = record {
   sheet =
       "kind name a b c"
       ∷ "G - 0 - -"
@@ -224,7 +224,7 @@ samples =
     ∷ evenOf "N - 0 - -" (pos 1) 5 "20 answer whole 1 1 5"
     ∷ evenOf "N - 1 - -" (pos 0) 11 "20 answer whole 1 0 11"
     ∷ endlessCalls
-    ∷ nearest
+    ∷ nearestQuotient
     ∷ readsItself
     ∷ usedTwice
     ∷ []

@@ -17,7 +17,7 @@ use Rattle.cells.specs.Table.{cell, kind, isDefinition, isExpression, fieldA, f
 use Rattle.refusals.specs.declared.Verdict.the-variants.{Fine}
 use Rattle.refusals.specs.Refusal.{firstBad}
 use Rattle.refusals.proofs.FirstBad.{first-none}
-use Rattle.tree.specs.Tree.{operandIn, parts, groupRight, partRight, lineRight, structureBad, IsPart}
+use Rattle.tree.specs.Tree.{operandIn, parts, groupRight, partRight, structureRight, structureBad, IsPart}
 use Rattle.tree.specs.Treed.{Formed}
 use Rattle.tree.specs.TreeSteps.{Structured}
 use Rattle.tree.proofs.Codes.{part-kind, label-low, label-high}
@@ -92,9 +92,9 @@ parts-zero t l a b c =
 -- ---- row 8
 
 module _ (t : List ℤ) (n : ℕ) (s : Formed t n) (fine : firstBad (structureBad t) 1 n ≡ Fine) where
-  right-line : (l : ℕ) → 1 ≤ l → l ≤ n → lineRight t l ≡ true
+  right-line : (l : ℕ) → 1 ≤ l → l ≤ n → structureRight t l ≡ true
   unfolding structureBad
-  right-line l h g = go (lineRight t l) (first-none (structureBad t) n 1 fine l h (omega arith))
+  right-line l h g = go (structureRight t l) (first-none (structureBad t) n 1 fine l h (omega arith))
     where
       go : (b : Bool) → _≡_ {A = ℕ} (cond b 0 8) 0 → b ≡ true
       go true e = refl

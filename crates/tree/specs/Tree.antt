@@ -38,11 +38,11 @@ abbrev pub partRight : List ℤ → ℕ → ℕ → Bool
 partRight t l x = ltb l x && isExpression t x
 
 -- the Group field is judged from label 2
-abbrev pub lineRight : List ℤ → ℕ → Bool
-lineRight t l = cond (leb 2 l && isDefinition t l) (groupRight t l (fieldA t l)) true && all (partRight t l) (parts t l)
+abbrev pub structureRight : List ℤ → ℕ → Bool
+structureRight t l = cond (leb 2 l && isDefinition t l) (groupRight t l (fieldA t l)) true && all (partRight t l) (parts t l)
 
 unfoldable pub structureBad : List ℤ → ℕ → ℕ
-structureBad t l = cond (lineRight t l) 0 structureRow
+structureBad t l = cond (structureRight t l) 0 structureRow
 
 -- ---- row 9
 

@@ -16,6 +16,17 @@ pub struct Line {
     pub text: String,
     /// What stands in the column `test`.
     pub tests: String,
+    /// What stands in the column `says`, in a table of theorems.
+    pub says: Option<String>,
+}
+
+impl Line {
+    /// What a row of a table of theorems says that the one of that name says.
+    pub fn says(&self, name: &str) -> Option<&str> {
+        let names = *cells(&self.text)?.first()?;
+        let is_there = quoted(names).contains(&name);
+        self.says.as_deref().filter(|_| is_there)
+    }
 }
 
 /// The lines of a document, those that show code left out.
@@ -34,8 +45,14 @@ pub fn lines(name: &str, text: &str) -> Vec<Line> {
             columns = row.iter().map(|cell| cell.to_string()).collect();
         }
         let (text, tests) = parted(line, &row, &columns);
-        let place = format!("{name}:{number}");
-        lines.push(Line { place, text, tests });
+        let says = columns.iter().position(|column| column == "says");
+        let says = says.and_then(|at| row.get(at));
+        lines.push(Line {
+            place: format!("{name}:{number}"),
+            text,
+            tests,
+            says: says.map(|cell| cell.to_string()),
+        });
     }
     lines
 }
@@ -202,6 +219,15 @@ mod tests {
         let texts: Vec<(&str, &str)> = lines.iter().map(|l| (&l.text[..], &l.tests[..])).collect();
         assert_eq!(texts[2], ("| a |", "`b`"));
         assert_eq!(texts[4], ("| d | e |", ""));
+    }
+
+    #[test]
+    fn a_theorem_is_said_by_its_row() {
+        let text = "| law | says | file |\n|---|---|---|\n| `a`, `b` | as `c` | d |\n`a`\n";
+        let lines = lines("x.md", text);
+        let says = |line: usize, name: &str| lines[line].says(name);
+        assert_eq!((says(2, "b"), says(2, "c")), (Some("as `c`"), None));
+        assert_eq!(says(3, "a"), None);
     }
 
     #[test]

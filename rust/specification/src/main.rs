@@ -23,9 +23,12 @@ Reads the Rattle crates of the repository at ROOT, or here.
   tidy      takes the imports that are not used out of the files
   mixed     lists the files of specs/ that hold both what readers believe and what
             functions promise each other
-  twice     lists the names that two definitions, types or files of specs/ have
+  twice     lists the names that two definitions, types or files of specs/ have, and
+            of what readers believe those that differ in the case of letters alone
   page      writes docs/SPECIFICATION.md, what a reader has to believe;
-            with --check it only says whether the page there is that one
+            with --check it only says whether the page there is that one;
+            lists the definitions that stand in proofs/ and the theorems that no
+            table says in words, where there are any, and writes nothing
 
 Status: 0 where nothing is found, 1 where something is, 2 where it cannot be read.
 ";
@@ -89,15 +92,31 @@ fn tidy(root: &Path) -> Result<u8, String> {
     Ok(0)
 }
 
+/// The page; where it cannot be made, that is what is found.
+fn page(root: &Path) -> Result<Result<String, u8>, String> {
+    let repository = Repository::read(root)?;
+    let unfit = repository.unfit();
+    Ok(match unfit.is_empty() {
+        true => Ok(repository.page()),
+        false => Err(list(&unfit)),
+    })
+}
+
 fn write(root: &Path) -> Result<u8, String> {
-    let page = Repository::read(root)?.page();
+    let page = match page(root)? {
+        Ok(page) => page,
+        Err(status) => return Ok(status),
+    };
     let failed = |error| format!("{PLACE}: {error}");
     fs::write(root.join(PLACE), page).map_err(failed)?;
     Ok(0)
 }
 
 fn check(root: &Path) -> Result<u8, String> {
-    let wanted = Repository::read(root)?.page();
+    let wanted = match page(root)? {
+        Ok(page) => page,
+        Err(status) => return Ok(status),
+    };
     let failed = |error| format!("{PLACE}: {error}");
     let there = fs::read_to_string(root.join(PLACE)).map_err(failed)?;
     if there == wanted {

@@ -2,8 +2,8 @@
 
 use std::collections::{BTreeMap, HashSet};
 
-use crate::belief::Belief;
-use crate::documents::{cells, Line, Quote};
+use crate::belief::{self, Belief};
+use crate::documents::{Line, Quote};
 use crate::excerpts::{excerpt, links, Extent};
 use crate::files::Folder;
 use crate::graph::Graph;
@@ -180,16 +180,6 @@ impl Page<'_> {
         }
     }
 
-    /// What documents say that a theorem says, where they have a table of theorems.
-    fn said(&self, quote: &Quote) -> Option<String> {
-        let row = cells(&self.lines[quote.line].text)?;
-        let name = format!("`{}`", self.graph.nodes[quote.law].name);
-        match row[..] {
-            [names, says, _] if names.contains(&name) => Some(format!(": {says}")),
-            _ => None,
-        }
-    }
-
     /// The theorems, those that one line quotes together.
     fn theorems(&self, shown: &mut HashSet<usize>) -> String {
         let mut text = String::from("## Theorems\n\n");
@@ -210,8 +200,9 @@ impl Page<'_> {
             .iter()
             .map(|law| format!("`{}`", self.graph.nodes[*law].name));
         let names = names.collect::<Vec<String>>().join(", ");
-        let says = quotes.iter().find_map(|quote| self.said(quote));
-        let mut text = format!("> {names}{}\n\n", says.unwrap_or_default());
+        let said = |quote| belief::said(self.graph, self.lines, quote);
+        let says = quotes.iter().find_map(said).unwrap_or_default();
+        let mut text = format!("> {names}: {says}\n\n");
         text.push_str(&self.needed(&laws, shown));
         text.push_str(&self.statements(&laws));
         text

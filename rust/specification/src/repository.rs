@@ -57,6 +57,12 @@ impl Repository {
         twice::twice(&self.graph, &belief.definitions)
     }
 
+    /// What keeps the page from being made, a line each.
+    pub fn unfit(&self) -> Vec<String> {
+        let belief = belief::belief(&self.graph, &self.lines);
+        belief::unfit(&self.graph, &self.lines, &belief)
+    }
+
     /// The page of what a reader has to believe.
     pub fn page(&self) -> String {
         let belief = belief::belief(&self.graph, &self.lines);

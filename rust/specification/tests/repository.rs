@@ -136,11 +136,24 @@ fn a_file_with_both_is_mixed() {
     assert!(found[0].ends_with("not `planted`"));
 }
 
+/// A definition, and a theorem about it that a table of CONTRACTS.md quotes.
+fn definition(name: &str) -> String {
+    format!("\nabbrev pub {name} : ℕ → ℕ\n{name} n = n\n")
+}
+
+fn theorem(name: &str, of: &str) -> String {
+    format!("\npub {name} : (n : ℕ) → {of} n ≡ n\n{name} n = refl\n")
+}
+
+fn said(name: &str) -> String {
+    format!("\n| theorem | says | file |\n|---|---|---|\n| `{name}` | it stays | `crates` |\n")
+}
+
 #[test]
 fn a_word_for_two_things_is_found() {
     let copy = Copy::new("twice");
     assert_eq!(copy.read().twice(), [""; 0]);
-    let text = |name: &str| format!("\nabbrev pub {name} : ℕ → ℕ\n{name} n = n\n");
+    let text = definition;
     copy.plant("crates/order/specs/Order.antt", &text("planted"));
     copy.plant("crates/text/specs/Bytes.antt", &text("planted"));
     // a type of the code counts, and a file
@@ -151,6 +164,68 @@ fn a_word_for_two_things_is_found() {
     assert!(found[1].starts_with("`planted`: crates/order/specs/Order.antt:"));
     let files = "crates/order/specs/Order.antt, crates/text/specs/Order.antt";
     assert_eq!(found[2..], [files]);
+}
+
+#[test]
+fn what_is_believed_has_a_word_of_its_own_wherever_it_stands() {
+    let copy = Copy::new("believed");
+    for (file, name) in [("Lists", "planted"), ("Mixed", "Planted")] {
+        let path = format!("crates/order/proofs/{file}.antt");
+        let law = format!("{name}-law");
+        copy.plant(&path, &(definition(name) + &theorem(&law, name)));
+        copy.plant("docs/CONTRACTS.md", &said(&law));
+    }
+    let found = copy.read().twice();
+    assert_eq!(found.len(), 1, "{found:?}");
+    let cases = "`planted`, `Planted`: crates/order/proofs/Lists.antt:";
+    assert!(found[0].starts_with(cases), "{found:?}");
+    // one that is believed and one of `specs/`
+    copy.plant("crates/text/specs/Bytes.antt", &definition("planted"));
+    let found = copy.read().twice();
+    let same = "`planted`: crates/order/proofs/Lists.antt:";
+    assert!(found[0].starts_with(same), "{found:?}");
+}
+
+/// A name that is allowed twice is taken off the list when it stands for one thing.
+#[test]
+fn what_is_allowed_twice_is_there_twice() {
+    let copy = Copy::new("idle");
+    let path = copy.root.join("crates/samples/specs/Sample.antt");
+    let text = fs::read_to_string(&path).expect("a file");
+    fs::write(&path, text.replace("PrintLine", "Printed0")).expect("a file written");
+    let found = copy.read().twice();
+    let idle = "`printLine`: allowed, and stands for one thing alone";
+    assert_eq!(found, [idle]);
+}
+
+#[test]
+fn what_readers_believe_stands_in_specs() {
+    let copy = Copy::new("unfit");
+    assert_eq!(copy.read().unfit(), [""; 0]);
+    let law = theorem("planted-law", "planted");
+    let path = "crates/order/proofs/Lists.antt";
+    copy.plant(path, &(definition("planted") + &law));
+    copy.plant("docs/CONTRACTS.md", &said("planted-law"));
+    let found = copy.read().unfit();
+    assert_eq!(found.len(), 1, "{found:?}");
+    assert!(found[0].starts_with(&format!("{path}:")));
+    assert!(found[0].ends_with(": readers believe `planted`"));
+}
+
+#[test]
+fn a_theorem_has_a_sentence() {
+    let copy = Copy::new("unsaid");
+    let law = "\npub planted-law : (n : ℕ) → n ≡ n\nplanted-law n = refl\n";
+    copy.plant("crates/order/proofs/Lists.antt", law);
+    copy.plant("docs/CONTRACTS.md", "\nThe law `planted-law`.\n");
+    let found = copy.read().unfit();
+    assert_eq!(found.len(), 1, "{found:?}");
+    assert!(found[0].ends_with(": no table says what `planted-law` says"));
+    // a table further down says it
+    copy.plant("docs/CONTRACTS.md", &said("planted-law"));
+    let read = copy.read();
+    assert_eq!(read.unfit(), [""; 0]);
+    assert!(read.page().contains("> `planted-law`: it stays\n"));
 }
 
 /// The theorems that CONTRACTS.md lists as those behind demand 3.

@@ -71,6 +71,6 @@ found : map textBad sheets ≡ Refused 1 0
     ∷ Refused 7 2
     ∷ Fine
     ∷ []
-unfolding sheets headBad isText isAllowed labels line firstLine linesBad lineBad rootLine kinds kindAt codeOf fieldOf isName isPath isLetter isAlphanumeric labelOf numberOf decimalOf digitsOf digitsValue
-    allDigits
+unfolding sheets headBad isText isAllowed labels line firstLine linesBad lineBad rootLine kinds kindAt codeOf fieldOf isName isPath isLetter isAlphanumeric labelOf numberOf decimalOf digitsOf
+    digitsValue allDigits
 found = refl

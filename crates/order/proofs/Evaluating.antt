@@ -107,7 +107,8 @@ module _ {S R : Type 0} (t : List ℤ) (E : Evaluation t S R) where
   run-rest o p s fit l k = run-other o (listed-value p) l (λ m. k (listed-value p l m)) s fit
 
   -- and two proper orders, worked down from one store, leave the same result at every label
-  pub order-free : (o₁ o₂ : List ℕ) → Proper t o₁ → Proper t o₂ → (s : S) → E .Fits s → (l : ℕ) → E .stored (down (E .evaluate) o₁ s) l ≡ E .stored (down (E .evaluate) o₂ s) l
+  pub order-free : (o₁ o₂ : List ℕ) → Proper t o₁ → Proper t o₂ → (s : S) → E .Fits s → (l : ℕ)
+      → E .stored (down (E .evaluate) o₁ s) l ≡ E .stored (down (E .evaluate) o₂ s) l
   order-free o₁ o₂ p₁ p₂ s fit l = go (ℕ-discrete (kind t l) valueCode)
     where
       go : Dec (kind t l ≡ valueCode) → E .stored (run o₁ s) l ≡ E .stored (run o₂ s) l

@@ -1,4 +1,6 @@
 pub mod Limits
+pub mod Characters
+pub mod Quoted
 pub mod Cells
 pub mod Clearing
 pub mod Lists

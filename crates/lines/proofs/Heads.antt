@@ -8,7 +8,10 @@ use lib.Dec.{leb, eqb}
 use lib.ListN.{length, getD, take}
 use lib.Seq.{take-all}
 use borrow.Author.Tests.{eqb-true, leb-true, le-leb, lt-leb, eq-eqb, ne-eqb, not-true}
+use Rattle.cells.specs.Quoted.{bytesOf}
 use Rattle.cells.specs.Limits.{labelLimit, sizeLimit}
+use Rattle.cells.specs.Characters.{newline}
+use Rattle.refusals.specs.Rows.{textRow, firstLineRow, labelsRow}
 use Rattle.refusals.specs.Refusal.{replyOf}
 use Rattle.refusals.specs.declared.Verdict.{Verdict}
 use Rattle.refusals.specs.declared.Verdict.the-variants.{Fine, Refused}
@@ -35,35 +38,35 @@ module _ (s : List ℕ) where
   unfolding isText
   text-long h = rw (lt-leb (length s) sizeLimit h, and-false (leb 1 (length s)) false refl)
 
-  pub text-open : (getD s (length s - 1) 0 ≡ 10 → ⊥) → 0 ≡ counted
+  pub text-open : (getD s (length s - 1) 0 ≡ newline → ⊥) → 0 ≡ counted
   unfolding isText
-  text-open f = rw (ne-eqb (getD s (length s - 1) 0) 10 f, and-false (leb 1 (length s) && leb (length s) sizeLimit) false refl)
+  text-open f = rw (ne-eqb (getD s (length s - 1) 0) newline f, and-false (leb 1 (length s) && leb (length s) sizeLimit) false refl)
 
   pub text-bad : (countBy isBad s ≡ 0 → ⊥) → 0 ≡ counted
   unfolding isText
   text-bad f =
-      rw (all-allowed s, ne-eqb (countBy isBad s) 0 f, and-false (leb 1 (length s) && leb (length s) sizeLimit && eqb (getD s (length s - 1) 0) 10) false refl)
+      rw (all-allowed s, ne-eqb (countBy isBad s) 0 f, and-false (leb 1 (length s) && leb (length s) sizeLimit && eqb (getD s (length s - 1) 0) newline) false refl)
 
-  pub text-right : 1 ≤ length s → length s ≤ sizeLimit → getD s (length s - 1) 0 ≡ 10 → countBy isBad s ≡ 0 → countBy isNewline s ≡ counted
+  pub text-right : 1 ≤ length s → length s ≤ sizeLimit → getD s (length s - 1) 0 ≡ newline → countBy isBad s ≡ 0 → countBy isNewline s ≡ counted
   unfolding isText
   text-right h k e z =
-      rw (le-leb 1 (length s) h, le-leb (length s) sizeLimit k, eq-eqb (getD s (length s - 1) 0) 10 e, all-allowed s, eq-eqb (countBy isBad s) 0 z)
+      rw (le-leb 1 (length s) h, le-leb (length s) sizeLimit k, eq-eqb (getD s (length s - 1) 0) newline e, all-allowed s, eq-eqb (countBy isBad s) 0 z)
 
   -- what row 1 lets pass
   module _ (t : isText s ≡ true) where
-    sized : (leb 1 (length s) && leb (length s) sizeLimit && eqb (getD s (length s - 1) 0) 10) ≡ true
+    sized : (leb 1 (length s) && leb (length s) sizeLimit && eqb (getD s (length s - 1) 0) newline) ≡ true
     unfolding isText
-    sized = and-left (leb 1 (length s) && leb (length s) sizeLimit && eqb (getD s (length s - 1) 0) 10) (all isAllowed s) t
+    sized = and-left (leb 1 (length s) && leb (length s) sizeLimit && eqb (getD s (length s - 1) 0) newline) (all isAllowed s) t
 
     pub text-allowed : all isAllowed s ≡ true
     unfolding isText
-    text-allowed = and-right (leb 1 (length s) && leb (length s) sizeLimit && eqb (getD s (length s - 1) 0) 10) (all isAllowed s) t
+    text-allowed = and-right (leb 1 (length s) && leb (length s) sizeLimit && eqb (getD s (length s - 1) 0) newline) (all isAllowed s) t
 
     pub text-ends : endsLines s
-    text-ends = eqb-true (getD s (length s - 1) 0) 10 (and-right (leb 1 (length s) && leb (length s) sizeLimit) (eqb (getD s (length s - 1) 0) 10) sized)
+    text-ends = eqb-true (getD s (length s - 1) 0) newline (and-right (leb 1 (length s) && leb (length s) sizeLimit) (eqb (getD s (length s - 1) 0) newline) sized)
 
     both : (leb 1 (length s) && leb (length s) sizeLimit) ≡ true
-    both = and-left (leb 1 (length s) && leb (length s) sizeLimit) (eqb (getD s (length s - 1) 0) 10) sized
+    both = and-left (leb 1 (length s) && leb (length s) sizeLimit) (eqb (getD s (length s - 1) 0) newline) sized
 
     pub text-some : 1 ≤ length s
     text-some = leb-true 1 (length s) (and-left (leb 1 (length s)) (leb (length s) sizeLimit) both)
@@ -72,7 +75,7 @@ module _ (s : List ℕ) where
     text-size = leb-true (length s) sizeLimit (and-right (leb 1 (length s)) (leb (length s) sizeLimit) both)
 
     pub text-lines : 1 ≤ countBy isNewline s
-    text-lines = count-some isNewline s (length s - 1) (omega (arith, text-some)) (eq-eqb (getD s (length s - 1) 0) 10 text-ends)
+    text-lines = count-some isNewline s (length s - 1) (omega (arith, text-some)) (eq-eqb (getD s (length s - 1) 0) newline text-ends)
 
   -- no line is counted exactly where row 1 refuses
   pub none-counted : counted ≡ 0 → isText s ≡ false
@@ -95,42 +98,42 @@ length-take-short n s h = ap length (take-all n s (omega arith))
 pub counted-is : (s : List ℕ) → isText s ≡ true → cond (isText s) (countBy isNewline s) 0 ≡ countBy isNewline s
 counted-is s t = rw t
 
--- ---- row 2: a text with a line begins with the bytes x, none of them 10, and a 10 exactly if x is its first line
+-- ---- row 2: a text with a line begins with the bytes x, none of them a newline, and a newline exactly if x is its first line
 
 abbrev other : ℕ → Bool
-other x = not (eqb x 10)
+other x = not (eqb x newline)
 
-first-bytes : (x s : List ℕ) → all other x ≡ true → 1 ≤ countBy isNewline s → same (firstOf (cut 10 s)) x ≡ same (take (suc (length x)) s) (x ++ 10 ∷ [])
+first-bytes : (x s : List ℕ) → all other x ≡ true → 1 ≤ countBy isNewline s → same (firstOf (cut newline s)) x ≡ same (take (suc (length x)) s) (x ++ newline ∷ [])
 first-bytes x [] a h = absurd (omega arith)
-first-bytes [] (y ∷ ys) a h = go (eqb y 10)
+first-bytes [] (y ∷ ys) a h = go (eqb y newline)
   where
-    go : (t : Bool) → same (firstOf (cutAt t y (cut 10 ys))) [] ≡ (t && true)
+    go : (t : Bool) → same (firstOf (cutAt t y (cut newline ys))) [] ≡ (t && true)
     go true = refl
-    go false = rw (first-onto y (cut 10 ys))
-first-bytes (z ∷ x) (y ∷ ys) a h = go (eqb y 10) refl h (first-bytes x ys (and-right (other z) (all other x) a))
+    go false = rw (first-onto y (cut newline ys))
+first-bytes (z ∷ x) (y ∷ ys) a h = go (eqb y newline) refl h (first-bytes x ys (and-right (other z) (all other x) a))
   where
-    go : (t : Bool) → eqb y 10 ≡ t → 1 ≤ countBy isNewline (y ∷ ys)
-        → (1 ≤ countBy isNewline ys → same (firstOf (cut 10 ys)) x ≡ same (take (suc (length x)) ys) (x ++ 10 ∷ []))
-        → same (firstOf (cutAt t y (cut 10 ys))) (z ∷ x) ≡ (eqb y z && same (take (suc (length x)) ys) (x ++ 10 ∷ []))
+    go : (t : Bool) → eqb y newline ≡ t → 1 ≤ countBy isNewline (y ∷ ys)
+        → (1 ≤ countBy isNewline ys → same (firstOf (cut newline ys)) x ≡ same (take (suc (length x)) ys) (x ++ newline ∷ []))
+        → same (firstOf (cutAt t y (cut newline ys))) (z ∷ x) ≡ (eqb y z && same (take (suc (length x)) ys) (x ++ newline ∷ []))
     go true e g rest =
-        let apart : eqb z 10 ≡ false = not-true (eqb z 10) (and-left (other z) (all other x) a) in
-        rw (ne-eqb y z (λ q. true-false (sym e ∙ ap (λ (n : ℕ). eqb n 10) q ∙ apart)))
-    go false e g rest = let k : 1 ≤ 0 + countBy isNewline ys = rw e at g in rw (first-onto y (cut 10 ys), rest (omega arith))
+        let apart : eqb z newline ≡ false = not-true (eqb z newline) (and-left (other z) (all other x) a) in
+        rw (ne-eqb y z (λ q. true-false (sym e ∙ ap (λ (n : ℕ). eqb n newline) q ∙ apart)))
+    go false e g rest = let k : 1 ≤ 0 + countBy isNewline ys = rw e at g in rw (first-onto y (cut newline ys), rest (omega arith))
 
 get-first : (ps : List (List ℕ)) → getD ps 0 [] ≡ firstOf ps
 get-first [] = refl
 get-first (p ∷ ps) = refl
 
 module _ (s : List ℕ) (h : 1 ≤ countBy isNewline s) where
-  -- the sixteen bytes `kind name a b c` and 10
-  pub first-line : same (line s 0) firstLine ≡ same (take 16 s) (107 ∷ 105 ∷ 110 ∷ 100 ∷ 32 ∷ 110 ∷ 97 ∷ 109 ∷ 101 ∷ 32 ∷ 97 ∷ 32 ∷ 98 ∷ 32 ∷ 99 ∷ 10 ∷ [])
+  -- its sixteen bytes, with the newline
+  pub first-line : same (line s 0) firstLine ≡ same (take 16 s) (bytesOf "kind name a b c\n")
   unfolding line firstLine
-  first-line = ap (λ (l : List ℕ). same l firstLine) (get-first (cut 10 s)) ∙ first-bytes firstLine s refl h
+  first-line = ap (λ (l : List ℕ). same l firstLine) (get-first (cut newline s)) ∙ first-bytes firstLine s refl h
 
   pub first-short : length s < 16 → false ≡ same (line s 0) firstLine
   first-short k =
       rw first-line
-      (sym (same-lengths (take 16 s) (107 ∷ 105 ∷ 110 ∷ 100 ∷ 32 ∷ 110 ∷ 97 ∷ 109 ∷ 101 ∷ 32 ∷ 97 ∷ 32 ∷ 98 ∷ 32 ∷ 99 ∷ 10 ∷ [])
+      (sym (same-lengths (take 16 s) (bytesOf "kind name a b c\n")
       (λ e. omega (arith, e, length-take-short 16 s k))))
 
 -- ---- rows 1 to 3 together
@@ -139,25 +142,25 @@ module _ (s : List ℕ) where
   abbrev reply-is : Reply
   reply-is = replyOf (headBad s) (labels s)
 
-  pub head-text : isText s ≡ false → reply.Refused 1 0 ≡ reply-is
+  pub head-text : isText s ≡ false → reply.Refused textRow 0 ≡ reply-is
   unfolding headBad
   head-text e = rw e
 
   module _ (t : isText s ≡ true) where
-    pub head-first : same (line s 0) firstLine ≡ false → reply.Refused 2 0 ≡ reply-is
+    pub head-first : same (line s 0) firstLine ≡ false → reply.Refused firstLineRow 0 ≡ reply-is
     unfolding headBad
     head-first e = rw (t, e)
 
     module _ (f : same (line s 0) firstLine ≡ true) where
-      pub head-none : countBy isNewline s < 2 → reply.Refused 3 0 ≡ reply-is
+      pub head-none : countBy isNewline s < 2 → reply.Refused labelsRow 0 ≡ reply-is
       unfolding headBad labels
       head-none h = rw (t, f, lt-leb 1 (countBy isNewline s - 1) (omega arith))
 
-      pub head-many : 1025 < countBy isNewline s → reply.Refused 3 0 ≡ reply-is
+      pub head-many : labelLimit + 1 < countBy isNewline s → reply.Refused labelsRow 0 ≡ reply-is
       unfolding headBad labels
       head-many h = rw (t, f, lt-leb (countBy isNewline s - 1) labelLimit (omega arith), and-false (leb 1 (countBy isNewline s - 1)) false refl)
 
-      pub head-right : 2 ≤ countBy isNewline s → countBy isNewline s ≤ 1025 → reply.Answered (countBy isNewline s - 1) ≡ reply-is
+      pub head-right : 2 ≤ countBy isNewline s → countBy isNewline s ≤ labelLimit + 1 → reply.Answered (countBy isNewline s - 1) ≡ reply-is
       unfolding headBad labels
       head-right h k = rw (t, f, le-leb 1 (countBy isNewline s - 1) (omega arith), le-leb (countBy isNewline s - 1) labelLimit (omega arith))
 

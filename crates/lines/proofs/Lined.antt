@@ -10,7 +10,8 @@ use lib.Dec.{eqb, leb, ltb}
 use lib.IntN.{ℤ, pos, natAbs}
 use lib.ListN.{length, getD, length-append, length-replicate, List·getD-append}
 use lib.Seq.{getD-append-add}
-use Rattle.cells.specs.Limits.{labelLimit, numberLimit}
+use Rattle.cells.specs.Limits.{labelLimit, numberLimit, nameLimit}
+use Rattle.cells.specs.Characters.{newline, space}
 use Rattle.kinds.specs.declared.Fields.{Fields}
 use Rattle.kinds.specs.declared.Form.{Form}
 use Rattle.kinds.specs.declared.Form.the-variants as form
@@ -54,13 +55,13 @@ is-blank : (b : Bool) → isRight (blankIf b) ≡ true → b ≡ true
 is-blank true e = refl
 is-blank false e = absurd (true-false (sym e))
 
-name-size : (f : List ℕ) → isName f ≡ true → length f ≤ 16
+name-size : (f : List ℕ) → isName f ≡ true → length f ≤ nameLimit
 unfolding isName
 name-size f e =
     let a = leb 1 (length f) in
-    let b = leb (length f) 16 in
+    let b = leb (length f) nameLimit in
     let c = isLetter (getD f 0 0) in
-    leb-true (length f) 16 (and-right a b (and-left (a && b) c (and-left (a && b && c) (all isAlphanumeric f) e)))
+    leb-true (length f) nameLimit (and-right a b (and-left (a && b) c (and-left (a && b && c) (all isAlphanumeric f) e)))
 
 label-natural : (d : Decimal) → Natural (held (fromLabel d))
 label-natural (decimal.Is v) = refl
@@ -116,13 +117,13 @@ zero-else : (b : Bool) (x r : ℕ) → (r ≡ 0 → ⊥) → cond b r x ≡ 0 �
 zero-else true x r d e = absurd (d e)
 zero-else false x r d e = (refl, e)
 
-root-code : kindCode (field (cut 32 rootLine) 0) ≡ groupCode
+root-code : kindCode (field (cut space rootLine) 0) ≡ groupCode
 unfolding rootLine codeOf kinds
 root-code = refl
 
 module _ (n k : ℕ) (l : List ℕ) (e : lineBad n k l ≡ 0) where
   abbrev fs : List (List ℕ)
-  fs = cut 32 l
+  fs = cut space l
 
   abbrev code : ℕ
   code = kindCode (field fs 0)
@@ -160,7 +161,7 @@ module _ (n k : ℕ) (l : List ℕ) (e : lineBad n k l ≡ 0) where
   root-formed : k ≡ 1 → Formed n (fieldsAt code) fs
   unfolding kindAt kinds
   root-formed q =
-      let c : code ≡ groupCode = ap (λ (x : List ℕ). kindCode (field (cut 32 x) 0)) (root-is q) ∙ root-code in
+      let c : code ≡ groupCode = ap (λ (x : List ℕ). kindCode (field (cut space x) 0)) (root-is q) ∙ root-code in
       record {
         first = λ f. absurd (group-differs (sym (ap (λ (x : ℕ). fieldsAt x .a) c) ∙ f));
         second = λ f. absurd (missing-differs (sym (ap (λ (x : ℕ). fieldsAt x .b) c) ∙ f));
@@ -228,12 +229,13 @@ module _ (n p : ℕ) (fs : List (List ℕ)) where
 
 -- ---- the cells of all lines
 
-pub row-at : (s : List ℕ) (n i k j : ℕ) → k < i → j < 8 → intAt (linesCells s n i) (8 * k + j) ≡ intAt (lineCells n (suc k) (pieceStart (cut 10 s) (suc k)) (cut 32 (line s (suc k)))) j
+pub row-at : (s : List ℕ) (n i k j : ℕ) → k < i → j < 8
+    → intAt (linesCells s n i) (8 * k + j) ≡ intAt (lineCells n (suc k) (pieceStart (cut newline s) (suc k)) (cut space (line s (suc k)))) j
 row-at s n zero k j h g = absurd (not-suc-le-zero h)
 row-at s n (suc i) k j h g = go (ltb k i) refl (λ m. row-at s n i k j m g)
   where
     own : ℕ → List ℤ
-    own x = lineCells n (suc x) (pieceStart (cut 10 s) (suc x)) (cut 32 (line s (suc x)))
+    own x = lineCells n (suc x) (pieceStart (cut newline s) (suc x)) (cut space (line s (suc x)))
 
     go : (b : Bool) → ltb k i ≡ b → (k < i → intAt (linesCells s n i) (8 * k + j) ≡ intAt (own k) j) → intAt (linesCells s n i ++ own i) (8 * k + j) ≡ intAt (own k) j
     go true q older =
@@ -259,10 +261,10 @@ module _ (s : List ℕ) (m : ℕ) (low : 1 ≤ labels s) (high : labels s ≤ la
 
   -- of label k + 1
   abbrev start : ℕ → ℕ
-  start k = pieceStart (cut 10 s) (suc k)
+  start k = pieceStart (cut newline s) (suc k)
 
   abbrev fields : ℕ → List (List ℕ)
-  fields k = cut 32 (line s (suc k))
+  fields k = cut space (line s (suc k))
 
   abbrev kindOf : ℕ → Fields
   kindOf k = fieldsAt (kindCode (field (fields k) 0))
@@ -293,14 +295,14 @@ module _ (s : List ℕ) (m : ℕ) (low : 1 ≤ labels s) (high : labels s ≤ la
   kind-at k h =
       ap natOf (cells-at k 0 h (omega arith))
       ∙ by-label n (suc k) (start k) (fields k) (λ (r : List ℤ). natOf (intAt r 0) ≡ kindCode (field (fields k) 0))
-      (λ q. sym (ap (λ (x : List ℕ). kindCode (field (cut 32 x) 0)) (root-is n (suc k) (line s (suc k)) (line-fine k h) q) ∙ root-code)) (λ q. refl)
+      (λ q. sym (ap (λ (x : List ℕ). kindCode (field (cut space x) 0)) (root-is n (suc k) (line s (suc k)) (line-fine k h) q) ∙ root-code)) (λ q. refl)
 
   -- label 1
   root-line : line s 1 ≡ rootLine
   root-line = root-is n 1 (line s 1) (line-fine 0 low) refl
 
   root-kind : kind t 1 ≡ groupCode
-  root-kind = kind-at 0 low ∙ ap (λ (x : List ℕ). kindCode (field (cut 32 x) 0)) root-line ∙ root-code
+  root-kind = kind-at 0 low ∙ ap (λ (x : List ℕ). kindCode (field (cut space x) 0)) root-line ∙ root-code
 
   root-top : fieldA t 1 ≡ 0
   root-top = ap natOf (cells-at 0 3 low (omega arith))
@@ -318,7 +320,7 @@ module _ (s : List ℕ) (m : ℕ) (low : 1 ≤ labels s) (high : labels s ≤ la
   -- a line lies in the text, and a name field in its line
   line-inside : (k : ℕ) → k < n → start k + length (line s (suc k)) ≤ length s
   unfolding line labels
-  line-inside k h = piece-inside 10 s (suc k) (omega (arith, pieces s))
+  line-inside k h = piece-inside newline s (suc k) (omega (arith, pieces s))
 
   name-inside : (k : ℕ) → k < n → nameStart t (suc k) + nameLength t (suc k) ≤ length s
   unfolding fieldCells
@@ -328,7 +330,7 @@ module _ (s : List ℕ) (m : ℕ) (low : 1 ≤ labels s) (high : labels s ≤ la
       (λ q. omega arith) (λ q. go (same (field (fields k) 1) dash)))
     where
       in-line : pieceStart (fields k) 1 + length (field (fields k) 1) ≤ length (line s (suc k))
-      in-line = piece-inside 32 (line s (suc k)) 1 (omega (arith, five n (suc k) (line s (suc k)) (line-fine k h)))
+      in-line = piece-inside space (line s (suc k)) 1 (omega (arith, five n (suc k) (line s (suc k)) (line-fine k h)))
 
       go : (b : Bool) → cond b 0 (start k + pieceStart (fields k) 1) + cond b 0 (length (field (fields k) 1)) ≤ length s
       go true = omega arith
@@ -342,7 +344,7 @@ module _ (s : List ℕ) (m : ℕ) (low : 1 ≤ labels s) (high : labels s ≤ la
       go true e = name-inside k (ltb-true k n e)
       go false e = let h = ltb-false k n e in omega (arith, past k 1 h, past k 2 h)
 
-  -- a value's name has at most 16 bytes
+  -- a value's name has no more bytes than a name may have
   value-forms : (k : ℕ) → k < n → kind t (suc k) ≡ valueCode → formsRight n (kindOf k) (fields k) ≡ true
   value-forms k h e =
       let d : suc k ≡ 1 → ⊥ = λ q. omega (arith, ap (kind t) q, root-kind) in
@@ -354,21 +356,21 @@ module _ (s : List ℕ) (m : ℕ) (low : 1 ≤ labels s) (high : labels s ≤ la
       let c : kindCode (field (fields k) 0) ≡ valueCode = sym (kind-at k h) ∙ e in
       is-blank (isName (field (fields k) 1)) (and-left _ _ (and-left _ _ (and-left _ _ (rw c at (value-forms k h e)))))
 
-  name-short : (k : ℕ) → k < n → kind t (suc k) ≡ valueCode → nameLength t (suc k) ≤ 16
+  name-short : (k : ℕ) → k < n → kind t (suc k) ≡ valueCode → nameLength t (suc k) ≤ nameLimit
   unfolding fieldCells
   name-short k h e =
       rw (cells-at k 2 h (omega arith))
-      (by-label n (suc k) (start k) (fields k) (λ (r : List ℤ). natOf (intAt r 2) ≤ 16) (λ q. omega arith) (λ q. go (same (field (fields k) 1) dash)))
+      (by-label n (suc k) (start k) (fields k) (λ (r : List ℤ). natOf (intAt r 2) ≤ nameLimit) (λ q. omega arith) (λ q. go (same (field (fields k) 1) dash)))
     where
-      go : (b : Bool) → cond b 0 (length (field (fields k) 1)) ≤ 16
+      go : (b : Bool) → cond b 0 (length (field (fields k) 1)) ≤ nameLimit
       go true = omega arith
       go false = name-size (field (fields k) 1) (value-name k h e)
 
-  pub names-short : (l : ℕ) → kind t l ≡ valueCode → nameLength t l ≤ 16
+  pub names-short : (l : ℕ) → kind t l ≡ valueCode → nameLength t l ≤ nameLimit
   names-short zero e = omega arith
   names-short (suc k) e = go (ltb k n) refl
     where
-      go : (b : Bool) → ltb k n ≡ b → nameLength t (suc k) ≤ 16
+      go : (b : Bool) → ltb k n ≡ b → nameLength t (suc k) ≤ nameLimit
       go true q = name-short k (ltb-true k n q) e
       go false q = omega (arith, past k 2 (ltb-false k n q))
 

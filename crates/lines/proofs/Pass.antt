@@ -10,6 +10,7 @@ use lib.IntN.{ℤ}
 use lib.ListN.{length, getD, drop, take, length-append, length-drop, drop-of-length-le}
 use lib.Seq.{sets, sets-eq, take-at, drop-append-add, drop-drop}
 use borrow.Author.Tests.{ltb-true, ltb-false}
+use Rattle.cells.specs.Characters.{newline, space}
 use Rattle.refusals.specs.Refusal.{firstBad}
 use Rattle.refusals.specs.declared.Verdict.the-variants.{Fine, Refused}
 use Rattle.refusals.proofs.FirstBad.{first-start, first-fine, first-bad, first-end}
@@ -105,10 +106,10 @@ rows-length s n zero = refl
 rows-length s n (suc k) =
     omega (
       arith,
-      length-append (linesCells s n k) (lineCells n (suc k) (pieceStart (cut 10 s) (suc k)) (cut 32 (line s (suc k)))),
+      length-append (linesCells s n k) (lineCells n (suc k) (pieceStart (cut newline s) (suc k)) (cut space (line s (suc k)))),
       rows-length s n k,
       row-length n (suc k)
-          (pieceStart (cut 10 s) (suc k)) (cut 32 (line s (suc k))),
+          (pieceStart (cut newline s) (suc k)) (cut space (line s (suc k))),
     )
 
 pub written-length : (s : List ℕ) (n k : ℕ) (t : List ℤ) → 8 * k ≤ length t → length (linesWritten s n k t) ≡ length t
@@ -116,12 +117,12 @@ written-length s n k t h = omega (arith, length-append (linesCells s n k) (drop 
 
 -- eight cells more
 pub row-written : (s : List ℕ) (n k : ℕ) (t : List ℤ) → 8 * k + 8 ≤ length t
-    → sets (linesWritten s n k t) (8 * k) (lineCells n (k + 1) (pieceStart (cut 10 s) (k + 1)) (cut 32 (line s (k + 1)))) ≡ linesWritten s n (k + 1) t
+    → sets (linesWritten s n k t) (8 * k) (lineCells n (k + 1) (pieceStart (cut newline s) (k + 1)) (cut space (line s (k + 1)))) ≡ linesWritten s n (k + 1) t
 row-written s n k t h =
-    let v = lineCells n (k + 1) (pieceStart (cut 10 s) (k + 1)) (cut 32 (line s (k + 1))) in
+    let v = lineCells n (k + 1) (pieceStart (cut newline s) (k + 1)) (cut space (line s (k + 1))) in
     let w = linesWritten s n k t in
     let r = rows-length s n k in
-    let e = row-length n (k + 1) (pieceStart (cut 10 s) (k + 1)) (cut 32 (line s (k + 1))) in
+    let e = row-length n (k + 1) (pieceStart (cut newline s) (k + 1)) (cut space (line s (k + 1))) in
     let l : length w ≡ length t = written-length s n k t (omega arith) in
     let front : take (8 * k) w ≡ linesCells s n k = take-at (linesCells s n k) (drop (8 * k) t) (8 * k) r in
     let m : 8 * k + length v ≡ length (linesCells s n k) + 8 = omega arith in
@@ -136,8 +137,8 @@ row-written s n k t h =
 pub record Going (s : List ℕ) (n : ℕ) (t₀ : List ℤ) (at label : ℕ) (t : List ℤ) : Type 0 where
   pub low : 1 ≤ label
   pub high : label ≤ n + 1
-  pub here : at ≡ pieceStart (cut 10 s) label
-  pub left : cut 10 (rest s at) ≡ drop label (cut 10 s)
+  pub here : at ≡ pieceStart (cut newline s) label
+  pub left : cut newline (rest s at) ≡ drop label (cut newline s)
   pub table : t ≡ linesWritten s n (label - 1) t₀
   pub size : length t ≡ length t₀
   pub found : firstBad (lineCheck s n) label (n + 1 - label) ≡ firstBad (lineCheck s n) 1 n
@@ -147,12 +148,12 @@ module _ (s : List ℕ) (n : ℕ) (h : Headed s) (e : n ≡ labels s) where
   unfolding labels
   lines-count = omega (arith, h .low)
 
-  first-cut : cut 10 s ≡ firstLine ∷ cut 10 (rest s 16)
+  first-cut : cut newline s ≡ firstLine ∷ cut newline (rest s 16)
   unfolding line firstLine
   first-cut =
       let nx = line-next s 0 (h .some) (h .ends) in
-      let w : cut 10 (rest s 0) ≡ cut 10 s = ap (cut 10) (whole s) in
-      let f : firstOf (cut 10 (rest s 0)) ≡ firstLine = sym (ap (λ (ps : List (List ℕ)). getD ps 0 []) nx) ∙ ap (λ (ps : List (List ℕ)). getD ps 0 []) w ∙ h .first in
+      let w : cut newline (rest s 0) ≡ cut newline s = ap (cut newline) (whole s) in
+      let f : firstOf (cut newline (rest s 0)) ≡ firstLine = sym (ap (λ (ps : List (List ℕ)). getD ps 0 []) nx) ∙ ap (λ (ps : List (List ℕ)). getD ps 0 []) w ∙ h .first in
       sym w ∙ nx ∙ rw f
 
   pub start : (t : List ℤ) → Going s n t 16 1 t
@@ -160,8 +161,8 @@ module _ (s : List ℕ) (n : ℕ) (h : Headed s) (e : n ≡ labels s) where
   start t = record {
     low = omega arith;
     high = omega arith;
-    here = sym (place-next (cut 10 s) 0 firstLine (cut 10 (rest s 16)) first-cut ∙ rw (place-zero (cut 10 s)));
-    left = pieces-next (cut 10 s) 0 firstLine (cut 10 (rest s 16)) first-cut;
+    here = sym (place-next (cut newline s) 0 firstLine (cut newline (rest s 16)) first-cut ∙ rw (place-zero (cut newline s)));
+    left = pieces-next (cut newline s) 0 firstLine (cut newline (rest s 16)) first-cut;
     table = refl;
     size = refl;
     found = first-start (lineCheck s n) n;
@@ -172,23 +173,23 @@ module _ (s : List ℕ) (n : ℕ) (h : Headed s) (e : n ≡ labels s) where
     pub inside : k ≤ n → at < length s
     inside m = go (ltb at (length s)) refl
       where
-        many : 2 ≤ length (cut 10 (rest s at))
-        many = omega (arith, ap length (g .left), length-drop k (cut 10 s), pieces s, lines-count)
+        many : 2 ≤ length (cut newline (rest s at))
+        many = omega (arith, ap length (g .left), length-drop k (cut newline s), pieces s, lines-count)
 
         go : (b : Bool) → ltb at (length s) ≡ b → at < length s
         go true q = ltb-true at (length s) q
         go false q =
             let past : length (take (length s) s) ≤ at = omega (arith, ap length (whole s), ltb-false at (length s) q) in
             let z : rest s at ≡ [] = drop-of-length-le (take (length s) s) past in
-            absurd (omega (arith, many, ap (λ (l : List ℕ). length (cut 10 l)) z))
+            absurd (omega (arith, many, ap (λ (l : List ℕ). length (cut newline l)) z))
 
     module _ (m : k ≤ n) where
-      pieces-are : drop k (cut 10 s) ≡ lineFrom s at ∷ cut 10 (rest s (at + length (lineFrom s at) + 1))
+      pieces-are : drop k (cut newline s) ≡ lineFrom s at ∷ cut newline (rest s (at + length (lineFrom s at) + 1))
       pieces-are = sym (g .left) ∙ line-next s at (inside m) (h .ends)
 
       line-is : line s k ≡ lineFrom s at
       unfolding line
-      line-is = piece-is (cut 10 s) k _ _ pieces-are
+      line-is = piece-is (cut newline s) k _ _ pieces-are
 
       check-is : lineCheck s n k ≡ lineBad n k (lineFrom s at)
       check-is = ap (lineBad n k) line-is
@@ -198,7 +199,7 @@ module _ (s : List ℕ) (n : ℕ) (h : Headed s) (e : n ≡ labels s) where
           let j : k - 1 + 1 ≡ k = omega (arith, g .low) in
           let i : k + 1 - 1 ≡ k = omega arith in
           let base : ℕ = 8 * (k - 1) in
-          let own : lineCells n k at (fieldsFrom s at) ≡ lineCells n (k - 1 + 1) (pieceStart (cut 10 s) (k - 1 + 1)) (cut 32 (line s (k - 1 + 1))) =
+          let own : lineCells n k at (fieldsFrom s at) ≡ lineCells n (k - 1 + 1) (pieceStart (cut newline s) (k - 1 + 1)) (cut space (line s (k - 1 + 1))) =
           rw (j, line-is) (ap (λ (p : ℕ). lineCells n k p (fieldsFrom s at)) (g .here)) in
           let z : t′ ≡ linesWritten s n k t₀ =
           q ∙ w .cells base t
@@ -209,8 +210,8 @@ module _ (s : List ℕ) (n : ℕ) (h : Headed s) (e : n ≡ labels s) where
           record {
             low = omega arith;
             high = omega arith;
-            here = omega (arith, w .is, g .here, place-next (cut 10 s) k _ _ pieces-are);
-            left = rw (w .is) (pieces-next (cut 10 s) k _ _ pieces-are);
+            here = omega (arith, w .is, g .here, place-next (cut newline s) k _ _ pieces-are);
+            left = rw (w .is) (pieces-next (cut newline s) k _ _ pieces-are);
             table = z ∙ rw i;
             size = ap length z ∙ written-length s n k t₀ (omega arith);
             found = sym (first-fine (lineCheck s n) n k m (check-is ∙ w .fine)) ∙ g .found;

@@ -9,6 +9,7 @@ use lib.IntN.{ℤ, pos}
 use lib.ListN.{length}
 use lib.Seq.{slice, length-slice}
 use borrow.Author.Tests.{eq-eqb, ne-eqb}
+use Rattle.refusals.specs.Rows.{fieldsRow, kindRow, formRow}
 use Rattle.text.specs.Bytes.{same}
 use Rattle.text.specs.Pieces.{firstOf, fieldsAre}
 use Rattle.text.specs.Scans.{fieldsFrom}
@@ -45,7 +46,7 @@ hold-operands (Holds u) (Holds v) Wrong a b c e = let q : _≡_ {A = ℕ} 0 1 = 
 hold-operands (Holds u) Wrong z a b c e = let q : _≡_ {A = ℕ} 0 1 = cc in absurd (omega arith)
 hold-operands Wrong y z a b c e = let q : _≡_ {A = ℕ} 0 1 = cc in absurd (omega arith)
 
-by-test : (b : Bool) (r : LineCells) → cond b (Passes r) (Fails 7) ≡ decide (cond b 0 7) r
+by-test : (b : Bool) (r : LineCells) → cond b (Passes r) (Fails formRow) ≡ decide (cond b 0 formRow) r
 by-test true r = refl
 by-test false r = refl
 
@@ -66,7 +67,7 @@ module _ (s : List ℕ) (from : ℕ) (e : Ends) (f : FiveAt s from e) where
       → Passes (record { code = pos groupCode; start = pos 0; length = pos 0; a = pos 0; b = pos 0; c = pos 0; end = e .c }) ≡ rootRead s from
   root-right g = rw (end-is, line-is, g)
 
-  pub root-wrong : same (slice from (e .c) s) rootLine ≡ false → Fails 7 ≡ rootRead s from
+  pub root-wrong : same (slice from (e .c) s) rootLine ≡ false → Fails formRow ≡ rootRead s from
   root-wrong g = rw (line-is, g)
 
 module _ (n : ℕ) (s : List ℕ) (from : ℕ) (e : Ends) (f : FiveAt s from e) where
@@ -95,10 +96,10 @@ module _ (n : ℕ) (s : List ℕ) (from : ℕ) (e : Ends) (f : FiveAt s from e) 
       && isRight (fieldOf (fieldsAt code .c) n (slice (e .b + 1) (e .c) s)))
   forms-are = rw (f .are)
 
-  name-wrong : fieldOf (fieldsAt code .name) n (slice (e .kind + 1) (e .name) s) ≡ Wrong → Fails 7 ≡ otherRead n s from
+  name-wrong : fieldOf (fieldsAt code .name) n (slice (e .kind + 1) (e .name) s) ≡ Wrong → Fails formRow ≡ otherRead n s from
   name-wrong g = rw (kind-is, forms-are, g)
 
-  operands-wrong : operandsAt s e (fieldsAt code) n ≡ operands.Wrong → Fails 7 ≡ otherRead n s from
+  operands-wrong : operandsAt s e (fieldsAt code) n ≡ operands.Wrong → Fails formRow ≡ otherRead n s from
   operands-wrong g =
       rw (
         kind-is,
@@ -122,10 +123,10 @@ module _ (n : ℕ) (s : List ℕ) (from : ℕ) (e : Ends) (f : FiveAt s from e) 
     by-kind : k ≡ fieldsAt code
     by-kind = q ∙ ap fieldsAt p
 
-    pub read-name-wrong : fieldOf (k .name) n (slice (e .kind + 1) (e .name) s) ≡ Wrong → Fails 7 ≡ otherRead n s from
+    pub read-name-wrong : fieldOf (k .name) n (slice (e .kind + 1) (e .name) s) ≡ Wrong → Fails formRow ≡ otherRead n s from
     read-name-wrong g = name-wrong (rw by-kind at g)
 
-    pub read-operands-wrong : operandsAt s e k n ≡ operands.Wrong → Fails 7 ≡ otherRead n s from
+    pub read-operands-wrong : operandsAt s e k n ≡ operands.Wrong → Fails formRow ≡ otherRead n s from
     read-operands-wrong g = operands-wrong (rw by-kind at g)
 
     pub read-right : (x a b c : ℤ) (r : LineCells) → fieldOf (k .name) n (slice (e .kind + 1) (e .name) s) ≡ Holds x → operandsAt s e k n ≡ operands.Hold a b c
@@ -148,7 +149,7 @@ module _ (n : ℕ) (s : List ℕ) (from : ℕ) (e : Ends) (f : FiveAt s from e) 
       )
 
   module _ (k : ℕ) where
-    pub line-kind : code ≡ 0 → Fails 6 ≡ lineRead n k s from
+    pub line-kind : code ≡ 0 → Fails kindRow ≡ lineRead n k s from
     unfolding lineRead lineBad
     line-kind g = rw (fields-right, kind-is, eq-eqb code 0 g)
 
@@ -162,6 +163,6 @@ module _ (n : ℕ) (s : List ℕ) (from : ℕ) (e : Ends) (f : FiveAt s from e) 
         rw (fields-right, ap (λ (m : ℕ). eqb m 0) kind-is ∙ ne-eqb code 0 g, ne-eqb k 1 q)
         (by-test (formsRight n (fieldsAt (kindCode (field (fieldsFrom s from) 0))) (fieldsFrom s from)) (cellsByFields n s from (fieldsFrom s from)))
 
-pub line-fields : (n k : ℕ) (s : List ℕ) (from : ℕ) → fieldsAre 5 (fieldsFrom s from) ≡ false → Fails 5 ≡ lineRead n k s from
+pub line-fields : (n k : ℕ) (s : List ℕ) (from : ℕ) → fieldsAre 5 (fieldsFrom s from) ≡ false → Fails fieldsRow ≡ lineRead n k s from
 unfolding lineRead lineBad
 line-fields n k s from g = rw g

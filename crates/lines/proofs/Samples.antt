@@ -8,7 +8,7 @@ use Rattle.refusals.specs.declared.Verdict.{Verdict}
 use Rattle.refusals.specs.declared.Verdict.the-variants.{Fine, Refused}
 use Rattle.text.specs.Bytes.{isAllowed, isLetter, isAlphanumeric}
 use Rattle.text.specs.Forms.{isName, isPath, labelOf}
-use Rattle.text.specs.Quoted.{bytesOf, textOf}
+use Rattle.cells.specs.Quoted.{bytesOf, textOf}
 use Rattle.kinds.specs.Kinds.{kinds, kindAt, codeOf}
 use Rattle.lines.specs.Fields.{fieldOf}
 use Rattle.lines.specs.Lines.{isText, line, labels, firstLine, headBad, rootLine, lineBad, linesBad}
@@ -18,7 +18,7 @@ unfoldable sheets : List (List ℕ)
 sheets =
     -- a byte not allowed: a tabulator
     (textOf ("kind name a b c" ∷ []) ++ bytesOf "G" ++ 9 ∷ textOf ("- 0 - -" ∷ []))
-    -- no byte 10 at the end
+    -- no newline at the end
     ∷ (textOf ("kind name a b c" ∷ []) ++ bytesOf "G - 0 - -")
     -- another line one
     ∷ textOf ("kind name a b d" ∷ "G - 0 - -" ∷ [])

@@ -6,6 +6,7 @@ use Prim.Native.Nat.{ℕ, suc, _+_, _≤_, _<_}
 use native.Mathlib.Omega.{arith}
 use lib.ListN.{length}
 use lib.Seq.{slice}
+use Rattle.cells.specs.Characters.{newline, space}
 use Rattle.text.specs.Bytes.{all, isAllowed, endsLines}
 use Rattle.text.specs.Pieces.{cut, fieldsAre}
 use Rattle.text.specs.Scans.{fieldEnd, rest, fieldsFrom}
@@ -24,16 +25,16 @@ full s k at e fs h g = rw (slice-at s at e h g)
 
 module _ (s : List ℕ) (ends : endsLines s) (allowed : all isAllowed s ≡ true) (from : ℕ) where
   module _ (at e : ℕ) (h : at < length s) where
-    pub spaced-at : e ≡ fieldEnd s at 32 → (e ≡ 0 → ⊥) → Spaced s at e
+    pub spaced-at : e ≡ fieldEnd s at space → (e ≡ 0 → ⊥) → Spaced s at e
     spaced-at q f = rw q (space-end s at h ends (λ z. f (q ∙ z)))
 
-    pub last-at : e ≡ fieldEnd s at 10 → (e ≡ 0 → ⊥) → Last s at e
+    pub last-at : e ≡ fieldEnd s at newline → (e ≡ 0 → ⊥) → Last s at e
     last-at q f = rw q (last-end s at h ends (λ z. f (q ∙ z)))
 
   pub left-all : from < length s → Left s from 5 from
   left-all h = record { here = h; same = refl }
 
-  pub left-next : (k at e : ℕ) → Left s from (suc k) at → e ≡ fieldEnd s at 32 → (e ≡ 0 → ⊥) → Left s from k (e + 1)
+  pub left-next : (k at e : ℕ) → Left s from (suc k) at → e ≡ fieldEnd s at space → (e ≡ 0 → ⊥) → Left s from k (e + 1)
   left-next k at e l q f =
       let p = spaced-at at e (l .here) q f in
       record {
@@ -41,16 +42,16 @@ module _ (s : List ℕ) (ends : endsLines s) (allowed : all isAllowed s ≡ true
         same = l .same ∙ ap (fieldsAre (suc k)) (p .fields) ∙ full s k at e (fieldsFrom s (e + 1)) (p .wide) (omega (arith, p .inside));
       }
 
-  pub left-none : (k at e : ℕ) → Left s from (suc (suc k)) at → e ≡ fieldEnd s at 32 → e ≡ 0 → fieldsAre 5 (fieldsFrom s from) ≡ false
+  pub left-none : (k at e : ℕ) → Left s from (suc (suc k)) at → e ≡ fieldEnd s at space → e ≡ 0 → fieldsAre 5 (fieldsFrom s from) ≡ false
   left-none k at e l q z = l .same ∙ space-none s at (l .here) ends allowed k (sym q ∙ z)
 
-  pub left-last : (at e : ℕ) → Left s from 1 at → e ≡ fieldEnd s at 10 → e ≡ 0 → fieldsAre 5 (fieldsFrom s from) ≡ false
+  pub left-last : (at e : ℕ) → Left s from 1 at → e ≡ fieldEnd s at newline → e ≡ 0 → fieldsAre 5 (fieldsFrom s from) ≡ false
   left-last at e l q z = l .same ∙ last-none s at (l .here) ends allowed (sym q ∙ z)
 
 pub five : (s : List ℕ) (from : ℕ) (e : Ends) → Spaced s from (e .kind) → Spaced s (e .kind + 1) (e .name) → Spaced s (e .name + 1) (e .a) → Spaced s (e .a + 1) (e .b)
     → Last s (e .b + 1) (e .c) → FiveAt s from e
 five s from e p q r t l =
-    let ps = cut 10 (rest s (e .c + 1)) in
+    let ps = cut newline (rest s (e .c + 1)) in
     let h3 : e .b + 1 ≤ e .c = omega (arith, l .wide) in
     let h2 : e .a + 1 ≤ e .c = omega (arith, t .wide) in
     let h1 : e .name + 1 ≤ e .c = omega (arith, r .wide) in

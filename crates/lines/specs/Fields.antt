@@ -3,6 +3,7 @@ use mathlib.Core.Bool.{Bool, true, false}
 use mathlib.Core.List.{List, [], _∷_}
 use Prim.Native.Nat.{ℕ}
 use lib.IntN.{ℤ, pos}
+use Rattle.cells.specs.Characters.{hyphen}
 use Rattle.numbers.specs.Decimal.{numberOf}
 use Rattle.numbers.specs.declared.Decimal.{Decimal}
 use Rattle.numbers.specs.declared.Decimal.the-variants as decimal
@@ -18,7 +19,7 @@ use Rattle.lines.specs.declared.Field.the-variants.{Holds, Wrong}
 
 -- `-` alone is a missing field
 abbrev pub dash : List ℕ
-dash = 45 ∷ []
+dash = hyphen ∷ []
 
 -- a field whose cell is 0, if it is of the right form
 abbrev pub blankIf : Bool → Field

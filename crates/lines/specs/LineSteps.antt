@@ -7,6 +7,7 @@ use lib.Dec.{eqb}
 use lib.IntN.{ℤ, pos}
 use lib.ListN.{length, drop}
 use lib.Seq.{slice, sets}
+use Rattle.cells.specs.Characters.{newline}
 use Rattle.kinds.specs.declared.Fields.{Fields}
 use Rattle.kinds.specs.Kinds.{groupCode, fieldsAt}
 use Rattle.text.specs.Bytes.{same}
@@ -32,12 +33,12 @@ use Rattle.lines.specs.declared.Next.the-variants.{At, Stop}
 
 -- the line that begins at `from`
 abbrev pub lineFrom : List ℕ → ℕ → List ℕ
-lineFrom s from = firstOf (cut 10 (rest s from))
+lineFrom s from = firstOf (cut newline (rest s from))
 
 -- it ends at `end`, and the lines after it begin behind that
 pub record LineEndsAt (s : List ℕ) (from end : ℕ) : Type 0 where
   pub inside : end < length s
-  pub line : cut 10 (rest s from) ≡ slice from end s ∷ cut 10 (rest s (end + 1))
+  pub line : cut newline (rest s from) ≡ slice from end s ∷ cut newline (rest s (end + 1))
 
 -- its fields are five, none of them empty, and end at these places
 pub record FiveAt (s : List ℕ) (from : ℕ) (e : Ends) : Type 0 where

@@ -6,12 +6,13 @@ use lib.Dec.{leb, eqb}
 use lib.IntN.{ℤ, pos}
 use lib.ListN.{length, getD}
 use Rattle.cells.specs.Limits.{sizeLimit, labelLimit}
+use Rattle.cells.specs.Characters.{newline, space}
+use Rattle.cells.specs.Quoted.{bytesOf}
 use Rattle.kinds.specs.declared.Fields.{Fields}
 use Rattle.kinds.specs.Kinds.{groupCode, fieldsAt}
 use Rattle.cells.specs.Cells.{zeros}
 use Rattle.text.specs.Bytes.{all, countBy, isAllowed, isNewline, same}
 use Rattle.text.specs.Pieces.{cut, pieceStart, fieldsAre}
-use Rattle.text.specs.Quoted.{bytesOf}
 use Rattle.refusals.specs.Rows.{textRow, firstLineRow, labelsRow, fieldsRow, kindRow, formRow}
 use Rattle.refusals.specs.Refusal.{firstBad}
 use Rattle.refusals.specs.declared.Verdict.{Verdict}
@@ -22,11 +23,11 @@ use Rattle.lines.specs.Fields.{dash, fieldOf, isRight, held, kindCode}
 
 -- a sheet is 1 to 65,536 bytes of lines, each ended by byte 10; all others are 32 to 126
 unfoldable pub isText : List ℕ → Bool
-isText s = leb 1 (length s) && leb (length s) sizeLimit && eqb (getD s (length s - 1) 0) 10 && all isAllowed s
+isText s = leb 1 (length s) && leb (length s) sizeLimit && eqb (getD s (length s - 1) 0) newline && all isAllowed s
 
 -- line k of the text: line 0 holds the column names, and line k after it has label k
 unfoldable pub line : List ℕ → ℕ → List ℕ
-line s k = getD (cut 10 s) k []
+line s k = getD (cut newline s) k []
 
 -- n, the number of labels
 unfoldable pub labels : List ℕ → ℕ
@@ -73,7 +74,7 @@ fieldsBad n k l fs =
     fieldsRow
 
 unfoldable pub lineBad : ℕ → ℕ → List ℕ → ℕ
-lineBad n k l = fieldsBad n k l (cut 32 l)
+lineBad n k l = fieldsBad n k l (cut space l)
 
 abbrev pub lineCheck : List ℕ → ℕ → ℕ → ℕ
 lineCheck s n k = lineBad n k (line s k)
@@ -112,4 +113,4 @@ lineCells n k p fs = cond (eqb k 1) rootCells (fieldCells n p fs)
 -- the cells of labels 1 to k
 abbrev pub linesCells : List ℕ → ℕ → ℕ → List ℤ
 linesCells s n zero = []
-linesCells s n (suc k) = linesCells s n k ++ lineCells n (suc k) (pieceStart (cut 10 s) (suc k)) (cut 32 (line s (suc k)))
+linesCells s n (suc k) = linesCells s n k ++ lineCells n (suc k) (pieceStart (cut newline s) (suc k)) (cut space (line s (suc k)))

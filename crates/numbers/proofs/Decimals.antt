@@ -13,6 +13,7 @@ use lib.IntN.{ℤ, pos, natAbs}
 use Rattle.cells.specs.Cells.{withSign}
 use Rattle.cells.proofs.Signed.{clash, withSign-size}
 use Rattle.cells.specs.Limits.{numberLimit}
+use Rattle.cells.specs.Characters.{hyphen, digitZero, digitNine}
 use Rattle.numbers.specs.Decimal.{isDigit, allDigits, digitsValue, noLeadingZero, digitsOf, decimalOf, signedOf, numberOf}
 use Rattle.numbers.specs.Bounds.{AtMost}
 use Rattle.numbers.specs.declared.Decimal.{Decimal}
@@ -30,17 +31,17 @@ slice-none from to s e = rw e (slice-empty to s)
 
 -- ---- digits
 
-pub digit-is : (c : ℕ) → 48 ≤ c → c ≤ 57 → isDigit c ≡ true
-digit-is c h k = rw (le-leb 48 c h, le-leb c 57 k)
+pub digit-is : (c : ℕ) → digitZero ≤ c → c ≤ digitNine → isDigit c ≡ true
+digit-is c h k = rw (le-leb digitZero c h, le-leb c digitNine k)
 
-pub digit-low : (c : ℕ) → c < 48 → isDigit c ≡ false
-digit-low c h = rw (lt-leb 48 c h)
+pub digit-low : (c : ℕ) → c < digitZero → isDigit c ≡ false
+digit-low c h = rw (lt-leb digitZero c h)
 
-pub digit-high : (c : ℕ) → 57 < c → isDigit c ≡ false
-digit-high c h = rw (lt-leb c 57 h) (and-false (leb 48 c))
+pub digit-high : (c : ℕ) → digitNine < c → isDigit c ≡ false
+digit-high c h = rw (lt-leb c digitNine h) (and-false (leb digitZero c))
 
 -- the first byte, for a digit and for any other
-pub digits-step : (max v c : ℕ) (f : List ℕ) → isDigit c ≡ true → digitsOf max v (c ∷ f) ≡ digitsOf max (10 * v + (c - 48)) f
+pub digits-step : (max v c : ℕ) (f : List ℕ) → isDigit c ≡ true → digitsOf max v (c ∷ f) ≡ digitsOf max (10 * v + (c - digitZero)) f
 unfolding digitsOf allDigits digitsValue
 digits-step max v c f h = rw h
 
@@ -52,7 +53,7 @@ digits-bad max v c f h = rw h
 grows : (v : ℕ) (f : List ℕ) → v ≤ digitsValue v f
 unfolding digitsValue
 grows v [] = omega arith
-grows v (c ∷ f) = let h : 10 * v + (c - 48) ≤ digitsValue (10 * v + (c - 48)) f = grows (10 * v + (c - 48)) f in omega arith
+grows v (c ∷ f) = let h : 10 * v + (c - digitZero) ≤ digitsValue (10 * v + (c - digitZero)) f = grows (10 * v + (c - digitZero)) f in omega arith
 
 pub digits-over : (max v : ℕ) (f : List ℕ) → max < v → digitsOf max v f ≡ decimal.Not
 unfolding digitsOf
@@ -64,9 +65,9 @@ digits-end max v h = rw (le-leb v max h)
 
 -- ---- a decimal and a number, by what the code tests of text[from..to]
 
-first-nonzero : (c : ℕ) (f : List ℕ) → (c ≡ 48 → ⊥) → noLeadingZero (c ∷ f) ≡ true
+first-nonzero : (c : ℕ) (f : List ℕ) → (c ≡ digitZero → ⊥) → noLeadingZero (c ∷ f) ≡ true
 first-nonzero c [] h = refl
-first-nonzero c (d ∷ f) h = rw (ne-eqb c 48 h)
+first-nonzero c (d ∷ f) h = rw (ne-eqb c digitZero h)
 
 module _ (from to : ℕ) (s : List ℕ) where
   pub decimal-empty : (max : ℕ) → from ≡ to → decimal.Not ≡ decimalOf max (slice from to s)
@@ -78,27 +79,27 @@ module _ (from to : ℕ) (s : List ℕ) where
   number-empty e = rw (slice-none from to s e)
 
   module _ (h : from < to) (k : to ≤ length s) where
-    pub decimal-led : (max : ℕ) → getD s from 0 ≡ 48 → from + 1 < to → decimal.Not ≡ decimalOf max (slice from to s)
+    pub decimal-led : (max : ℕ) → getD s from 0 ≡ digitZero → from + 1 < to → decimal.Not ≡ decimalOf max (slice from to s)
     unfolding decimalOf
     decimal-led max z l = rw (slice-next from to s h k, slice-next (from + 1) to s l k, z)
 
-    pub decimal-zero : (max : ℕ) → getD s from 0 ≡ 48 → to ≤ from + 1 → decimal.Is 0 ≡ decimalOf max (slice from to s)
+    pub decimal-zero : (max : ℕ) → getD s from 0 ≡ digitZero → to ≤ from + 1 → decimal.Is 0 ≡ decimalOf max (slice from to s)
     unfolding decimalOf
     decimal-zero max z l =
         let e : from + 1 ≡ to = omega arith in
-        rw (slice-next from to s h k, slice-none (from + 1) to s e, z) (sym (digits-step max 0 48 [] refl ∙ digits-end max 0 (omega arith)))
+        rw (slice-next from to s h k, slice-none (from + 1) to s e, z) (sym (digits-step max 0 digitZero [] refl ∙ digits-end max 0 (omega arith)))
 
-    pub decimal-plain : (max : ℕ) → (getD s from 0 ≡ 48 → ⊥) → digitsOf max 0 (slice from to s) ≡ decimalOf max (slice from to s)
+    pub decimal-plain : (max : ℕ) → (getD s from 0 ≡ digitZero → ⊥) → digitsOf max 0 (slice from to s) ≡ decimalOf max (slice from to s)
     unfolding decimalOf
     decimal-plain max z = rw (slice-next from to s h k, first-nonzero (getD s from 0) (slice (from + 1) to s) z)
 
-    pub number-negative : getD s from 0 ≡ 45 → signedOf true (decimalOf numberLimit (slice (from + 1) to s)) ≡ numberOf (slice from to s)
+    pub number-negative : getD s from 0 ≡ hyphen → signedOf true (decimalOf numberLimit (slice (from + 1) to s)) ≡ numberOf (slice from to s)
     unfolding numberOf
     number-negative z = rw (slice-next from to s h k, z)
 
-    pub number-plain : (getD s from 0 ≡ 45 → ⊥) → signedOf false (decimalOf numberLimit (slice from to s)) ≡ numberOf (slice from to s)
+    pub number-plain : (getD s from 0 ≡ hyphen → ⊥) → signedOf false (decimalOf numberLimit (slice from to s)) ≡ numberOf (slice from to s)
     unfolding numberOf
-    number-plain z = rw (slice-next from to s h k, ne-eqb (getD s from 0) 45 z)
+    number-plain z = rw (slice-next from to s h k, ne-eqb (getD s from 0) hyphen z)
 
 -- ---- what it takes for bytes to be a decimal, and no more
 
@@ -155,7 +156,7 @@ signed-bounded negative (decimal.Is v) h = go (negative && eqb v 0)
 bounded : (f : List ℕ) → Bounded (numberOf f)
 unfolding numberOf
 bounded [] = tt
-bounded (c ∷ f) = go (eqb c 45)
+bounded (c ∷ f) = go (eqb c hyphen)
   where
     go : (x : Bool) → Bounded (cond x (signedOf true (decimalOf numberLimit f)) (signedOf false (decimalOf numberLimit (c ∷ f))))
     go true = signed-bounded true (decimalOf numberLimit f) (decimal-most numberLimit f)
@@ -171,17 +172,17 @@ decimal-more max more f v h e =
     let w : Written max f v = written max f v e in
     decimal-is more f v (record { plain = w .plain; digits = w .digits; is = w .is; most = omega (arith, w .most) })
 
-first-digit : (c : ℕ) (f : List ℕ) → allDigits (c ∷ f) ≡ true → 48 ≤ c
+first-digit : (c : ℕ) (f : List ℕ) → allDigits (c ∷ f) ≡ true → digitZero ≤ c
 unfolding allDigits
-first-digit c f = go (leb 48 c) refl
+first-digit c f = go (leb digitZero c) refl
   where
-    go : (x : Bool) → leb 48 c ≡ x → (x && leb c 57) && allDigits f ≡ true → 48 ≤ c
-    go true a e = leb-true 48 c a
+    go : (x : Bool) → leb digitZero c ≡ x → (x && leb c digitNine) && allDigits f ≡ true → digitZero ≤ c
+    go true a e = leb-true digitZero c a
     go false a e = clash (sym e)
 
 pub decimal-number : (max : ℕ) (f : List ℕ) (v : ℕ) → max ≤ numberLimit → decimalOf max f ≡ decimal.Is v → numberOf f ≡ number.Is (pos v)
 unfolding numberOf
 decimal-number max [] v h e = clash (sym (written max [] v e .plain))
 decimal-number max (c ∷ f) v h e =
-    let d : 48 ≤ c = first-digit c f (written max (c ∷ f) v e .digits) in
-    rw (ne-eqb c 45 (λ (p : c ≡ 45). omega arith), decimal-more max numberLimit (c ∷ f) v h e)
+    let d : digitZero ≤ c = first-digit c f (written max (c ∷ f) v e .digits) in
+    rw (ne-eqb c hyphen (λ (p : c ≡ hyphen). omega arith), decimal-more max numberLimit (c ∷ f) v h e)

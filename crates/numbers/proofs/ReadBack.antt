@@ -9,6 +9,7 @@ use lib.Dec.{eqb}
 use lib.IntN.{ℤ, pos, negsuc, natAbs}
 use Rattle.cells.proofs.Signed.{clash}
 use Rattle.cells.specs.Limits.{numberLimit}
+use Rattle.cells.specs.Characters.{digitZero}
 use Rattle.numbers.specs.Decimal.{isDigit, allDigits, digitsValue, noLeadingZero, decimalOf, numberOf}
 use Rattle.numbers.specs.declared.Decimal.the-variants as read
 use Rattle.numbers.specs.declared.Number.the-variants as number
@@ -17,10 +18,10 @@ use Rattle.numbers.specs.Numerals.{digits, decimal, integer}
 
 -- ---- value and digits, with one digit more
 
-value-behind : (v : ℕ) (f : List ℕ) (c : ℕ) → digitsValue v (f ++ c ∷ []) ≡ 10 * digitsValue v f + (c - 48)
+value-behind : (v : ℕ) (f : List ℕ) (c : ℕ) → digitsValue v (f ++ c ∷ []) ≡ 10 * digitsValue v f + (c - digitZero)
 unfolding digitsValue
 value-behind v [] c = refl
-value-behind v (x ∷ f) c = value-behind (10 * v + (x - 48)) f c
+value-behind v (x ∷ f) c = value-behind (10 * v + (x - digitZero)) f c
 
 all-behind : (f : List ℕ) (c : ℕ) → allDigits f ≡ true → isDigit c ≡ true → allDigits (f ++ c ∷ []) ≡ true
 unfolding allDigits
@@ -37,15 +38,15 @@ digits-right zero n h = (omega arith, refl)
 digits-right (suc k) zero h = (refl, refl)
 digits-right (suc k) (suc n) h =
     let r = digits-right k (suc n / 10) (omega arith) in (
-      value-behind 0 (digits k (suc n / 10)) (48 + suc n % 10) ∙ omega (arith, r .0),
-      all-behind (digits k (suc n / 10)) (48 + suc n % 10) (r .1) (digit-is (48 + suc n % 10) (omega arith) (omega arith)),
+      value-behind 0 (digits k (suc n / 10)) (digitZero + suc n % 10) ∙ omega (arith, r .0),
+      all-behind (digits k (suc n / 10)) (digitZero + suc n % 10) (r .1) (digit-is (digitZero + suc n % 10) (omega arith) (omega arith)),
     )
 
 -- ---- no leading zero
 
 abbrev Leads : List ℕ → Type 0
 Leads [] = ⊥
-Leads (c ∷ f) = c ≡ 48 → ⊥
+Leads (c ∷ f) = c ≡ digitZero → ⊥
 
 leads-behind : (f : List ℕ) (c : ℕ) → Leads f → Leads (f ++ c ∷ [])
 leads-behind [] c h = absurd h
@@ -54,7 +55,7 @@ leads-behind (x ∷ f) c h = h
 leads-plain : (f : List ℕ) → Leads f → noLeadingZero f ≡ true
 leads-plain [] h = absurd h
 leads-plain (c ∷ []) h = refl
-leads-plain (c ∷ d ∷ f) h = rw (ne-eqb c 48 h)
+leads-plain (c ∷ d ∷ f) h = rw (ne-eqb c digitZero h)
 
 digits-zero : (k : ℕ) → digits k 0 ≡ []
 unfolding digits
@@ -67,9 +68,9 @@ digits-lead zero n h g = absurd (omega arith)
 digits-lead (suc k) zero h g = absurd (omega arith)
 digits-lead (suc k) (suc n) h g = go (eqb (suc n / 10) 0) refl (λ p. digits-lead k (suc n / 10) p (omega arith))
   where
-    go : (b : Bool) → eqb (suc n / 10) 0 ≡ b → (0 < suc n / 10 → Leads (digits k (suc n / 10))) → Leads (digits k (suc n / 10) ++ (48 + suc n % 10) ∷ [])
+    go : (b : Bool) → eqb (suc n / 10) 0 ≡ b → (0 < suc n / 10 → Leads (digits k (suc n / 10))) → Leads (digits k (suc n / 10) ++ (digitZero + suc n % 10) ∷ [])
     go true e older = let q = eqb-true (suc n / 10) 0 e in rw (q, digits-zero k) (λ z. omega arith)
-    go false e older = leads-behind (digits k (suc n / 10)) (48 + suc n % 10) (older (omega (arith, eqb-false (suc n / 10) 0 e)))
+    go false e older = leads-behind (digits k (suc n / 10)) (digitZero + suc n % 10) (older (omega (arith, eqb-false (suc n / 10) 0 e)))
 
 -- ---- the whole number
 

@@ -1,8 +1,8 @@
 -- Worked examples, which antt computes.
 use mathlib.Core.Path.{_≡_, refl}
-use mathlib.Core.List.{[], _∷_}
 use Prim.Native.Nat.{ℕ}
 use lib.IntN.{ℤ, pos, negℤ}
+use Rattle.cells.specs.Quoted.{bytesOf}
 use Rattle.numbers.specs.Rounding.{rounded, quotient}
 use Rattle.numbers.specs.Arithmetic.{rangedOf, result, calculated}
 use Rattle.numbers.specs.Decimal.{allDigits, digitsValue, digitsOf, decimalOf, numberOf}
@@ -35,18 +35,17 @@ operations :
 unfolding rounded quotient rangedOf result calculated
 operations = (refl, refl, refl, refl, refl, refl)
 
--- 0, -325, -1000000000 and 1000000000; then -0, 00, -05, +1, 1000000001, 12a and the empty field
 numbers :
-    (numberOf (48 ∷ []) ≡ Is (pos 0))
-    × (numberOf (45 ∷ 51 ∷ 50 ∷ 53 ∷ []) ≡ Is (minus 325))
-    × (numberOf (45 ∷ 49 ∷ 48 ∷ 48 ∷ 48 ∷ 48 ∷ 48 ∷ 48 ∷ 48 ∷ 48 ∷ 48 ∷ []) ≡ Is (minus 1000000000))
-    × (numberOf (49 ∷ 48 ∷ 48 ∷ 48 ∷ 48 ∷ 48 ∷ 48 ∷ 48 ∷ 48 ∷ 48 ∷ []) ≡ Is (pos 1000000000))
-    × (numberOf (45 ∷ 48 ∷ []) ≡ Not)
-    × (numberOf (48 ∷ 48 ∷ []) ≡ Not)
-    × (numberOf (45 ∷ 48 ∷ 53 ∷ []) ≡ Not)
-    × (numberOf (43 ∷ 49 ∷ []) ≡ Not)
-    × (numberOf (49 ∷ 48 ∷ 48 ∷ 48 ∷ 48 ∷ 48 ∷ 48 ∷ 48 ∷ 48 ∷ 49 ∷ []) ≡ Not)
-    × (numberOf (49 ∷ 50 ∷ 97 ∷ []) ≡ Not)
-    × (numberOf [] ≡ Not)
+    (numberOf (bytesOf "0") ≡ Is (pos 0))
+    × (numberOf (bytesOf "-325") ≡ Is (minus 325))
+    × (numberOf (bytesOf "-1000000000") ≡ Is (minus 1000000000))
+    × (numberOf (bytesOf "1000000000") ≡ Is (pos 1000000000))
+    × (numberOf (bytesOf "-0") ≡ Not)
+    × (numberOf (bytesOf "00") ≡ Not)
+    × (numberOf (bytesOf "-05") ≡ Not)
+    × (numberOf (bytesOf "+1") ≡ Not)
+    × (numberOf (bytesOf "1000000001") ≡ Not)
+    × (numberOf (bytesOf "12a") ≡ Not)
+    × (numberOf (bytesOf "") ≡ Not)
 unfolding allDigits digitsValue digitsOf decimalOf numberOf
 numbers = (refl, refl, refl, refl, refl, refl, refl, refl, refl, refl, refl)

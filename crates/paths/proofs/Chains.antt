@@ -17,7 +17,8 @@ use Rattle.cells.specs.Table.{nameStart, nameLength, owner, isDefinition}
 use Rattle.cells.proofs.Scratch.{zero-at}
 use Rattle.text.proofs.Bytes.{true-false, and-left, and-right}
 use Rattle.paths.specs.Names.{nameOf, sameName, isNamed, member}
-use Rattle.paths.specs.Buckets.{Searchable, hashes, hashOf, startOf, Stretch, Allotted, bucketOf, bucketAt, inBucket, lastBelow, LinkedBelow, AllLinked, Fresh, firstIn, Walkable, walkBy, walk}
+use Rattle.paths.specs.Buckets.{Searchable, hashes, hashOf, startOf, Stretch, Allotted, bucketOf, bucketAt, inBucket, lastBelow}
+use Rattle.paths.specs.Buckets.{LinkedBelow, AllLinked, Fresh, firstIn, Walkable, walkBy, walk, linkedMember}
 use Rattle.paths.proofs.SameName.{same-hash, hash-small}
 use Rattle.paths.proofs.LastBelow.{last-hit, last-miss, last-one, last-small, last-passes, none-last, last-skip}
 use Rattle.paths.proofs.Members.{named-parts, member-named, member-last}
@@ -213,7 +214,7 @@ first-go true v m l = omega arith
 first-go false v m l = l
 
 pub walking-start : (s : List ℕ) (t : List ℤ) (w : List ℕ) {starts links : List ℕ} {g x : ℕ} (hash : ℕ) → Walkable starts links g → x ≡ firstIn starts links g hash
-    → Walking s t links w (startOf starts 0) (walk s t links w (firstIn starts links g hash)) x
+    → Walking s t links w (startOf starts 0) (linkedMember s t starts links g hash w) x
 walking-start s t w {starts} {links} {g} {x} hash h e =
     let some = h .heads (bucketOf starts g hash) (omega (arith, h .base)) in
     record {
@@ -290,7 +291,7 @@ module _ {s : List ℕ} {t : List ℤ} {n k : ℕ} {starts links : List ℕ} (ro
         let m = rw (p .owned) at (h .allotted .some y u (omega (arith, h .most)) (p .definition)) in
         omega arith
 
-    pub found-last : walk s t links w (firstIn starts links g (hashOf w)) ≡ lastBelow named k
+    pub found-last : linkedMember s t starts links g (hashOf w) w ≡ lastBelow named k
     found-last = go (eqb (startOf starts g) (startOf starts (g + 1))) refl
       where
         go : (b : Bool) → eqb (startOf starts g) (startOf starts (g + 1)) ≡ b → walk s t links w (cond b 0 (getD links bucket 0)) ≡ lastBelow named k
@@ -322,7 +323,7 @@ module _ {s : List ℕ} {t : List ℤ} {n l : ℕ} {starts links : List ℕ} (ro
   pub own-group : group ≤ n
   own-group = omega (arith, o .owned, rows .falls l low high)
 
-  pub own-found : {found : ℕ} → found ≡ walk s t links (slice from to s) (firstIn starts links group hash) → found ≡ lastBelow (isNamed s t (owner t l) (nameOf s t l)) l
+  pub own-found : {found : ℕ} → found ≡ linkedMember s t starts links group hash (slice from to s) → found ≡ lastBelow (isNamed s t (owner t l) (nameOf s t l)) l
   own-found e =
       e ∙ rw (o .hashed, o .name, o .owned) (found-last rows h low (owner t l) (omega (arith, rows .falls l low high)) (nameOf s t l))
 
@@ -347,15 +348,15 @@ module _ {s : List ℕ} {t : List ℤ} {n : ℕ} {starts links : List ℕ} (rows
   pub linked-room : startOf starts (g + 1) ≤ length links
   linked-room = linked-walkable .room
 
-  pub found-member : (w : List ℕ) → walk s t links w (firstIn starts links g (hashOf w)) ≡ member s t n g w
+  pub found-member : (w : List ℕ) → linkedMember s t starts links g (hashOf w) w ≡ member s t n g w
   found-member w = found-last rows (h .all) (omega arith) g in-table w ∙ member-last s t n (h .apart) g w
 
   pub member-walking : (w : List ℕ) {hash x : ℕ} → hash ≡ hashOf w → x ≡ firstIn starts links g hash → Walking s t links w (startOf starts 0) (member s t n g w) x
   member-walking w e f =
       rw (← (found-member w)) (walking-start s t w (hashOf w) linked-walkable (f ∙ ap (firstIn starts links g) e))
 
-  pub member-is : (w : List ℕ) {hash r : ℕ} → hash ≡ hashOf w → r ≡ walk s t links w (firstIn starts links g hash) → r ≡ member s t n g w
-  member-is w e f = f ∙ ap (λ (h : ℕ). walk s t links w (firstIn starts links g h)) e ∙ found-member w
+  pub member-is : (w : List ℕ) {hash r : ℕ} → hash ≡ hashOf w → r ≡ linkedMember s t starts links g hash w → r ≡ member s t n g w
+  member-is w e f = f ∙ ap (λ (h : ℕ). linkedMember s t starts links g h w) e ∙ found-member w
 
 -- ---- scratch that is all zeros, for n labels below k
 

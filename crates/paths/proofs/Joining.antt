@@ -10,6 +10,7 @@ use lib.ListN.{length}
 use Rattle.kinds.specs.Kinds.{wantedBy}
 use Rattle.cells.specs.Table.{kind, target, withColumn, hasPath}
 use Rattle.cells.proofs.Columns.{column-own, column-same, column-over, column-length}
+use Rattle.refusals.specs.Rows.{targetRow}
 use Rattle.refusals.specs.Refusal.{firstBad}
 use Rattle.refusals.proofs.FirstBad.{first-same}
 use Rattle.paths.specs.Paths.{targetOf, targetCell, laterBad, targetBad, laterRows}
@@ -26,7 +27,8 @@ module _ (s : List ℕ) (t u : List ℤ) (n : ℕ) (e : u ≡ withColumn 7 (targ
   held x h g = rw e (column-own 7 (targetCell s t n) (omega arith) n t x h g room)
 
   wrong-go : (x : ℕ) (h : Bool)
-      → _≡_ {A = ℕ} (cond (h && not (eqb (kind t (cond h (targetOf s t n x) 0)) (wantedBy (kind t x)))) 15 0) (cond (h && not (eqb (kind t (targetOf s t n x)) (wantedBy (kind t x)))) 15 0)
+      → _≡_ {A = ℕ} (cond (h && not (eqb (kind t (cond h (targetOf s t n x) 0)) (wantedBy (kind t x)))) targetRow 0)
+      (cond (h && not (eqb (kind t (targetOf s t n x)) (wantedBy (kind t x)))) targetRow 0)
   wrong-go x true = refl
   wrong-go x false = refl
 

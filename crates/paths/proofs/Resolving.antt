@@ -11,6 +11,7 @@ use lib.Seq.{slice, length-slice}
 use borrow.Author.Tests.{eq-eqb, ne-eqb, eqb-true, ltb-true, ltb-false, lt-ltb, le-ltb, not-false}
 use Rattle.kinds.specs.Kinds.{wantedBy, groupCode}
 use Rattle.kinds.specs.Kinds as kinds
+use Rattle.cells.specs.Characters.{dot}
 use Rattle.cells.specs.Table.{kind, nameStart, nameLength, owner, target, isDefinition, hasPath}
 use Rattle.text.specs.Pieces.{cut}
 use Rattle.text.specs.Scans.{runEnd, run}
@@ -22,7 +23,7 @@ use Rattle.cells.specs.Lists.{orIfZero}
 use Rattle.paths.specs.Paths.{settled, headFrom, descended, namesOf, headOf, duplicateBad}
 use Rattle.paths.specs.TargetCells.{headCell, targetBy, wrongTarget}
 use Rattle.paths.specs.Buckets.{notDot, lastBelow}
-use Rattle.refusals.specs.Rows.{duplicateRow}
+use Rattle.refusals.specs.Rows.{duplicateRow, targetRow}
 use Rattle.paths.proofs.FirstLabel.{first-high}
 use Rattle.paths.proofs.LastBelow.{last-empty}
 
@@ -30,7 +31,7 @@ use Rattle.paths.proofs.LastBelow.{last-empty}
 
 -- the names behind the one that ends at e
 abbrev pub later : List ℕ → ℕ → ℕ → List (List ℕ)
-later s e to = cond (ltb e to) (cut 46 (slice (e + 1) to s)) []
+later s e to = cond (ltb e to) (cut dot (slice (e + 1) to s)) []
 
 module _ (s : List ℕ) (from to : ℕ) (h : from ≤ to) (k : to ≤ length s) where
   abbrev l : List ℕ
@@ -50,20 +51,20 @@ module _ (s : List ℕ) (from to : ℕ) (h : from ≤ to) (k : to ≤ length s) 
   unfolding runEnd
   stop-high = omega (arith, run-le notDot l, long)
 
-  names-go : (b : Bool) → ltb (from + r) to ≡ b → cut 46 l ≡ slice from (from + r) s ∷ cond b (cut 46 (slice (from + r + 1) to s)) []
+  names-go : (b : Bool) → ltb (from + r) to ≡ b → cut dot l ≡ slice from (from + r) s ∷ cond b (cut dot (slice (from + r + 1) to s)) []
   names-go true e =
       let short : from + r < to = ltb-true (from + r) to e in
       let inner : r < length l = omega (arith, long) in
       let x = getD l r 0 in
-      let dot : x ≡ 46 = eqb-true x 46 (not-false (eqb x 46) (run-fails notDot l inner)) in
+      let is-dot : x ≡ dot = eqb-true x dot (not-false (eqb x dot) (run-fails notDot l inner)) in
       let q : from + (r + 1) ≡ from + r + 1 = omega arith in
       let back : drop (r + 1) l ≡ slice (from + r + 1) to s = drop-slice s from to (r + 1) ∙ ap (λ (n : ℕ). slice n to s) q in
-      cut-more notDot 46 l refl inner dot ∙ rw (take-slice from r to s (omega arith), back)
+      cut-more notDot dot l refl inner is-dot ∙ rw (take-slice from r to s (omega arith), back)
   names-go false e =
       let end : from + r ≡ to = omega (arith, ltb-false (from + r) to e, run-le notDot l, long) in
-      cut-last notDot 46 l refl (omega (arith, long)) ∙ rw end
+      cut-last notDot dot l refl (omega (arith, long)) ∙ rw end
 
-  pub names-cut : cut 46 l ≡ slice from (runEnd notDot s from to) s ∷ later s (runEnd notDot s from to) to
+  pub names-cut : cut dot l ≡ slice from (runEnd notDot s from to) s ∷ later s (runEnd notDot s from to) to
   unfolding runEnd
   names-cut = names-go (ltb (from + r) to) refl
 
@@ -170,13 +171,13 @@ module _ (s : List ℕ) (t : List ℤ) (n : ℕ) where
     name-is = rw (start, end)
 
     names-are : namesOf s t label ≡ slice from (runEnd notDot s from to) s ∷ later s (runEnd notDot s from to) to
-    names-are = ap (cut 46) name-is ∙ names-cut s from to (omega arith) inside
+    names-are = ap (cut dot) name-is ∙ names-cut s from to (omega arith) inside
 
     pub head-is : hasPath t label ≡ true → headFrom s t n (slice from (runEnd notDot s from to) s) (owner t (owner t label)) ≡ headCell s t n label
     unfolding headOf
     head-is e = rw (e, names-are)
 
-    pub target-is : (head : ℕ) → hasPath t label ≡ true → descended s t n head (drop 1 (cut 46 (slice from to s))) ≡ targetBy s t n label head
+    pub target-is : (head : ℕ) → hasPath t label ≡ true → descended s t n head (drop 1 (cut dot (slice from to s))) ≡ targetBy s t n label head
     target-is head e = rw (e, name-is)
 
   -- row 12, by the last label before it that has the name in its Group
@@ -191,7 +192,7 @@ module _ (s : List ℕ) (t : List ℤ) (n : ℕ) where
     pub duplicate-none : {x : ℕ} → x ≡ lastBelow named l → x ≡ 0 → 0 ≡ duplicateBad s t l
     duplicate-none {x} e z = sym (duplicate-is ∙ rw (← e, z))
 
-    pub duplicate-some : {x : ℕ} → x ≡ lastBelow named l → (x ≡ 0 → ⊥) → 12 ≡ duplicateBad s t l
+    pub duplicate-some : {x : ℕ} → x ≡ lastBelow named l → (x ≡ 0 → ⊥) → duplicateRow ≡ duplicateBad s t l
     duplicate-some {x} e z = sym (duplicate-is ∙ rw (← e, ne-eqb x 0 z))
 
   pub duplicate-other : (l : ℕ) → isDefinition t l ≡ false → 0 ≡ duplicateBad s t l
@@ -200,13 +201,13 @@ module _ (s : List ℕ) (t : List ℤ) (n : ℕ) where
 
 -- row 15
 module _ (t : List ℤ) (x k found wants : ℕ) (p : k ≡ kind t x) (q : found ≡ kind t (target t x)) (r : wants ≡ wantedBy k) where
-  pub target-wrong : kinds.hasPath k ≡ true → (found ≡ wants → ⊥) → 15 ≡ wrongTarget t x
+  pub target-wrong : kinds.hasPath k ≡ true → (found ≡ wants → ⊥) → targetRow ≡ wrongTarget t x
   target-wrong h f = rw (← p, ← q, ← r, h, ne-eqb found wants f)
 
   pub target-right : found ≡ wants → 0 ≡ wrongTarget t x
   target-right e = rw (← p, ← q, ← r, eq-eqb found wants e) (go (kinds.hasPath k))
     where
-      go : (b : Bool) → _≡_ {A = ℕ} 0 (cond (b && false) 15 0)
+      go : (b : Bool) → _≡_ {A = ℕ} 0 (cond (b && false) targetRow 0)
       go true = refl
       go false = refl
 

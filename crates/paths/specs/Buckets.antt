@@ -8,6 +8,7 @@ use lib.Dec.{eqb}
 use lib.IntN.{ℤ, pos}
 use lib.ListN.{length, getD, set}
 use Rattle.cells.specs.Limits.{labelLimit}
+use Rattle.cells.specs.Characters.{dot}
 use Rattle.cells.specs.Cells.{intAt}
 use Rattle.cells.specs.Table.{kind, nameStart, nameLength, owner, isDefinition}
 use Rattle.paths.specs.Names.{nameOf, sameName}
@@ -15,7 +16,7 @@ use Rattle.paths.specs.Leads.{NamesApart}
 
 -- a byte of a name, in a path: no dot
 abbrev pub notDot : ℕ → Bool
-notDot x = not (eqb x 46)
+notDot x = not (eqb x dot)
 
 -- the name field of label l lies in the text
 abbrev pub NameInText : List ℕ → List ℤ → ℕ → Type 0
@@ -150,3 +151,7 @@ walkBy s t links w (suc f) (suc x) = cond (sameName (nameOf s t (suc x)) w) (suc
 
 abbrev pub walk : List ℕ → List ℤ → List ℕ → List ℕ → ℕ → ℕ
 walk s t links w x = walkBy s t links w x x
+
+-- the member of Group g with the name w, whose hash is handed in; 0 where none is linked
+abbrev pub linkedMember : List ℕ → List ℤ → List ℕ → List ℕ → ℕ → ℕ → List ℕ → ℕ
+linkedMember s t starts links g hash w = walk s t links w (firstIn starts links g hash)

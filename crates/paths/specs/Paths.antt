@@ -6,6 +6,7 @@ use lib.Dec.{eqb}
 use lib.IntN.{ℤ}
 use lib.ListN.{drop}
 use Rattle.kinds.specs.Kinds.{groupCode, wantedBy}
+use Rattle.cells.specs.Characters.{dot}
 use Rattle.cells.specs.Lists.{orIfZero}
 use Rattle.cells.specs.Table.{kind, owner, isDefinition, hasPath}
 use Rattle.refusals.specs.Rows.{duplicateRow, headRow, laterRow, targetRow}
@@ -39,7 +40,7 @@ descended s t n m (w ∷ ws) = descended s t n (below s t n m w) ws
 
 -- the names of the path of an R or C
 abbrev pub namesOf : List ℕ → List ℤ → ℕ → List (List ℕ)
-namesOf s t x = cut 46 (nameOf s t x)
+namesOf s t x = cut dot (nameOf s t x)
 
 -- "The search starts in the Group whose member is the owner": where the head is settled, and where the path ends
 unfoldable pub headOf : List ℕ → List ℤ → ℕ → ℕ → ℕ

@@ -9,6 +9,7 @@ ghost use lib.IntN.{pos};
 ghost use lib.ListN.{length, getD, set, drop};
 ghost use lib.Seq.{slice};
 ghost use Rattle.cells.specs.Limits.{labelLimit};
+ghost use Rattle.cells.specs.Characters.{dot};
 ghost use Rattle.cells.specs.Table.{owner, target, withColumn, isDefinition, hasPath};
 ghost use Rattle.refusals.specs.Refusal.{firstBad};
 ghost use Rattle.text.specs.Pieces.{cut};
@@ -16,7 +17,7 @@ ghost use Rattle.text.specs.Scans.{runEnd};
 ghost use Rattle.paths.specs.Names.{nameOf, sameName, isNamed};
 ghost use Rattle.paths.specs.Buckets.{notDot, NameInText, Searchable, comparedByte, hashOf, hashes};
 ghost use Rattle.paths.specs.Buckets.{startOf, Stretch, Allotted, countedAt, sumTo, MembersCounted, bucketOf};
-ghost use Rattle.paths.specs.Buckets.{lastBelow, LinkedBelow, AllLinked, Fresh, firstIn, Walkable, walk};
+ghost use Rattle.paths.specs.Buckets.{lastBelow, LinkedBelow, AllLinked, Fresh, firstIn, Walkable, linkedMember};
 ghost use Rattle.paths.specs.Paths.{headFrom, descended, targetCell, duplicateBad, pathHeadBad, laterBad, laterRows, headRows, pathsBad};
 ghost use Rattle.paths.specs.TargetCells.{headCell, targetBy, wrongTarget};
 use refusals::Verdict;
@@ -188,7 +189,7 @@ fn member_in(
 ) -> usize
     requires { ⌜ Walkable (now starts) (now links) group × (hash < hashes) ⌝ }
     requires { ⌜ (from ≤ to) × (to ≤ length (now text)) × ((l : ℕ) → NameInText (now text) (now table) l) ⌝ }
-    ensures { λ r. ⌜ r ≡ walk (now (text .entry)) (now (table .entry)) (now (links .entry)) (slice from to (now (text .entry))) (firstIn (now (starts .entry)) (now (links .entry)) group hash) ⌝ }
+    ensures { λ r. ⌜ r ≡ linkedMember (now (text .entry)) (now (table .entry)) (now (starts .entry)) (now (links .entry)) group hash (slice from to (now (text .entry))) ⌝ }
 {
     let mut m = first_in(starts, links, group, hash);
     while m != 0 {
@@ -319,7 +320,7 @@ fn descend(
 ) -> usize
     requires { ⌜ Searchable (now text) (now table) n × AllLinked (now text) (now table) n (now starts) (now links) ⌝ }
     requires { ⌜ (head ≤ n) × (from ≤ to) × (to ≤ length (now text)) ⌝ }
-    ensures { λ r. ⌜ (r ≡ descended (now (text .entry)) (now (table .entry)) n head (drop 1 (cut 46 (slice from to (now (text .entry)))))) × (r ≤ n) ⌝ }
+    ensures { λ r. ⌜ (r ≡ descended (now (text .entry)) (now (table .entry)) n head (drop 1 (cut dot (slice from to (now (text .entry)))))) × (r ≤ n) ⌝ }
 {
     let mut m = head;
     let mut at = name_stop(text, from, to);

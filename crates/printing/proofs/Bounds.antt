@@ -6,7 +6,8 @@ use Prim.Native.Nat.{ℕ, _+_, _-_, _*_, _≤_}
 use native.Mathlib.Omega.{arith}
 use lib.IntN.{ℤ, natAbs}
 use lib.ListN.{length, take, length-append, length-take, length-drop}
-use Rattle.cells.specs.Limits.{labelLimit, numberLimit}
+use Rattle.cells.specs.Limits.{labelLimit, numberLimit, nameLimit}
+use Rattle.cells.specs.Characters.{newline, space}
 use Rattle.kinds.specs.Kinds.{valueCode}
 use Rattle.cells.specs.Table.{kind, nameStart, nameLength}
 use Rattle.cells.specs.Accepted.{Accepted}
@@ -21,8 +22,9 @@ use Rattle.refusals.specs.declared.Verdict.the-variants.{Fine}
 use Rattle.reading.specs.Read.{sheetTable, tableOf}
 use Rattle.reading.proofs.Padding.{cell-padded}
 use Rattle.reading.proofs.Accepted.{read-accepted, read-short}
+use Rattle.evaluation.specs.States.{lastState}
 use Rattle.evaluation.specs.Results.{stateAt, numberAt, stepsAt, stored}
-use Rattle.evaluation.specs.Evaluation.{valueOutcome, evaluated}
+use Rattle.evaluation.specs.Evaluation.{valueOutcome, evaluated, stepLimit}
 use Rattle.evaluation.specs.declared.Value.{Value}
 use Rattle.evaluation.proofs.Range.{Good, value-recorded}
 use Rattle.figures.specs.Figures.{resultCells}
@@ -45,10 +47,10 @@ use Rattle.printing.proofs.Runs.{run-fine, reads, results-fit, table-is
 -- what stands in its line
 record Short (t r : List ℤ) (v : ℕ) : Type 0 where
   label : v ≤ labelLimit
-  name : nameLength t v ≤ 16
-  state : stateAt r v ≤ 5
+  name : nameLength t v ≤ nameLimit
+  state : stateAt r v ≤ lastState
   number : natAbs (numberAt r v) ≤ numberLimit
-  steps : stepsAt r v ≤ 20000
+  steps : stepsAt r v ≤ stepLimit
 
 name-length : (s : List ℕ) (t : List ℤ) (v : ℕ) → length (nameField s t v) ≤ nameLength t v
 name-length s t v =
@@ -62,12 +64,12 @@ field-length f k l a b h g = omega (arith, length-append f (k ∷ l))
 line-length : (s : List ℕ) (t r : List ℤ) (word : List ℕ) (v : ℕ) → length word ≤ 5 → Short t r v → length (valueLine s t r word v) ≤ 48
 unfolding valueLine
 line-length s t r word v w h =
-    field-length (decimal v) 32 _ 4 43 (decimal-length 3 v (omega (arith, h .label)))
-    (field-length (nameField s t v) 32 _ 16 26 (omega (arith, name-length s t v, h .name))
-    (field-length word 32 _ 5 20 w
-    (field-length (decimal (stateAt r v)) 32 _ 1 18 (decimal-length 0 (stateAt r v) (omega (arith, h .state)))
-    (field-length (integer (numberAt r v)) 32 _ 11 6 (integer-length 9 (numberAt r v) (omega (arith, h .number)))
-    (field-length (decimal (stepsAt r v)) 10 [] 5 0 (decimal-length 4 (stepsAt r v) (omega (arith, h .steps))) (omega arith))))))
+    field-length (decimal v) space _ 4 43 (decimal-length 3 v (omega (arith, h .label)))
+    (field-length (nameField s t v) space _ nameLimit 26 (omega (arith, name-length s t v, h .name))
+    (field-length word space _ 5 20 w
+    (field-length (decimal (stateAt r v)) space _ 1 18 (decimal-length 0 (stateAt r v) (omega (arith, h .state)))
+    (field-length (integer (numberAt r v)) space _ 11 6 (integer-length 9 (numberAt r v) (omega (arith, h .number)))
+    (field-length (decimal (stepsAt r v)) newline [] 5 0 (decimal-length 4 (stepsAt r v) (omega (arith, h .steps))) (omega arith))))))
 
 lines-length : (s : List ℕ) (t r : List ℤ) (word l : List ℕ) → length word ≤ 5 → ((v : ℕ) → v ∈ l → Short t r v) → length (valueLines s t r word l) ≤ 48 * length l
 unfolding valueLines
@@ -90,7 +92,7 @@ module _ (t : List ℤ) (n m : ℕ) (ok : Accepted t n) (nc : NoCycle t) (fit : 
   value-good v k = value-recorded t (resultCells t n m) n ok v k (λ x j _. figures-recorded t n ok nc m fit x j)
 
   -- its name is in a table w
-  value-short : (w : List ℤ) (v : ℕ) → kind t v ≡ valueCode → nameLength w v ≤ 16 → Short w (resultCells t n m) v
+  value-short : (w : List ℤ) (v : ℕ) → kind t v ≡ valueCode → nameLength w v ≤ nameLimit → Short w (resultCells t n m) v
   value-short w v k h =
       let e = value-is v k in
       let g = value-good v k in
@@ -120,7 +122,7 @@ module _ (s : List ℕ) (m p q : ℕ) (a : isAnswer (runReply s m p q) ≡ true)
   all-short v i =
       let o = plan-proper s m p q a in
       let k = listed-value o v i in
-      let name : nameLength (tableOf Fine s m) v ≤ 16 =
+      let name : nameLength (tableOf Fine s m) v ≤ nameLimit =
       rw (cell-padded (sheetTable s) (m - 8 * labels s) v 2) (read-short s (reads s m p q a) v k) in
       rw (table-is s m p q a, results-are)
       (value-short (sheetTable s) (labels s) q ok (proper-no-cycle o) (results-fit s m p q a) (tableOf Fine s m) v k name)
@@ -147,8 +149,8 @@ refusal-length row place h g =
     omega (
       arith,
       length-append refusalLine (lineOf (decimal row ∷ decimal place ∷ [])),
-      field-length (decimal row) 32 (decimal place ++ 10 ∷ []) 20 21 (decimal-length 19 row (omega arith))
-          (field-length (decimal place) 10 [] 20 0 (decimal-length 19 place (omega arith)) (omega arith)),
+      field-length (decimal row) space (decimal place ++ newline ∷ []) 20 21 (decimal-length 19 row (omega arith))
+          (field-length (decimal place) newline [] 20 0 (decimal-length 19 place (omega arith)) (omega arith)),
     )
 
 -- ---- any print, by Run's reply x, whose numbers have 64 bits

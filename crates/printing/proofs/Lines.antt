@@ -11,7 +11,7 @@ use lib.Seq.{slice, take-nil, take-suc}
 use Rattle.cells.specs.Cells.{natOf, intAt, natAt}
 use Rattle.order.specs.Following.{labelsOf}
 use Rattle.evaluation.specs.Results.{stateAt, numberAt, stepsAt}
-use Rattle.printing.specs.Print.{valueLine, valueLines}
+use Rattle.printing.specs.Print.{valueLine, valueLines, planLines}
 use Rattle.printing.specs.Writing.{resultAt}
 
 -- ---- the results of a label
@@ -58,11 +58,11 @@ module _ (s : List ℕ) (t r : List ℤ) (word : List ℕ) where
   labels-behind [] z = refl
   labels-behind (x ∷ p) z = ap (λ (y : List ℕ). natOf x ∷ y) (labels-behind p z)
 
-  pub lines-none : (p : List ℤ) → valueLines s t r word (labelsOf (take 0 p)) ≡ []
+  pub lines-none : (p : List ℤ) → planLines s t p 0 r word ≡ []
   unfolding valueLines
   lines-none p = refl
 
   pub one-line-more : (p : List ℤ) (i l : ℕ) → i < length p → l ≡ natAt p i
-      → valueLines s t r word (labelsOf (take (i + 1) p)) ≡ valueLines s t r word (labelsOf (take i p)) ++ valueLine s t r word l
+      → planLines s t p (i + 1) r word ≡ planLines s t p i r word ++ valueLine s t r word l
   one-line-more p i l h e =
       rw (add-one i, take-suc p i (pos 0) h, labels-behind (take i p) (intAt p i), ← e) (lines-behind (labelsOf (take i p)) l)

@@ -10,6 +10,7 @@ use lib.IntN.{ℤ, pos}
 use lib.ListN.{length, take, length-append, length-map}
 use Rattle.cells.specs.Limits.{labelLimit}
 use Rattle.cells.specs.Cells.{zeros}
+use Rattle.refusals.specs.Rows.{buffersRow}
 use Rattle.refusals.specs.Refusal.{orElse}
 use Rattle.refusals.specs.declared.Verdict.{Verdict}
 use Rattle.refusals.specs.declared.Verdict.the-variants.{Fine, Refused}
@@ -43,7 +44,7 @@ results-long : (s : List ℕ) (q : ℕ) → resultsShort s q ≡ Fine → 3 * la
 unfolding resultsShort
 results-long s q e = go (leb (3 * labels s) q) refl e
   where
-    go : (b : Bool) → leb (3 * labels s) q ≡ b → cond b Fine (Refused 4 3) ≡ Fine → 3 * labels s ≤ q
+    go : (b : Bool) → leb (3 * labels s) q ≡ b → cond b Fine (Refused buffersRow 3) ≡ Fine → 3 * labels s ≤ q
     go true f g = leb-true (3 * labels s) q f
     go false f g = let z : _≡_ {A = ℕ} 0 1 = cc in absurd (omega arith)
 

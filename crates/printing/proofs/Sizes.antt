@@ -6,6 +6,7 @@ use Prim.Native.Nat.{ℕ, zero, suc, _+_, _*_, _/_, _%_, _≤_, _<_, _^_}
 use native.Mathlib.Omega.{arith}
 use lib.IntN.{ℤ, pos, negsuc, natAbs, _+ℤ_, +ℤ-one}
 use lib.Signed.{mag}
+use Rattle.cells.specs.Characters.{hyphen, digitZero}
 use Rattle.cells.specs.Cells.{isNegative}
 use Rattle.cells.proofs.Signed.{clash}
 use lib.ListN.{length, length-append}
@@ -22,7 +23,7 @@ next-small (pos n) e h = clash (sym e)
 next-small (negsuc zero) e h = omega arith
 next-small (negsuc (suc n)) e h = rw (+ℤ-one (negsuc (suc n))) h
 
-pub integer-negative : (x : ℤ) → isNegative x ≡ true → integer x ≡ 45 ∷ decimal (natAbs x)
+pub integer-negative : (x : ℤ) → isNegative x ≡ true → integer x ≡ hyphen ∷ decimal (natAbs x)
 integer-negative (pos n) e = clash (sym e)
 integer-negative (negsuc n) e = refl
 
@@ -42,7 +43,7 @@ digits-length (suc k) zero h = rw digits-none (omega arith)
 digits-length (suc k) (suc n) h =
     let d = suc n in
     rw (digits-last d (omega arith))
-    (omega (arith, length-append (digits (d / 10) (d / 10)) ((48 + d % 10) ∷ []), digits-length k (d / 10) (omega arith)))
+    (omega (arith, length-append (digits (d / 10) (d / 10)) ((digitZero + d % 10) ∷ []), digits-length k (d / 10) (omega arith)))
 
 pub decimal-length : (k n : ℕ) → n < tenTo (suc k) → length (decimal n) ≤ suc k
 decimal-length k zero h = rw decimal-zero (omega arith)

@@ -1,4 +1,4 @@
--- Document 01's "Program and its print", in bytes: 10 ends a line, 32 stands between fields.
+-- Document 01's "Program and its print", in bytes.
 use mathlib.Core.Path.{_≡_}
 use mathlib.Core.List.{List, [], _∷_, _++_}
 use Prim.Native.Nat.{ℕ, _+_, _-_, _*_, _≤_}
@@ -6,8 +6,9 @@ use lib.IntN.{ℤ}
 use lib.ListN.{length, take, replicate}
 use lib.Seq.{slice}
 use Rattle.cells.specs.Limits.{labelLimit}
+use Rattle.cells.specs.Characters.{newline, space}
+use Rattle.cells.specs.Quoted.{bytesOf}
 use Rattle.cells.specs.Table.{nameStart, nameLength}
-use Rattle.text.specs.Quoted.{bytesOf}
 use Rattle.order.specs.Following.{labelsOf}
 use Rattle.evaluation.specs.Results.{stateAt, numberAt, stepsAt}
 use Rattle.calls.specs.Plan.{planRefusal, planPlace}
@@ -21,9 +22,9 @@ use Rattle.printing.specs.declared.Printed.{Printed}
 
 -- a line of fields, of which a print's lines have one or more
 abbrev pub lineOf : List (List ℕ) → List ℕ
-lineOf [] = 10 ∷ []
-lineOf (f ∷ []) = f ++ 10 ∷ []
-lineOf (f ∷ g ∷ fs) = f ++ 32 ∷ lineOf (g ∷ fs)
+lineOf [] = newline ∷ []
+lineOf (f ∷ []) = f ++ newline ∷ []
+lineOf (f ∷ g ∷ fs) = f ++ space ∷ lineOf (g ∷ fs)
 
 -- the line of column names
 unfoldable pub columnsLine : List ℕ
@@ -60,9 +61,13 @@ valueLines s t r word (l ∷ ls) = valueLine s t r word l ++ valueLines s t r wo
 
 -- ---- the print
 
--- "one line of column names, then one line per value in plan order": the first k cells of the plan p
+-- "one line per value in plan order": the first k cells of the plan p
+abbrev pub planLines : List ℕ → List ℤ → List ℤ → ℕ → List ℤ → List ℕ → List ℕ
+planLines s t p k r word = valueLines s t r word (labelsOf (take k p))
+
+-- "one line of column names", then these
 abbrev pub answerPrint : List ℕ → List ℤ → List ℤ → ℕ → List ℤ → List ℕ → List ℕ
-answerPrint s t p k r word = columnsLine ++ valueLines s t r word (labelsOf (take k p))
+answerPrint s t p k r word = columnsLine ++ planLines s t p k r word
 
 -- "A refusal prints `refusal place` and one line of the two numbers"
 abbrev pub refusalPrint : ℕ → ℕ → List ℕ

@@ -3,12 +3,12 @@
 ghost use mathlib.Core.Path.{_≡_};
 ghost use mathlib.Core.List.{[], _∷_, _++_};
 ghost use Prim.Native.Nat.{_+_, _-_, _≤_, _<_, min};
-ghost use lib.ListN.{length, take};
+ghost use lib.ListN.{length};
 ghost use lib.IntN.{natAbs};
+ghost use Rattle.cells.specs.Characters.{space};
 ghost use Rattle.cells.specs.Cells.{natOf};
-ghost use Rattle.order.specs.Following.{labelsOf};
 ghost use Rattle.numbers.specs.Numerals.{digits, decimal, integer};
-ghost use Rattle.printing.specs.Print.{lineOf, nameField, resultFields, valueLine, valueLines, answerPrint, refusalPrint, zeroBytes, PrintLeaves};
+ghost use Rattle.printing.specs.Print.{lineOf, nameField, resultFields, valueLine, planLines, answerPrint, refusalPrint, zeroBytes, PrintLeaves};
 ghost use Rattle.printing.specs.Writing.{lastIndex, Wrote, NamesIn, resultAt, PrintWritten};
 use calls::PlanReply;
 
@@ -159,7 +159,7 @@ fn put_results(results: &[i64], label: usize, out: &mut [u8], at: usize) -> usiz
 // The label's name, from the text.
 fn put_name(text: &[u8], table: &[i64], label: usize, out: &mut [u8], at: usize) -> usize
     requires { ⌜ NamesIn (now text) (now table) ⌝ }
-    ensures { λ r. ⌜ Wrote (now (out .entry)) at (nameField (now (text .entry)) (now (table .entry)) label ++ (32 ∷ [])) (now (out .exit)) r ⌝ }
+    ensures { λ r. ⌜ Wrote (now (out .entry)) at (nameField (now (text .entry)) (now (table .entry)) label ++ (space ∷ [])) (now (out .exit)) r ⌝ }
 {
     let start = cells::cell_at(table, label, cells::NAME_START);
     let end = start + cells::cell_at(table, label, cells::NAME_LENGTH);
@@ -199,7 +199,7 @@ fn put_lines(
     at: usize,
 ) -> usize
     requires { ⌜ (count ≤ length (now plan)) × NamesIn (now text) (now table) ⌝ }
-    ensures { λ r. ⌜ Wrote (now (out .entry)) at (valueLines (now (text .entry)) (now (table .entry)) (now (results .entry)) (now (word .entry)) (labelsOf (take count (now (plan .entry))))) (now (out .exit)) r ⌝ }
+    ensures { λ r. ⌜ Wrote (now (out .entry)) at (planLines (now (text .entry)) (now (table .entry)) (now (plan .entry)) count (now (results .entry)) (now (word .entry))) (now (out .exit)) r ⌝ }
 {
     let mut end = at;
     let mut i = 0;

@@ -9,11 +9,13 @@ use lib.IntN.{ℤ}
 use lib.ListN.{length, getD}
 use borrow.Author.Tests.{leb-true, le-leb, lt-ltb, le-ltb, eqb-true, eqb-false, eq-eqb, ne-eqb}
 use Rattle.cells.specs.Limits.{labelLimit, sizeLimit, levelLimit}
+use Rattle.cells.specs.Characters.{newline, space}
 use Rattle.kinds.specs.Kinds.{groupCode, fieldsAt, takes, argumentPlace}
 use Rattle.kinds.proofs.Laws.{not-expression}
 use Rattle.kinds.proofs.Codes.{other-place}
 use Rattle.cells.specs.Lists.{count, all}
 use Rattle.cells.specs.Table.{kind, isDefinition, isExpression, fieldA}
+use Rattle.refusals.specs.Rows.{formRow}
 use Rattle.refusals.specs.declared.Verdict.the-variants.{Fine}
 use Rattle.refusals.proofs.FirstBad.{first-none, none-first}
 use Rattle.text.specs.Bytes.{same}
@@ -49,7 +51,7 @@ text-kept s e =
 kept-text : (s : List ℕ) → TextKept s → headBad s ≡ Fine
 unfolding headBad isText firstLine
 kept-text s k =
-    let ends = eq-eqb (getD s (length s - 1) 0) 10 (k .ends) in
+    let ends = eq-eqb (getD s (length s - 1) 0) newline (k .ends) in
     rw (le-leb 1 (length s) (k .some), le-leb (length s) sizeLimit (k .size), ends, k .allowed, k .first, le-leb 1 (labels s) (k .low), le-leb (labels s) labelLimit (k .high))
 
 -- ---- the lines
@@ -66,10 +68,10 @@ module _ (s : List ℕ) (n l : ℕ) where
   kept-line : 1 ≤ l → LineKept s n l → lineCheck s n l ≡ 0
   unfolding lineBad rootLine
   kept-line low k =
-      rw (k .five, ne-eqb (kindCode (field (cut 32 (line s l)) 0)) 0 (λ z. omega (arith, k .known))) (go (eqb l 1) refl)
+      rw (k .five, ne-eqb (kindCode (field (cut space (line s l)) 0)) 0 (λ z. omega (arith, k .known))) (go (eqb l 1) refl)
     where
       go : (b : Bool) → eqb l 1 ≡ b
-          → _≡_ {A = ℕ} (cond (cond b (same (line s l) rootLine) (formsRight n (fieldsAt (kindCode (field (cut 32 (line s l)) 0))) (cut 32 (line s l)))) 0 7) 0
+          → _≡_ {A = ℕ} (cond (cond b (same (line s l) rootLine) (formsRight n (fieldsAt (kindCode (field (cut space (line s l)) 0))) (cut space (line s l)))) 0 formRow) 0
       go true e = rw (k .root (eqb-true l 1 e))
       go false e = rw (k .forms (omega (arith, eqb-false l 1 e)))
 
@@ -137,7 +139,7 @@ module _ (t : List ℤ) (n : ℕ) (s : Formed t n) where
     kept-level : (x : ℕ) → levelBad t n x ≡ 0
     kept-level x = rw (le-ltb levelLimit (levelOf t n x) (go (isExpression t x) refl))
       where
-        go : (b : Bool) → isExpression t x ≡ b → levelOf t n x ≤ 32
+        go : (b : Bool) → isExpression t x ≡ b → levelOf t n x ≤ levelLimit
         go true e = k .level x (levelOf t n x) (levelled t n used x e)
         go false e = omega (arith, level-own t n x e)
 

@@ -6,6 +6,7 @@ use Prim.Native.Nat.{ℕ, _≤_, _<_}
 use lib.IntN.{ℤ}
 use lib.ListN.{length}
 use Rattle.cells.specs.Limits.{labelLimit, sizeLimit, levelLimit}
+use Rattle.cells.specs.Characters.{space}
 use Rattle.kinds.specs.Kinds.{groupCode, fieldsAt, takes, argumentPlace}
 use Rattle.cells.specs.Table.{kind, isDefinition, isExpression, fieldA}
 use Rattle.text.specs.Bytes.{all, isAllowed, endsLines}
@@ -32,13 +33,13 @@ pub record TextKept (s : List ℕ) : Type 0 where
 -- the line of label l, in a sheet of n labels
 pub record LineKept (s : List ℕ) (n l : ℕ) : Type 0 where
   -- "five non-empty fields in that order, one space between fields"
-  pub five : fieldsAre 5 (cut 32 (line s l)) ≡ true
+  pub five : fieldsAre 5 (cut space (line s l)) ≡ true
   -- the first names a kind of the table
-  pub known : 1 ≤ kindCode (field (cut 32 (line s l)) 0)
+  pub known : 1 ≤ kindCode (field (cut space (line s l)) 0)
   -- "Label 1 is always `G - 0 - -`, the outermost Group"
   pub root : l ≡ 1 → line s l ≡ rootLine
   -- "Which fields a kind has is one fixed table of twelve rows; a field not listed is `-`"
-  pub forms : 2 ≤ l → formsRight n (fieldsAt (kindCode (field (cut 32 (line s l)) 0))) (cut 32 (line s l)) ≡ true
+  pub forms : 2 ≤ l → formsRight n (fieldsAt (kindCode (field (cut space (line s l)) 0))) (cut space (line s l)) ≡ true
 
 -- the lines as a table t of n labels
 pub record TreeKept (t : List ℤ) (n : ℕ) : Type 0 where

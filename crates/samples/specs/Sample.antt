@@ -7,11 +7,11 @@ use lib.IntN.{ℤ, pos}
 use lib.Dec.{eqb}
 use lib.ListN.{length}
 use Rattle.kinds.specs.Kinds.{groupCode, valueCode, functionCode, wantedBy}
+use Rattle.cells.specs.Quoted.{bytesOf, textOf}
 use Rattle.cells.specs.Cells.{zeros}
 use Rattle.cells.specs.Table.{kind, owner, target}
 use Rattle.refusals.specs.declared.Reply.{Reply}
 use Rattle.refusals.specs.declared.Reply.the-variants.{Answered, Refused}
-use Rattle.text.specs.Quoted.{bytesOf, textOf}
 use Rattle.lines.specs.Lines.{labels}
 use Rattle.evaluation.specs.Results.{store}
 use Rattle.reading.specs.Read.{readReply, readTable}

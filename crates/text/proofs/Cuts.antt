@@ -10,6 +10,7 @@ use lib.Dec.{eqb}
 use lib.ListN.{length, getD, drop, take}
 use lib.Seq.{getD-drop, drop-drop}
 use borrow.Author.Tests.{eq-eqb, ne-eqb}
+use Rattle.cells.specs.Characters.{newline, space}
 use Rattle.text.specs.Bytes.{one, countBy, isNewline}
 use Rattle.text.specs.Scans.{run, oneMore, isGraphic}
 use Rattle.text.specs.Pieces.{cut, cutAt, onto, pieceStart, firstOf, fieldsAre}
@@ -63,47 +64,47 @@ first-onto x [] = refl
 first-onto x (p ∷ ps) = refl
 
 abbrev fieldsOf : List ℕ → List (List ℕ)
-fieldsOf l = cut 32 (firstOf (cut 10 l))
+fieldsOf l = cut space (firstOf (cut newline l))
 
 space-go : (x : ℕ) (xs : List ℕ)
-    → (run isGraphic xs < length xs → getD xs (run isGraphic xs) 0 ≡ 32 → fieldsOf xs ≡ take (run isGraphic xs) xs ∷ fieldsOf (drop (suc (run isGraphic xs)) xs))
-    → (t : Bool) → isGraphic x ≡ t → oneMore t (run isGraphic xs) < suc (length xs) → getD (x ∷ xs) (oneMore t (run isGraphic xs)) 0 ≡ 32
+    → (run isGraphic xs < length xs → getD xs (run isGraphic xs) 0 ≡ space → fieldsOf xs ≡ take (run isGraphic xs) xs ∷ fieldsOf (drop (suc (run isGraphic xs)) xs))
+    → (t : Bool) → isGraphic x ≡ t → oneMore t (run isGraphic xs) < suc (length xs) → getD (x ∷ xs) (oneMore t (run isGraphic xs)) 0 ≡ space
     → fieldsOf (x ∷ xs) ≡ take (oneMore t (run isGraphic xs)) (x ∷ xs) ∷ fieldsOf (drop (suc (oneMore t (run isGraphic xs))) (x ∷ xs))
 space-go x xs rest true e h g =
-    rw (differs isGraphic x 10 e refl, first-onto x (cut 10 xs), differs isGraphic x 32 e refl, rest (le-of-suc-le-suc h) g)
+    rw (differs isGraphic x newline e refl, first-onto x (cut newline xs), differs isGraphic x space e refl, rest (le-of-suc-le-suc h) g)
 space-go x xs rest false e h g =
-    rw (ne-eqb x 10 (λ q. omega arith), first-onto x (cut 10 xs), eq-eqb x 32 g)
+    rw (ne-eqb x newline (λ q. omega arith), first-onto x (cut newline xs), eq-eqb x space g)
 
-space-suc : (l : List ℕ) → run isGraphic l < length l → getD l (run isGraphic l) 0 ≡ 32
+space-suc : (l : List ℕ) → run isGraphic l < length l → getD l (run isGraphic l) 0 ≡ space
     → fieldsOf l ≡ take (run isGraphic l) l ∷ fieldsOf (drop (suc (run isGraphic l)) l)
 space-suc [] h g = absurd (not-suc-le-zero h)
 space-suc (x ∷ xs) h g = space-go x xs (space-suc xs) (isGraphic x) refl h g
 
-pub fields-space : (l : List ℕ) → run isGraphic l < length l → getD l (run isGraphic l) 0 ≡ 32
-    → cut 32 (firstOf (cut 10 l)) ≡ take (run isGraphic l) l ∷ cut 32 (firstOf (cut 10 (drop (run isGraphic l + 1) l)))
+pub fields-space : (l : List ℕ) → run isGraphic l < length l → getD l (run isGraphic l) 0 ≡ space
+    → cut space (firstOf (cut newline l)) ≡ take (run isGraphic l) l ∷ cut space (firstOf (cut newline (drop (run isGraphic l + 1) l)))
 fields-space l h g = rw add-one (space-suc l h g)
 
-pub fields-newline : (l : List ℕ) → run isGraphic l < length l → getD l (run isGraphic l) 0 ≡ 10
-    → cut 32 (firstOf (cut 10 l)) ≡ take (run isGraphic l) l ∷ []
-fields-newline l h g = rw (cut-more isGraphic 10 l refl h g) (cut-last isGraphic 32 (take (run isGraphic l) l) refl (take-run isGraphic l))
+pub fields-newline : (l : List ℕ) → run isGraphic l < length l → getD l (run isGraphic l) 0 ≡ newline
+    → cut space (firstOf (cut newline l)) ≡ take (run isGraphic l) l ∷ []
+fields-newline l h g = rw (cut-more isGraphic newline l refl h g) (cut-last isGraphic space (take (run isGraphic l) l) refl (take-run isGraphic l))
 
 -- the line that begins the list, where its first field is ended by a space: the line after that field is q
 line-go : (x : ℕ) (xs q : List ℕ) (ps : List (List ℕ))
-    → (run isGraphic xs < length xs → getD xs (run isGraphic xs) 0 ≡ 32 → cut 10 (drop (suc (run isGraphic xs)) xs) ≡ q ∷ ps
-    → cut 10 xs ≡ (take (suc (run isGraphic xs)) xs ++ q) ∷ ps)
-    → (t : Bool) → isGraphic x ≡ t → oneMore t (run isGraphic xs) < suc (length xs) → getD (x ∷ xs) (oneMore t (run isGraphic xs)) 0 ≡ 32
-    → cut 10 (drop (suc (oneMore t (run isGraphic xs))) (x ∷ xs)) ≡ q ∷ ps
-    → cut 10 (x ∷ xs) ≡ (take (suc (oneMore t (run isGraphic xs))) (x ∷ xs) ++ q) ∷ ps
-line-go x xs q ps rest true e h g d = rw (differs isGraphic x 10 e refl, rest (le-of-suc-le-suc h) g d)
-line-go x xs q ps rest false e h g d = rw (ne-eqb x 10 (λ z. omega arith), d)
+    → (run isGraphic xs < length xs → getD xs (run isGraphic xs) 0 ≡ space → cut newline (drop (suc (run isGraphic xs)) xs) ≡ q ∷ ps
+    → cut newline xs ≡ (take (suc (run isGraphic xs)) xs ++ q) ∷ ps)
+    → (t : Bool) → isGraphic x ≡ t → oneMore t (run isGraphic xs) < suc (length xs) → getD (x ∷ xs) (oneMore t (run isGraphic xs)) 0 ≡ space
+    → cut newline (drop (suc (oneMore t (run isGraphic xs))) (x ∷ xs)) ≡ q ∷ ps
+    → cut newline (x ∷ xs) ≡ (take (suc (oneMore t (run isGraphic xs))) (x ∷ xs) ++ q) ∷ ps
+line-go x xs q ps rest true e h g d = rw (differs isGraphic x newline e refl, rest (le-of-suc-le-suc h) g d)
+line-go x xs q ps rest false e h g d = rw (ne-eqb x newline (λ z. omega arith), d)
 
-line-suc : (l q : List ℕ) (ps : List (List ℕ)) → run isGraphic l < length l → getD l (run isGraphic l) 0 ≡ 32
-    → cut 10 (drop (suc (run isGraphic l)) l) ≡ q ∷ ps → cut 10 l ≡ (take (suc (run isGraphic l)) l ++ q) ∷ ps
+line-suc : (l q : List ℕ) (ps : List (List ℕ)) → run isGraphic l < length l → getD l (run isGraphic l) 0 ≡ space
+    → cut newline (drop (suc (run isGraphic l)) l) ≡ q ∷ ps → cut newline l ≡ (take (suc (run isGraphic l)) l ++ q) ∷ ps
 line-suc [] q ps h g d = absurd (not-suc-le-zero h)
 line-suc (x ∷ xs) q ps h g d = line-go x xs q ps (line-suc xs q ps) (isGraphic x) refl h g d
 
-pub line-space : (l q : List ℕ) (ps : List (List ℕ)) → run isGraphic l < length l → getD l (run isGraphic l) 0 ≡ 32
-    → cut 10 (drop (run isGraphic l + 1) l) ≡ q ∷ ps → cut 10 l ≡ (take (run isGraphic l + 1) l ++ q) ∷ ps
+pub line-space : (l q : List ℕ) (ps : List (List ℕ)) → run isGraphic l < length l → getD l (run isGraphic l) 0 ≡ space
+    → cut newline (drop (run isGraphic l + 1) l) ≡ q ∷ ps → cut newline l ≡ (take (run isGraphic l + 1) l ++ q) ∷ ps
 line-space l q ps h g d = rw add-one (line-suc l q ps h g (rw add-one at d))
 
 -- ---- pieces by their number
@@ -125,13 +126,13 @@ length-onto x b xs = go (cut b xs) (some b xs)
     go (p ∷ ps) h = refl
 
 -- one piece more than separators
-pub pieces : (s : List ℕ) → length (cut 10 s) ≡ suc (countBy isNewline s)
+pub pieces : (s : List ℕ) → length (cut newline s) ≡ suc (countBy isNewline s)
 pieces [] = refl
-pieces (x ∷ xs) = go (eqb x 10) (pieces xs)
+pieces (x ∷ xs) = go (eqb x newline) (pieces xs)
   where
-    go : (t : Bool) → length (cut 10 xs) ≡ suc (countBy isNewline xs) → length (cutAt t x (cut 10 xs)) ≡ suc (one t + countBy isNewline xs)
+    go : (t : Bool) → length (cut newline xs) ≡ suc (countBy isNewline xs) → length (cutAt t x (cut newline xs)) ≡ suc (one t + countBy isNewline xs)
     go true e = omega arith
-    go false e = omega (arith, length-onto x 10 xs)
+    go false e = omega (arith, length-onto x newline xs)
 
 pub place-zero : (ps : List (List ℕ)) → pieceStart ps 0 ≡ 0
 place-zero [] = refl

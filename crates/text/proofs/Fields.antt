@@ -9,6 +9,7 @@ use lib.Dec.{eqb, ltb, leb}
 use lib.ListN.{length, getD, drop, take, take-append-drop}
 use lib.Seq.{slice, length-slice}
 use borrow.Author.Tests.{eq-eqb, ne-eqb, eqb-true, eqb-false, leb-true, ltb-true, ltb-false, lt-ltb, le-ltb, not-false}
+use Rattle.cells.specs.Characters.{newline, space, lastPrintable}
 use Rattle.text.specs.Bytes.{all, isAllowed, endsLines}
 use Rattle.text.specs.Pieces.{cut, firstOf, fieldsAre}
 use Rattle.text.specs.Scans.{runEnd, fieldEnd, run, isGraphic, rest, fieldsFrom}
@@ -29,14 +30,14 @@ pub record Spaced (s : List ℕ) (from e : ℕ) : Type 0 where
   pub wide : from < e
   pub inside : e + 1 < length s
   pub fields : fieldsFrom s from ≡ slice from e s ∷ fieldsFrom s (e + 1)
-  pub line : (t : ℕ) (ps : List (List ℕ)) → e + 1 ≤ t → cut 10 (rest s (e + 1)) ≡ slice (e + 1) t s ∷ ps → cut 10 (rest s from) ≡ slice from t s ∷ ps
+  pub line : (t : ℕ) (ps : List (List ℕ)) → e + 1 ≤ t → cut newline (rest s (e + 1)) ≡ slice (e + 1) t s ∷ ps → cut newline (rest s from) ≡ slice from t s ∷ ps
 
 -- a field that the end of its line ends
 pub record Last (s : List ℕ) (from e : ℕ) : Type 0 where
   pub wide : from < e
   pub inside : e < length s
   pub fields : fieldsFrom s from ≡ slice from e s ∷ []
-  pub line : cut 10 (rest s from) ≡ slice from e s ∷ cut 10 (rest s (e + 1))
+  pub line : cut newline (rest s from) ≡ slice from e s ∷ cut newline (rest s (e + 1))
 
 too-few : (k : ℕ) (f : List ℕ) → fieldsAre (suc (suc k)) (f ∷ []) ≡ false
 too-few k [] = refl
@@ -48,18 +49,18 @@ too-many [] (g ∷ fs) h = refl
 too-many (x ∷ f) (g ∷ fs) h = refl
 
 -- a byte that row 1 allows and that is not graphic
-allowed-gap : (x : ℕ) → isAllowed x ≡ true → isGraphic x ≡ false → (x ≡ 10) ⊎ (x ≡ 32)
+allowed-gap : (x : ℕ) → isAllowed x ≡ true → isGraphic x ≡ false → (x ≡ newline) ⊎ (x ≡ space)
 unfolding isAllowed
-allowed-gap x a i = go (eqb x 10) (leb 32 x) refl refl a
+allowed-gap x a i = go (eqb x newline) (leb space x) refl refl a
   where
-    go : (u v : Bool) → eqb x 10 ≡ u → leb 32 x ≡ v → (u || (v && leb x 126)) ≡ true → (x ≡ 10) ⊎ (x ≡ 32)
-    go true v e f b = inl (eqb-true x 10 e)
-    go false true e f b = inr (omega (arith, leb-true 32 x f, ltb-false 32 x i))
+    go : (u v : Bool) → eqb x newline ≡ u → leb space x ≡ v → (u || (v && leb x lastPrintable)) ≡ true → (x ≡ newline) ⊎ (x ≡ space)
+    go true v e f b = inl (eqb-true x newline e)
+    go false true e f b = inr (omega (arith, leb-true space x f, ltb-false space x i))
     go false false e f b = absurd (true-false (sym b))
 
--- ---- a run of bytes that pass a test which byte 10 fails: it ends before the last byte does
+-- ---- a run of bytes that pass a test which a newline fails: it ends before the last byte does
 
-module _ (p : ℕ → Bool) (stops : p 10 ≡ false) (s : List ℕ) (from : ℕ) (h : from < length s) (ends : endsLines s) where
+module _ (p : ℕ → Bool) (stops : p newline ≡ false) (s : List ℕ) (from : ℕ) (h : from < length s) (ends : endsLines s) where
   abbrev ran : ℕ
   ran = run p (rest s from)
 
@@ -70,7 +71,7 @@ module _ (p : ℕ → Bool) (stops : p 10 ≡ false) (s : List ℕ) (from : ℕ)
   short =
       let k = length s - 1 - from in
       let q : from + k ≡ length s - 1 = omega arith in
-      let e : getD (rest s from) k 0 ≡ 10 = getD-slice s from (length s) k (omega arith) ∙ ap (λ (n : ℕ). getD s n 0) q ∙ ends in
+      let e : getD (rest s from) k 0 ≡ newline = getD-slice s from (length s) k (omega arith) ∙ ap (λ (n : ℕ). getD s n 0) q ∙ ends in
       omega (arith, run-until p (rest s from) k (omega (arith, long)) (ap p e ∙ stops), long)
 
   inner : ran < length (rest s from)
@@ -88,21 +89,21 @@ module _ (p : ℕ → Bool) (stops : p 10 ≡ false) (s : List ℕ) (from : ℕ)
 -- ---- the line that begins at a position
 
 abbrev other : ℕ → Bool
-other x = not (eqb x 10)
+other x = not (eqb x newline)
 
 module _ (s : List ℕ) (from : ℕ) (h : from < length s) (ends : endsLines s) where
   abbrev line : List ℕ
-  line = firstOf (cut 10 (rest s from))
+  line = firstOf (cut newline (rest s from))
 
   abbrev size : ℕ
   size = run other (rest s from)
 
-  split : cut 10 (rest s from) ≡ slice from (from + size) s ∷ cut 10 (rest s (from + size + 1))
+  split : cut newline (rest s from) ≡ slice from (from + size) s ∷ cut newline (rest s (from + size + 1))
   split =
       let i = inner other refl s from h ends in
       let x = getD (rest s from) size 0 in
-      let e : x ≡ 10 = eqb-true x 10 (not-false (eqb x 10) (run-fails other (rest s from) i)) in
-      cut-more other 10 (rest s from) refl i e ∙ rw (front other refl s from h ends, back other refl s from h ends)
+      let e : x ≡ newline = eqb-true x newline (not-false (eqb x newline) (run-fails other (rest s from) i)) in
+      cut-more other newline (rest s from) refl i e ∙ rw (front other refl s from h ends, back other refl s from h ends)
 
   size-is : length line ≡ size
   size-is =
@@ -113,8 +114,8 @@ module _ (s : List ℕ) (from : ℕ) (h : from < length s) (ends : endsLines s) 
   pub line-inside : from + length line < length s
   line-inside = omega (arith, size-is, short other refl s from h ends)
 
-  pub line-next : cut 10 (rest s from) ≡ line ∷ cut 10 (rest s (from + length line + 1))
-  line-next = split ∙ rw (size-is) (ap (λ (p : List ℕ). p ∷ cut 10 (rest s (from + size + 1))) (sym (ap firstOf split)))
+  pub line-next : cut newline (rest s from) ≡ line ∷ cut newline (rest s (from + length line + 1))
+  line-next = split ∙ rw (size-is) (ap (λ (p : List ℕ). p ∷ cut newline (rest s (from + size + 1))) (sym (ap firstOf split)))
 
 -- ---- a field of it
 
@@ -140,7 +141,7 @@ module _ (s : List ℕ) (from : ℕ) (h : from < length s) (ends : endsLines s) 
   back′ : drop (r + 1) l ≡ rest s (from + r + 1)
   back′ = back isGraphic refl s from h ends
 
-  spaced : 0 < r → getD s (from + r) 0 ≡ 32 → Spaced s from (from + r)
+  spaced : 0 < r → getD s (from + r) 0 ≡ space → Spaced s from (from + r)
   spaced w e =
       let k : r < length l = inner′ in
       let apart : from + r ≡ length s - 1 → ⊥ = λ q. omega (arith, sym e ∙ ap (λ (n : ℕ). getD s n 0) q ∙ ends) in
@@ -152,18 +153,18 @@ module _ (s : List ℕ) (from : ℕ) (h : from < length s) (ends : endsLines s) 
         inside = i;
         fields = fields-space l k (at′ ∙ e) ∙ rw (front′, back′);
         line =
-            λ t ps g d. line-space l (slice (from + r + 1) t s) ps k (at′ ∙ e) (ap (cut 10) back′ ∙ d)
+            λ t ps g d. line-space l (slice (from + r + 1) t s) ps k (at′ ∙ e) (ap (cut newline) back′ ∙ d)
             ∙ ap (λ (x : List ℕ). x ∷ ps) (ap (λ (y : List ℕ). y ++ slice (from + r + 1) t s) head ∙ slice-join from (from + r + 1) t s (omega arith) g);
       }
 
-  last : 0 < r → getD s (from + r) 0 ≡ 10 → Last s from (from + r)
+  last : 0 < r → getD s (from + r) 0 ≡ newline → Last s from (from + r)
   last w e =
       let k : r < length l = inner′ in
       record {
         wide = omega arith;
         inside = short′;
         fields = fields-newline l k (at′ ∙ e) ∙ rw front′;
-        line = cut-more isGraphic 10 l refl k (at′ ∙ e) ∙ rw (front′, back′);
+        line = cut-more isGraphic newline l refl k (at′ ∙ e) ∙ rw (front′, back′);
       }
 
   -- ---- what `fieldEnd` says
@@ -202,23 +203,23 @@ module _ (s : List ℕ) (from : ℕ) (h : from < length s) (ends : endsLines s) 
   unfolding fieldEnd
   end-other stop f = rw (ne-eqb (getD s (runEnd isGraphic s from (length s)) 0) stop f, and-false (ltb from (runEnd isGraphic s from (length s))) false refl)
 
-  pub space-end : (fieldEnd s from 32 ≡ 0 → ⊥) → Spaced s from (fieldEnd s from 32)
-  space-end f = ⊎-elim (λ w. rw (w .0) (spaced (w .1) (w .2))) (λ w. absurd (f (w .0))) (cases 32)
+  pub space-end : (fieldEnd s from space ≡ 0 → ⊥) → Spaced s from (fieldEnd s from space)
+  space-end f = ⊎-elim (λ w. rw (w .0) (spaced (w .1) (w .2))) (λ w. absurd (f (w .0))) (cases space)
 
-  pub last-end : (fieldEnd s from 10 ≡ 0 → ⊥) → Last s from (fieldEnd s from 10)
-  last-end f = ⊎-elim (λ w. rw (w .0) (last (w .1) (w .2))) (λ w. absurd (f (w .0))) (cases 10)
+  pub last-end : (fieldEnd s from newline ≡ 0 → ⊥) → Last s from (fieldEnd s from newline)
+  last-end f = ⊎-elim (λ w. rw (w .0) (last (w .1) (w .2))) (λ w. absurd (f (w .0))) (cases newline)
 
   module _ (allowed : all isAllowed s ≡ true) where
     -- after row 1, what ends a run of graphic bytes is a space or the end of the line
-    gap : (getD s (from + r) 0 ≡ 10) ⊎ (getD s (from + r) 0 ≡ 32)
+    gap : (getD s (from + r) 0 ≡ newline) ⊎ (getD s (from + r) 0 ≡ space)
     gap =
         allowed-gap (getD s (from + r) 0) (all-at isAllowed s (from + r) allowed short′)
         (ap isGraphic (sym at′) ∙ run-fails isGraphic l (inner′))
 
-    by-newline : getD s (from + r) 0 ≡ 10 → fieldsFrom s from ≡ take r l ∷ []
+    by-newline : getD s (from + r) 0 ≡ newline → fieldsFrom s from ≡ take r l ∷ []
     by-newline e = fields-newline l (inner′) (at′ ∙ e)
 
-    by-space : getD s (from + r) 0 ≡ 32 → fieldsFrom s from ≡ take r l ∷ cut 32 (firstOf (cut 10 (drop (r + 1) l)))
+    by-space : getD s (from + r) 0 ≡ space → fieldsFrom s from ≡ take r l ∷ cut space (firstOf (cut newline (drop (r + 1) l)))
     by-space e = fields-space l (inner′) (at′ ∙ e)
 
     empty : (k : ℕ) → r ≡ 0 → fieldsAre (suc k) (fieldsFrom s from) ≡ false
@@ -226,15 +227,15 @@ module _ (s : List ℕ) (from : ℕ) (h : from < length s) (ends : endsLines s) 
         let t : take r l ≡ [] = ap (λ (n : ℕ). take n l) e in
         ⊎-elim (λ g. rw (by-newline g, t)) (λ g. rw (by-space g, t)) gap
 
-    pub space-none : (k : ℕ) → fieldEnd s from 32 ≡ 0 → fieldsAre (suc (suc k)) (fieldsFrom s from) ≡ false
+    pub space-none : (k : ℕ) → fieldEnd s from space ≡ 0 → fieldsAre (suc (suc k)) (fieldsFrom s from) ≡ false
     space-none k z =
         ⊎-elim (λ w. absurd (omega (arith, w .0, w .1)))
         (λ w. ⊎-elim (empty (suc k)) (λ f. ⊎-elim (λ g. rw (by-newline g) (too-few k (take r l))) (λ g. absurd (f g)) gap) (w .1))
-        (cases 32)
+        (cases space)
 
-    pub last-none : fieldEnd s from 10 ≡ 0 → fieldsAre 1 (fieldsFrom s from) ≡ false
+    pub last-none : fieldEnd s from newline ≡ 0 → fieldsAre 1 (fieldsFrom s from) ≡ false
     last-none z =
         ⊎-elim (λ w. absurd (omega (arith, w .0, w .1)))
         (λ w. ⊎-elim (empty 0) (λ f. ⊎-elim (λ g. absurd (f g)) (λ g. rw (by-space g)
-        (too-many (take r l) (cut 32 (firstOf (cut 10 (drop (r + 1) l)))) (some 32 (firstOf (cut 10 (drop (r + 1) l)))))) gap) (w .1))
-        (cases 10)
+        (too-many (take r l) (cut space (firstOf (cut newline (drop (r + 1) l)))) (some space (firstOf (cut newline (drop (r + 1) l)))))) gap) (w .1))
+        (cases newline)

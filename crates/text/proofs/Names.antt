@@ -10,6 +10,8 @@ use lib.Dec.{eqb, leb}
 use lib.ListN.{length, getD, drop, take}
 use lib.Seq.{slice, length-slice, length-take-le, getD-take}
 use borrow.Author.Tests.{eq-eqb, ne-eqb, eqb-true, eqb-false, leb-true, leb-false, le-leb, lt-leb}
+use Rattle.cells.specs.Limits.{nameLimit, pathLimit}
+use Rattle.cells.specs.Characters.{dot}
 use Rattle.text.specs.Bytes.{isLetter, isAlphanumeric}
 use Rattle.text.specs.Pieces.{cut, cutAt, firstOf}
 use Rattle.text.specs.Forms.{isName, allNames, isPath}
@@ -18,9 +20,9 @@ use Rattle.text.proofs.Slices.{slice-at, getD-slice, drop-slice, take-s
 use Rattle.text.proofs.Bytes.{true-false, run-le, all-run, and-false, and-true}
 use Rattle.text.proofs.Cuts.{cut-more, cut-last, take-run, first-onto, some}
 
-dot : isAlphanumeric 46 ≡ false
+dot-stops : isAlphanumeric dot ≡ false
 unfolding isAlphanumeric isLetter
-dot = refl
+dot-stops = refl
 
 letter-alphanumeric : (x : ℕ) → isLetter x ≡ true → isAlphanumeric x ≡ true
 unfolding isAlphanumeric
@@ -33,63 +35,63 @@ module _ (f : List ℕ) where
   unfolding isName
   name-empty h = rw (lt-leb 1 (length f) h)
 
-  name-long : 16 < length f → isName f ≡ false
+  name-long : nameLimit < length f → isName f ≡ false
   unfolding isName
-  name-long h = rw (lt-leb (length f) 16 h, and-false (leb 1 (length f)) false refl)
+  name-long h = rw (lt-leb (length f) nameLimit h, and-false (leb 1 (length f)) false refl)
 
   name-letter : isLetter (getD f 0 0) ≡ false → isName f ≡ false
   unfolding isName
-  name-letter e = rw (e, and-false (leb 1 (length f) && leb (length f) 16) false refl)
+  name-letter e = rw (e, and-false (leb 1 (length f) && leb (length f) nameLimit) false refl)
 
-  name-run : 1 ≤ length f → length f ≤ 16 → isLetter (getD f 0 0) ≡ true → isName f ≡ eqb (run isAlphanumeric f) (length f)
+  name-run : 1 ≤ length f → length f ≤ nameLimit → isLetter (getD f 0 0) ≡ true → isName f ≡ eqb (run isAlphanumeric f) (length f)
   unfolding isName
-  name-run h k e = rw (le-leb 1 (length f) h, le-leb (length f) 16 k, e) (all-run isAlphanumeric f)
+  name-run h k e = rw (le-leb 1 (length f) h, le-leb (length f) nameLimit k, e) (all-run isAlphanumeric f)
 
   -- a run of letters and digits that does not reach the end
   name-part : run isAlphanumeric f < length f → isName f ≡ false
   unfolding isName
   name-part h =
       rw (all-run isAlphanumeric f, ne-eqb (run isAlphanumeric f) (length f) (λ q. omega arith))
-      (and-false (leb 1 (length f) && leb (length f) 16 && isLetter (getD f 0 0)) false refl)
+      (and-false (leb 1 (length f) && leb (length f) nameLimit && isLetter (getD f 0 0)) false refl)
 
 -- ---- the first name of a path: the first piece between dots
 
-first-run-go : (x : ℕ) (xs : List ℕ) (t : Bool) → eqb x 46 ≡ t → run isAlphanumeric (firstOf (cut 46 xs)) ≡ run isAlphanumeric xs
-    → run isAlphanumeric (firstOf (cutAt t x (cut 46 xs))) ≡ run isAlphanumeric (x ∷ xs)
-first-run-go x xs true e h = rw (eqb-true x 46 e, dot)
-first-run-go x xs false e h = rw (first-onto x (cut 46 xs), h)
+first-run-go : (x : ℕ) (xs : List ℕ) (t : Bool) → eqb x dot ≡ t → run isAlphanumeric (firstOf (cut dot xs)) ≡ run isAlphanumeric xs
+    → run isAlphanumeric (firstOf (cutAt t x (cut dot xs))) ≡ run isAlphanumeric (x ∷ xs)
+first-run-go x xs true e h = rw (eqb-true x dot e, dot-stops)
+first-run-go x xs false e h = rw (first-onto x (cut dot xs), h)
 
-first-run : (l : List ℕ) → run isAlphanumeric (firstOf (cut 46 l)) ≡ run isAlphanumeric l
+first-run : (l : List ℕ) → run isAlphanumeric (firstOf (cut dot l)) ≡ run isAlphanumeric l
 first-run [] = refl
-first-run (x ∷ xs) = first-run-go x xs (eqb x 46) refl (first-run xs)
+first-run (x ∷ xs) = first-run-go x xs (eqb x dot) refl (first-run xs)
 
 -- a run that something else than a dot ends stops inside the first piece
-inside-go : (x : ℕ) (xs : List ℕ) → (run isAlphanumeric xs < length xs → (getD xs (run isAlphanumeric xs) 0 ≡ 46 → ⊥) → run isAlphanumeric xs < length (firstOf (cut 46 xs)))
-    → (a t : Bool) → isAlphanumeric x ≡ a → eqb x 46 ≡ t → oneMore a (run isAlphanumeric xs) < suc (length xs)
-    → (getD (x ∷ xs) (oneMore a (run isAlphanumeric xs)) 0 ≡ 46 → ⊥)
-    → oneMore a (run isAlphanumeric xs) < length (firstOf (cutAt t x (cut 46 xs)))
-inside-go x xs rest true true e f h g = absurd (true-false (sym e ∙ ap isAlphanumeric (eqb-true x 46 f) ∙ dot))
-inside-go x xs rest true false e f h g = rw (first-onto x (cut 46 xs)) (omega (arith, rest (le-of-suc-le-suc h) g))
-inside-go x xs rest false true e f h g = absurd (g (eqb-true x 46 f))
-inside-go x xs rest false false e f h g = rw (first-onto x (cut 46 xs)) (omega arith)
+inside-go : (x : ℕ) (xs : List ℕ) → (run isAlphanumeric xs < length xs → (getD xs (run isAlphanumeric xs) 0 ≡ dot → ⊥) → run isAlphanumeric xs < length (firstOf (cut dot xs)))
+    → (a t : Bool) → isAlphanumeric x ≡ a → eqb x dot ≡ t → oneMore a (run isAlphanumeric xs) < suc (length xs)
+    → (getD (x ∷ xs) (oneMore a (run isAlphanumeric xs)) 0 ≡ dot → ⊥)
+    → oneMore a (run isAlphanumeric xs) < length (firstOf (cutAt t x (cut dot xs)))
+inside-go x xs rest true true e f h g = absurd (true-false (sym e ∙ ap isAlphanumeric (eqb-true x dot f) ∙ dot-stops))
+inside-go x xs rest true false e f h g = rw (first-onto x (cut dot xs)) (omega (arith, rest (le-of-suc-le-suc h) g))
+inside-go x xs rest false true e f h g = absurd (g (eqb-true x dot f))
+inside-go x xs rest false false e f h g = rw (first-onto x (cut dot xs)) (omega arith)
 
-inside : (l : List ℕ) → run isAlphanumeric l < length l → (getD l (run isAlphanumeric l) 0 ≡ 46 → ⊥) → run isAlphanumeric l < length (firstOf (cut 46 l))
+inside : (l : List ℕ) → run isAlphanumeric l < length l → (getD l (run isAlphanumeric l) 0 ≡ dot → ⊥) → run isAlphanumeric l < length (firstOf (cut dot l))
 inside [] h g = absurd (not-suc-le-zero h)
-inside (x ∷ xs) h g = inside-go x xs (inside xs) (isAlphanumeric x) (eqb x 46) refl refl h g
+inside (x ∷ xs) h g = inside-go x xs (inside xs) (isAlphanumeric x) (eqb x dot) refl refl h g
 
-first-letter : (l : List ℕ) → isLetter (getD l 0 0) ≡ false → isName (firstOf (cut 46 l)) ≡ false
+first-letter : (l : List ℕ) → isLetter (getD l 0 0) ≡ false → isName (firstOf (cut dot l)) ≡ false
 first-letter [] e = name-empty [] (omega arith)
-first-letter (x ∷ xs) e = go (eqb x 46)
+first-letter (x ∷ xs) e = go (eqb x dot)
   where
-    go : (t : Bool) → isName (firstOf (cutAt t x (cut 46 xs))) ≡ false
+    go : (t : Bool) → isName (firstOf (cutAt t x (cut dot xs))) ≡ false
     go true = name-empty [] (omega arith)
-    go false = rw (first-onto x (cut 46 xs)) (name-letter (x ∷ firstOf (cut 46 xs)) e)
+    go false = rw (first-onto x (cut dot xs)) (name-letter (x ∷ firstOf (cut dot xs)) e)
 
-first-long : (l : List ℕ) → 16 < run isAlphanumeric l → isName (firstOf (cut 46 l)) ≡ false
-first-long l h = name-long (firstOf (cut 46 l)) (omega (arith, first-run l, run-le isAlphanumeric (firstOf (cut 46 l))))
+first-long : (l : List ℕ) → nameLimit < run isAlphanumeric l → isName (firstOf (cut dot l)) ≡ false
+first-long l h = name-long (firstOf (cut dot l)) (omega (arith, first-run l, run-le isAlphanumeric (firstOf (cut dot l))))
 
-first-other : (l : List ℕ) → run isAlphanumeric l < length l → (getD l (run isAlphanumeric l) 0 ≡ 46 → ⊥) → isName (firstOf (cut 46 l)) ≡ false
-first-other l h g = name-part (firstOf (cut 46 l)) (omega (arith, first-run l, inside l h g))
+first-other : (l : List ℕ) → run isAlphanumeric l < length l → (getD l (run isAlphanumeric l) 0 ≡ dot → ⊥) → isName (firstOf (cut dot l)) ≡ false
+first-other l h g = name-part (firstOf (cut dot l)) (omega (arith, first-run l, inside l h g))
 
 names-fail : (ps : List (List ℕ)) → 1 ≤ length ps → isName (firstOf ps) ≡ false → allNames ps ≡ false
 names-fail [] h e = absurd (not-suc-le-zero h)
@@ -98,16 +100,16 @@ names-fail (p ∷ ps) h e = rw e
 -- ---- what is a path
 
 module _ (f : List ℕ) where
-  pub path-false : allNames (cut 46 f) ≡ false → false ≡ isPath f
+  pub path-false : allNames (cut dot f) ≡ false → false ≡ isPath f
   unfolding isPath
-  path-false e = sym (and-false (leb (length (cut 46 f)) 8) (allNames (cut 46 f)) e)
+  path-false e = sym (and-false (leb (length (cut dot f)) pathLimit) (allNames (cut dot f)) e)
 
-  pub path-by : allNames (cut 46 f) ≡ true → isPath f ≡ leb (length (cut 46 f)) 8
+  pub path-by : allNames (cut dot f) ≡ true → isPath f ≡ leb (length (cut dot f)) pathLimit
   unfolding isPath
-  path-by e = and-true (leb (length (cut 46 f)) 8) (allNames (cut 46 f)) e
+  path-by e = and-true (leb (length (cut dot f)) pathLimit) (allNames (cut dot f)) e
 
 -- nothing after a dot is no name
-pub path-empty : allNames (cut 46 []) ≡ false
+pub path-empty : allNames (cut dot []) ≡ false
 path-empty = rw (name-empty [] (omega arith))
 
 -- ---- by positions
@@ -116,8 +118,8 @@ path-empty = rw (name-empty [] (omega arith))
 pub record Named (s : List ℕ) (from to e : ℕ) : Type 0 where
   pub wide : from < e
   pub inside : e < to
-  pub fewer : length (cut 46 (slice from to s)) ≡ suc (length (cut 46 (slice (e + 1) to s)))
-  pub names : allNames (cut 46 (slice from to s)) ≡ allNames (cut 46 (slice (e + 1) to s))
+  pub fewer : length (cut dot (slice from to s)) ≡ suc (length (cut dot (slice (e + 1) to s)))
+  pub names : allNames (cut dot (slice from to s)) ≡ allNames (cut dot (slice (e + 1) to s))
 
 module _ (s : List ℕ) (from to : ℕ) (h : from < to) (k : to ≤ length s) where
   abbrev l : List ℕ
@@ -132,18 +134,18 @@ module _ (s : List ℕ) (from to : ℕ) (h : from < to) (k : to ≤ length s) wh
   head : getD l 0 0 ≡ getD s from 0
   head = let q : from + 0 ≡ from = omega arith in getD-slice s from to 0 (omega arith) ∙ ap (λ (n : ℕ). getD s n 0) q
 
-  cases : ((nameEnd s from to ≡ from + r) × (isLetter (getD s from 0) ≡ true) × (r ≤ 16))
-      ⊎ ((nameEnd s from to ≡ 0) × ((isLetter (getD s from 0) ≡ false) ⊎ (16 < r)))
+  cases : ((nameEnd s from to ≡ from + r) × (isLetter (getD s from 0) ≡ true) × (r ≤ nameLimit))
+      ⊎ ((nameEnd s from to ≡ 0) × ((isLetter (getD s from 0) ≡ false) ⊎ (nameLimit < r)))
   unfolding nameEnd runEnd
   cases =
       let q : from + r - from ≡ r = omega arith in
-      rw q (go (isLetter (getD s from 0)) (leb r 16) refl refl)
+      rw q (go (isLetter (getD s from 0)) (leb r nameLimit) refl refl)
     where
-      go : (x y : Bool) → isLetter (getD s from 0) ≡ x → leb r 16 ≡ y
-          → ((cond (x && y) (from + r) 0 ≡ from + r) × (x ≡ true) × (r ≤ 16))
-          ⊎ ((cond (x && y) (from + r) 0 ≡ 0) × ((x ≡ false) ⊎ (16 < r)))
-      go true true e f = inl (refl, refl, leb-true r 16 f)
-      go true false e f = inr (refl, inr (leb-false r 16 f))
+      go : (x y : Bool) → isLetter (getD s from 0) ≡ x → leb r nameLimit ≡ y
+          → ((cond (x && y) (from + r) 0 ≡ from + r) × (x ≡ true) × (r ≤ nameLimit))
+          ⊎ ((cond (x && y) (from + r) 0 ≡ 0) × ((x ≡ false) ⊎ (nameLimit < r)))
+      go true true e f = inl (refl, refl, leb-true r nameLimit f)
+      go true false e f = inr (refl, inr (leb-false r nameLimit f))
       go false y e f = inr (refl, inl refl)
 
   letter-run : isLetter (getD s from 0) ≡ true → 1 ≤ r
@@ -160,7 +162,7 @@ module _ (s : List ℕ) (from to : ℕ) (h : from < to) (k : to ≤ length s) wh
       head-is : isLetter (getD s from 0) ≡ false → isLetter (getD l 0 0) ≡ false
       head-is e = ap isLetter head ∙ e
 
-      go : (b : Bool) → eqb r (length l) ≡ b → isLetter (getD s from 0) ≡ true → r ≤ 16 → eqb (from + r) to ≡ isName l
+      go : (b : Bool) → eqb r (length l) ≡ b → isLetter (getD s from 0) ≡ true → r ≤ nameLimit → eqb (from + r) to ≡ isName l
       go true e f g =
           let q : r ≡ length l = eqb-true r (length l) e in
           eq-eqb (from + r) to (omega (arith, long)) ∙ sym (name-run l (omega (arith, long)) (omega arith) (ap isLetter head ∙ f) ∙ e)
@@ -169,17 +171,17 @@ module _ (s : List ℕ) (from to : ℕ) (h : from < to) (k : to ≤ length s) wh
           ne-eqb (from + r) to (λ z. q (omega (arith, long))) ∙ sym (name-part l (omega (arith, long, run-le isAlphanumeric l, q)))
 
   -- `is_path`: what each way on or out of its loop says of the names
-  pub path-fails : nameEnd s from to ≡ 0 → allNames (cut 46 l) ≡ false
+  pub path-fails : nameEnd s from to ≡ 0 → allNames (cut dot l) ≡ false
   path-fails z =
       ⊎-elim
       (λ w. absurd (omega (arith, w .0, letter-run (w .1))))
-      (λ w. names-fail (cut 46 l) (some 46 l) (⊎-elim (λ e. first-letter l (ap isLetter head ∙ e)) (first-long l) (w .1)))
+      (λ w. names-fail (cut dot l) (some dot l) (⊎-elim (λ e. first-letter l (ap isLetter head ∙ e)) (first-long l) (w .1)))
       cases
 
-  pub path-last : nameEnd s from to ≡ to → cut 46 l ≡ l ∷ []
-  path-last e = ⊎-elim (λ w. cut-last isAlphanumeric 46 l dot (omega (arith, w .0, long))) (λ w. absurd (omega (arith, w .0))) cases
+  pub path-last : nameEnd s from to ≡ to → cut dot l ≡ l ∷ []
+  path-last e = ⊎-elim (λ w. cut-last isAlphanumeric dot l dot-stops (omega (arith, w .0, long))) (λ w. absurd (omega (arith, w .0))) cases
 
-  pub path-last-name : nameEnd s from to ≡ to → allNames (cut 46 l) ≡ true
+  pub path-last-name : nameEnd s from to ≡ to → allNames (cut dot l) ≡ true
   path-last-name e = rw (path-last e, sym name-whole ∙ eq-eqb (nameEnd s from to) to e)
 
   module _ (e : nameEnd s from to ≡ to → ⊥) (z : nameEnd s from to ≡ 0 → ⊥) where
@@ -189,7 +191,7 @@ module _ (s : List ℕ) (from to : ℕ) (h : from < to) (k : to ≤ length s) wh
     letter : isLetter (getD s from 0) ≡ true
     letter = ⊎-elim (λ w. w .1) (λ w. absurd (z (w .0))) cases
 
-    few : r ≤ 16
+    few : r ≤ nameLimit
     few = ⊎-elim (λ w. w .2) (λ w. absurd (z (w .0))) cases
 
     short : from + r < to
@@ -204,14 +206,14 @@ module _ (s : List ℕ) (from to : ℕ) (h : from < to) (k : to ≤ length s) wh
     at : getD l r 0 ≡ getD s (nameEnd s from to) 0
     at = rw ends (getD-slice s from to r short)
 
-    pub path-other : (getD s (nameEnd s from to) 0 ≡ 46 → ⊥) → allNames (cut 46 l) ≡ false
-    path-other f = names-fail (cut 46 l) (some 46 l) (first-other l (omega (arith, long, short)) (λ q. f (sym at ∙ q)))
+    pub path-other : (getD s (nameEnd s from to) 0 ≡ dot → ⊥) → allNames (cut dot l) ≡ false
+    path-other f = names-fail (cut dot l) (some dot l) (first-other l (omega (arith, long, short)) (λ q. f (sym at ∙ q)))
 
-    path-more : getD s (nameEnd s from to) 0 ≡ 46 → cut 46 l ≡ slice from (nameEnd s from to) s ∷ cut 46 (slice (nameEnd s from to + 1) to s)
+    path-more : getD s (nameEnd s from to) 0 ≡ dot → cut dot l ≡ slice from (nameEnd s from to) s ∷ cut dot (slice (nameEnd s from to + 1) to s)
     path-more f =
         let q : from + (r + 1) ≡ from + r + 1 = omega arith in
         let back : drop (r + 1) l ≡ slice (from + r + 1) to s = drop-slice s from to (r + 1) ∙ ap (λ (n : ℕ). slice n to s) q in
-        rw ends (cut-more isAlphanumeric 46 l dot (omega (arith, long, short)) (at ∙ f) ∙ rw (take-slice from r to s (omega (arith, short)), back))
+        rw ends (cut-more isAlphanumeric dot l dot-stops (omega (arith, long, short)) (at ∙ f) ∙ rw (take-slice from r to s (omega (arith, short)), back))
 
     piece : take r l ≡ slice from (nameEnd s from to) s
     piece = rw ends (take-slice from r to s (omega (arith, short)))
@@ -223,7 +225,7 @@ module _ (s : List ℕ) (from to : ℕ) (h : from < to) (k : to ≤ length s) wh
         rw (← piece) (name-run (take r l) (omega (arith, m, letter-run letter)) (omega (arith, m, few)) (ap isLetter n ∙ letter)
         ∙ eq-eqb (run isAlphanumeric (take r l)) (length (take r l)) (take-run isAlphanumeric l))
 
-    named : getD s (nameEnd s from to) 0 ≡ 46 → Named s from to (nameEnd s from to)
+    named : getD s (nameEnd s from to) 0 ≡ dot → Named s from to (nameEnd s from to)
     named f = record {
       wide = path-wide;
       inside = path-inside;
@@ -231,5 +233,5 @@ module _ (s : List ℕ) (from to : ℕ) (h : from < to) (k : to ≤ length s) wh
       names = rw (path-more f, path-name);
     }
 
-  pub path-step : (n : ℕ) → n ≡ nameEnd s from to → (n ≡ to → ⊥) → (n ≡ 0 → ⊥) → getD s n 0 ≡ 46 → Named s from to n
+  pub path-step : (n : ℕ) → n ≡ nameEnd s from to → (n ≡ to → ⊥) → (n ≡ 0 → ⊥) → getD s n 0 ≡ dot → Named s from to n
   path-step n q e z f = rw q (named (λ x. e (q ∙ x)) (λ x. z (q ∙ x)) (ap (λ (m : ℕ). getD s m 0) (sym q) ∙ f))

@@ -5,6 +5,7 @@ use mathlib.Core.List.{List, [], _∷_}
 use Prim.Native.Nat.{ℕ, _+_, _-_}
 use lib.Dec.{leb, eqb}
 use lib.ListN.{length, getD}
+use Rattle.cells.specs.Characters.{newline, space, lastPrintable, capitalA, capitalZ, smallA, smallZ}
 use Rattle.numbers.specs.Decimal.{isDigit}
 pub use Rattle.cells.specs.Lists.{one, all}
 
@@ -24,18 +25,18 @@ same (x ∷ xs) (y ∷ ys) = eqb x y && same xs ys
 
 -- a byte is 10 or 32 to 126
 unfoldable pub isAllowed : ℕ → Bool
-isAllowed x = eqb x 10 || (leb 32 x && leb x 126)
+isAllowed x = eqb x newline || (leb space x && leb x lastPrintable)
 
 -- the byte that ends a line
 abbrev pub isNewline : ℕ → Bool
-isNewline x = eqb x 10
+isNewline x = eqb x newline
 
--- the last byte is 10
+-- the last byte is a newline
 abbrev pub endsLines : List ℕ → Type 0
-endsLines s = getD s (length s - 1) 0 ≡ 10
+endsLines s = getD s (length s - 1) 0 ≡ newline
 
 unfoldable pub isLetter : ℕ → Bool
-isLetter x = (leb 65 x && leb x 90) || (leb 97 x && leb x 122)
+isLetter x = (leb capitalA x && leb x capitalZ) || (leb smallA x && leb x smallZ)
 
 unfoldable pub isAlphanumeric : ℕ → Bool
 isAlphanumeric x = isLetter x || isDigit x

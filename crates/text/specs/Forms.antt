@@ -5,6 +5,7 @@ use Prim.Native.Nat.{ℕ, zero, suc}
 use lib.Dec.{leb}
 use lib.ListN.{length, getD}
 use Rattle.cells.specs.Limits.{nameLimit, pathLimit}
+use Rattle.cells.specs.Characters.{dot}
 use Rattle.numbers.specs.Decimal.{decimalOf}
 use Rattle.numbers.specs.declared.Decimal.{Decimal}
 use Rattle.numbers.specs.declared.Decimal.the-variants.{Is, Not}
@@ -19,9 +20,9 @@ abbrev pub allNames : List (List ℕ) → Bool
 allNames [] = true
 allNames (f ∷ fs) = isName f && allNames fs
 
--- a path is 1 to 8 names joined by dots (byte 46); `cut` gives one piece at least
+-- a path is 1 to 8 names joined by dots; `cut` gives one piece at least
 unfoldable pub isPath : List ℕ → Bool
-isPath f = leb (length (cut 46 f)) pathLimit && allNames (cut 46 f)
+isPath f = leb (length (cut dot f)) pathLimit && allNames (cut dot f)
 
 abbrev pub fromOne : Decimal → Decimal
 fromOne (Is zero) = Not

@@ -1,4 +1,4 @@
--- The pieces of a list between separators: the lines of a text (byte 10), the fields of a line (32), the names of a path (46).
+-- The pieces of a list between separators: the lines of a text between newlines, the fields of a line between spaces, the names of a path between dots.
 use mathlib.Core.Bool.{Bool, true, false}
 use mathlib.Core.List.{List, [], _∷_, _++_}
 use Prim.Native.Nat.{ℕ, zero, suc, _+_}

@@ -6,6 +6,7 @@ use lib.Dec.{leb, ltb, eqb}
 use lib.ListN.{length, getD}
 use lib.Seq.{slice}
 use Rattle.cells.specs.Limits.{nameLimit}
+use Rattle.cells.specs.Characters.{newline, space}
 use Rattle.text.specs.Bytes.{isAllowed, isLetter, isAlphanumeric}
 use Rattle.text.specs.Pieces.{cut, firstOf}
 
@@ -14,9 +15,9 @@ use Rattle.text.specs.Pieces.{cut, firstOf}
 abbrev pub isBad : ℕ → Bool
 isBad x = not (isAllowed x)
 
--- a byte above 32: what neither ends a line nor parts two fields
+-- a byte above the space: what neither ends a line nor parts two fields
 abbrev pub isGraphic : ℕ → Bool
-isGraphic x = ltb 32 x
+isGraphic x = ltb space x
 
 -- ---- runs
 
@@ -41,7 +42,7 @@ abbrev pub rest : List ℕ → ℕ → List ℕ
 rest s i = slice i (length s) s
 
 abbrev pub fieldsFrom : List ℕ → ℕ → List (List ℕ)
-fieldsFrom s i = cut 32 (firstOf (cut 10 (rest s i)))
+fieldsFrom s i = cut space (firstOf (cut newline (rest s i)))
 
 -- where the field that begins at `from` ends, if it is not empty and the byte `stop` ends it; else 0
 unfoldable pub fieldEnd : List ℕ → ℕ → ℕ → ℕ

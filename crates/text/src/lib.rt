@@ -80,7 +80,7 @@ pub fn same_bytes(text: &[u8], from: usize, to: usize, want: &[u8]) -> bool
 
 // ---- the fields of a line
 
-// Where the bytes above 32 end that begin at `from`. After row 1 that is at a byte 32 or 10.
+// Where the bytes above the space end that begin at `from`. After row 1 that is at a space or a newline.
 fn graphic_end(text: &[u8], from: usize) -> usize
     requires { ⌜ (from < length (now text)) × endsLines (now text) × (length (now text) ≤ sizeLimit) ⌝ }
     ensures { λ r. ⌜ r ≡ runEnd isGraphic (now (text .entry)) from (length (now (text .entry))) ⌝ }

@@ -3,6 +3,7 @@ use mathlib.Core.Path.{_≡_, _∙_, sym}
 use Prim.Native.Nat.{_+_, _-_, _≤_}
 use lib.ListN.{drop}
 use lib.Seq.{slice}
+use Rattle.cells.specs.Characters.{dot}
 use Rattle.text.specs.Pieces.{cut}
 use Rattle.paths.specs.Paths.{descended}
 use Rattle.paths.proofs.SameName.{hash-small}
@@ -15,7 +16,7 @@ use Rattle.paths.proofs.descend.Tie as tie
 
 abbrev Inv-loop : tie.InvT-loop
 Inv-loop text table n starts links head from to m₀ at₀ m at =
-    (m ≤ n) × (at ≤ to) × (descended text table n m (later text at to) ≡ descended text table n head (drop 1 (cut 46 (slice from to text))))
+    (m ≤ n) × (at ≤ to) × (descended text table n m (later text at to) ≡ descended text table n head (drop 1 (cut dot (slice from to text))))
 
 abbrev μ-loop : tie.MeasureT-loop
 μ-loop text table n starts links head from to m₀ at₀ m at = to - at

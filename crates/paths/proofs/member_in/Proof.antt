@@ -1,6 +1,6 @@
 use mathlib.Core.Path.{_∙_, sym}
 use lib.Seq.{slice}
-use Rattle.paths.specs.Buckets.{startOf, firstIn, walk}
+use Rattle.paths.specs.Buckets.{startOf, linkedMember}
 use Rattle.paths.proofs.Chains.{Walking, walking-start, walking-less, walking-hit, walking-turn, walking-end}
 use native.Mathlib.Omega.{arith}
 use Rattle.paths.proofs.member_in.Statement.{statement}
@@ -8,7 +8,7 @@ use Rattle.paths.proofs.member_in.Tie as tie
 
 abbrev Inv-loop : tie.InvT-loop
 Inv-loop text table starts links group hash from to m₀ m =
-    Walking text table links (slice from to text) (startOf starts 0) (walk text table links (slice from to text) (firstIn starts links group hash)) m
+    Walking text table links (slice from to text) (startOf starts 0) (linkedMember text table starts links group hash (slice from to text)) m
 
 abbrev μ-loop : tie.MeasureT-loop
 μ-loop text table starts links group hash from to m₀ m = m

@@ -1,5 +1,6 @@
 use mathlib.Core.Path.{_≡_}
 use Prim.Native.Nat.{_+_, _-_}
+use Rattle.refusals.specs.Rows.{headRow}
 use Rattle.paths.specs.Paths.{pathHeadBad}
 use Rattle.paths.specs.TargetCells.{headCell}
 use Rattle.paths.proofs.Alike.{head-cell-alike, rows-alike, linked-alike}
@@ -58,7 +59,7 @@ returns c =
     let at = c .before .before .before .before .before .before .before in
     let h = settle-head .ensures in
     let rule = head-rule (a .text .now) (a .table .now) (a .n) in
-    let stop = settle-stop (l .inv) (same at) (h .1) 13 rule (h .0) (c .before .is-unresolved .ensures) in
+    let stop = settle-stop (l .inv) (same at) (h .1) headRow rule (h .0) (c .before .is-unresolved .ensures) in
     (stop (omega arith) (c .if1 .taken) (λ z. omega arith), λ z. not-fine z)
 
 add-label : tie.Need-add-label Inv-loop μ-loop
@@ -77,7 +78,7 @@ loop-again c =
     let at = c .before .before .before .before .before .before .before in
     let h = settle-head .ensures in
     let rule = head-rule (a .text .now) (a .table .now) (a .n) in
-    settle-turn (l .inv) (same at) (h .1) 13 rule (h .0) (c .before .is-unresolved .ensures) (omega arith) (c .if1 .left)
+    settle-turn (l .inv) (same at) (h .1) headRow rule (h .0) (c .before .is-unresolved .ensures) (omega arith) (c .if1 .left)
 
 same-length-2 : tie.Need-same-length-2 Inv-loop μ-loop
 same-length-2 c = settle-size (c .before .loop .inv)

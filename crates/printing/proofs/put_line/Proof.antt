@@ -1,3 +1,4 @@
+use Rattle.cells.specs.Characters.{space}
 use Rattle.numbers.specs.Numerals.{decimal}
 use Rattle.printing.specs.Print.{nameField, valueLine}
 use Rattle.printing.proofs.Writing.{field-then}
@@ -28,9 +29,9 @@ returns c =
     let name = word .before .before .before .before in
     let label = name .before .before .before .before in
     let a = label .before .before .before .before .before .args in
-    let third = field-then _ _ (a .word .now) 32 _ _ (word .put-text .ensures) _ _ _ (results .put-results .ensures) in
-    let second = field-then _ _ (nameField (a .text .now) (a .table .now) (a .label)) 32 _ _ (name .put-name .ensures) _ _ _ third in
-    field-then _ _ (decimal (a .label)) 32 _ _ (label .put-count .ensures) _ _ _ second
+    let third = field-then _ _ (a .word .now) space _ _ (word .put-text .ensures) _ _ _ (results .put-results .ensures) in
+    let second = field-then _ _ (nameField (a .text .now) (a .table .now) (a .label)) space _ _ (name .put-name .ensures) _ _ _ third in
+    field-then _ _ (decimal (a .label)) space _ _ (label .put-count .ensures) _ _ _ second
 
 pub put-line-spec : {M : Type 1} → statement M
 put-line-spec =

@@ -2,9 +2,8 @@ use mathlib.Core.Path.{_≡_}
 use Prim.Native.Nat.{_-_, _≤_, _<_}
 use native.Mathlib.Omega.{arith}
 use borrow.Author.Needs.{needs}
-use lib.ListN.{length, take}
-use Rattle.order.specs.Following.{labelsOf}
-use Rattle.printing.specs.Print.{valueLines}
+use lib.ListN.{length}
+use Rattle.printing.specs.Print.{planLines}
 use Rattle.printing.specs.Writing.{Wrote}
 use Rattle.printing.proofs.Lines.{lines-none, one-line-more}
 use Rattle.printing.proofs.Writing.{nothing, same-size, then}
@@ -12,7 +11,7 @@ use Rattle.printing.proofs.put_lines.Statement.{statement}
 use Rattle.printing.proofs.put_lines.Tie as tie
 
 abbrev Inv-loop : tie.InvT-loop
-Inv-loop text table plan count results word out₀ at end₀ i₀ out end i = (i ≤ count) × Wrote out₀ at (valueLines text table results word (labelsOf (take i plan))) out end
+Inv-loop text table plan count results word out₀ at end₀ i₀ out end i = (i ≤ count) × Wrote out₀ at (planLines text table plan i results word) out end
 
 abbrev μ-loop : tie.MeasureT-loop
 μ-loop text table plan count results word out₀ at end₀ i₀ out end i = count - i

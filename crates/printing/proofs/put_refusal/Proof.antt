@@ -1,3 +1,4 @@
+use Rattle.cells.specs.Characters.{space}
 use Rattle.numbers.specs.Numerals.{decimal}
 use Rattle.printing.specs.Print.{refusalLine}
 use Rattle.printing.proofs.Writing.{then, field-then}
@@ -27,7 +28,7 @@ returns c =
     let second = last .before .before .before .before in
     let first = second .before .before .before .before in
     let entry = first .before .before .before .before in
-    let numbers = field-then _ _ (decimal (entry .args .row)) 32 _ _ (second .put-count .ensures) _ _ _ (last .put-count2 .ensures) in
+    let numbers = field-then _ _ (decimal (entry .args .row)) space _ _ (second .put-count .ensures) _ _ _ (last .put-count2 .ensures) in
     then _ _ _ _ _ (first .put-all .ensures) _ _ _ numbers
 
 pub put-refusal-spec : {M : Type 1} → statement M

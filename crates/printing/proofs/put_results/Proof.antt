@@ -1,3 +1,4 @@
+use Rattle.cells.specs.Characters.{space}
 use Rattle.cells.proofs.Signed.{whole}
 use Rattle.numbers.specs.Numerals.{decimal, integer}
 use Rattle.printing.proofs.Lines.{state-is, number-is, steps-is}
@@ -36,8 +37,8 @@ returns c =
     let number = steps .before .result-at in
     let state = steps .before .before .count-at in
     let a = steps .before .before .before .before .args in
-    let fields = field-then _ _ (integer (number .result)) 32 _ _ (rw (whole (number .result) (number .ok)) at (second .put-number .ensures)) _ _ _ (third .put-count2 .ensures) in
-    let line = field-then _ _ (decimal (state .result)) 32 _ _ (first .put-count .ensures) _ _ _ fields in
+    let fields = field-then _ _ (integer (number .result)) space _ _ (rw (whole (number .result) (number .ok)) at (second .put-number .ensures)) _ _ _ (third .put-count2 .ensures) in
+    let line = field-then _ _ (decimal (state .result)) space _ _ (first .put-count .ensures) _ _ _ fields in
     rw (state-is (a .results .now) (a .label), number-is (a .results .now) (a .label), steps-is (a .results .now) (a .label))
     (rw (← state .ensures, ← steps .count-at2 .ensures, ← number .ensures) line)
 

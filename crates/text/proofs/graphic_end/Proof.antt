@@ -1,4 +1,4 @@
--- The last byte, 10, is not graphic: the run of graphic bytes from `i` on is what is left of that from `from` on.
+-- The last byte, a newline, is not graphic: the run of graphic bytes from `i` on is what is left of that from `from` on.
 use mathlib.Core.Path.{_∙_, sym, ap, _≡_}
 use Prim.Native.Nat.{ℕ, _-_, _≤_, _<_}
 use native.Mathlib.Nat.{le-refl}

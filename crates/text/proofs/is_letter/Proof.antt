@@ -2,6 +2,7 @@
 use Prim.Native.Nat.{_<_}
 use native.Mathlib.Omega.{arith}
 use borrow.Author.Tests.{le-leb, lt-leb}
+use Rattle.cells.specs.Characters.{capitalA, smallA}
 use Rattle.text.specs.Bytes.{isLetter}
 use Rattle.text.proofs.is_letter.Statement.{statement}
 use Rattle.text.proofs.is_letter.Tie as tie
@@ -10,8 +11,8 @@ returns : tie.Need-returns
 unfolding isLetter
 returns c =
     let x = c .before .args .b in
-    let h : x < 97 = omega arith in
-    simp (lt-leb 65 x (c .if1 .taken), lt-leb 97 x h)
+    let h : x < smallA = omega arith in
+    simp (lt-leb capitalA x (c .if1 .taken), lt-leb smallA x h)
 
 returns-2 : tie.Need-returns-2
 unfolding isLetter

@@ -6,6 +6,8 @@ use lib.Dec.{leb}
 use lib.ListN.{getD, length}
 use lib.Seq.{slice}
 use borrow.Author.Needs.{needs}
+use Rattle.cells.specs.Limits.{pathLimit}
+use Rattle.cells.specs.Characters.{dot}
 use Rattle.text.proofs.Slices.{slice-none}
 use Rattle.text.specs.Forms.{allNames}
 use Rattle.text.proofs.Names.{path-fails, path-last, path-last-name, path-inside, path-other, Named, path-step, path-false, path-by, path-empty}
@@ -15,8 +17,8 @@ use Rattle.text.proofs.is_path.Tie as tie
 
 abbrev Inv-loop : tie.InvT-loop
 Inv-loop text from to at₀ names₀ at names =
-    (from ≤ at) × (at ≤ to) × (names ≤ at + 1) × (names + length (cut 46 (slice at to text)) ≡ 1 + length (cut 46 (slice from to text)))
-    × (allNames (cut 46 (slice at to text)) ≡ allNames (cut 46 (slice from to text)))
+    (from ≤ at) × (at ≤ to) × (names ≤ at + 1) × (names + length (cut dot (slice at to text)) ≡ 1 + length (cut dot (slice from to text)))
+    × (allNames (cut dot (slice at to text)) ≡ allNames (cut dot (slice from to text)))
 
 abbrev μ-loop : tie.MeasureT-loop
 μ-loop text from to at₀ names₀ at names = to - at
@@ -32,8 +34,8 @@ returns c =
     let a = c .before .before .before .before .before .args in
     let l = c .before .before .before .loop in
     let e = sym (c .before .name-end .ensures) ∙ c .if1 .taken in
-    let q : l .names ≡ length (cut 46 (slice (a .from) (a .to) (a .text .now))) = omega (arith, ap length (path-last (a .text .now) (l .at) (a .to) (omega arith) (omega arith) e)) in
-    ap (λ m. leb m 8) q ∙ sym (path-by (slice (a .from) (a .to) (a .text .now)) (sym (l .inv .4) ∙ path-last-name (a .text .now) (l .at) (a .to) (omega arith) (omega arith) e))
+    let q : l .names ≡ length (cut dot (slice (a .from) (a .to) (a .text .now))) = omega (arith, ap length (path-last (a .text .now) (l .at) (a .to) (omega arith) (omega arith) e)) in
+    ap (λ m. leb m pathLimit) q ∙ sym (path-by (slice (a .from) (a .to) (a .text .now)) (sym (l .inv .4) ∙ path-last-name (a .text .now) (l .at) (a .to) (omega arith) (omega arith) e))
 
 returns-2 : tie.Need-returns-2 Inv-loop μ-loop
 returns-2 c =

@@ -3,6 +3,7 @@ use mathlib.Core.List.{List, [], _∷_, _++_}
 use Prim.Native.Nat.{ℕ}
 use Prim.Native.Char.{code}
 use Prim.Native.String.{String, [] as end, _∷_ as _then_}
+use Rattle.cells.specs.Characters.{newline}
 
 -- its bytes
 abbrev pub bytesOf : String → List ℕ
@@ -12,4 +13,4 @@ bytesOf (c then s) = code c ∷ bytesOf s
 -- the bytes of its lines: "lines, each ended by byte 10"
 abbrev pub textOf : List String → List ℕ
 textOf [] = []
-textOf (l ∷ ls) = bytesOf l ++ 10 ∷ textOf ls
+textOf (l ∷ ls) = bytesOf l ++ newline ∷ textOf ls

@@ -6,6 +6,7 @@ use Prim.Native.Nat.{ℕ, zero, suc}
 use native.Mathlib.Omega.{arith}
 use lib.IntN.{ℤ}
 use Rattle.cells.specs.Accepted.{Accepted}
+use Rattle.refusals.specs.Rows.{cycleRow, listedRow, earlyRow}
 use Rattle.refusals.specs.Refusal.{orElse, replyOf, foundAt, refusalOf}
 use Rattle.refusals.specs.declared.Verdict.the-variants.{Fine}
 use Rattle.refusals.proofs.OrElse.{both-fine}
@@ -26,7 +27,7 @@ at-none : (r k : ℕ) → k ≡ 0 → foundAt r k ≡ Fine
 at-none r k e = rw e
 
 -- a reply of number 0 is to rows that find nothing
-no-number : (a b c k : ℕ) → refusalOf (replyOf (orElse (foundAt 16 a) (orElse (foundAt 17 b) (foundAt 18 c))) k) ≡ 0 → (a ≡ 0) × (b ≡ 0) × (c ≡ 0)
+no-number : (a b c k : ℕ) → refusalOf (replyOf (orElse (foundAt cycleRow a) (orElse (foundAt listedRow b) (foundAt earlyRow c))) k) ≡ 0 → (a ≡ 0) × (b ≡ 0) × (c ≡ 0)
 no-number zero zero zero k e = (refl, refl, refl)
 no-number zero zero (suc c) k e = absurd (omega arith)
 no-number zero (suc b) c k e = absurd (omega arith)
@@ -35,11 +36,11 @@ no-number (suc a) b c k e = absurd (omega arith)
 module _ (t : List ℤ) (n : ℕ) (ok : Accepted t n) where
   pub cycle-free : cycleBad t n ≡ Fine → NoCycle t
   unfolding cycleBad
-  cycle-free e = place16-exactly t n ok 0 .0 (none-at 16 (place16 t n) e)
+  cycle-free e = place16-exactly t n ok 0 .0 (none-at cycleRow (place16 t n) e)
 
   free-cycle : NoCycle t → cycleBad t n ≡ Fine
   unfolding cycleBad
-  free-cycle h = at-none 16 (place16 t n) (place16-exactly t n ok 0 .1 h)
+  free-cycle h = at-none cycleRow (place16 t n) (place16-exactly t n ok 0 .1 h)
 
   pub planned-proper : cycleBad t n ≡ Fine → Proper t (orderOf (plan t n))
   planned-proper e = plan-proper t n ok (cycle-free e)
@@ -48,8 +49,8 @@ module _ (t : List ℤ) (n : ℕ) (ok : Accepted t n) where
     pub order-proper : orderBad t n cells ≡ Fine → ProperList t cells
     unfolding orderBad
     order-proper e =
-        let b = both-fine (foundAt 17 (place17 t n cells)) (foundAt 18 (place18 t n cells)) e in
-        follow-exactly t n ok cells .0 (none-at 17 (place17 t n cells) (b .0), none-at 18 (place18 t n cells) (b .1))
+        let b = both-fine (foundAt listedRow (place17 t n cells)) (foundAt earlyRow (place18 t n cells)) e in
+        follow-exactly t n ok cells .0 (none-at listedRow (place17 t n cells) (b .0), none-at earlyRow (place18 t n cells) (b .1))
 
     pub proper-rows : ProperList t cells → (cycleBad t n ≡ Fine) × (orderBad t n cells ≡ Fine)
     unfolding orderBad

@@ -6,6 +6,7 @@ use Prim.Native.Nat.{ℕ, _*_, _≤_, _<_}
 use native.Mathlib.Omega.{arith}
 use lib.Dec.{leb}
 use borrow.Author.Tests.{leb-true, le-leb, lt-leb}
+use Rattle.refusals.specs.Rows.{buffersRow}
 use Rattle.refusals.specs.Refusal.{orElse, replyOf}
 use Rattle.refusals.specs.declared.Verdict.{Verdict}
 use Rattle.refusals.specs.declared.Verdict.the-variants.{Fine, Refused}
@@ -22,7 +23,7 @@ use Rattle.calls.specs.CallStages.{shortBy, headReply}
 
 -- ---- row 4 of one buffer
 
-pub room-short : (least cells place n : ℕ) → cells < least → reply.Refused 4 place ≡ replyOf (shortBy least cells place) n
+pub room-short : (least cells place n : ℕ) → cells < least → reply.Refused buffersRow place ≡ replyOf (shortBy least cells place) n
 room-short least cells place n h = rw (lt-leb least cells h)
 
 pub room-long : (least cells place n : ℕ) → least ≤ cells → reply.Answered n ≡ replyOf (shortBy least cells place) n
@@ -33,7 +34,7 @@ long least cells place = go (leb least cells) refl
   where
     go : (b : Bool) → leb least cells ≡ b → shortBy least cells place ≡ Fine → least ≤ cells
     go true q z = leb-true least cells q
-    go false q z = let y : Refused 4 place ≡ Fine = rw q at z in let x : _≡_ {A = ℕ} 0 1 = cc in absurd (omega arith)
+    go false q z = let y : Refused buffersRow place ≡ Fine = rw q at z in let x : _≡_ {A = ℕ} 0 1 = cc in absurd (omega arith)
 
 -- what row 4 lets pass, of a text s
 module _ (s : List ℕ) where

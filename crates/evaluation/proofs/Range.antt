@@ -20,10 +20,10 @@ use Rattle.kinds.specs.declared.Operation.{Operation}
 use Rattle.numbers.specs.declared.Calculated.{Calculated}
 use Rattle.numbers.specs.declared.Calculated.the-variants as calculation
 use Rattle.numbers.proofs.Arithmetic.{calculated-size}
-use Rattle.evaluation.specs.States.{hasNumber, lastState}
+use Rattle.evaluation.specs.States.{hasNumber, outOfRange, zeroDivisor, outOfSteps, tooDeep, lastState}
 use Rattle.evaluation.specs.Results.{stateAt, numberAt, Recorded}
 use Rattle.evaluation.specs.Evaluation.{Way, gives, fails, onNumber, unlessFailed, answerAt, outcomeOf, tieRule, depthLimit, bodyBy, callBy, operationBy, choiceBy, enteredBy}
-use Rattle.evaluation.specs.Evaluation.{stepBy, withFuel, outcome, nothing, valueOutcome}
+use Rattle.evaluation.specs.Evaluation.{stepBy, withFuel, outcome, nothing, stepLimit, valueOutcome}
 use Rattle.evaluation.specs.Ready.{Ready, ExpressionAt}
 use Rattle.evaluation.specs.declared.Arguments.{Arguments}
 use Rattle.kinds.specs.declared.Clause.{Clause}
@@ -66,8 +66,8 @@ module _ (low : ℕ) (small : low ≤ hasNumber) where
     where
       by : (c : Calculated) → calculated tieRule op a b ≡ c → Good low (outcomeOf c s)
       by (calculation.Number z) e = gives-good z s (calculated-size tieRule op a b z e)
-      by calculation.OutOfRange e = fails-good 2 s (omega arith) (omega arith)
-      by calculation.ZeroDivisor e = fails-good 3 s (omega arith) (omega arith)
+      by calculation.OutOfRange e = fails-good outOfRange s (omega arith) (omega arith)
+      by calculation.ZeroDivisor e = fails-good zeroDivisor s (omega arith) (omega arith)
 
   module _ (t r : List ℤ) (n : ℕ) (w : Accepted t n) (D E : ℕ → Type 0) (c : Closed t D E) (recorded : (x : ℕ) → kind t x ≡ valueCode → E x → Recorded low r x) where
     entered-good : (rec : Way) → ((l : ℕ) (g : Arguments) (s d : ℕ) → Within t n D l → natAbs (g .first) ≤ numberLimit → Good low (rec l g s d))
@@ -79,7 +79,7 @@ module _ (low : ℕ) (small : low ≤ hasNumber) where
     entered-good rec a (clause.Call n) l g s d h q = unless-good _ _ (a _ g s d (q .0) h) (λ y m i. by y m i (eqb d depthLimit))
       where
         by : (y : ℤ) (m : ℕ) → natAbs y ≤ numberLimit → (b : Bool) → Good low (bodyBy b rec t l y m d)
-        by y m i true = fails-good 5 m (omega arith) (omega arith)
+        by y m i true = fails-good tooDeep m (omega arith) (omega arith)
         by y m i false = a _ _ m (d + 1) (q .1) i
     entered-good rec a (clause.Operation op) l g s d h q =
         unless-good _ _ (a _ g s d (q .0) h) (λ y m i. unless-good _ _ (a _ g m d (q .1) h) (λ z k j. calculated-good op y z k))
@@ -88,8 +88,8 @@ module _ (low : ℕ) (small : low ≤ hasNumber) where
 
     within-good : (f : ℕ) (l : ℕ) (g : Arguments) (s d : ℕ) → Within t n D l → natAbs (g .first) ≤ numberLimit → Good low (withFuel f t r l g s d)
     unfolding withFuel stepBy
-    within-good zero l g s d p h = fails-good 4 0 (omega arith) (omega arith)
-    within-good (suc f) l g zero d p h = fails-good 4 0 (omega arith) (omega arith)
+    within-good zero l g s d p h = fails-good outOfSteps 0 (omega arith) (omega arith)
+    within-good (suc f) l g zero d p h = fails-good outOfSteps 0 (omega arith) (omega arith)
     within-good (suc f) l g (suc s) d p h =
         entered-good (withFuel f t r) (within-good f) (clauseOf (kind t l)) l g s d h (leads t n w D E c l p)
 
@@ -110,5 +110,5 @@ pub value-recorded : (t r : List ℤ) (n : ℕ) → Accepted t n → (v : ℕ) �
     → ((x : ℕ) → kind t x ≡ valueCode → Reaches t v x → Recorded 1 r x) → Good 1 (valueOutcome t r v)
 unfolding valueOutcome
 value-recorded t r n w v k h =
-    good 1 (omega arith) t r n w (From t v) (Reaches t v) (from-closed t v) h (fieldB t v) nothing 20000 0
+    good 1 (omega arith) t r n w (From t v) (Reaches t v) (from-closed t v) h (fieldB t v) nothing stepLimit 0
     (body-within t n w (From t v) (Reaches t v) (from-closed t v) v (rw k value-body) (inl refl)) (omega arith)

@@ -13,7 +13,7 @@ use Rattle.cells.specs.Table.{kind, fieldA, fieldB, target, lineNumber}
 use Rattle.numbers.specs.Arithmetic.{calculated}
 use Rattle.numbers.specs.declared.Calculated.{Calculated}
 use Rattle.numbers.specs.declared.Calculated.the-variants as calculation
-use Rattle.evaluation.specs.States.{hasNumber}
+use Rattle.evaluation.specs.States.{hasNumber, outOfSteps}
 use Rattle.evaluation.specs.Results.{stateAt, numberAt}
 use Rattle.evaluation.specs.Evaluation.{Way, gives, fails, onNumber, unlessFailed, answerAt, outcomeOf, tieRule, stepLimit, depthLimit, bodyBy, callBy, operationBy, branchOf}
 use Rattle.evaluation.specs.Evaluation.{choiceBy, enteredBy, stepBy, withFuel, outcome, valueOutcome, evaluated}
@@ -114,7 +114,7 @@ module _ (t r : List ℤ) where
   asks clause.Choice l = ((tt, refl), λ y. (tt, refl))
   asks clause.None l = tt
 
-  none : {s : ℕ} → Agreed s (fails 4 0) (fails 4 0)
+  none : {s : ℕ} → Agreed s (fails outOfSteps 0) (fails outOfSteps 0)
   none = record { same = refl; less = omega arith }
 
   -- fuel beyond the steps left changes nothing

@@ -1,7 +1,7 @@
 -- Laws of the four operations: every result fits a cell, the range test, and one proof of the code's arms over the operation.
 use mathlib.Core.Path.{_≡_, refl, sym, subst}
 use mathlib.Core.Bool.{Bool, true, false, cond}
-use Prim.Native.Nat.{suc, _*_, _≤_}
+use Prim.Native.Nat.{suc, _-_, _*_, _≤_}
 use native.Mathlib.Omega.{arith}
 use native.Mathlib.Nat.{mul-le-mul}
 use borrow.Author.Tests.{ltb-true, ltb-false, leb-true, lt-leb, le-leb}
@@ -35,20 +35,20 @@ result-fits tie op a b ha hb = fits-by (result tie op a b) (numberLimit * number
 
 -- ---- the range test, as the code makes it
 
-pub range-low : (x : ℤ) → ltZ x (negsuc 999999999) ≡ true → OutOfRange ≡ rangedOf x
+pub range-low : (x : ℤ) → ltZ x (negsuc (numberLimit - 1)) ≡ true → OutOfRange ≡ rangedOf x
 unfolding rangedOf
 range-low (pos n) e = clash (sym e)
-range-low (negsuc n) e = rw (lt-leb (suc n) numberLimit (omega (arith, ltb-true 999999999 n e)))
+range-low (negsuc n) e = rw (lt-leb (suc n) numberLimit (omega (arith, ltb-true (numberLimit - 1) n e)))
 
-pub range-high : (x : ℤ) → ltZ (pos 1000000000) x ≡ true → OutOfRange ≡ rangedOf x
+pub range-high : (x : ℤ) → ltZ (pos numberLimit) x ≡ true → OutOfRange ≡ rangedOf x
 unfolding rangedOf
-range-high (pos n) e = rw (lt-leb n numberLimit (ltb-true 1000000000 n e))
+range-high (pos n) e = rw (lt-leb n numberLimit (ltb-true numberLimit n e))
 range-high (negsuc n) e = clash (sym e)
 
-pub range-in : (x : ℤ) → ltZ x (negsuc 999999999) ≡ false → ltZ (pos 1000000000) x ≡ false → Number x ≡ rangedOf x
+pub range-in : (x : ℤ) → ltZ x (negsuc (numberLimit - 1)) ≡ false → ltZ (pos numberLimit) x ≡ false → Number x ≡ rangedOf x
 unfolding rangedOf
-range-in (pos n) e f = rw (le-leb n numberLimit (ltb-false 1000000000 n f))
-range-in (negsuc n) e f = rw (le-leb (suc n) numberLimit (omega (arith, ltb-false 999999999 n e)))
+range-in (pos n) e f = rw (le-leb n numberLimit (ltb-false numberLimit n f))
+range-in (negsuc n) e f = rw (le-leb (suc n) numberLimit (omega (arith, ltb-false (numberLimit - 1) n e)))
 
 -- ---- a calculated number is in range
 

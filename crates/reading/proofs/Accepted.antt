@@ -11,15 +11,16 @@ use lib.Dec.{eqb, leb}
 use lib.IntN.{ℤ, pos}
 use lib.ListN.{length}
 use borrow.Author.Tests.{eqb-true, leb-true, leb-false}
-use Rattle.cells.specs.Limits.{labelLimit}
 use Rattle.kinds.specs.Kinds.{valueCode, numberCode, wantedBy}
 use Rattle.kinds.specs.Kinds as kinds
 use Rattle.kinds.proofs.Laws.{kind-low, definition-kind, expression-kind, not-expression, body-definition, path-expression, path-body}
+use Rattle.cells.specs.Limits.{labelLimit, nameLimit}
 use Rattle.cells.specs.Cells.{natOf, intAt}
 use Rattle.cells.specs.Table.{cell, kind, isDefinition, isExpression, hasPath, nameStart, nameLength, fieldA, fieldB, fieldC, owner, target, lineNumber}
 use Rattle.cells.specs.Accepted.{Part, Accepted}
 use Rattle.cells.proofs.Table.{cell-at}
 use Rattle.cells.proofs.Columns.{column-length, column-keeps, column-has, column-own, column-other, column-number}
+use Rattle.refusals.specs.Rows.{targetRow}
 use Rattle.refusals.specs.Refusal.{firstBad, orElse}
 use Rattle.refusals.specs.declared.Verdict.the-variants.{Fine}
 use Rattle.refusals.proofs.OrElse.{both-fine}
@@ -176,7 +177,7 @@ module _ (s : List ℕ) (t : List ℤ) (n : ℕ) (is : Lined s t n) (tree : tree
     where
       go : (b : Bool) → eqb (kind u (targetOf s u n l)) (wantedBy (kind u l)) ≡ b → targetBad s u n l ≡ 0 → kind u (targetOf s u n l) ≡ wantedBy (kind u l)
       go true q z = eqb-true (kind u (targetOf s u n l)) (wantedBy (kind u l)) q
-      go false q z = let y : _≡_ {A = ℕ} 15 0 = rw (e, q) at z in absurd (omega arith)
+      go false q z = let y : _≡_ {A = ℕ} targetRow 0 = rw (e, q) at z in absurd (omega arith)
 
   target-own : (l : ℕ) → 1 ≤ l → l ≤ n → target w l ≡ targetCell s u n l
   unfolding resolvedTable
@@ -292,11 +293,11 @@ module _ (s : List ℕ) (low : 1 ≤ labels s) (high : labels s ≤ labelLimit) 
   any-names = resolved-names s rows n is-lined (tree-fine .0) (tree-fine .1)
 
   -- a value's name has at most 16 bytes
-  pub any-short : (v : ℕ) → kind (sheetTable s) v ≡ valueCode → nameLength (sheetTable s) v ≤ 16
+  pub any-short : (v : ℕ) → kind (sheetTable s) v ≡ valueCode → nameLength (sheetTable s) v ≤ nameLimit
   unfolding sheetTable
   any-short v k =
       let same = same-lines s rows n is-lined (tree-fine .0) (tree-fine .1) v in
-      let short : (kind rows v ≡ valueCode → nameLength rows v ≤ 16) = rw (rows-lined s) at (names-short s (8 * n) low high (lines-fine .0) v) in
+      let short : (kind rows v ≡ valueCode → nameLength rows v ≤ nameLimit) = rw (rows-lined s) at (names-short s (8 * n) low high (lines-fine .0) v) in
       rw (same 2 (omega arith)) (short (sym (same 0 (omega arith)) ∙ k))
 
   pub any-length : length (sheetTable s) ≡ 8 * labels s
@@ -343,7 +344,7 @@ module _ (s : List ℕ) (e : Reads s) where
   pub read-names : (l : ℕ) → nameStart (sheetTable s) l + nameLength (sheetTable s) l ≤ length s
   read-names = any-names s least most (both .1)
 
-  pub read-short : (v : ℕ) → kind (sheetTable s) v ≡ valueCode → nameLength (sheetTable s) v ≤ 16
+  pub read-short : (v : ℕ) → kind (sheetTable s) v ≡ valueCode → nameLength (sheetTable s) v ≤ nameLimit
   read-short = any-short s least most (both .1)
 
   pub read-length : length (sheetTable s) ≡ 8 * labels s

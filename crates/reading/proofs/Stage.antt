@@ -10,6 +10,7 @@ use borrow.Author.Tests.{le-leb, lt-leb}
 use Rattle.cells.specs.Cells.{zeros}
 use Rattle.cells.specs.Clearing.{clearFrom}
 use Rattle.cells.proofs.Clearing.{clear-split}
+use Rattle.refusals.specs.Rows.{buffersRow}
 use Rattle.refusals.specs.Refusal.{replyOf}
 use Rattle.refusals.specs.declared.Verdict.{Verdict}
 use Rattle.refusals.specs.declared.Verdict.the-variants.{Fine, Refused}
@@ -97,9 +98,9 @@ module _ (s : List ℕ) (m : ℕ) where
   head-refused q e r p t f g = leaves (Refused r p) _ t (rw (refused (headBad s) (labels s) r p (sym e ∙ f))) refl g
 
   module _ (n : ℕ) (h : Passed s n) where
-    pub table-short : (t : List ℤ) → m < 8 * n → t ≡ zeros m → ReadLeaves s m (reply.Refused 4 1) t
+    pub table-short : (t : List ℤ) → m < 8 * n → t ≡ zeros m → ReadLeaves s m (reply.Refused buffersRow 1) t
     unfolding readBad tableShort
-    table-short t g e = leaves (Refused 4 1) _ t (rw (h .head, lt-leb (8 * labels s) m (omega (arith, h .count)))) refl e
+    table-short t g e = leaves (Refused buffersRow 1) _ t (rw (h .head, lt-leb (8 * labels s) m (omega (arith, h .count)))) refl e
 
     -- the table is long enough; rows 5 to 15 found v and left t
     module _ (room : 8 * n ≤ m) (v : Verdict) (t : List ℤ) (b : SheetReads s m v t) where

@@ -14,6 +14,7 @@ use Rattle.kinds.proofs.Tests.{and-left, and-right}
 use Rattle.kinds.proofs.Laws.{kind-low}
 use Rattle.kinds.proofs.Codes.{number-operand}
 use Rattle.cells.specs.Table.{cell, kind, isDefinition, isExpression, fieldA, fieldB, fieldC}
+use Rattle.refusals.specs.Rows.{structureRow}
 use Rattle.refusals.specs.declared.Verdict.the-variants.{Fine}
 use Rattle.refusals.specs.Refusal.{firstBad}
 use Rattle.refusals.proofs.FirstBad.{first-none}
@@ -96,7 +97,7 @@ module _ (t : List ℤ) (n : ℕ) (s : Formed t n) (fine : firstBad (structureBa
   unfolding structureBad
   right-line l h g = go (structureRight t l) (first-none (structureBad t) n 1 fine l h (omega arith))
     where
-      go : (b : Bool) → _≡_ {A = ℕ} (cond b 0 8) 0 → b ≡ true
+      go : (b : Bool) → _≡_ {A = ℕ} (cond b 0 structureRow) 0 → b ≡ true
       go true e = refl
       go false e = absurd (omega arith)
 

@@ -81,7 +81,7 @@ uses-step t zero x h = absurd (omega arith)
 uses-step t (suc k) x h = let e : suc k - 1 ≡ k = omega arith in rw e
 
 module _ (t : List ℤ) (n : ℕ) (s : Structured t n) (w : List ℤ) (l : ℕ) (h : 1 ≤ l) (g : l ≤ n) (r : UsesCounted t n (l - 1) w) where
-  few-uses : (x : ℕ) → x ≤ n → target w x ≤ 3072
+  few-uses : (x : ℕ) → x ≤ n → target w x ≤ 3 * labelLimit
   few-uses x m = ⊎-elim (λ e. rw e (omega arith)) (λ a. omega (arith, r .uses x a m, uses-most t x (l - 1), s .formed .few)) (none-or-some x)
 
   pub count-ready : Countable w l

@@ -17,6 +17,7 @@ use Rattle.kinds.proofs.Laws.{not-expression, either}
 use Rattle.cells.specs.Table.{kind, isDefinition, isExpression, fieldA, fieldB, fieldC, owner, withColumn}
 use Rattle.cells.specs.Accepted.{HasBody, Part}
 use Rattle.cells.proofs.Columns.{column-own, column-other}
+use Rattle.refusals.specs.Rows.{argumentRow, levelRow}
 use Rattle.refusals.specs.declared.Verdict.the-variants.{Fine}
 use Rattle.refusals.proofs.OrElse.{both-fine}
 use Rattle.refusals.specs.Refusal.{firstBad}
@@ -71,7 +72,7 @@ module _ (t : List ℤ) (n : ℕ) (s : Formed t n) (fine : treeBad t n ≡ Fine)
   argument-in x = go (leb 1 (kind t x)) refl
     where
       given : (k d : ℕ) → argumentIn k d ≡ 0 → (b : Bool) → ltb (takes d) (argumentPlace k) ≡ b → argumentPlace k ≤ takes d
-      given k d z true q = let y : _≡_ {A = ℕ} 10 0 = rw q at z in absurd (omega arith)
+      given k d z true q = let y : _≡_ {A = ℕ} argumentRow 0 = rw q at z in absurd (omega arith)
       given k d z false q = ltb-false (takes d) (argumentPlace k) q
 
       go : (b : Bool) → leb 1 (kind t x) ≡ b → argumentPlace (kind t x) ≤ takes (kind t (ownerOf t n x))
@@ -87,7 +88,7 @@ module _ (t : List ℤ) (n : ℕ) (s : Formed t n) (fine : treeBad t n ≡ Fine)
   low-level x h g = go (ltb levelLimit (levelOf t n x)) refl (first-none (levelBad t n) n 1 (rows .3) x h (omega arith))
     where
       go : (b : Bool) → ltb levelLimit (levelOf t n x) ≡ b → levelBad t n x ≡ 0 → levelOf t n x ≤ levelLimit
-      go true q z = let y : _≡_ {A = ℕ} 11 0 = rw q at z in absurd (omega arith)
+      go true q z = let y : _≡_ {A = ℕ} levelRow 0 = rw q at z in absurd (omega arith)
       go false q z = ltb-false levelLimit (levelOf t n x) q
 
   pub treed : Treed t n

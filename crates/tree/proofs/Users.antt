@@ -12,6 +12,7 @@ use lib.IntN.{ℤ}
 use Rattle.cells.specs.Lists.{count}
 use Rattle.cells.specs.Table.{kind, isExpression, fieldA, fieldB, fieldC}
 use Rattle.kinds.specs.Kinds.{fieldsAt}
+use Rattle.refusals.specs.Rows.{usesRow}
 use Rattle.refusals.specs.declared.Verdict.the-variants.{Fine}
 use Rattle.refusals.specs.Refusal.{firstBad}
 use Rattle.refusals.proofs.FirstBad.{first-none}
@@ -80,7 +81,7 @@ tree t n s fine = record { structure = s; once = λ x e. go x e (eqb (uses t n x
 
     go : (x : ℕ) → isExpression t x ≡ true → (b : Bool) → eqb (uses t n x) 1 ≡ b → usesBad t n x ≡ 0 → uses t n x ≡ 1
     go x e true q z = eqb-true (uses t n x) 1 q
-    go x e false q z = let y : _≡_ {A = ℕ} 9 0 = rw (e, q) at z in absurd (omega arith)
+    go x e false q z = let y : _≡_ {A = ℕ} usesRow 0 = rw (e, q) at z in absurd (omega arith)
 
 -- ---- the tree reads the cells before the owner only
 

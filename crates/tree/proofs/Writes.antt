@@ -10,6 +10,7 @@ use lib.Dec.{eqb}
 use lib.IntN.{ℤ, pos}
 use lib.ListN.{length, set, length-set}
 use Rattle.kinds.specs.Kinds.{groupCode}
+use Rattle.cells.specs.Limits.{labelLimit}
 use Rattle.cells.specs.Cells.{natOf, intAt}
 use Rattle.cells.specs.Lists.{one, count}
 use Rattle.cells.specs.Table.{cell, kind, isExpression, fieldA, owner, target}
@@ -163,13 +164,13 @@ module _ (t : List ℤ) (l : ℕ) (r : Countable t l) (p : Node) (e : p ≡ node
 
     pub count-second : (8 * p .b ≤ length u) × (target u (p .b) < 65536)
     count-second =
-        let m : target t (p .b) ≤ 3072 = rw e (r .b) in
+        let m : target t (p .b) ≤ 3 * labelLimit = rw e (r .b) in
         (omega (arith, count-length, inside-node .b), omega (arith, count-most (p .b)))
 
     pub count-third : (w : List ℤ) → w ≡ counted (p .b) u → (8 * p .c ≤ length w) × (target w (p .c) < 65536)
     count-third w g =
         let room : 8 * p .b ≤ length u = omega (arith, count-length, inside-node .b) in
-        let m : target t (p .c) ≤ 3072 = rw e (r .c) in
+        let m : target t (p .c) ≤ 3 * labelLimit = rw e (r .c) in
         let k : target w (p .c) ≤ target u (p .c) + 1 = rw g (counted-most (p .b) u room (p .c)) in
         (omega (arith, ap length g, counted-length (p .b) u room, count-length, inside-node .c), omega (arith, count-most (p .c)))
 

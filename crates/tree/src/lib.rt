@@ -3,7 +3,7 @@
 
 ghost use mathlib.Core.Path.{_≡_};
 ghost use mathlib.Core.Bool.{true};
-ghost use Prim.Native.Nat.{_*_, _≤_, _<_};
+ghost use Prim.Native.Nat.{_+_, _*_, _≤_, _<_};
 ghost use lib.ListN.{length};
 ghost use Rattle.cells.specs.Limits.{labelLimit};
 ghost use Rattle.cells.specs.Lists.{all};
@@ -12,7 +12,8 @@ ghost use Rattle.cells.specs.Table.{cell, kind, isExpression, target};
 ghost use Rattle.refusals.specs.Refusal.{firstBad, orElse};
 ghost use Rattle.tree.specs.Tree.{partRight, parts, structureBad, usesBad, argumentBad, levelBad, treeBad};
 ghost use Rattle.tree.specs.Treed.{Formed, Plain, Written};
-ghost use Rattle.tree.specs.TreeSteps.{partIn, nodeAt, Readable, groupFits, partFits, cellBad, counted, countedAll, assigned, assignedAll, propagated, Inside, Countable, Propagable, Structured, UsedOnce, Natural, UsesCounted, Propagated, Cleared, Owning};
+ghost use Rattle.tree.specs.TreeSteps.{partIn, nodeAt, Readable, groupFits, partFits, cellBad, counted, countedAll, assigned, assignedAll};
+ghost use Rattle.tree.specs.TreeSteps.{propagated, Inside, Countable, Propagable, Structured, UsedOnce, Natural, UsesCounted, Propagated, Cleared, Owning};
 use kinds::Form;
 use refusals::Verdict;
 
@@ -239,7 +240,7 @@ fn count_uses(table: &mut [i64], n: usize)
 
 // Owner and level of x, if it is a label.
 fn assign(table: &mut [i64], x: usize, owner: usize, level: usize)
-    requires { ⌜ (8 * x ≤ length (now table)) × (owner ≤ labelLimit) × (level ≤ 1025) ⌝ }
+    requires { ⌜ (8 * x ≤ length (now table)) × (owner ≤ labelLimit) × (level ≤ labelLimit + 1) ⌝ }
     ensures { λ _. ⌜ now (table .exit) ≡ assigned x owner level (now (table .entry)) ⌝ }
 {
     if x != 0 {
@@ -250,7 +251,7 @@ fn assign(table: &mut [i64], x: usize, owner: usize, level: usize)
 
 // Owner and level of the parts of a line.
 fn assign_parts(table: &mut [i64], node: Node, owner: usize, level: usize)
-    requires { ⌜ Inside (now table) node × (owner ≤ labelLimit) × (level ≤ 1025) ⌝ }
+    requires { ⌜ Inside (now table) node × (owner ≤ labelLimit) × (level ≤ labelLimit + 1) ⌝ }
     ensures { λ _. ⌜ now (table .exit) ≡ assignedAll node owner level (now (table .entry)) ⌝ }
 {
     assign(table, node.a, owner, level);

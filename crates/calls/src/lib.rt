@@ -148,7 +148,8 @@ fn run_sheet(
     results: &mut [i64],
 ) -> PlanReply
     requires { ⌜ Passed (now text) n × (8 * n ≤ length (now table)) × (n ≤ length (now plan)) × (3 * n ≤ length (now results)) ⌝ }
-    ensures { λ r. ⌜ SheetRuns (now (text .entry)) (length (now (table .entry))) (length (now (plan .entry))) (length (now (results .entry))) r (now (table .exit)) (now (plan .exit)) (now (results .exit)) ⌝ }
+    ensures { λ r. ⌜ SheetRuns (now (text .entry)) (length (now (table .entry))) (length (now (plan .entry))) (length (now (results .entry)))
+        r (now (table .exit)) (now (plan .exit)) (now (results .exit)) ⌝ }
 {
     match plan_sheet(text, n, table, plan) {
         PlanReply::Whole(count) => {
@@ -168,7 +169,8 @@ fn run_sheet(
 
 // Run: works down the plan as well, and writes each value's state, number and steps. It answers as Plan does.
 pub fn run(text: &[u8], table: &mut [i64], plan: &mut [i64], results: &mut [i64]) -> PlanReply
-    ensures { λ r. ⌜ RunLeaves (now (text .entry)) (length (now (table .entry))) (length (now (plan .entry))) (length (now (results .entry))) r (now (table .exit)) (now (plan .exit)) (now (results .exit)) ⌝ }
+    ensures { λ r. ⌜ RunLeaves (now (text .entry)) (length (now (table .entry))) (length (now (plan .entry))) (length (now (results .entry)))
+        r (now (table .exit)) (now (plan .exit)) (now (results .exit)) ⌝ }
 {
     match head_run(text, table.len(), plan.len(), results.len()) {
         Reply::Answered(n) => run_sheet(text, n as usize, table, plan, results),

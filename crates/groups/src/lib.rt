@@ -178,7 +178,8 @@ pub fn order_groups(
     order: &mut [u16],
 ) -> bool
     requires { ⌜ Accepted (now table) n ⌝ }
-    requires { ⌜ (((2 * n < length (now next)) × (n < length (now items))) × Scratch n (now mask) (now unmet) (now ready) (now list) (now order)) × ((((n + 1) * width n ≤ length (now square)) × NeedRows (now table) n (now square)) × Chained (now table) n (now next)) ⌝ }
+    requires { ⌜ ((2 * n < length (now next)) × (n < length (now items))) × Scratch n (now mask) (now unmet) (now ready) (now list) (now order) ⌝ }
+    requires { ⌜ (((n + 1) * width n ≤ length (now square)) × NeedRows (now table) n (now square)) × Chained (now table) n (now next) ⌝ }
     ensures { λ r. ⌜ GroupOrders (now (table .entry)) n (now (next .exit)) r ⌝ }
 {
     let mut g = 1;

@@ -96,7 +96,8 @@ pub extern "C" fn lindypo_run(
     plan: &mut [i64],
     results: &mut [i64],
 ) -> CReply
-    ensures { λ r. ⌜ RunExport (now (text .entry)) (length (now (table .entry))) (length (now (plan .entry))) (length (now (results .entry))) r (now (table .exit)) (now (plan .exit)) (now (results .exit)) ⌝ }
+    ensures { λ r. ⌜ RunExport (now (text .entry)) (length (now (table .entry))) (length (now (plan .entry))) (length (now (results .entry)))
+        r (now (table .exit)) (now (plan .exit)) (now (results .exit)) ⌝ }
 {
     plan_answer(calls::run(text, table, plan, results))
 }

@@ -18,13 +18,21 @@ abbrev pub Rising : List ℕ → Type 0
 Rising [] = Unit {0}
 Rising (x ∷ l) = ((y : ℕ) → y ∈ l → x < y) × Rising l
 
+-- all of l are below k
+abbrev pub AllBelow : List ℕ → ℕ → Type 0
+AllBelow l k = (p : ℕ) → p ∈ l → p < k
+
+-- the counts of those in l stay in 16 bits where each is raised as often as it stands there
+abbrev pub Raisable : List ℕ → List ℕ → Type 0
+Raisable l unmet = (p : ℕ) → p ∈ l → getD unmet p 0 + count p l < 65536
+
 -- the items go upward and have counts, rows and marks; the mask has items alone
 pub record Fits (items square mask unmet : List ℕ) (w : ℕ) : Type 0 where
   pub rising : Rising items
   pub few : length items < 65536
   pub narrow : w ≤ 1000
-  pub below : (p : ℕ) → p ∈ items → p < 64 * w
-  pub counted : (p : ℕ) → p ∈ items → p < length unmet
+  pub below : AllBelow items (64 * w)
+  pub counted : AllBelow items (length unmet)
   pub rows : (p : ℕ) → p ∈ items → p * w + w ≤ length square
   pub masked : (p : ℕ) → mark mask w 0 p ≡ true → p ∈ items
   pub mask-room : w ≤ length mask

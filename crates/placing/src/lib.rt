@@ -9,7 +9,7 @@ ghost use Prim.Native.Nat.{ℕ, _+_, _*_, _≤_, _<_};
 ghost use lib.ListN.{length, getD, take};
 ghost use Rattle.order.specs.LabelLists.{one, count, _∈_, filter};
 ghost use Rattle.marks.specs.Marks.{mark};
-ghost use Rattle.placing.specs.UnmetCounts.{needed, Fits, State, Lowered, Placed};
+ghost use Rattle.placing.specs.UnmetCounts.{needed, AllBelow, Raisable, Fits, State, Lowered, Placed};
 
 // Those that need q.
 fn needed_by(square: &[u64], w: usize, mask: &[u64], q: usize, list: &mut [u16]) -> usize
@@ -24,7 +24,7 @@ fn needed_by(square: &[u64], w: usize, mask: &[u64], q: usize, list: &mut [u16])
 
 // One unmet need more for each of the first m of the list.
 fn raise(list: &[u16], m: usize, unmet: &mut [u16])
-    requires { ⌜ (m ≤ length (now list)) × ((p : ℕ) → p ∈ take m (now list) → p < length (now unmet)) × ((p : ℕ) → p ∈ take m (now list) → getD (now unmet) p 0 + count p (take m (now list)) < 65536) ⌝ }
+    requires { ⌜ (m ≤ length (now list)) × AllBelow (take m (now list)) (length (now unmet)) × Raisable (take m (now list)) (now unmet) ⌝ }
     ensures { λ _. ⌜ ((p : ℕ) → getD (now (unmet .exit)) p 0 ≡ getD (now (unmet .entry)) p 0 + count p (take m (now (list .entry)))) ⌝ }
 {
     let mut i = 0;
@@ -37,7 +37,7 @@ fn raise(list: &[u16], m: usize, unmet: &mut [u16])
 
 // One unmet need less.
 fn lower(list: &[u16], m: usize, w: usize, unmet: &mut [u16], ready: &mut [u64])
-    requires { ⌜ (m ≤ length (now list)) × ((p : ℕ) → p ∈ take m (now list) → p < length (now unmet)) × ((p : ℕ) → p ∈ take m (now list) → p < 64 * w) ⌝ }
+    requires { ⌜ (m ≤ length (now list)) × AllBelow (take m (now list)) (length (now unmet)) × AllBelow (take m (now list)) (64 * w) ⌝ }
     requires { ⌜ ((p : ℕ) → count p (take m (now list)) ≤ 1) × ((p : ℕ) → count p (take m (now list)) ≤ getD (now unmet) p 0) × (w ≤ length (now ready)) ⌝ }
     ensures { λ _. ⌜ Lowered (now (list .entry)) (now (unmet .entry)) (now (ready .entry)) (now (unmet .exit)) (now (ready .exit)) m w ⌝ }
 {
@@ -54,7 +54,7 @@ fn lower(list: &[u16], m: usize, w: usize, unmet: &mut [u16], ready: &mut [u64])
 
 // No item has an unmet need.
 fn clear_counts(items: &[u16], unmet: &mut [u16])
-    requires { ⌜ ((p : ℕ) → p ∈ now items → p < length (now unmet)) ⌝ }
+    requires { ⌜ AllBelow (now items) (length (now unmet)) ⌝ }
     ensures { λ _. ⌜ ((p : ℕ) → p ∈ now (items .entry) → getD (now (unmet .exit)) p 0 ≡ 0) ⌝ }
 {
     let mut i = 0;
@@ -89,7 +89,7 @@ fn count_needs(
 
 // The items that need nothing.
 fn mark_ready(items: &[u16], w: usize, unmet: &[u16], ready: &mut [u64])
-    requires { ⌜ ((p : ℕ) → p ∈ now items → p < length (now unmet)) × ((p : ℕ) → p ∈ now items → p < 64 * w) × (w ≤ length (now ready)) ⌝ }
+    requires { ⌜ AllBelow (now items) (length (now unmet)) × AllBelow (now items) (64 * w) × (w ≤ length (now ready)) ⌝ }
     requires { ⌜ ((p : ℕ) → mark (now ready) w 0 p ≡ false) ⌝ }
     ensures { λ _. ⌜ ((p : ℕ) → (mark (now (ready .exit)) w 0 p ≡ true) ↔ ((p ∈ now (items .entry)) × (getD (now (unmet .entry)) p 0 ≡ 0))) ⌝ }
 {

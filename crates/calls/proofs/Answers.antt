@@ -17,8 +17,8 @@ use Rattle.refusals.specs.declared.Verdict.{Verdict}
 use Rattle.refusals.specs.declared.Verdict.the-variants.{Fine, Refused}
 use Rattle.order.specs.Order.{firstCycle, someStuck, Answer, cycle, whole, mixed, plan}
 use Rattle.order.specs.PlanMeans as demand
-use Rattle.order.specs.Following.{labelsOf}
 use Rattle.order.specs.Rows16to18.{cycleBad}
+use Rattle.order.proofs.Following.{labels-cells}
 use Rattle.order.proofs.Planned.{cycle-smallest, planned, order-short}
 use Rattle.planning.specs.Plans.{PlanIs}
 use Rattle.planning.specs.declared.Planned.{Planned}
@@ -44,10 +44,6 @@ listed-cells o p =
 
 taken : (o : List ℕ) (k : ℕ) → take (length o) (map pos o ++ zeros k) ≡ map pos o
 taken o k = take-at (map pos o) (zeros k) (length o) (length-map o pos)
-
-labels-back : (o : List ℕ) → labelsOf (map pos o) ≡ o
-labels-back [] = refl
-labels-back (v ∷ o) = ap (λ (l : List ℕ). v ∷ l) (labels-back o)
 
 -- ---- row 16, told by the plan
 
@@ -78,7 +74,7 @@ means t p (whole o) (q, w) = record {
   refuses = (λ e. absurd (omega arith), λ h. absurd (h o q));
   answers = λ _ _. refl;
   proper = λ _. record { order = o; same = taken o (p - length o); proper = q };
-  whole = λ _ _ _. (refl, rw (taken o, labels-back o) w);
+  whole = λ _ _ _. (refl, rw (taken o, labels-cells o) w);
   mixed = λ _ _ h. absurd (h o q w);
 }
 means t p (mixed o) (q, h) = record {

@@ -1,7 +1,9 @@
 pub mod Tests
+pub mod Lists
 pub mod Signed
 pub mod Stores
 pub mod Clearing
 pub mod Table
 pub mod Columns
 pub mod Scratch
+pub mod Accepted

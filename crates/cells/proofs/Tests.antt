@@ -2,9 +2,9 @@
 use mathlib.Core.Path.{_≡_, refl, sym, _∙_}
 use mathlib.Core.Logic.{_⊎_, inl, inr}
 use mathlib.Core.Bool.{Bool, true, false, not, _&&_, _||_}
-use Prim.Native.Nat.{_<_}
+use Prim.Native.Nat.{_≤_, _<_}
 use native.Mathlib.Omega.{arith}
-pub use Rattle.kinds.proofs.Tests.{clash, and-left, and-right}
+pub use Rattle.kinds.proofs.Tests.{clash, and-left, and-right, or-cases}
 use Rattle.cells.specs.Lists.{one}
 
 -- a test's two answers at once
@@ -13,10 +13,6 @@ both-ways t p q = clash (sym p ∙ q)
 
 pub and-intro : (a b : Bool) → a ≡ true → b ≡ true → (a && b) ≡ true
 and-intro a b p q = rw (p, q)
-
-pub or-cases : (a b : Bool) → (a || b) ≡ true → (a ≡ true) ⊎ (b ≡ true)
-or-cases true b e = inl refl
-or-cases false b e = inr e
 
 pub or-left : (a b : Bool) → a ≡ true → (a || b) ≡ true
 or-left a b p = rw p
@@ -51,6 +47,10 @@ and-not false false p q = p
 pub not-and : (a b : Bool) → (not a && b) ≡ false → b ≡ true → a ≡ true
 not-and true b p q = refl
 not-and false b p q = both-ways b q p
+
+pub one-le : (t : Bool) → one t ≤ 1
+one-le true = omega arith
+one-le false = omega arith
 
 pub one-true : (t : Bool) → t ≡ true → one t ≡ 1
 one-true t e = rw e

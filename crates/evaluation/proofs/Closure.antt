@@ -4,17 +4,18 @@ use mathlib.Core.Path.{_≡_, refl, sym, ap, subst, _∙_}
 use mathlib.Core.Bool.{Bool, true, false, cond}
 use mathlib.Core.List.{List}
 use mathlib.Core.Logic.{_⊎_, inl, inr}
-use Prim.Native.Nat.{ℕ, zero, suc, _≤_, _<_}
+use Prim.Native.Nat.{ℕ, _≤_, _<_}
 use native.Mathlib.Omega.{arith}
 use lib.IntN.{ℤ, natAbs}
 use Rattle.kinds.specs.Kinds.{valueCode, numberCode, operandA, operandB, operandC, takes, clauseOf}
 use Rattle.kinds.proofs.Tests.{clash}
-use Rattle.kinds.proofs.Laws.{kind-low, definition-kind, body-definition, path-body}
+use Rattle.kinds.proofs.Laws.{path-body}
 use Rattle.kinds.proofs.Clauses.{usesOf, expression-uses, path-uses, a-uses, b-uses, c-uses, number-code, read-value, call-takes, call-some}
 use Rattle.cells.specs.Cells.{equals}
 use Rattle.cells.specs.Table.{kind, fieldA, fieldB, fieldC, owner, target, lineNumber}
 use Rattle.cells.specs.Accepted.{Accepted, Part, HasBody}
 use Rattle.cells.specs.Reaches.{HasPath, Mentions, Reaches, once, then}
+use Rattle.cells.proofs.Accepted.{reaches-trans}
 use Rattle.cells.specs.Limits.{numberLimit}
 use Rattle.evaluation.specs.Evaluation.{branchOf}
 use Rattle.evaluation.specs.Ready.{ExpressionAt, Cell}
@@ -58,27 +59,14 @@ from-closed t v = record { on = go; back = λ e k r. inr (k, r) }
 -- what one of these reaches, v reaches
 pub from-reaches : (t : List ℤ) (v d w : ℕ) → From t v d → Reaches t d w → Reaches t v w
 from-reaches t v d w (inl p) r = subst (λ (x : ℕ). Reaches t x w) p r
-from-reaches t v d w (inr h) r = onward (h .1) r
-  where
-    onward : {e f : ℕ} → Reaches t v e → Reaches t e f → Reaches t v f
-    onward p (once m) = then p m
-    onward p (then q m) = then (onward p q) m
+from-reaches t v d w (inr h) r = reaches-trans (h .1) r
 
 -- ---- labels and cells
 
 pub mentions : (t : List ℤ) (x : ℕ) → HasPath t x → Mentions t (owner t x) (target t x)
 mentions t x p = record { line = x; path = p; owned = refl; aimed = refl }
 
-positive : (t : List ℤ) (x : ℕ) → 1 ≤ kind t x → 1 ≤ x
-positive t zero h = h
-positive t (suc x) h = omega arith
-
 module _ (t : List ℤ) (n : ℕ) (w : Accepted t n) where
-  -- a definition with a body has its label in the table
-  pub body-label : (x : ℕ) → HasBody t x → (1 ≤ x) × (x ≤ n)
-  body-label x h =
-      (positive t x (kind-low (kind t x) (definition-kind (kind t x) (body-definition (kind t x) h))), omega (arith, w .body x h .above, w .body x h .label))
-
   -- a cell other than the number of an N line
   pub cell-ok : (l j : ℕ) → 1 ≤ l → l ≤ n → j < 8 → (kind t l ≡ numberCode → j ≡ 3 → ⊥) → Cell t l j
   cell-ok l j h k c f = record { low = h; room = omega (arith, w .room); column = c; natural = w .natural l j h k c f }

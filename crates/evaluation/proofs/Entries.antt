@@ -25,7 +25,8 @@ use Rattle.evaluation.specs.declared.Arguments.{Arguments}
 use Rattle.kinds.specs.declared.Clause.{Clause}
 use Rattle.kinds.specs.declared.Clause.the-variants as clause
 use Rattle.evaluation.specs.declared.Outcome.{Outcome}
-use Rattle.evaluation.proofs.Closure.{Within, From, from-closed, from-reaches, Leads, leads, first, second, third, body-within, body-label, cell-ok}
+use Rattle.cells.proofs.Accepted.{body-label}
+use Rattle.evaluation.proofs.Closure.{Within, From, from-closed, from-reaches, Leads, leads, first, second, third, body-within, cell-ok}
 use Rattle.evaluation.proofs.Range.{in-range}
 use Rattle.evaluation.proofs.Steps.{left-less}
 

@@ -1,7 +1,7 @@
 -- What is left of a row of marks after the labels of a list are taken from it.
 use mathlib.Core.Path.{_≡_, refl, sym, ap, _∙_, subst}
 use mathlib.Core.List.{List, [], _∷_, _++_}
-use mathlib.Core.Bool.{Bool, true, false, not, _&&_, _||_}
+use mathlib.Core.Bool.{Bool, true, false, not, _&&_, _||_, and-true, and-false}
 use Prim.Native.Nat.{ℕ, _+_, _*_, _≤_, _<_}
 use native.Mathlib.Omega.{arith}
 use native.Mathlib.Decide.{ℕ-discrete}
@@ -20,21 +20,13 @@ use Rattle.marks.proofs.Squares.{mark-in}
 use Rattle.following.specs.Left.{Left, lacks, awaits, Meets}
 use Rattle.following.proofs.Steps.{onward, onward-here, onward-turn, onward-end, onward-fine, label-at, labels-long}
 
-and-on : (a : Bool) → (a && true) ≡ a
-and-on true = refl
-and-on false = refl
-
-and-off : (a : Bool) → (a && false) ≡ false
-and-off true = refl
-and-off false = refl
-
 not-or : (a b : Bool) → (not a || b) ≡ not (a && not b)
 not-or true true = refl
 not-or true false = refl
 not-or false b = refl
 
 pub left-all : (row : List ℕ) (w : ℕ) → Left row w [] row
-left-all row w q = sym (and-on (mark row w 0 q))
+left-all row w q = sym (and-true (mark row w 0 q))
 
 module _ (row : List ℕ) (w : ℕ) (seen left : List ℕ) (is : Left row w seen left) where
   -- one label more
@@ -44,7 +36,7 @@ module _ (row : List ℕ) (w : ℕ) (seen left : List ℕ) (is : Left row w seen
       go : Dec (q ≡ v) → mark left′ w 0 q ≡ (mark row w 0 q && not (mem q (seen ++ v ∷ [])))
       go (yes z) =
           let m : mem q (seen ++ v ∷ []) ≡ true = mem-of q (seen ++ v ∷ []) (in-right q seen (v ∷ []) (subst (λ (x : ℕ). q ∈ x ∷ []) z (in-here q []))) in
-          ap (mark left′ w 0) z ∙ d .gone ∙ sym (rw m (and-off (mark row w 0 q)))
+          ap (mark left′ w 0) z ∙ d .gone ∙ sym (rw m (and-false (mark row w 0 q)))
       go (no z) =
           let c : count q (seen ++ v ∷ []) ≡ count q seen = omega (arith, count-append q seen (v ∷ []), count-there q v [] z) in
           d .others 0 q (λ _ y. z y) ∙ is q ∙ ap (λ (x : ℕ). mark row w 0 q && not (ltb 0 x)) (sym c)

@@ -2,7 +2,7 @@
 use mathlib.Core.Path.{_≡_, refl, sym, ap, _∙_, subst}
 use mathlib.Core.Logic.{_⊎_, inl, inr, _↔_}
 use mathlib.Core.List.{List, [], _∷_, _++_}
-use mathlib.Core.Bool.{Bool, true, false, not, _&&_}
+use mathlib.Core.Bool.{Bool, true, false, not, _&&_, and-true, and-false}
 use mathlib.Core.Option.{Option, none, some}
 use Prim.Native.Nat.{ℕ, zero, suc, _+_, _-_, _*_, _≤_, _<_}
 use native.Mathlib.Omega.{arith}
@@ -26,7 +26,7 @@ use Rattle.order.proofs.Needs.{holds, holds-intro, holds-v, needs-intro, needs-
 use Rattle.order.proofs.Planned.{place16-exactly}
 use Rattle.marks.specs.Marks.{mark, Added}
 use Rattle.placing.specs.UnmetCounts.{needed, Fits, Placed}
-use Rattle.placing.proofs.Lists.{and-on, count-more, in-more, rising-once}
+use Rattle.placing.proofs.Lists.{count-more, in-more, rising-once}
 use Rattle.reach.specs.MarkRows.{width}
 use Rattle.reach.proofs.Reading.{row-room}
 use Rattle.needs.specs.Needs.{Holder, NeedRows}
@@ -61,10 +61,6 @@ module _ (R Q : ℕ → ℕ → Bool) (items : List ℕ) (same : (p q : ℕ) →
 
   pub placed-ext : placed R items ≡ placed Q items
   placed-ext = rounds-ext (length items) []
-
-and-off : (a : Bool) → (a && false) ≡ false
-and-off true = refl
-and-off false = refl
 
 -- ---- the part of a buffer that holds the items
 
@@ -145,9 +141,9 @@ module _ (t : List ℤ) (n : ℕ) (ok : Accepted t n) where
       needed-is rows p q mp mq = go (holder-or p) (holder-or q)
         where
           go : Holder t p ⊎ Empty p → Holder t q ⊎ Empty q → needed square mask (width n) p q ≡ needs t n p q
-          go (inl hp) (inl hq) = rw (in-mask q mq hq, in-mask p mp hp) (and-on (mark square (width n) q p) ∙ rows p q hp hq)
+          go (inl hp) (inl hq) = rw (in-mask q mq hq, in-mask p mp hp) (and-true (mark square (width n) q p) ∙ rows p q hp hq)
           go (inl hp) (inr fq) = rw (out-mask q fq) (sym (needed-none p q (h .defs q mq) fq))
-          go (inr fp) (inl hq) = rw (in-mask q mq hq, out-mask p fp) (and-off (mark square (width n) q p) ∙ sym (needs-none p q (h .defs p mp) fp))
+          go (inr fp) (inl hq) = rw (in-mask q mq hq, out-mask p fp) (and-false (mark square (width n) q p) ∙ sym (needs-none p q (h .defs p mp) fp))
           go (inr fp) (inr fq) = rw (out-mask q fq) (sym (needed-none p q (h .defs q mq) fq))
 
       pub placed-needs : NeedRows t n square → (order : List ℕ) (r : ℕ) → Placed (needed square mask (width n)) items order r → Placed (needs t n) items order r

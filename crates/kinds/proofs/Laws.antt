@@ -1,7 +1,7 @@
 -- What the table says of each kind.
 use mathlib.Core.Path.{_≡_, refl, sym, _∙_}
 use mathlib.Core.Logic.{_⊎_, inl, inr}
-use mathlib.Core.Bool.{Bool, true, false, not, _&&_}
+use mathlib.Core.Bool.{Bool, true, false, not, _&&_, and-true, and-false}
 use mathlib.Core.List.{List, [], _∷_}
 use Prim.Native.Nat.{ℕ, zero, suc, _≤_}
 use native.Mathlib.Omega.{arith}
@@ -101,11 +101,7 @@ module _ (c : ℕ) where
 
   pub not-expression : isDefinition c ≡ true → isExpression c ≡ false
   unfolding isExpression
-  not-expression e = rw e (go (isKind c))
-    where
-      go : (b : Bool) → (b && false) ≡ false
-      go true = refl
-      go false = refl
+  not-expression e = rw e (and-false (isKind c))
 
   -- and each is one of the two
   pub either : isKind c ≡ true → (isDefinition c ≡ true) ⊎ (isExpression c ≡ true)
@@ -119,11 +115,7 @@ module _ (c : ℕ) where
   -- of the codes that are no definition's, those of the table are expressions
   pub rest-expression : (c ≡ 0 → ⊥) → isDefinition c ≡ false → leb c 12 ≡ isExpression c
   unfolding isExpression isKind
-  rest-expression h e = rw (le-leb 1 c (omega arith), e, kinds-length) (go (leb c 12))
-    where
-      go : (b : Bool) → b ≡ (b && true)
-      go true = refl
-      go false = refl
+  rest-expression h e = rw (le-leb 1 c (omega arith), e, kinds-length) (sym (and-true (leb c 12)))
 
   -- ---- bodies and paths
 

@@ -8,6 +8,7 @@ use borrow.Author.Tests.{eqb-true}
 use lib.Dec.{eqb}
 use Rattle.kinds.specs.Kinds.{groupCode, valueCode, numberCode, Kind, kinds, kindAt, isDefinition, operandA, takes, clauseOf}
 use Rattle.kinds.specs.GivesValues.{givesValues}
+use Rattle.kinds.proofs.Tests.{or-cases}
 use Rattle.kinds.proofs.Rows.{by-rule}
 use Rattle.kinds.proofs.Laws.{defines}
 use Rattle.kinds.proofs.Clauses.{a-uses}
@@ -25,14 +26,10 @@ value-gives = refl
 abbrev gives : Kind → Bool
 gives k = defines k && eqb (k .takes) 0
 
-either : (a b : Bool) → (a || b) ≡ true → (a ≡ true) ⊎ (b ≡ true)
-either true b e = inl refl
-either false b e = inr e
-
 -- only a Group or a value does
 pub gives-cases : (c : ℕ) → givesValues c ≡ true → (c ≡ groupCode) ⊎ (c ≡ valueCode)
 unfolding givesValues takes isDefinition kinds
-gives-cases c e = go (either (eqb c groupCode) (eqb c valueCode) (by-rule gives (λ i k. eqb i groupCode || eqb i valueCode) refl refl c e))
+gives-cases c e = go (or-cases (eqb c groupCode) (eqb c valueCode) (by-rule gives (λ i k. eqb i groupCode || eqb i valueCode) refl refl c e))
   where
     go : (eqb c groupCode ≡ true) ⊎ (eqb c valueCode ≡ true) → (c ≡ groupCode) ⊎ (c ≡ valueCode)
     go (inl h) = inl (eqb-true c groupCode h)

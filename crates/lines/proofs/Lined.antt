@@ -51,7 +51,7 @@ blank-natural : (b : Bool) → Natural (held (blankIf b))
 blank-natural true = refl
 blank-natural false = refl
 
-is-blank : (b : Bool) → isRight (blankIf b) ≡ true → b ≡ true
+pub is-blank : (b : Bool) → isRight (blankIf b) ≡ true → b ≡ true
 is-blank true e = refl
 is-blank false e = absurd (true-false (sym e))
 

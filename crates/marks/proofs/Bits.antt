@@ -14,12 +14,9 @@ use lib.Bits.{bitAnd, bitOr, bitXor, and-step, or-step, xor-step, and-self}
 use lib.Count.{trailingZeros}
 use borrow.Author.Tests.{eq-eqb, ne-eqb}
 use Rattle.order.specs.LabelLists.{one, count}
+use Rattle.order.proofs.Tests.{one-le}
 use Rattle.order.proofs.Lists.{count-here, count-there}
 use Rattle.marks.specs.Marks.{bit, places}
-
-one-le : (t : Bool) → one t ≤ 1
-one-le true = omega arith
-one-le false = omega arith
 
 one-test : (t : Bool) → eqb (one t) 1 ≡ t
 one-test true = refl

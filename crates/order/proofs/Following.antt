@@ -119,7 +119,7 @@ row17-one t l (suc i) (suc j) (inr p) (inr q) = ap suc (p .2 ∙ sym (q .2))
 
 -- ---- cells and labels
 
-labels-cells : (o : List ℕ) → labelsOf (map pos o) ≡ o
+pub labels-cells : (o : List ℕ) → labelsOf (map pos o) ≡ o
 labels-cells [] = refl
 labels-cells (v ∷ o) = ap (λ (l : List ℕ). v ∷ l) (labels-cells o)
 

@@ -10,14 +10,11 @@ use native.Mathlib.Decide.{ℕ-discrete}
 use lib.Dec.{eqb, ltb}
 use lib.ListN.{length}
 use borrow.Author.Tests.{eqb-true, eqb-false, eq-eqb, ne-eqb, ltb-true, ltb-false, lt-ltb}
+pub use Rattle.cells.proofs.Lists.{count-append}
 use Rattle.order.specs.LabelLists.{one, count, _∈_, mem, upFrom, filter, any, first}
 use Rattle.order.proofs.Tests.{both-ways, or-cases, or-none-left, or-none-right, not-so, so-or-not}
 
 -- ---- counting
-
-pub count-append : (x : ℕ) (a b : List ℕ) → count x (a ++ b) ≡ count x a + count x b
-count-append x [] b = omega arith
-count-append x (y ∷ a) b = let h = count-append x a b in omega arith
 
 pub count-here : (x : ℕ) (l : List ℕ) → count x (x ∷ l) ≡ suc (count x l)
 count-here x l = rw (eq-eqb x x refl) (omega arith)

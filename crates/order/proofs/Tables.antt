@@ -1,21 +1,22 @@
 -- What holds of every table that Read accepts, in the words of specs/Order.antt; and the test of reaching is the relation.
-use mathlib.Core.Path.{_≡_, refl, ap, _∙_}
+use mathlib.Core.Path.{_≡_, _∙_}
 use mathlib.Core.Logic.{_⊎_, inl, inr, _↔_}
 use mathlib.Core.List.{List}
 use mathlib.Core.Bool.{true, false, _&&_}
-use Prim.Native.Nat.{ℕ, zero, suc, _+_, _*_, _≤_, _<_}
+use Prim.Native.Nat.{ℕ, _≤_, _<_}
 use native.Mathlib.Omega.{arith}
 use native.Mathlib.Decide.{decLe}
 use lib.Dec.{eqb}
 use lib.IntN.{ℤ}
 use borrow.Author.Tests.{eqb-true, eq-eqb, ne-eqb}
-use Rattle.cells.specs.Cells.{natOf}
 use Rattle.kinds.specs.Kinds.{groupCode, valueCode, wantedBy}
-use Rattle.kinds.proofs.Laws.{kind-low, definition-kind, expression-kind, path-expression, path-body, body-definition}
+use Rattle.kinds.proofs.Laws.{kind-low, definition-kind, path-body, body-definition}
 use Rattle.kinds.proofs.Codes.{group-definition, value-definition}
-use Rattle.cells.specs.Table.{cell, kind, isDefinition, hasPath, owner, target}
+use Rattle.cells.specs.Table.{kind, isDefinition, hasPath, owner, target}
 use Rattle.cells.specs.Accepted.{Accepted}
 use Rattle.cells.specs.Reaches.{HasPath, Mentions, Reaches, once, then}
+use Rattle.cells.proofs.Accepted.{reaches-trans, cell-out, path-label}
+pub use Rattle.cells.proofs.Accepted.{kind-label}
 use Rattle.order.specs.LabelLists.{one, count, _∈_}
 use Rattle.order.specs.Order.{isG, isV, allLabels, values, isMember, members, isMention, mentions, reached, reaches}
 use Rattle.order.proofs.Tests.{so-or-not, and-left, and-right, and-intro}
@@ -45,30 +46,11 @@ g-def t l e = rw (g-kind t l e) group-definition
 pub v-def : (t : List ℤ) (l : ℕ) → isV t l ≡ true → isDefinition t l ≡ true
 v-def t l e = rw (v-kind t l e) value-definition
 
--- ---- reaching is transitive
-
-pub reaches-trans : {t : List ℤ} {a b c : ℕ} → Reaches t a b → Reaches t b c → Reaches t a c
-reaches-trans r (once m) = then r m
-reaches-trans r (then q m) = then (reaches-trans r q) m
-
 module _ (t : List ℤ) (n : ℕ) (ok : Accepted t n) where
   -- ---- labels are 1 to n
 
-  cell-out : (l j : ℕ) → n < l → cell t l j ≡ 0
-  cell-out zero j h = refl
-  cell-out (suc k) j h = ap natOf (ok .unused (8 * k + j) (omega arith))
-
-  -- what has a kind is a label
-  pub kind-label : (l : ℕ) → 1 ≤ kind t l → (1 ≤ l) × (l ≤ n)
-  kind-label zero h = absurd (omega arith)
-  kind-label (suc k) h = go (decLe (suc k) n)
-    where
-      go : Dec (suc k ≤ n) → (1 ≤ suc k) × (suc k ≤ n)
-      go (yes e) = (omega arith, e)
-      go (no e) = absurd (omega (arith, cell-out (suc k) 0 (omega arith)))
-
   pub def-label : (l : ℕ) → isDefinition t l ≡ true → (1 ≤ l) × (l ≤ n)
-  def-label l d = kind-label l (kind-low (kind t l) (definition-kind (kind t l) d))
+  def-label l d = kind-label t n ok l (kind-low (kind t l) (definition-kind (kind t l) d))
 
   pub pos-of : (l : ℕ) → isDefinition t l ≡ true → 1 ≤ l
   pos-of l d = def-label l d .0
@@ -83,7 +65,7 @@ module _ (t : List ℤ) (n : ℕ) (ok : Accepted t n) where
     where
       go : Dec (l ≤ n) → owner t l < l
       go (yes e) = ok .falls l h e
-      go (no e) = omega (arith, cell-out l 6 (omega arith))
+      go (no e) = omega (arith, cell-out t n ok l 6 (omega arith))
 
   pub top-group : isG t 1 ≡ true
   top-group = kind-g t 1 (ok .root)
@@ -127,9 +109,6 @@ module _ (t : List ℤ) (n : ℕ) (ok : Accepted t n) where
 
   -- ---- the tests of mentioning and reaching are the relations
 
-  path-label : (x : ℕ) → HasPath t x → (1 ≤ x) × (x ≤ n)
-  path-label x e = kind-label x (kind-low (kind t x) (expression-kind (kind t x) (path-expression (kind t x) e)))
-
   -- where a path leads is a definition
   target-definition : (x : ℕ) → HasPath t x → isDefinition t (target t x) ≡ true
   target-definition x e = rw (ok .leads x e) (body-definition (wantedBy (kind t x)) (path-body (kind t x) e))
@@ -153,7 +132,7 @@ module _ (t : List ℤ) (n : ℕ) (ok : Accepted t n) where
       seen : Mentions t d e → mentions t n d e ≡ true
       seen m =
           let x = m .line in
-          let b = path-label x (m .path) in
+          let b = path-label t n ok x (m .path) in
           any-intro (isMention t d e) (allLabels n) x (in-labels x (b .0) (b .1))
           (and-intro (hasPath t x && eqb (owner t x) d) (eqb (target t x) e)
           (and-intro (hasPath t x) (eqb (owner t x) d) (m .path) (eq-eqb (owner t x) d (m .owned)))

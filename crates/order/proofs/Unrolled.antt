@@ -13,7 +13,8 @@ use Rattle.order.proofs.Joined.{joined-same}
 use Rattle.order.proofs.Tables.{pos-of, def-label, owner-below, member-of}
 
 module _ (t : List ℤ) (n : ℕ) (ok : Accepted t n) where
-  member-later : (g p : ℕ) → p ∈ ordered t n g → (g < p) × (p ≤ n)
+  -- a member in order is a label above its Group
+  pub member-later : (g p : ℕ) → p ∈ ordered t n g → (g < p) × (p ≤ n)
   member-later g p m =
       let w = member-of t n ok g p (placed-sub (needs t n) (members t n g) p m) in
       (omega (arith, owner-below t n ok p (pos-of t n ok p (w .0)), w .1), def-label t n ok p (w .0) .1)

@@ -11,11 +11,11 @@ use lib.ListN.{length, getD, set, take}
 use lib.Seq.{getD-set-same, getD-set-other, length-take-le}
 use borrow.Author.Tests.{eq-eqb, ne-eqb}
 use Rattle.order.specs.LabelLists.{one, count, _∈_, filter}
-use Rattle.order.proofs.Tests.{and-right, one-in}
+use Rattle.order.proofs.Tests.{and-right, one-le, one-in}
 use Rattle.order.proofs.Lists.{filter-le}
 use Rattle.marks.specs.Marks.{mark, Added}
 use Rattle.placing.specs.UnmetCounts.{needed, Fits, Lowered}
-use Rattle.placing.proofs.Lists.{one-le, count-more, in-more, count-take-le, filter-more}
+use Rattle.placing.proofs.Lists.{count-more, in-more, count-take-le, filter-more}
 
 pub eq-one : (x p : ℕ) → x ≡ p → one (eqb x p) ≡ 1
 eq-one x p e = ap one (eq-eqb x p e)

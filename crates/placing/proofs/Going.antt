@@ -2,7 +2,7 @@
 use mathlib.Core.Path.{_≡_, refl, sym, ap, _∙_, subst}
 use mathlib.Core.Logic.{_⊎_, inl, inr, _↔_}
 use mathlib.Core.List.{List, [], _∷_, _++_}
-use mathlib.Core.Bool.{Bool, true, false, not, _&&_}
+use mathlib.Core.Bool.{Bool, true, false, not, _&&_, and-true}
 use mathlib.Core.Option.{none, some}
 use Prim.Native.Nat.{ℕ, zero, suc, _+_, _-_, _*_, _≤_, _<_}
 use native.Mathlib.Omega.{arith}
@@ -13,11 +13,11 @@ use lib.Seq.{take-suc-set}
 use Rattle.order.specs.LabelLists.{one, count, _∈_, mem, filter}
 use Rattle.order.specs.Placing.{waits, next, rounds, placed}
 use Rattle.order.proofs.Tests.{both-ways, so-or-not}
-use Rattle.order.proofs.Lists.{in-append, in-single, of-mem, zero-or-in}
+use Rattle.order.proofs.Lists.{in-append, in-single, of-mem, zero-or-in, first-refute}
 use Rattle.marks.specs.Marks.{mark, Dropped, First}
 use Rattle.marks.proofs.Squares.{mark-in}
 use Rattle.placing.specs.UnmetCounts.{Rising, blocks, State, Lowered, Placed}
-use Rattle.placing.proofs.Lists.{filter-ext, any-zero, zero-any, rising-once, first-least-is, first-none-is, mem-same, mem-other, and-on, one-less}
+use Rattle.placing.proofs.Lists.{filter-ext, any-zero, zero-any, rising-once, first-least-is, mem-same, mem-other, one-less}
 
 pub record Going (R : ℕ → ℕ → Bool) (items unmet ready order : List ℕ) (w k : ℕ) : Type 0 where
   pub state : State R items (take k order) unmet ready w
@@ -28,7 +28,7 @@ pub record Going (R : ℕ → ℕ → Bool) (items unmet ready order : List ℕ)
 pub state-none : (R : ℕ → ℕ → Bool) (items unmet ready : List ℕ) (w : ℕ) → ((p : ℕ) → p ∈ items → getD unmet p 0 ≡ length (filter (R p) items))
     → ((p : ℕ) → (mark ready w 0 p ≡ true) ↔ ((p ∈ items) × (getD unmet p 0 ≡ 0))) → State R items [] unmet ready w
 state-none R items unmet ready w c f = record {
-  counts = λ p m. c p m ∙ filter-ext (R p) (blocks R [] p) items (λ q. sym (and-on (R p q)));
+  counts = λ p m. c p m ∙ filter-ext (R p) (blocks R [] p) items (λ q. sym (and-true (R p q)));
   met = λ p m. absurd (omega arith);
   free = λ p. (λ m. let g = f p .0 m in (g .0, refl, g .1), λ g. f p .1 (g .0, g .2));
 }
@@ -55,7 +55,7 @@ module _ (R : ℕ → ℕ → Bool) (items : List ℕ) (rising : Rising items) (
         first-least-is (λ p. not (mem p done) && not (waits R items done p)) items rising r (st .free r .0 m .0) (passes r m) (λ x i l. fails x i (f .before x l))
 
     next-none : (r : ℕ) → First ready w r → r ≡ 64 * w → next R items done ≡ none
-    next-none r f e = first-none-is (λ p. not (mem p done) && not (waits R items done p)) items (λ x i. fails x i (low x (so-or-not (mark ready w 0 x))))
+    next-none r f e = first-refute (λ p. not (mem p done) && not (waits R items done p)) items (λ x i. fails x i (low x (so-or-not (mark ready w 0 x))))
       where
         low : (x : ℕ) → (mark ready w 0 x ≡ true) ⊎ (mark ready w 0 x ≡ false) → mark ready w 0 x ≡ false
         low x (inl m) = f .before x (omega (arith, mark-in ready w 0 x m))

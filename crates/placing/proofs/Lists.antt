@@ -2,8 +2,8 @@
 use mathlib.Core.Path.{_≡_, refl, sym, ap, _∙_, subst}
 use mathlib.Core.Logic.{_⊎_, inl, inr}
 use mathlib.Core.List.{List, [], _∷_, _++_}
-use mathlib.Core.Bool.{Bool, true, false, not, _&&_}
-use mathlib.Core.Option.{none, some}
+use mathlib.Core.Bool.{Bool, true, false, not, _&&_, and-true, and-false}
+use mathlib.Core.Option.{some}
 use Prim.Native.Nat.{ℕ, zero, suc, _+_, _≤_, _<_}
 use native.Mathlib.Omega.{arith}
 use native.Mathlib.Numerals.{add-one}
@@ -15,10 +15,6 @@ use Rattle.order.specs.LabelLists.{one, count, _∈_, mem, filter, any, first}
 use Rattle.order.proofs.Tests.{both-ways, so-or-not}
 use Rattle.order.proofs.Lists.{count-append, count-here, count-there, in-here, in-there, in-right, in-cons, in-append, in-single, mem-of, zero-or-in}
 use Rattle.placing.specs.UnmetCounts.{Rising, blocks}
-
-pub one-le : (t : Bool) → one t ≤ 1
-one-le true = omega arith
-one-le false = omega arith
 
 -- ---- positions
 
@@ -112,10 +108,6 @@ first-least-is f (y ∷ l) rs r m e h = go (in-cons r y l m) (first-least-is f l
     go (inl z) i = rw (← z) (rw e)
     go (inr k) i = rw (h y (in-here y l) (rs .0 r k)) (i k e (λ x j. h x (in-there x y l j)))
 
-pub first-none-is : (f : ℕ → Bool) (l : List ℕ) → ((x : ℕ) → x ∈ l → f x ≡ false) → first f l ≡ none
-first-none-is f [] h = refl
-first-none-is f (y ∷ l) h = rw (h y (in-here y l)) (first-none-is f l (λ x m. h x (in-there x y l m)))
-
 -- ---- one more is done
 
 pub mem-same : (p : ℕ) (l : List ℕ) → mem p (l ++ p ∷ []) ≡ true
@@ -126,24 +118,16 @@ mem-other x p l h =
     let e : count x (l ++ p ∷ []) ≡ count x l = omega (arith, count-append x l (p ∷ []), count-there x p [] h) in
     ap (λ (c : ℕ). ltb 0 c) e
 
-and-off : (a : Bool) → (a && false) ≡ false
-and-off true = refl
-and-off false = refl
-
-pub and-on : (a : Bool) → (a && true) ≡ a
-and-on true = refl
-and-on false = refl
-
 -- one that was placed blocks no longer
 module _ (R : ℕ → ℕ → Bool) (done : List ℕ) (p : ℕ) (out : mem p done ≡ false) (x : ℕ) where
   blocks-other : (y : ℕ) → (y ≡ p → ⊥) → blocks R (done ++ p ∷ []) x y ≡ blocks R done x y
   blocks-other y h = ap (λ (t : Bool). R x y && not t) (mem-other y p done h)
 
   blocks-placed : blocks R (done ++ p ∷ []) x p ≡ false
-  blocks-placed = rw (mem-same p done) (and-off (R x p))
+  blocks-placed = rw (mem-same p done) (and-false (R x p))
 
   blocks-before : blocks R done x p ≡ R x p
-  blocks-before = rw out (and-on (R x p))
+  blocks-before = rw out (and-true (R x p))
 
   same-without : (l : List ℕ) → count p l ≡ 0 → length (filter (blocks R (done ++ p ∷ []) x) l) ≡ length (filter (blocks R done x) l)
   same-without [] h = refl

@@ -18,23 +18,16 @@ use Rattle.order.specs.LabelLists.{_∈_, joined}
 use Rattle.order.specs.Placing.{next, rounds}
 use Rattle.order.specs.Order.{isG, isV, isMember, members, needs, ordered, listed, groupPlan, wholePlan}
 use Rattle.order.proofs.Tests.{so-or-not}
-use Rattle.order.proofs.Lists.{in-here, in-there, in-right}
-use Rattle.order.proofs.Placing.{placed-sub}
-use Rattle.order.proofs.Tables.{kind-g, kind-v, g-def, def-label, member-of, owner-below, top-group}
+use Rattle.order.proofs.Lists.{in-here, in-right}
+use Rattle.order.proofs.Tables.{kind-g, kind-v, g-def, def-label, top-group}
+use Rattle.order.proofs.Joined.{joined-same, joined-append}
 use Rattle.order.proofs.Listed.{listed-group}
+use Rattle.order.proofs.Unrolled.{member-later}
 use Rattle.groups.specs.Members.{Chain}
 use Rattle.planning.specs.Listing.{listOf, PutAt}
 use Rattle.groups.proofs.Chains.{labels-few, steps, steps-are}
 
 -- ---- joined lists
-
-joined-ext : (f h : ℕ → List ℕ) (l : List ℕ) → ((p : ℕ) → p ∈ l → f p ≡ h p) → joined f l ≡ joined h l
-joined-ext f h [] e = refl
-joined-ext f h (p ∷ l) e = rw (e p (in-here p l), joined-ext f h l (λ q m. e q (in-there q p l m)))
-
-joined-append : (f : ℕ → List ℕ) (a b : List ℕ) → joined f (a ++ b) ≡ joined f a ++ joined f b
-joined-append f [] b = refl
-joined-append f (x ∷ a) b = ap (λ (l : List ℕ). f x ++ l) (joined-append f a b) ∙ sym (append-assoc (f x) (joined f a) (joined f b))
 
 joined-more : (f : ℕ → List ℕ) (a : List ℕ) (p : ℕ) → joined f (a ++ p ∷ []) ≡ joined f a ++ f p
 joined-more f a p = joined-append f a (p ∷ []) ∙ ap (λ (l : List ℕ). joined f a ++ l) (append-nil (f p))
@@ -60,14 +53,7 @@ module _ (t : List ℤ) (n : ℕ) (ok : Accepted t n) where
       go (inr v) (inl g) = rw (v, g) (e g)
       go (inr v) (inr g) = rw (v, g)
 
-  -- a member in order is a label above its Group
-  pub order-above : (g p : ℕ) → p ∈ ordered t n g → (g < p) × (p ≤ n)
-  order-above g p m =
-      let w = member-of t n ok g p (placed-sub (needs t n) (members t n g) p m) in
-      let b = def-label t n ok p (w .0) in
-      (omega (arith, owner-below t n ok p (b .0), w .1), b .1)
-
-  -- and there are no more than labels
+  -- a Group has no more members than there are labels
   order-few : (g : ℕ) → length (ordered t n g) ≤ n
   order-few g = omega (arith, rounds-short (needs t n) (members t n g) (length (members t n g)) [], labels-few (isMember t g) n)
 
@@ -78,21 +64,21 @@ module _ (t : List ℤ) (n : ℕ) (ok : Accepted t n) where
   deep zero k′ g ig h h′ = absurd (omega (arith, group-label g ig))
   deep (suc k) zero g ig h h′ = absurd (omega (arith, group-label g ig))
   deep (suc k) (suc k′) g ig h h′ =
-      joined-ext (listed t (λ p. groupPlan t n k p)) (listed t (λ p. groupPlan t n k′ p)) (ordered t n g) (λ p m. each p (order-above g p m .0) (λ gp. deep k k′ p gp))
+      joined-same (listed t (λ p. groupPlan t n k p)) (listed t (λ p. groupPlan t n k′ p)) (ordered t n g) (λ p m. each p (member-later t n ok g p m .0) (λ gp. deep k k′ p gp))
     where
       each : (p : ℕ) → g < p → (isG t p ≡ true → n < p + k → n < p + k′ → groupPlan t n k p ≡ groupPlan t n k′ p)
           → listed t (λ p. groupPlan t n k p) p ≡ listed t (λ p. groupPlan t n k′ p) p
       each p l r = listed-ext (λ p. groupPlan t n k p) (λ p. groupPlan t n k′ p) p (λ gp. r gp (omega arith) (omega arith))
 
   unrolled : (g : ℕ) → isG t g ≡ true → listOf t n g ≡ joined (listed t (listOf t n)) (ordered t n g)
-  unrolled g ig = ap (λ (k : ℕ). groupPlan t n k g) one-more ∙ joined-ext (listed t (λ p. groupPlan t n (n - g) p)) (listed t (listOf t n)) (ordered t n g) each
+  unrolled g ig = ap (λ (k : ℕ). groupPlan t n k g) one-more ∙ joined-same (listed t (λ p. groupPlan t n (n - g) p)) (listed t (listOf t n)) (ordered t n g) each
     where
       one-more : n + 1 - g ≡ suc (n - g)
       one-more = omega (arith, group-label g ig)
 
       each : (p : ℕ) → p ∈ ordered t n g → listed t (λ p. groupPlan t n (n - g) p) p ≡ listed t (listOf t n) p
       each p m = listed-ext (λ p. groupPlan t n (n - g) p) (listOf t n) p
-          (λ gp. deep (n - g) (n + 1 - p) p gp (omega (arith, order-above g p m, group-label g ig)) (omega (arith, group-label p gp)))
+          (λ gp. deep (n - g) (n + 1 - p) p gp (omega (arith, member-later t n ok g p m, group-label g ig)) (omega (arith, group-label p gp)))
 
   -- the outermost Group's is the whole plan
   pub whole-list : listOf t n 1 ≡ wholePlan t n
@@ -179,7 +165,7 @@ module _ (t : List ℤ) (n : ℕ) (ok : Accepted t n) (g : ℕ) (links : List �
       turn-member = subst (λ (l : List ℕ). x ∈ l) (u .parts) (in-right x (u .before) (u .rest) (subst (λ (l : List ℕ). x ∈ l) (sym (split .1)) (in-here x (split .0))))
 
       pub turn-label : (1 ≤ x) × (x ≤ n) × (g < x)
-      turn-label = let w = order-above t n ok g x turn-member in (split .2, w .1, w .0)
+      turn-label = let w = member-later t n ok g x turn-member in (split .2, w .1, w .0)
 
       pub turn-less : steps n links n (getD links (n + x) 0) < steps n links n x
       turn-less =

@@ -2,12 +2,12 @@
 use mathlib.Core.Path.{_≡_, refl, sym, ap, _∙_}
 use mathlib.Core.List.{List, [], _∷_, _++_, append-assoc, append-nil}
 use Prim.Native.Nat.{ℕ, zero, suc, _+_, _-_, _*_, _≤_, _<_}
-use native.Mathlib.Nat.{add-zero, suc-add, not-suc-le-zero}
+use native.Mathlib.Nat.{add-zero, not-suc-le-zero}
 use native.Mathlib.Numerals.{add-one}
 use native.Mathlib.Omega.{arith}
 use lib.IntN.{ℤ, pos}
-use lib.ListN.{length, take, drop, List·getD-eq-default}
-use lib.Seq.{slice, take-nil, take-suc}
+use lib.ListN.{length, take, List·getD-eq-default}
+use lib.Seq.{take-suc}
 use Rattle.cells.specs.Cells.{natOf, intAt, natAt}
 use Rattle.order.specs.Following.{labelsOf}
 use Rattle.evaluation.specs.Results.{stateAt, numberAt, stepsAt}
@@ -38,13 +38,6 @@ number-is r (suc k) = refl
 pub steps-is : (r : List ℤ) (l : ℕ) → stepsAt r l ≡ natOf (resultAt r l 2)
 steps-is r zero = refl
 steps-is r (suc k) = refl
-
--- ---- a part of the text, by its start and its length
-
-pub part-is : (x y : ℕ) (l : List ℕ) → take y (drop x l) ≡ slice x (x + y) l
-part-is zero y l = let e : 0 + y ≡ y = omega arith in rw e
-part-is (suc x) y [] = rw (suc-add x y) (take-nil y)
-part-is (suc x) y (a ∷ l) = rw (suc-add x y) (part-is x y l)
 
 -- ---- one line more
 

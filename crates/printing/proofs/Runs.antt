@@ -1,19 +1,17 @@
 -- What Run's reply says of the table, the plan and the results that it leaves, and of the print.
-use mathlib.Core.Path.{_≡_, refl, sym, ap, _∙_}
-use mathlib.Core.Bool.{Bool, true, false, cond}
+use mathlib.Core.Path.{_≡_, sym, ap, _∙_}
+use mathlib.Core.Bool.{true}
 use mathlib.Core.List.{List, map}
 use Prim.Native.Nat.{ℕ, _-_, _*_, _≤_}
 use native.Mathlib.Omega.{arith}
-use borrow.Author.Tests.{leb-true, le-leb}
-use lib.Dec.{leb}
+use borrow.Author.Tests.{le-leb}
 use lib.IntN.{ℤ, pos}
 use lib.ListN.{length, take, length-append, length-map}
 use Rattle.cells.specs.Limits.{labelLimit}
 use Rattle.cells.specs.Cells.{zeros}
-use Rattle.refusals.specs.Rows.{buffersRow}
 use Rattle.refusals.specs.Refusal.{orElse}
 use Rattle.refusals.specs.declared.Verdict.{Verdict}
-use Rattle.refusals.specs.declared.Verdict.the-variants.{Fine, Refused}
+use Rattle.refusals.specs.declared.Verdict.the-variants.{Fine}
 use Rattle.refusals.proofs.OrElse.{both-fine}
 use Rattle.lines.specs.Lines.{labels, headBad}
 use Rattle.lines.proofs.Heads.{headed}
@@ -30,6 +28,7 @@ use Rattle.calls.specs.Plan.{planOf, answerBy, listedBy, lengthOf, isAnswer}
 use Rattle.calls.specs.Run.{runBad, runReply, runTable, runPlan}
 use Rattle.calls.specs.Leaves.{RunLeaves}
 use Rattle.calls.specs.declared.PlanReply.{PlanReply}
+use Rattle.calls.proofs.Rooms.{results-room}
 use Rattle.calls.proofs.Answers.{answers-number, answers-fine}
 use Rattle.calls.proofs.Sheets.{planned-reads, kept}
 use Rattle.printing.specs.Print.{nameField, printBy, printWith}
@@ -39,14 +38,6 @@ listed-length : (a : Answer) (p : ℕ) → lengthOf (answerBy Fine a) ≤ length
 listed-length (cycle v) p = omega arith
 listed-length (whole o) p = omega (arith, length-append (map pos o) (zeros (p - length o)), length-map o pos)
 listed-length (mixed o) p = omega (arith, length-append (map pos o) (zeros (p - length o)), length-map o pos)
-
-results-long : (s : List ℕ) (q : ℕ) → resultsShort s q ≡ Fine → 3 * labels s ≤ q
-unfolding resultsShort
-results-long s q e = go (leb (3 * labels s) q) refl e
-  where
-    go : (b : Bool) → leb (3 * labels s) q ≡ b → cond b Fine (Refused buffersRow 3) ≡ Fine → 3 * labels s ≤ q
-    go true f g = leb-true (3 * labels s) q f
-    go false f g = let z : _≡_ {A = ℕ} 0 1 = cc in absurd (omega arith)
 
 -- the program's buffers are long enough for every sheet, so that row 4 finds nothing
 pub long-enough : (s : List ℕ) → headBad s ≡ Fine → runBuffers s (8 * labelLimit) labelLimit (3 * labelLimit) ≡ Fine
@@ -77,7 +68,7 @@ module _ (s : List ℕ) (m p q : ℕ) (a : isAnswer (runReply s m p q) ≡ true)
   read-fine = rw (buffers .0) reads
 
   pub results-fit : 3 * labels s ≤ q
-  results-fit = results-long s q (both-fine (planShort s p) (resultsShort s q) (buffers .1) .1)
+  results-fit = results-room s q (both-fine (planShort s p) (resultsShort s q) (buffers .1) .1)
 
   pub table-is : runTable s m p q ≡ tableOf Fine s m
   unfolding runTable

@@ -8,11 +8,12 @@ use native.Mathlib.Omega.{arith}
 use native.Mathlib.Decide.{ℕ-discrete}
 use lib.IntN.{ℤ}
 use Rattle.kinds.specs.Kinds.{groupCode, valueCode}
-use Rattle.kinds.proofs.Laws.{kind-low, definition-kind, expression-kind, body-definition, path-expression, path-body}
+use Rattle.kinds.proofs.Laws.{path-expression, path-body}
 use Rattle.kinds.proofs.Codes.{group-bodiless}
 use Rattle.cells.specs.Table.{cell, kind, isDefinition, hasBody, owner, target}
 use Rattle.cells.specs.Accepted.{Accepted, HasBody}
 use Rattle.cells.specs.Reaches.{HasPath, Mentions, Reaches, once as mention, then as and}
+pub use Rattle.cells.proofs.Accepted.{body-label, path-label}
 use Rattle.order.proofs.Tests.{both-ways}
 use Rattle.order.proofs.Tables.{g-kind, kind-v, v-def, kind-label}
 use Rattle.order.proofs.Tree.{within-owner, leaf}
@@ -24,19 +25,13 @@ column-range j (inl e) = (omega arith, omega arith)
 column-range j (inr e) = (omega arith, omega arith)
 
 module _ (t : List ℤ) (n : ℕ) (ok : Accepted t n) where
-  -- ---- what has a body is a label, and no Group
-
-  pub body-label : (y : ℕ) → HasBody t y → (1 ≤ y) × (y ≤ n)
-  body-label y b = kind-label t n ok y (kind-low (kind t y) (definition-kind (kind t y) (body-definition (kind t y) b)))
+  -- ---- what has a body is no Group
 
   pub body-group : (y : ℕ) → HasBody t y → kind t y ≡ groupCode → ⊥
   body-group y b k = both-ways (hasBody t y) b (rw k group-bodiless)
 
   pub in-row : (q : ℕ) → q ≤ n → q < 64 * width n
   in-row q h = omega arith
-
-  pub path-label : (l : ℕ) → HasPath t l → (1 ≤ l) × (l ≤ n)
-  path-label l p = kind-label t n ok l (kind-low (kind t l) (expression-kind (kind t l) (path-expression (kind t l) p)))
 
   -- ---- the ends of a link have bodies
 
@@ -92,7 +87,7 @@ module _ (t : List ℤ) (n : ℕ) (ok : Accepted t n) where
     around-label y q b a = go (around-case y q a)
       where
         go : (q ≡ y) ⊎ (kind t q ≡ groupCode) → (1 ≤ q) × (q ≤ n)
-        go (inl e) = subst (λ (x : ℕ). (1 ≤ x) × (x ≤ n)) (sym e) (body-label y b)
+        go (inl e) = subst (λ (x : ℕ). (1 ≤ x) × (x ≤ n)) (sym e) (body-label t n ok y b)
         go (inr e) = kind-label t n ok q (omega arith)
 
     -- ---- what is touched

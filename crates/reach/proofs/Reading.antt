@@ -1,26 +1,13 @@
 -- Cells of an accepted table, read and cast; and the room of a row.
 use mathlib.Core.Path.{_≡_, ap, _∙_}
 use mathlib.Core.List.{List}
-use Prim.Native.Nat.{ℕ, suc, _+_, _-_, _*_, _<_, _≤_, _^_}
+use Prim.Native.Nat.{ℕ, suc, _+_, _-_, _*_, _<_, _≤_}
 use native.Mathlib.Omega.{arith}
 use native.Mathlib.Nat.{mul-le-mul-right, suc-mul}
-use borrow.Author.Needs.{sfits-of}
-use lib.Dec.{T}
-use lib.IntN.{ℤ, pos, natAbs}
-use lib.Signed.{nonNeg, mag}
-use mir.Syntax.{w64}
-use mir.Val.{toZ, ofZ, Fits}
-use Rattle.cells.specs.Cells.{isNegative, natOf, intAt}
+use lib.IntN.{ℤ, pos}
+use Rattle.cells.specs.Cells.{intAt}
 use Rattle.cells.specs.Table.{cell, kind}
 use Rattle.cells.specs.Accepted.{Accepted}
-use Rattle.cells.proofs.Signed.{cast-ok, cast-is}
-
-module _ (z : ℤ) (m : ℕ) (e : z ≡ pos m) (h : mag z < 2 ^ 63) where
-  pub cast-natural : T (nonNeg (toZ w64 (ofZ w64 z))) × Fits w64 (natAbs (toZ w64 (ofZ w64 z)))
-  cast-natural = cast-ok z (sfits-of h) (ap isNegative e)
-
-  pub is-natural : natAbs (toZ w64 (ofZ w64 z)) ≡ m
-  is-natural = cast-is z (sfits-of h) (ap isNegative e) ∙ ap natOf e
 
 module _ (t : List ℤ) (n : ℕ) (ok : Accepted t n) (l : ℕ) (low : 1 ≤ l) (high : l ≤ n) where
   pub cell-is : (j : ℕ) → 4 ≤ j → j < 8 → intAt t (8 * (l - 1) + j) ≡ pos (cell t l j)

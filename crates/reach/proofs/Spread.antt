@@ -15,7 +15,7 @@ use Rattle.cells.specs.Table.{cell, kind, owner}
 use Rattle.cells.specs.Accepted.{Accepted, HasBody}
 use Rattle.order.specs.LabelLists.{one, count, _∈_}
 use Rattle.order.specs.Order.{allLabels}
-use Rattle.order.proofs.Tests.{both-ways, one-in}
+use Rattle.order.proofs.Tests.{both-ways, one-le, one-in}
 use Rattle.order.proofs.Lists.{count-append, count-here, count-there, in-append, in-single, in-left, in-right, in-here, length-mono, length-upFrom, filter-le, tally-lt, zero-or-in}
 use Rattle.order.proofs.Tables.{in-labels}
 use Rattle.marks.specs.Marks.{mark, Added}
@@ -24,10 +24,6 @@ use Rattle.reach.specs.MarkRows.{width, MarkRow, Blank}
 use Rattle.reach.specs.Chains.{Hangs, Last}
 use Rattle.reach.specs.Turns.{Raised, Met, marked, added, pushed, Spread, markCount, Grown, Filled}
 use Rattle.reach.proofs.Links.{body-label, links-body, in-row, path-label, around-body, around-owner, around-label, touch-label, touch-body, touch-on, touch-around, touch-owner}
-
-one-le : (t : Bool) → one t ≤ 1
-one-le true = omega arith
-one-le false = omega arith
 
 one-mono : (a b : Bool) → (a ≡ true → b ≡ true) → one a ≤ one b
 one-mono true b f = rw (f refl) (omega arith)

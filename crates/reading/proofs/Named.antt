@@ -22,7 +22,7 @@ use Rattle.reading.proofs.Accepted.{read-fine, read-names}
 use Rattle.reading.proofs.Stage.{answered, refused}
 
 -- a part by its length is the part between its ends
-drop-take : (x y : ℕ) (l : List ℕ) → take y (drop x l) ≡ slice x (x + y) l
+pub drop-take : (x y : ℕ) (l : List ℕ) → take y (drop x l) ≡ slice x (x + y) l
 drop-take zero y l = let e : 0 + y ≡ y = omega arith in rw e
 drop-take (suc x) y [] = rw (suc-add x y) (take-nil y)
 drop-take (suc x) y (a ∷ l) = rw (suc-add x y) (drop-take x y l)

@@ -8,6 +8,8 @@ use borrow.Author.Tests.{ltb-true, eqb-true, eqb-false, le-leb, eq-eqb, ne-eqb}
 use lib.Dec.{leb, ltb, eqb}
 use lib.IntN.{ℤ}
 use Rattle.cells.specs.Lists.{one, count, all}
+use Rattle.cells.proofs.Tests.{one-le}
+use Rattle.cells.proofs.Lists.{count-append}
 use Rattle.kinds.specs.Kinds.{groupCode, numberCode, fieldsAt, isOperandForm}
 use Rattle.kinds.specs.declared.Form.{Form}
 use Rattle.kinds.proofs.Tests.{and-left, and-right}
@@ -24,10 +26,6 @@ use Rattle.tree.specs.TreeSteps.{Structured}
 use Rattle.tree.proofs.Codes.{part-kind, label-low, label-high}
 
 -- ---- lists of labels
-
-pub count-append : (x : ℕ) (xs ys : List ℕ) → count x (xs ++ ys) ≡ count x xs + count x ys
-count-append x [] ys = omega arith
-count-append x (y ∷ xs) ys = omega (arith, count-append x xs ys)
 
 pub all-append : (test : ℕ → Bool) (xs ys : List ℕ) → all test (xs ++ ys) ≡ (all test xs && all test ys)
 all-append test [] ys = refl
@@ -62,15 +60,11 @@ module _ (t : List ℤ) (l : ℕ) where
   all-parts test =
       all-append test (listA ++ listB) listC ∙ ap (λ (b : Bool). b && all test listC) (all-append test listA listB)
 
-one-most : (b : Bool) → one b ≤ 1
-one-most true = omega arith
-one-most false = omega arith
-
 pub field-most : (f : Form) (x y : ℕ) → count x (operandIn f y) ≤ 1
 field-most f x y = go (isOperandForm f)
   where
     go : (b : Bool) → count x (cond b (y ∷ []) []) ≤ 1
-    go true = omega (arith, one-most (eqb x y))
+    go true = omega (arith, one-le (eqb x y))
     go false = omega arith
 
 -- a field that is an operand holds a part

@@ -1,7 +1,7 @@
 use mathlib.Core.Path.{_≡_}
 use Prim.Native.Nat.{_+_, _-_}
 use native.Mathlib.Omega.{arith}
-use Rattle.printing.proofs.Lines.{part-is}
+use Rattle.reading.proofs.Named.{drop-take}
 use borrow.Author.Needs.{needs}
 use Rattle.printing.proofs.put_name.Statement.{statement}
 use Rattle.printing.proofs.put_name.Tie as tie
@@ -46,7 +46,7 @@ returns c =
     let x = first .cell-at in
     let y = second .cell-at2 in
     let e : x .result + y .result - x .result ≡ y .result = omega arith in
-    rw (← x .ensures, ← y .ensures, ← part-is (x .result) (y .result) (a .text .now), ← e) (written .put-text .ensures)
+    rw (← x .ensures, ← y .ensures, ← drop-take (x .result) (y .result) (a .text .now), ← e) (written .put-text .ensures)
 
 pub put-name-spec : {M : Type 1} → statement M
 put-name-spec =

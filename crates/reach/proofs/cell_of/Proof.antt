@@ -1,5 +1,6 @@
 use borrow.Author.Needs.{needs}
-use Rattle.reach.proofs.Reading.{cast-natural, is-natural, cell-is}
+use Rattle.cells.proofs.Signed.{cast-natural, is-natural}
+use Rattle.reach.proofs.Reading.{cell-is}
 use Rattle.reach.proofs.cell_of.Statement.{statement}
 use Rattle.reach.proofs.cell_of.Tie as tie
 

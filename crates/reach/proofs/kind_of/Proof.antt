@@ -1,5 +1,6 @@
 use borrow.Author.Needs.{needs}
-use Rattle.reach.proofs.Reading.{cast-natural, is-natural, kind-is}
+use Rattle.cells.proofs.Signed.{cast-natural, is-natural}
+use Rattle.reach.proofs.Reading.{kind-is}
 use Rattle.reach.proofs.kind_of.Statement.{statement}
 use Rattle.reach.proofs.kind_of.Tie as tie
 

@@ -12,7 +12,7 @@ use lib.Seq.{length-take-le}
 use borrow.Author.Tests.{eq-eqb, ne-eqb}
 use Rattle.kinds.specs.Kinds.{groupCode}
 use Rattle.kinds.specs.GivesValues.{givesValues}
-use Rattle.kinds.proofs.Plans.{group-gives, value-gives, gives-cases}
+use Rattle.kinds.proofs.Plans.{group-gives, value-gives}
 use Rattle.cells.specs.Table.{kind, isDefinition}
 use Rattle.cells.specs.Accepted.{Accepted}
 use Rattle.order.specs.LabelLists.{one, count, _∈_, mem, any, first}
@@ -72,11 +72,6 @@ items-of l items m h =
 pub items-many : (l items : List ℕ) (m : ℕ) → Gathered l items m → m ≡ length l
 items-many l items m h = sym (length-take-le m items (h .within)) ∙ ap length (h .cells)
 
--- what gives no values is neither a Group nor a value
-pub no-holder : (t : List ℤ) (p : ℕ) → givesValues (kind t p) ≡ false → Holder t p → ⊥
-no-holder t p h (inl e) = both-ways (givesValues (kind t p)) (rw e group-gives) h
-no-holder t p h (inr e) = both-ways (givesValues (kind t p)) (rw e value-gives) h
-
 module _ (t : List ℤ) (n : ℕ) (ok : Accepted t n) where
   -- ---- kinds
 
@@ -84,18 +79,11 @@ module _ (t : List ℤ) (n : ℕ) (ok : Accepted t n) where
   abbrev Empty : ℕ → Type 0
   Empty p = givesValues (kind t p) ≡ false
 
-  pub holder-or : (p : ℕ) → Holder t p ⊎ Empty p
-  holder-or p = go (so-or-not (givesValues (kind t p)))
-    where
-      go : (givesValues (kind t p) ≡ true) ⊎ Empty p → Holder t p ⊎ Empty p
-      go (inl e) = inl (gives-cases (kind t p) e)
-      go (inr e) = inr e
-
   holds-none : (p x : ℕ) → isDefinition t p ≡ true → Empty p → holds t p x ≡ true → ⊥
   holds-none p x d e h =
-      let g : isG t p ≡ false = ne-eqb (kind t p) groupCode (λ z. no-holder t p e (inl z)) in
+      let g : isG t p ≡ false = ne-eqb (kind t p) groupCode (λ z. both-ways (givesValues (kind t p)) (rw z group-gives) e) in
       let z : x ≡ p = only-itself t n ok p x d g h in
-      no-holder t p e (inr (v-kind t p (subst (λ (y : ℕ). isV t y ≡ true) z (holds-v t n ok p x h))))
+      both-ways (givesValues (kind t p)) (rw (v-kind t p (subst (λ (y : ℕ). isV t y ≡ true) z (holds-v t n ok p x h))) value-gives) e
 
   needs-none : (p q : ℕ) → isDefinition t p ≡ true → Empty p → needs t n p q ≡ false
   needs-none p q d e = not-so (needs t n p q) (λ h. let w = needs-elim t n ok p q h in holds-none p (w .1 .0) d e (w .1 .2))
@@ -135,10 +123,10 @@ module _ (t : List ℤ) (n : ℕ) (ok : Accepted t n) where
       in-mask p i d = masked p .1 (i, d)
 
       out-mask : (p : ℕ) → Empty p → mark mask (width n) 0 p ≡ false
-      out-mask p e = not-so (mark mask (width n) 0 p) (λ m. no-holder t p e (masked p .0 m .1))
+      out-mask p e = not-so (mark mask (width n) 0 p) (λ m. both-ways (givesValues (kind t p)) (masked p .0 m .1) e)
 
       needed-is : NeedRows t n square → (p q : ℕ) → p ∈ items → q ∈ items → needed square mask (width n) p q ≡ needs t n p q
-      needed-is rows p q mp mq = go (holder-or p) (holder-or q)
+      needed-is rows p q mp mq = go (so-or-not (givesValues (kind t p))) (so-or-not (givesValues (kind t q)))
         where
           go : Holder t p ⊎ Empty p → Holder t q ⊎ Empty q → needed square mask (width n) p q ≡ needs t n p q
           go (inl hp) (inl hq) = rw (in-mask q mq hq, in-mask p mp hp) (and-true (mark square (width n) q p) ∙ rows p q hp hq)
@@ -251,9 +239,9 @@ module _ (t : List ℤ) (n : ℕ) (items mask : List ℕ) (i p : ℕ) (is : p �
       back y (inl m) = add .kept x (old x .1 (m, y .1))
       back y (inr m) = let q : x ≡ p = m ∙ sym is in add .new x (omega arith) q
 
-  pub mask-skip : (Holder t p → ⊥) → (x : ℕ) → (mark mask (width n) 0 x ≡ true) ↔ ((x ∈ take (i + 1) items) × Holder t x)
+  pub mask-skip : givesValues (kind t p) ≡ false → (x : ℕ) → (mark mask (width n) 0 x ≡ true) ↔ ((x ∈ take (i + 1) items) × Holder t x)
   mask-skip f x = (λ m. let o = old x .0 m in (more x (o .0), o .1), λ y. back y (in-more x items i hi (y .0)))
     where
       back : (x ∈ take (i + 1) items) × Holder t x → (x ∈ take i items) ⊎ (x ≡ getD items i 0) → mark mask (width n) 0 x ≡ true
       back y (inl m) = old x .1 (m, y .1)
-      back y (inr m) = absurd (f (subst (Holder t) (m ∙ sym is) (y .1)))
+      back y (inr m) = both-ways (givesValues (kind t p)) (subst (Holder t) (m ∙ sym is) (y .1)) f

@@ -8,7 +8,7 @@ use borrow.Author.Tests.{eqb-true}
 use lib.Dec.{eqb}
 use Rattle.kinds.specs.Kinds.{groupCode, valueCode, numberCode, Kind, kinds, kindAt, isDefinition, operandA, takes, clauseOf}
 use Rattle.kinds.specs.GivesValues.{givesValues}
-use Rattle.kinds.proofs.Tests.{or-cases}
+use Rattle.kinds.proofs.Tests.{and-left, or-cases}
 use Rattle.kinds.proofs.Rows.{by-rule}
 use Rattle.kinds.proofs.Laws.{defines}
 use Rattle.kinds.proofs.Clauses.{a-uses}
@@ -25,6 +25,10 @@ value-gives = refl
 -- a definition that takes no argument
 abbrev gives : Kind → Bool
 gives k = defines k && eqb (k .takes) 0
+
+pub gives-definition : (c : ℕ) → givesValues c ≡ true → isDefinition c ≡ true
+unfolding givesValues
+gives-definition c e = and-left (isDefinition c) (eqb (takes c) 0) e
 
 -- only a Group or a value does
 pub gives-cases : (c : ℕ) → givesValues c ≡ true → (c ≡ groupCode) ⊎ (c ≡ valueCode)

@@ -8,12 +8,13 @@ use native.Mathlib.Omega.{arith}
 use native.Mathlib.Decide.{ℕ-discrete}
 use lib.IntN.{ℤ}
 use Rattle.kinds.specs.Kinds.{groupCode, valueCode}
-use Rattle.kinds.proofs.Codes.{group-definition, value-definition}
-use Rattle.cells.specs.Table.{kind, isDefinition, owner}
+use Rattle.kinds.specs.GivesValues.{givesValues}
+use Rattle.kinds.proofs.Plans.{group-gives, value-gives, gives-definition, gives-cases}
+use Rattle.cells.specs.Table.{kind, owner}
 use Rattle.cells.specs.Accepted.{Accepted, HasBody}
 use Rattle.order.specs.Order.{up, Within, needs, reaches}
 use Rattle.order.proofs.Tests.{both-ways, so-or-not}
-use Rattle.order.proofs.Tables.{kind-label, kind-v, v-kind, reaches-exact}
+use Rattle.order.proofs.Tables.{def-label, kind-v, v-kind, reaches-exact}
 use Rattle.order.proofs.Tree.{within-owner}
 use Rattle.order.proofs.Needs.{holds, holds-intro, holds-v, holds-in, needs-intro, needs-elim}
 use Rattle.marks.specs.Marks.{mark, Added, Dropped}
@@ -25,34 +26,29 @@ use Rattle.needs.specs.Needs.{Holder, Wanted, Lifting, Cut, NeedRows}
 
 module _ (t : List ℤ) (n : ℕ) (ok : Accepted t n) where
   pub holder-label : (q : ℕ) → Holder t q → (1 ≤ q) × (q ≤ n)
-  holder-label q (inl e) = kind-label t n ok q (omega arith)
-  holder-label q (inr e) = kind-label t n ok q (omega arith)
-
-  holder-def : (q : ℕ) → Holder t q → isDefinition t q ≡ true
-  holder-def q (inl e) = rw e group-definition
-  holder-def q (inr e) = rw e value-definition
+  holder-label q h = def-label t n ok q (gives-definition (kind t q) h)
 
   -- the Group of a label other than 1
   pub group-holder : (m : ℕ) → 2 ≤ m → m ≤ n → Holder t m → kind t (owner t m) ≡ groupCode
-  group-holder m a b h = ok .group m a b (holder-def m h)
+  group-holder m a b h = ok .group m a b (gives-definition (kind t m) h)
 
   wanted-up : (m p : ℕ) → Wanted t m p → Wanted t (owner t m) p
   wanted-up m p x = record { value = x .value; is = x .is; within = within-owner t n ok m (x .value) (x .within); touches = x .touches }
 
   pub lifting-start : (s : List ℕ) → AllMarkRows t n 6 s → Lifting t n n s
-  lifting-start s r = record { sound = sound; own = λ v p k h. r .values v k p .1 h; up = λ m p a b c. absurd (omega arith) }
+  lifting-start s r = record { sound = λ q p h. sound q p (gives-cases (kind t q) h); own = λ v p k h. r .values v k p .1 h; up = λ m p a b c. absurd (omega arith) }
     where
-      sound : (q p : ℕ) → Holder t q → mark s (width n) q p ≡ true → Wanted t q p
+      sound : (q p : ℕ) → (kind t q ≡ groupCode) ⊎ (kind t q ≡ valueCode) → mark s (width n) q p ≡ true → Wanted t q p
       sound q p (inl k) m = both-ways (mark s (width n) q p) m (r .groups q k p)
       sound q p (inr k) m = record { value = q; is = k; within = (0, refl); touches = r .values q k p .0 m }
 
   module _ (k : ℕ) (s : List ℕ) (h : Lifting t n k s) (low : 2 ≤ k) (high : k ≤ n) where
-    -- what is no Group or value is passed over
-    pub lifting-skip : (Holder t k → ⊥) → Lifting t n (k - 1) s
+    -- what gives no values is passed over
+    pub lifting-skip : givesValues (kind t k) ≡ false → Lifting t n (k - 1) s
     lifting-skip f = record { sound = h .sound; own = h .own; up = λ m p a b c d e. go m p b c d e (ℕ-discrete m k) a }
       where
         go : (m p : ℕ) → 2 ≤ m → m ≤ n → Holder t m → mark s (width n) m p ≡ true → Dec (m ≡ k) → k - 1 < m → mark s (width n) (owner t m) p ≡ true
-        go m p b c d e (yes z) a = absurd (f (subst (Holder t) z d))
+        go m p b c d e (yes z) a = both-ways (givesValues (kind t k)) (subst (Holder t) z d) f
         go m p b c d e (no z) a = h .up m p (omega arith) b c d e
 
     turn : Holder t k → (s′ : List ℕ) → Added (λ (p : ℕ). mark s (width n) k p ≡ true) s s′ (width n) (owner t k) → Lifting t n (k - 1) s′
@@ -110,10 +106,10 @@ module _ (t : List ℤ) (n : ℕ) (ok : Accepted t n) where
             zero-up : (i : ℕ) → up t i 0 ≡ 0
             zero-up zero = refl
             zero-up (suc i) = zero-up i
-        go (no z) r = r (inl (group-holder v (omega (arith, b)) (b .1) d)) a (h .up v p (omega (arith, b)) (omega (arith, b)) (b .1) d m)
+        go (no z) r = r (rw (group-holder v (omega (arith, b)) (b .1) d) group-gives) a (h .up v p (omega (arith, b)) (omega (arith, b)) (b .1) d m)
 
     all : (q p : ℕ) → Holder t q → Wanted t q p → mark s (width n) q p ≡ true
-    all q p d x = climb (x .within .0) q (x .value) p (x .within .1) (inr (x .is)) (holder-label q d .0) (h .own (x .value) p (x .is) (x .touches))
+    all q p d x = climb (x .within .0) q (x .value) p (x .within .1) (rw (x .is) value-gives) (holder-label q d .0) (h .own (x .value) p (x .is) (x .touches))
 
     -- ---- what is wanted is needed
 
@@ -132,12 +128,12 @@ module _ (t : List ℤ) (n : ℕ) (ok : Accepted t n) where
         with : kind t (x .touches .end) ≡ valueCode → Within t p (x .touches .end) → needs t n p q ≡ true
         with k u = needs-intro t n ok p q (x .touches .end) (x .value) z (holds-intro t n ok p (x .touches .end) (holder-label p hp .0) (kind-v t (x .touches .end) k) u) to from
 
-        own : Holder t p → p ≡ x .touches .end → HasBody t (x .touches .end) → kind t (x .touches .end) ≡ valueCode
+        own : (kind t p ≡ groupCode) ⊎ (kind t p ≡ valueCode) → p ≡ x .touches .end → HasBody t (x .touches .end) → kind t (x .touches .end) ≡ valueCode
         own (inr k) e b = subst (λ (v : ℕ). kind t v ≡ valueCode) e k
         own (inl k) e b = absurd (body-group t n ok (x .touches .end) b (subst (λ (v : ℕ). kind t v ≡ groupCode) e k))
 
         at : Around t (x .touches .end) p → needs t n p q ≡ true
-        at (inl e) = with (own hp e (links-body t n ok 6 (inl refl) (x .touches .links))) (0, sym e)
+        at (inl e) = with (own (gives-cases (kind t p) hp) e (links-body t n ok 6 (inl refl) (x .touches .links))) (0, sym e)
         at (inr (k, a, u)) = with k u
 
     wanted : (p q : ℕ) → Holder t p → needs t n p q ≡ true → (p ≡ q → ⊥) × Wanted t q p

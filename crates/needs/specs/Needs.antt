@@ -1,20 +1,20 @@
 -- The square of needs: row q has the marks of those that need q.
 use mathlib.Core.Path.{_≡_}
-use mathlib.Core.Logic.{_⊎_}
 use mathlib.Core.List.{List}
 use mathlib.Core.Bool.{true, false}
 use Prim.Native.Nat.{ℕ, _≤_, _<_}
 use lib.IntN.{ℤ}
-use Rattle.kinds.specs.Kinds.{groupCode, valueCode}
+use Rattle.kinds.specs.Kinds.{valueCode}
+use Rattle.kinds.specs.GivesValues.{givesValues}
 use Rattle.cells.specs.Table.{kind, owner}
 use Rattle.order.specs.Order.{Within, needs}
 use Rattle.marks.specs.Marks.{mark}
 use Rattle.reach.specs.Links.{Touches}
 use Rattle.reach.specs.MarkRows.{width}
 
--- a Group or a value: what may have values in it
+-- what gives values to a plan, by the row of its kind
 abbrev pub Holder : List ℤ → ℕ → Type 0
-Holder t q = (kind t q ≡ groupCode) ⊎ (kind t q ≡ valueCode)
+Holder t q = givesValues (kind t q) ≡ true
 
 -- a V that is q or under q is reached from p, or from a V in the Group p
 pub record Wanted (t : List ℤ) (q p : ℕ) : Type 0 where

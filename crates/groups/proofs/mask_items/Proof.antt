@@ -6,15 +6,13 @@ use Prim.Native.Nat.{ℕ, _+_, _-_, _/_, _≤_}
 use native.Mathlib.Omega.{arith}
 use borrow.Author.Needs.{needs}
 use lib.ListN.{length, take}
-use Rattle.kinds.proofs.Plans.{gives-cases}
-use Rattle.cells.specs.Table.{kind}
 use Rattle.order.specs.LabelLists.{_∈_}
 use lib.Seq.{take-all}
 use Rattle.marks.specs.Marks.{mark}
 use Rattle.order.proofs.Tests.{both-ways}
 use Rattle.needs.specs.Needs.{Holder}
 use Rattle.placing.proofs.Lists.{in-at}
-use Rattle.groups.proofs.Orders.{no-holder, item-label, mask-put, mask-skip}
+use Rattle.groups.proofs.Orders.{item-label, mask-put, mask-skip}
 use Rattle.groups.proofs.mask_items.Statement.{statement}
 use Rattle.groups.proofs.mask_items.Tie as tie
 
@@ -92,13 +90,13 @@ loop-again c =
       w .2 .kept .0 ∙ l .loop .inv .0,
       omega arith,
       mask-put t (a .args .n) (a .args .items .now) (l .loop .mask) (l .loop .i) _ (q .widen .ensures) h (l .loop .inv .2) (omega (arith, b))
-          (gives-cases (kind t (q .widen .result)) (sym (c .before .gives-values .ensures) ∙ w .0 .taken)) _ (w .2 .ensures),
+          (sym (c .before .gives-values .ensures) ∙ w .0 .taken) _ (w .2 .ensures),
     ))
     (λ w. rw (w .1) (
       l .loop .inv .0,
       omega arith,
       mask-skip t (a .args .n) (a .args .items .now) (l .loop .mask) (l .loop .i) _ (q .widen .ensures) h (l .loop .inv .2)
-          (no-holder t (q .widen .result) (sym (c .before .gives-values .ensures) ∙ w .0 .left)),
+          (sym (c .before .gives-values .ensures) ∙ w .0 .left),
     ))
     (c .if1 .came)
 

@@ -1,15 +1,9 @@
 use mathlib.Core.Path.{_≡_, refl, sym, _∙_, subst}
-use mathlib.Core.Logic.{_⊎_, inl, inr, ⊎-elim}
+use mathlib.Core.Logic.{⊎-elim}
 use Prim.Native.Nat.{ℕ, _+_, _*_, _≤_}
 use native.Mathlib.Omega.{arith}
 use borrow.Author.Needs.{needs}
 use lib.ListN.{length}
-use mathlib.Core.Bool.{false}
-use Rattle.kinds.specs.Kinds.{groupCode, valueCode}
-use Rattle.kinds.specs.GivesValues.{givesValues}
-use Rattle.kinds.proofs.Plans.{group-gives, value-gives, gives-cases}
-use Rattle.cells.specs.Table.{kind}
-use Rattle.order.proofs.Tests.{both-ways}
 use Rattle.reach.proofs.Reading.{row-room}
 use Rattle.needs.specs.Needs.{Lifting}
 use Rattle.reach.specs.MarkRows.{width}
@@ -22,11 +16,6 @@ Inv-loop table n square₀ k₀ square k = (length square ≡ length square₀) 
 
 abbrev μ-loop : tie.MeasureT-loop
 μ-loop table n square₀ k₀ square k = k
-
--- what gives no values is neither a Group nor a value
-no-holder : (k : ℕ) → givesValues k ≡ false → (k ≡ groupCode) ⊎ (k ≡ valueCode) → ⊥
-no-holder k h (inl e) = both-ways (givesValues k) (rw e group-gives) h
-no-holder k h (inr e) = both-ways (givesValues k) (rw e value-gives) h
 
 loop-holds : tie.Need-loop-holds Inv-loop μ-loop
 loop-holds c = let p = c .before .pre in (refl, p .0 .some, omega arith, lifting-start _ _ (p .0) _ (p .1 .1))
@@ -66,21 +55,20 @@ loop-again : tie.Need-loop-again Inv-loop μ-loop
 loop-again c =
     let l = c .before .before .before in
     let a = c .before .before .before .before .before in
-    let t = a .args .table .now in
     let k = l .loop .k in
     let two : 2 ≤ k = omega (arith, c .before .before .loop-test .taken) in
     ⊎-elim (λ w. rw (w .6) (
       w .3 .kept .0 ∙ l .loop .inv .0,
       omega arith,
       omega arith,
-      lifting-turn _ _ (a .pre .0) _ _ (l .loop .inv .3) two (l .loop .inv .2) (gives-cases (kind t k) (sym (c .before .gives-values .ensures) ∙ w .0 .taken)) _
+      lifting-turn _ _ (a .pre .0) _ _ (l .loop .inv .3) two (l .loop .inv .2) (sym (c .before .gives-values .ensures) ∙ w .0 .taken) _
           _ (w .1 .ensures) (w .3 .ensures),
     ))
     (λ w. rw (w .1) (
       l .loop .inv .0,
       omega arith,
       omega arith,
-      lifting-skip _ _ (a .pre .0) _ _ (l .loop .inv .3) two (l .loop .inv .2) (no-holder (kind t k) (sym (c .before .gives-values .ensures) ∙ w .0 .left)),
+      lifting-skip _ _ (a .pre .0) _ _ (l .loop .inv .3) two (l .loop .inv .2) (sym (c .before .gives-values .ensures) ∙ w .0 .left),
     ))
     (c .if1 .came)
 

@@ -7,7 +7,7 @@ use Rattle.numbers.specs.Rounding.{rounded, quotient}
 use Rattle.numbers.specs.Arithmetic.{rangedOf, result, calculated}
 use Rattle.text.specs.Bytes.{isAllowed, isLetter, isAlphanumeric}
 use Rattle.text.specs.Forms.{isName, isPath, labelOf}
-use Rattle.kinds.specs.Kinds.{kinds, kindAt, codeOf, isKind, isDefinition, isExpression, hasPath, wantedBy, takes, clauseOf}
+use Rattle.kinds.specs.Kinds.{kinds, kindAt, codeOf, isKind, isDefinition, isExpression, hasBody, hasPath, wantedBy, takes, clauseOf}
 use Rattle.lines.specs.Fields.{fieldOf}
 use Rattle.lines.specs.Lines.{isText, line, labels, firstLine, headBad, rootLine, lineBad, linesBad, fieldCells}
 use Rattle.tree.specs.Tree.{parts, structureBad, definitionOf, ownerOf, levelOf, treeBad}
@@ -28,10 +28,11 @@ use Rattle.samples.specs.Sample.{given, said}
 use Rattle.samples.specs.Samples.{samples}
 
 pub samples-hold : map given samples ≡ map said samples
-unfolding samples isText isAllowed line labels firstLine headBad fieldCells kinds kindAt codeOf isKind isDefinition isExpression hasPath wantedBy takes clauseOf fieldOf labelOf numberOf decimalOf
-    digitsOf digitsValue allDigits linesBad lineBad rootLine isName isPath isLetter isAlphanumeric parts structureBad definitionOf ownerOf levelOf treeBad sameName member paths.duplicateBad
-    paths.headFrom paths.headOf paths.targetOf paths.pathHeadBad paths.laterBad paths.targetBad paths.pathsBad tableShort ownedTable resolvedTable resolvedBad sheetCells sheetBad sheetTable
-    readBad readReply readTable nameBegin nameSize namePart cycleBad planShort resultsShort openBad plannedBad planOf planBad planReply planCells runBad runReply runTable runPlan runResults digits
-    decimal columnsLine refusalLine wholeWord mixedWord valueLine valueLines printOf orderBad followBad followReply followResults afterRounds rounded quotient rangedOf result calculated onNumber
-    answerAt outcomeOf bodyBy callBy operationBy choiceBy enteredBy stepBy withFuel outcome valueOutcome
+unfolding samples isText isAllowed line labels firstLine headBad fieldCells kinds kindAt codeOf isKind isDefinition isExpression hasBody hasPath wantedBy takes clauseOf fieldOf labelOf numberOf
+    decimalOf digitsOf digitsValue allDigits linesBad lineBad rootLine isName isPath isLetter isAlphanumeric parts structureBad definitionOf ownerOf levelOf treeBad sameName member paths.duplicateBad
+    paths.headFrom paths.headOf paths.targetOf paths.pathHeadBad paths.laterBad paths.targetBad paths.pathsBad tableShort ownedTable resolvedTable resolvedBad sheetCells sheetBad sheetTable readBad
+    readReply readTable
+    nameBegin nameSize namePart cycleBad planShort resultsShort openBad plannedBad planOf planBad planReply planCells runBad runReply runTable runPlan runResults digits decimal columnsLine refusalLine
+    wholeWord mixedWord valueLine valueLines printOf orderBad followBad followReply followResults afterRounds rounded quotient rangedOf result calculated onNumber answerAt outcomeOf bodyBy callBy
+    operationBy choiceBy enteredBy stepBy withFuel outcome valueOutcome
 samples-hold = refl

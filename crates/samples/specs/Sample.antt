@@ -6,7 +6,7 @@ use Prim.Native.String.{String}
 use lib.IntN.{ℤ, pos}
 use lib.Dec.{eqb}
 use lib.ListN.{length}
-use Rattle.kinds.specs.Kinds.{groupCode, valueCode, functionCode, wantedBy}
+use Rattle.kinds.specs.Kinds.{isDefinition, hasBody, hasPath, wantedBy, takes}
 use Rattle.cells.specs.Quoted.{bytesOf, textOf}
 use Rattle.cells.specs.Cells.{zeros}
 use Rattle.cells.specs.Table.{kind, owner, target}
@@ -88,17 +88,17 @@ printLinesOf (mixed ls) = ls
 abbrev pub labelsListed : List PrintLine → List ℤ
 labelsListed ls = map (λ x. pos (x .label)) ls
 
--- what a line of definition o tells whose path must end at this kind, and ends at e
-abbrev pub mentionOf : ℕ → ℕ → ℕ → List Fact
-mentionOf end o e = cond (eqb end valueCode) (reads o e ∷ []) (cond (eqb end functionCode) (calls o e ∷ []) [])
+-- what a definition of this kind code tells: a Group has no body, and the body of a value is given no argument
+abbrev pub definitionFact : ℕ → ℕ → ℕ → Fact
+definitionFact code l g = cond (hasBody code) (cond (eqb (takes code) 0) (value l g) (function l g)) (group l g)
 
--- what label l tells, with this kind code, owner o and target e
+-- what a line of definition d tells whose path ends at e, of a kind with this code
+abbrev pub mentionFact : ℕ → ℕ → ℕ → Fact
+mentionFact end d e = cond (eqb (takes end) 0) (reads d e) (calls d e)
+
+-- what label l tells, with this kind code, owner o and target e: by what the table says of the kind, whatever kinds there are
 abbrev pub factOf : ℕ → ℕ → ℕ → ℕ → List Fact
-factOf code l o e =
-    cond (eqb code groupCode) (group l o ∷ [])
-    (cond (eqb code valueCode) (value l o ∷ [])
-    (cond (eqb code functionCode) (function l o ∷ [])
-    (mentionOf (wantedBy code) o e)))
+factOf code l o e = cond (isDefinition code) (definitionFact code l o ∷ []) (cond (hasPath code) (mentionFact (wantedBy code) o e ∷ []) [])
 
 -- what k labels of a table tell, from l on
 abbrev pub factsFrom : List ℤ → ℕ → ℕ → List Fact

@@ -1,4 +1,4 @@
-mod Rooms
+pub mod Rooms
 pub mod Answers
 pub mod Sheets
 mod Calls

@@ -21,13 +21,13 @@ shared-slice-copy-out-result c = search needs
 
 cast-result : tie.Need-cast-result
 cast-result c =
-    let a = c .before .pre in
-    cast-natural _ _ (cell-is _ _ (a .0) _ (a .1 .0) (a .1 .1) _ (a .1 .2) (a .1 .3)) (c .result .given)
+    let pre = c .before .pre in
+    cast-natural _ _ (cell-is _ _ (pre .0) _ (pre .1 .0) (pre .1 .1) _ (pre .1 .2) (pre .1 .3)) (c .result .given)
 
 returns : tie.Need-returns
 returns c =
-    let a = c .before .pre in
-    is-natural _ _ (cell-is _ _ (a .0) _ (a .1 .0) (a .1 .1) _ (a .1 .2) (a .1 .3)) (c .result .given)
+    let pre = c .before .pre in
+    is-natural _ _ (cell-is _ _ (pre .0) _ (pre .1 .0) (pre .1 .1) _ (pre .1 .2) (pre .1 .3)) (c .result .given)
 
 pub cell-of-spec : {M : Type 1} → statement M
 cell-of-spec =

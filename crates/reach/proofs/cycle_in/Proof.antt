@@ -8,17 +8,16 @@ link-requires c κs = search needs
 
 reach-rows-requires : tie.Need-reach-rows-requires
 reach-rows-requires c κs =
-    let p = c .before .before .before .before .before .before .before .before .before .before .before .before .pre in
-    let k = c .before .before .before .before .before .before .link in
-    (p .0, (p .1 .0, ((omega (arith, p .1 .1 .0 .0, k .kept .1 .1 .1 .0), k .ensures), p .1 .1 .1)))
+    let pre = c .before .before .before .before .before .before .before .before .before .before .before .before .pre in
+    let link = c .before .before .before .before .before .before .link in
+    (pre .0, (pre .1 .0, ((omega (arith, pre .1 .1 .0 .0, link .kept .1 .1 .1 .0), link .ensures), pre .1 .1 .1)))
 
 first-cycle-requires : tie.Need-first-cycle-requires
 first-cycle-requires c κs =
-    let back = c .before .before .before .before .before .before .before .before .before .before .before .before in
-    let entry = back .before .before .before .before .before .before .before .before in
+    let entry = c .before .before .before .before .before .before .before .before .before .before .before .before .before .before .before .before .before .before .before .before in
     let p = entry .pre in
-    let k = c .before .before .before .before .before .before .before .reach-rows in
-    (p .0, (p .1 .0, (omega (arith, p .1 .1 .1 .0 .rows, k .kept .1 .1 .1 .1 .1 .0), k .ensures)))
+    let reach-rows = c .before .before .before .before .before .before .before .reach-rows in
+    (p .0, (p .1 .0, (omega (arith, p .1 .1 .1 .0 .rows, reach-rows .kept .1 .1 .1 .1 .1 .0), reach-rows .ensures)))
 
 same-length : tie.Need-same-length
 same-length c = search needs

@@ -15,9 +15,9 @@ slice-aggregate-cycle-in-3 c = search needs
 
 cycle-in-requires : tie.Need-cycle-in-requires
 cycle-in-requires c κs =
-    let a = c .before .before .before .before .before .before in
-    let h = c .before .before .before .before .if1 .taken in
-    (a .pre .0, (a .pre .1 .0, zero-cycle (a .args .n) 128 _ 255 (omega (arith, h)) (omega (arith, h)) (a .pre .1 .1)))
+    let entry = c .before .before .before .before .before .before in
+    let taken = c .before .before .before .before .if1 .taken in
+    (entry .pre .0, (entry .pre .1 .0, zero-cycle (entry .args .n) 128 _ 255 (omega (arith, taken)) (omega (arith, taken)) (entry .pre .1 .1)))
 
 same-length : tie.Need-same-length
 same-length c = search needs
@@ -36,9 +36,9 @@ slice-aggregate-cycle-in-6 c = search needs
 
 cycle-in-requires-2 : tie.Need-cycle-in-requires-2
 cycle-in-requires-2 c κs =
-    let a = c .before .before .before .before .before .before in
-    let h = a .pre .0 .few in
-    (a .pre .0, (a .pre .1 .0, zero-cycle (a .args .n) 1025 _ 2049 (omega (arith, h)) (omega (arith, h)) (a .pre .1 .1)))
+    let entry = c .before .before .before .before .before .before in
+    let h = entry .pre .0 .few in
+    (entry .pre .0, (entry .pre .1 .0, zero-cycle (entry .args .n) 1025 _ 2049 (omega (arith, h)) (omega (arith, h)) (entry .pre .1 .1)))
 
 same-length-2 : tie.Need-same-length-2
 same-length-2 c = search needs

@@ -18,13 +18,13 @@ shared-slice-copy-out-result c = search needs
 
 cast-result : tie.Need-cast-result
 cast-result c =
-    let a = c .before .pre in
-    cast-natural _ _ (kind-is _ _ (a .0) _ (a .1 .0) (a .1 .1)) (c .result .given)
+    let pre = c .before .pre in
+    cast-natural _ _ (kind-is _ _ (pre .0) _ (pre .1 .0) (pre .1 .1)) (c .result .given)
 
 returns : tie.Need-returns
 returns c =
-    let a = c .before .pre in
-    is-natural _ _ (kind-is _ _ (a .0) _ (a .1 .0) (a .1 .1)) (c .result .given)
+    let pre = c .before .pre in
+    is-natural _ _ (kind-is _ _ (pre .0) _ (pre .1 .0) (pre .1 .1)) (c .result .given)
 
 pub kind-of-spec : {M : Type 1} → statement M
 kind-of-spec =

@@ -19,11 +19,22 @@ Inv-loop table n j chains state₀ square₀ stack₀ v₀ state square stack v 
 abbrev μ-loop : tie.MeasureT-loop
 μ-loop table n j chains state₀ square₀ stack₀ v₀ state square stack v = n + 1 - v
 
+-- ---- earlier places, by later ones
+
+abbrev entry-of : tie.After-slice-known3 Inv-loop μ-loop → tie.Start Inv-loop μ-loop
+entry-of c = c .before .before .before .before
+
+abbrev loop-of : tie.Joined1 Inv-loop μ-loop → tie.At-loop Inv-loop μ-loop
+loop-of c = c .before .before .before
+
+abbrev turn-of : tie.After-visit-arg3 Inv-loop μ-loop → tie.In-loop Inv-loop μ-loop
+turn-of c = c .before .before .before .before .before
+
 loop-holds : tie.Need-loop-holds Inv-loop μ-loop
 loop-holds c =
-    let p = c .before .before .before .before .pre in
-    let q = p .1 .1 .1 .1 in
-    (omega arith, omega arith, going-start _ _ (p .0) _ _ _ _ (rows-none _ _ (p .0) _ _ _ (q .0) (q .1)), λ u h i. absurd (omega arith))
+    let pre = entry-of c .pre in
+    let q = pre .1 .1 .1 .1 in
+    (omega arith, omega arith, going-start _ _ (pre .0) _ _ _ _ (rows-none _ _ (pre .0) _ _ _ (q .0) (q .1)), λ u h i. absurd (omega arith))
 
 kind-of-requires : tie.Need-kind-of-requires Inv-loop μ-loop
 kind-of-requires c κs = search needs
@@ -32,9 +43,9 @@ visit-requires : tie.Need-visit-requires Inv-loop μ-loop
 visit-requires c κs =
     let kind-of = c .before .before .before .before .kind-of in
     let if1 = c .before .before .before .if1 in
-    let p = c .before .before .before .before .before .before .before .before .before .before .before .pre in
-    let g = c .before .before .before .before .before .before .loop .inv .2 in
-    (p .0, (p .1 .0, (p .1 .1 .0, (going-room _ _ (p .0) _ _ _ _ _ _ _ g (p .1 .1 .1 .0), (g .rows, rw (sym (kind-of .ensures) ∙ if1 .taken) value-body)))))
+    let pre = entry-of (turn-of c .before .before) .pre in
+    let inv = turn-of c .before .loop .inv .2 in
+    (pre .0, (pre .1 .0, (pre .1 .1 .0, (going-room _ _ (pre .0) _ _ _ _ _ _ _ inv (pre .1 .1 .1 .0), (inv .rows, rw (sym (kind-of .ensures) ∙ if1 .taken) value-body)))))
 
 add-v : tie.Need-add-v Inv-loop μ-loop
 add-v c = search needs
@@ -44,22 +55,22 @@ loop-less c = search needs
 
 loop-again : tie.Need-loop-again Inv-loop μ-loop
 loop-again c =
-    let l = c .before .before .before in
-    let a = c .before .before .before .before .before .before .before .before in
+    let loop = loop-of c in
+    let entry = entry-of (loop-of c .before) in
     ⊎-elim (λ w.
     let v = w .4 in
     let k = v .kept .1 .1 .1 .1 in
     rw (w .11, w .12, w .13) (
       omega arith,
       omega arith,
-      going-more _ _ (a .pre .0) _ _ _ _ _ _ _ (l .loop .inv .2) _ _ _ _ (v .ensures) (k .0) (k .1 .0) (k .1 .1 .0),
-      begun-more _ _ (a .pre .0) _ _ _ _ _ (l .loop .inv .3) (v .ensures),
+      going-more _ _ (entry .pre .0) _ _ _ _ _ _ _ (loop .loop .inv .2) _ _ _ _ (v .ensures) (k .0) (k .1 .0) (k .1 .1 .0),
+      begun-more _ _ (entry .pre .0) _ _ _ _ _ (loop .loop .inv .3) (v .ensures),
     ))
     (λ w. rw (w .1, w .2, w .3) (
       omega arith,
       omega arith,
-      l .loop .inv .2,
-      below-more (λ (u : ℕ). 1 ≤ u → kind (a .args .table .now) u ≡ valueCode → getD (l .loop .state) u 0 ≡ 0 → ⊥) (l .loop .v) (l .loop .inv .3)
+      loop .loop .inv .2,
+      below-more (λ (u : ℕ). 1 ≤ u → kind (entry .args .table .now) u ≡ valueCode → getD (loop .loop .state) u 0 ≡ 0 → ⊥) (loop .loop .v) (loop .loop .inv .3)
           (λ i e. absurd (w .0 .left (c .before .kind-of .ensures ∙ e))),
     ))
     (c .if1 .came)
@@ -75,10 +86,10 @@ same-length-3 c = c .before .loop .inv .2 .stacks
 
 returns : tie.Need-returns Inv-loop μ-loop
 returns c =
-    let p = c .before .before .before .before .before .before .pre in
-    let l = c .before in
-    let g = l .loop .inv .2 in
-    rows-all _ _ (p .0) _ _ _ _ (p .1 .1 .1 .1 .0) (g .since) (g .rows) (λ v a b. l .loop .inv .3 v (omega (arith, c .loop-test .left)) a)
+    let pre = entry-of (c .before .before) .pre in
+    let loop = c .before in
+    let g = loop .loop .inv .2 in
+    rows-all _ _ (pre .0) _ _ _ _ (pre .1 .1 .1 .1 .0) (g .since) (g .rows) (λ v a b. loop .loop .inv .3 v (omega (arith, c .loop-test .left)) a)
 
 pub reach-rows-spec : {M : Type 1} → statement M
 reach-rows-spec =

@@ -16,13 +16,13 @@ returns c = search needs
 
 has-mark-requires : tie.Need-has-mark-requires
 has-mark-requires c κs =
-    let p = c .before .before .before .before .before .pre in
-    (omega (arith, p .1), row-room _ _ _ _ (p .2) (p .4))
+    let pre = c .before .before .before .before .before .pre in
+    (omega (arith, pre .1), row-room _ _ _ _ (pre .2) (pre .4))
 
 merge-row-requires : tie.Need-merge-row-requires
 merge-row-requires c κs =
-    let p = c .before .before .before .before .before .before .before .before .pre in
-    (row-room _ _ _ _ (p .2) (p .4), row-room _ _ _ _ (p .1) (p .4))
+    let pre = c .before .before .before .before .before .before .before .before .pre in
+    (row-room _ _ _ _ (pre .2) (pre .4), row-room _ _ _ _ (pre .1) (pre .4))
 
 same-length : tie.Need-same-length
 same-length c = search needs

@@ -14,7 +14,7 @@ use lib.Seq.{getD-set-same, getD-set-other, take-suc-set, length-take-le, drop-c
 use borrow.Author.Tests.{eq-eqb, ne-eqb}
 use Rattle.cells.specs.Table.{owner, isDefinition}
 use Rattle.order.specs.LabelLists.{count, _∈_, upFrom, filter}
-use Rattle.order.specs.Order.{allLabels, isMember}
+use Rattle.order.specs.Order.{allLabels, isMemberOf}
 use Rattle.order.proofs.Tests.{so-or-not}
 use Rattle.order.proofs.Lists.{in-here, in-there, in-right, in-filter, count-below, count-here, count-append, filter-le, length-upFrom}
 use Rattle.placing.specs.UnmetCounts.{Rising}
@@ -87,17 +87,17 @@ above-step f n l h k =
 
 -- the chains of the members above l
 abbrev pub Linked : List ℤ → ℕ → ℕ → List ℕ → Type 0
-Linked t n l next = (g : ℕ) → g ≤ n → Chain n next (getD next g 0) (filter (isMember t g) (upFrom (suc l) (n - l)))
+Linked t n l next = (g : ℕ) → g ≤ n → Chain n next (getD next g 0) (filter (isMemberOf t g) (upFrom (suc l) (n - l)))
 
 module _ (t : List ℤ) (n : ℕ) where
   pub linked-none : (next : List ℕ) → Empty n next → Linked t n n next
   linked-none next e g h =
       let z : 0 ≡ n - n = omega arith in
-      subst (λ (k : ℕ). Chain n next (getD next g 0) (filter (isMember t g) (upFrom (suc n) k))) z (e g h)
+      subst (λ (k : ℕ). Chain n next (getD next g 0) (filter (isMemberOf t g) (upFrom (suc n) k))) z (e g h)
 
   module _ (l : ℕ) (lo : 1 ≤ l) (hi : l ≤ n) (next : List ℕ) (k : Linked t n l next) where
-    same : (g : ℕ) → isMember t g l ≡ false → filter (isMember t g) (upFrom (suc l) (n - l)) ≡ filter (isMember t g) (upFrom (suc (l - 1)) (n - (l - 1)))
-    same g e = sym (above-step (isMember t g) n l lo hi ∙ rw e)
+    same : (g : ℕ) → isMemberOf t g l ≡ false → filter (isMemberOf t g) (upFrom (suc l) (n - l)) ≡ filter (isMemberOf t g) (upFrom (suc (l - 1)) (n - (l - 1)))
+    same g e = sym (above-step (isMemberOf t g) n l lo hi ∙ rw e)
 
     pub linked-skip : isDefinition t l ≡ false → Linked t n (l - 1) next
     linked-skip d g h = subst (λ (m : List ℕ). Chain n next (getD next g 0) m) (same g (rw d)) (k g h)
@@ -108,20 +108,20 @@ module _ (t : List ℤ) (n : ℕ) where
           getD-set-other (set next (n + l) (getD next (owner t l) 0)) (owner t l) (n + x) l 0 (λ z. omega arith)
           ∙ getD-set-other next (n + l) (n + x) (getD next (owner t l) 0) 0 (λ z. omega arith)
 
-      kept : (g p : ℕ) → Chain n next p (filter (isMember t g) (upFrom (suc l) (n - l)))
-          → Chain n (set (set next (n + l) (getD next (owner t l) 0)) (owner t l) l) p (filter (isMember t g) (upFrom (suc l) (n - l)))
-      kept g p c = chain-same n next (set (set next (n + l) (getD next (owner t l) 0)) (owner t l) l) p (filter (isMember t g) (upFrom (suc l) (n - l)))
-          (λ x m. far x (above (isMember t g) (suc l) (n - l) x m)) c
+      kept : (g p : ℕ) → Chain n next p (filter (isMemberOf t g) (upFrom (suc l) (n - l)))
+          → Chain n (set (set next (n + l) (getD next (owner t l) 0)) (owner t l) l) p (filter (isMemberOf t g) (upFrom (suc l) (n - l)))
+      kept g p c = chain-same n next (set (set next (n + l) (getD next (owner t l) 0)) (owner t l) l) p (filter (isMemberOf t g) (upFrom (suc l) (n - l)))
+          (λ x m. far x (above (isMemberOf t g) (suc l) (n - l) x m)) c
 
       push : Linked t n (l - 1) (set (set next (n + l) (getD next (owner t l) 0)) (owner t l) l)
       push g h = go (ℕ-discrete g (owner t l))
         where
           go : Dec (g ≡ owner t l) → Chain n (set (set next (n + l) (getD next (owner t l) 0)) (owner t l) l) (getD (set (set next (n + l) (getD next (owner t l) 0)) (owner t l) l) g 0)
-              (filter (isMember t g) (upFrom (suc (l - 1)) (n - (l - 1))))
+              (filter (isMemberOf t g) (upFrom (suc (l - 1)) (n - (l - 1))))
           go (yes e) =
-              let test : isMember t g l ≡ true = rw d (eq-eqb (owner t l) g (sym e)) in
-              let lists : l ∷ filter (isMember t g) (upFrom (suc l) (n - l)) ≡ filter (isMember t g) (upFrom (suc (l - 1)) (n - (l - 1))) =
-              sym (above-step (isMember t g) n l lo hi ∙ rw test) in
+              let test : isMemberOf t g l ≡ true = rw d (eq-eqb (owner t l) g (sym e)) in
+              let lists : l ∷ filter (isMemberOf t g) (upFrom (suc l) (n - l)) ≡ filter (isMemberOf t g) (upFrom (suc (l - 1)) (n - (l - 1))) =
+              sym (above-step (isMemberOf t g) n l lo hi ∙ rw test) in
               let head : getD (set (set next (n + l) (getD next (owner t l) 0)) (owner t l) l) g 0 ≡ l =
               ap (λ (j : ℕ). getD (set (set next (n + l) (getD next (owner t l) 0)) (owner t l) l) j 0) e
               ∙ getD-set-same (set next (n + l) (getD next (owner t l) 0)) (owner t l) l 0 (omega (arith, length-set next (n + l) (getD next (owner t l) 0))) in
@@ -132,14 +132,14 @@ module _ (t : List ℤ) (n : ℕ) where
               subst (λ (m : List ℕ). Chain n (set (set next (n + l) (getD next (owner t l) 0)) (owner t l) l) (getD (set (set next (n + l) (getD next (owner t l) 0)) (owner t l) l) g 0) m) lists (
                 head,
                 lo,
-                subst (λ (q : ℕ). Chain n (set (set next (n + l) (getD next (owner t l) 0)) (owner t l) l) q (filter (isMember t g) (upFrom (suc l) (n - l)))) link
+                subst (λ (q : ℕ). Chain n (set (set next (n + l) (getD next (owner t l) 0)) (owner t l) l) q (filter (isMemberOf t g) (upFrom (suc l) (n - l)))) link
                     (kept g (getD next g 0) (k g h)),
               )
           go (no e) =
-              let test : isMember t g l ≡ false = rw d (ne-eqb (owner t l) g (λ z. e (sym z))) in
+              let test : isMemberOf t g l ≡ false = rw d (ne-eqb (owner t l) g (λ z. e (sym z))) in
               let head : getD (set (set next (n + l) (getD next (owner t l) 0)) (owner t l) l) g 0 ≡ getD next g 0 =
               getD-set-other (set next (n + l) (getD next (owner t l) 0)) (owner t l) g l 0 e ∙ getD-set-other next (n + l) g (getD next (owner t l) 0) 0 (λ z. omega arith) in
-              subst (λ (q : ℕ). Chain n (set (set next (n + l) (getD next (owner t l) 0)) (owner t l) l) q (filter (isMember t g) (upFrom (suc (l - 1)) (n - (l - 1))))) (sym head)
+              subst (λ (q : ℕ). Chain n (set (set next (n + l) (getD next (owner t l) 0)) (owner t l) l) q (filter (isMemberOf t g) (upFrom (suc (l - 1)) (n - (l - 1))))) (sym head)
               (subst (λ (m : List ℕ). Chain n (set (set next (n + l) (getD next (owner t l) 0)) (owner t l) l) (getD next g 0) m) (same g test) (kept g (getD next g 0) (k g h)))
 
       pub linked-push : (o : ℕ) → o ≡ owner t l → Linked t n (l - 1) (set (set next (n + l) (getD next o 0)) o l)
@@ -149,8 +149,8 @@ module _ (t : List ℤ) (n : ℕ) where
   linked-all l next h k g m =
       let a : l ≡ 0 = omega arith in
       let b : n - 0 ≡ n = omega arith in
-      subst (λ (j : ℕ). Chain n next (getD next g 0) (filter (isMember t g) (upFrom 1 j))) b
-      (subst (λ (j : ℕ). Chain n next (getD next g 0) (filter (isMember t g) (upFrom (suc j) (n - j)))) a (k g m))
+      subst (λ (j : ℕ). Chain n next (getD next g 0) (filter (isMemberOf t g) (upFrom 1 j))) b
+      (subst (λ (j : ℕ). Chain n next (getD next g 0) (filter (isMemberOf t g) (upFrom (suc j) (n - j)))) a (k g m))
 
 -- ---- walking a chain
 

@@ -17,7 +17,7 @@ use Rattle.cells.specs.Table.{kind, isDefinition}
 use Rattle.cells.specs.Accepted.{Accepted}
 use Rattle.order.specs.LabelLists.{one, count, _∈_, mem, any, first}
 use Rattle.order.specs.Placing.{waits, next, rounds, placed}
-use Rattle.order.specs.Order.{isG, isV, allLabels, isMember, members, values, reaches, needs, ordered, groupStuck, mixedPlan, place16, NoCycle}
+use Rattle.order.specs.Order.{isG, isV, allLabels, isMemberOf, members, values, reaches, needs, ordered, groupStuck, mixedPlan, place16, NoCycle}
 use Rattle.order.proofs.Tests.{both-ways, so-or-not, not-so}
 use Rattle.order.proofs.Lists.{in-here, in-there, zero-or-in, length-mono, length-upFrom}
 use Rattle.order.proofs.Placing.{placed-sub, placed-all}
@@ -144,7 +144,7 @@ module _ (t : List ℤ) (n : ℕ) (ok : Accepted t n) where
     is = items-of (members t n g) items m ga
 
     pub member-items : Items t (take (m - 0) items)
-    member-items = subst (Items t) (sym is) (record { rising = rising-filter (isMember t g) 1 n; defs = λ p i. member-of t n ok g p i .0 })
+    member-items = subst (Items t) (sym is) (record { rising = rising-filter (isMemberOf t g) 1 n; defs = λ p i. member-of t n ok g p i .0 })
 
     module _ (order : List ℕ) (room : n < length order) (r : ℕ) (pl : Placed (needs t n) (take (m - 0) items) order r) where
       pub order-is : take r order ≡ ordered t n g

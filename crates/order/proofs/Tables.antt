@@ -18,7 +18,7 @@ use Rattle.cells.specs.Reaches.{HasPath, Mentions, Reaches, once, then}
 use Rattle.cells.proofs.Accepted.{reaches-trans, cell-out, path-label}
 pub use Rattle.cells.proofs.Accepted.{kind-label}
 use Rattle.order.specs.LabelLists.{one, count, _∈_}
-use Rattle.order.specs.Order.{isG, isV, allLabels, values, isMember, members, isMention, mentions, reached, reaches}
+use Rattle.order.specs.Order.{isG, isV, allLabels, values, isMemberOf, members, isMention, mentions, reached, reaches}
 use Rattle.order.proofs.Tests.{so-or-not, and-left, and-right, and-intro}
 use Rattle.order.proofs.Lists.{mem-of, of-mem, any-true, any-intro, in-filter, count-filter-pass, count-filter-fail, count-filter-le, count-upFrom, upFrom-once}
 use Rattle.order.proofs.Closure.{Chain, step, then as on, closure-exact}
@@ -95,17 +95,17 @@ module _ (t : List ℤ) (n : ℕ) (ok : Accepted t n) where
 
   pub member-of : (g p : ℕ) → p ∈ members t n g → (isDefinition t p ≡ true) × (owner t p ≡ g)
   member-of g p m =
-      let h = in-filter (isMember t g) p (allLabels n) m .1 in
+      let h = in-filter (isMemberOf t g) p (allLabels n) m .1 in
       (and-left (isDefinition t p) (eqb (owner t p) g) h, eqb-true (owner t p) g (and-right (isDefinition t p) (eqb (owner t p) g) h))
 
   pub count-member : (g p : ℕ) → isDefinition t p ≡ true → owner t p ≡ g → count p (members t n g) ≡ 1
   count-member g p d e =
       let b = def-label p d in
-      count-filter-pass (isMember t g) p (allLabels n) (and-intro (isDefinition t p) (eqb (owner t p) g) d (eq-eqb (owner t p) g e))
+      count-filter-pass (isMemberOf t g) p (allLabels n) (and-intro (isDefinition t p) (eqb (owner t p) g) d (eq-eqb (owner t p) g e))
       ∙ count-upFrom p 1 n (b .0) (omega arith)
 
   pub members-once : (g p : ℕ) → count p (members t n g) ≤ 1
-  members-once g p = omega (arith, count-filter-le (isMember t g) p (allLabels n), upFrom-once p 1 n)
+  members-once g p = omega (arith, count-filter-le (isMemberOf t g) p (allLabels n), upFrom-once p 1 n)
 
   -- ---- the tests of mentioning and reaching are the relations
 

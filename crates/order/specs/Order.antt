@@ -31,11 +31,11 @@ abbrev pub values : List ℤ → ℕ → List ℕ
 values t n = filter (isV t) (allLabels n)
 
 -- "The members of a Group are the definitions whose a is its label", which is their owner; upward
-abbrev pub isMember : List ℤ → ℕ → ℕ → Bool
-isMember t g l = isDefinition t l && eqb (owner t l) g
+abbrev pub isMemberOf : List ℤ → ℕ → ℕ → Bool
+isMemberOf t g l = isDefinition t l && eqb (owner t l) g
 
 abbrev pub members : List ℤ → ℕ → ℕ → List ℕ
-members t n g = filter (isMember t g) (allLabels n)
+members t n g = filter (isMemberOf t g) (allLabels n)
 
 -- where one comes to from v in j steps, each from a member to its Group
 abbrev pub up : List ℤ → ℕ → ℕ → ℕ

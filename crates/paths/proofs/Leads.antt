@@ -20,7 +20,7 @@ use Rattle.text.proofs.Bytes.{true-false}
 use Rattle.paths.specs.Names.{nameOf, firstLabel, isNamed, member}
 use Rattle.cells.specs.Lists.{orIfZero}
 use Rattle.paths.specs.Paths.{settled, headFrom, descended, namesOf, headOf, targetOf, duplicateBad, pathHeadBad, laterBad, targetBad, laterRows, headRows, pathsBad}
-use Rattle.paths.specs.Leads.{NamedMember, Heads, here, outward, Descends, ended, inward, HeadSettles, Leads, NamesApart, PathsKept}
+use Rattle.paths.specs.Leads.{IsMember, Heads, here, outward, Descends, ended, inward, HeadSettles, Leads, NamesApart, PathsKept}
 use Rattle.paths.proofs.FirstLabel.{Passing, first-found, none-passes}
 use Rattle.paths.proofs.LastBelow.{one-only}
 use Rattle.paths.proofs.Members.{member-named, named-parts, two-named}
@@ -44,22 +44,22 @@ module _ (s : List ℕ) (t : List ℤ) (n : ℕ) where
   -- ---- the member that the search finds, and the members
 
   module _ (g : ℕ) (w : List ℕ) where
-    member-found : 1 ≤ g → (m : ℕ) → member s t n g w ≡ m → (m ≡ 0 → ⊥) → NamedMember s t n g w m
+    member-found : 1 ≤ g → (m : ℕ) → member s t n g w ≡ m → (m ≡ 0 → ⊥) → IsMember s t n g w m
     unfolding member
     member-found h m e z =
         let f : Passing (isNamed s t g w) 1 n m = first-found (isNamed s t g w) n 1 m e z in
         let p = named-parts s t g w m (f .passes) in
         record { group = h; low = f .low; high = omega (arith, f .high); definition = p .definition; owned = p .owned; named = p .named }
 
-    is-named : {m : ℕ} → NamedMember s t n g w m → isNamed s t g w m ≡ true
+    is-named : {m : ℕ} → IsMember s t n g w m → isNamed s t g w m ≡ true
     is-named {m} p = member-named s t g w m (p .definition) (p .owned) ∙ p .named
 
-    member-none : member s t n g w ≡ 0 → (m : ℕ) → NamedMember s t n g w m → ⊥
+    member-none : member s t n g w ≡ 0 → (m : ℕ) → IsMember s t n g w m → ⊥
     unfolding member
     member-none e m p =
         none-passes (isNamed s t g w) n 1 m (omega arith) e (p .low) (omega (arith, p .high)) (is-named p)
 
-    none-member : 1 ≤ g → ((m : ℕ) → NamedMember s t n g w m → ⊥) → member s t n g w ≡ 0
+    none-member : 1 ≤ g → ((m : ℕ) → IsMember s t n g w m → ⊥) → member s t n g w ≡ 0
     none-member h f = go (member s t n g w) refl
       where
         go : (m : ℕ) → member s t n g w ≡ m → m ≡ 0
@@ -68,11 +68,11 @@ module _ (s : List ℕ) (t : List ℤ) (n : ℕ) where
 
     module _ (apart : NamesApart s t n) where
       -- two members of a Group with one name are one
-      pub member-only : {m x : ℕ} → NamedMember s t n g w m → NamedMember s t n g w x → m ≡ x
+      pub member-only : {m x : ℕ} → IsMember s t n g w m → IsMember s t n g w x → m ≡ x
       member-only {m} {x} p q =
           one-only (isNamed s t g w) n (two-named s t n apart g w) m x (p .low) (p .high) (is-named p) (q .low) (q .high) (is-named q)
 
-      member-is : {m : ℕ} → NamedMember s t n g w m → member s t n g w ≡ m
+      member-is : {m : ℕ} → IsMember s t n g w m → member s t n g w ≡ m
       member-is {m} p = member-only (member-found (p .group) (member s t n g w) refl (λ z. member-none z m p)) p
 
   -- ---- row 12

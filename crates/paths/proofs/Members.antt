@@ -10,7 +10,7 @@ use lib.ListN.{length}
 use lib.Seq.{slice, length-slice}
 use borrow.Author.Tests.{eq-eqb, eqb-true}
 use Rattle.cells.specs.Table.{nameStart, nameLength, owner, isDefinition}
-use Rattle.order.specs.Order.{isMember}
+use Rattle.order.specs.Order.{isMemberOf}
 use Rattle.text.proofs.Bytes.{and-left, and-right}
 use Rattle.paths.specs.Names.{nameOf, sameName, isNamed, member}
 use Rattle.paths.specs.Leads.{NamesApart}
@@ -32,11 +32,11 @@ module _ (s : List ℕ) (t : List ℤ) (g : ℕ) (w : List ℕ) (m : ℕ) where
 
   pub named-parts : isNamed s t g w m ≡ true → Named s t g w m
   named-parts e =
-      let b : isMember t g m ≡ true = and-left (isMember t g m) (sameName (nameOf s t m) w) e in
+      let b : isMemberOf t g m ≡ true = and-left (isMemberOf t g m) (sameName (nameOf s t m) w) e in
       record {
         definition = and-left (isDefinition t m) (eqb (owner t m) g) b;
         owned = eqb-true (owner t m) g (and-right (isDefinition t m) (eqb (owner t m) g) b);
-        named = and-right (isMember t g m) (sameName (nameOf s t m) w) e;
+        named = and-right (isMemberOf t g m) (sameName (nameOf s t m) w) e;
       }
 
 -- ---- names apart

@@ -12,7 +12,7 @@ use Rattle.paths.specs.Names.{nameOf, sameName}
 use Rattle.paths.specs.Paths.{namesOf}
 
 -- "The members of a Group are the definitions whose a is its label": m, of the labels 1 to n, is such a member of Group g, and w is its name
-pub record NamedMember (s : List ℕ) (t : List ℤ) (n g : ℕ) (w : List ℕ) (m : ℕ) : Type 0 where
+pub record IsMember (s : List ℕ) (t : List ℤ) (n g : ℕ) (w : List ℕ) (m : ℕ) : Type 0 where
   pub group : 1 ≤ g
   pub low : 1 ≤ m
   pub high : m ≤ n
@@ -23,14 +23,14 @@ pub record NamedMember (s : List ℕ) (t : List ℤ) (n g : ℕ) (w : List ℕ) 
 -- "The head (first name) is looked for among that Group's members, then in the Group around it, outward; the first Group with such a
 -- member settles the head": from Group g outward, the head w is settled as definition m
 pub data Heads (s : List ℕ) (t : List ℤ) (n : ℕ) (w : List ℕ) : ℕ → ℕ → Type 0 where
-  here : {g m : ℕ} → NamedMember s t n g w m → Heads s t n w g m
-  outward : {g m : ℕ} → 1 ≤ g → ((x : ℕ) → NamedMember s t n g w x → ⊥) → Heads s t n w (owner t g) m → Heads s t n w g m
+  here : {g m : ℕ} → IsMember s t n g w m → Heads s t n w g m
+  outward : {g m : ℕ} → 1 ≤ g → ((x : ℕ) → IsMember s t n g w x → ⊥) → Heads s t n w (owner t g) m → Heads s t n w g m
 
 -- "Each later name must be a member of the Group found so far. Nothing goes back outward when a later name fails": from definition m, the
 -- later names end at definition e
 pub data Descends (s : List ℕ) (t : List ℤ) (n : ℕ) : ℕ → List (List ℕ) → ℕ → Type 0 where
   ended : {m : ℕ} → Descends s t n m [] m
-  inward : {m x e : ℕ} {w : List ℕ} {ws : List (List ℕ)} → kind t m ≡ groupCode → NamedMember s t n m w x → Descends s t n x ws e → Descends s t n m (w ∷ ws) e
+  inward : {m x e : ℕ} {w : List ℕ} {ws : List (List ℕ)} → kind t m ≡ groupCode → IsMember s t n m w x → Descends s t n x ws e → Descends s t n m (w ∷ ws) e
 
 -- "The search starts in the Group whose member is the owner": the head of the path of line x is settled as h
 abbrev pub HeadSettles : List ℕ → List ℤ → ℕ → ℕ → ℕ → Type 0

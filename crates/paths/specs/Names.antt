@@ -5,7 +5,7 @@ use Prim.Native.Nat.{ℕ, zero, suc, _+_}
 use lib.IntN.{ℤ}
 use lib.Seq.{slice}
 use Rattle.cells.specs.Table.{nameStart, nameLength}
-use Rattle.order.specs.Order.{isMember}
+use Rattle.order.specs.Order.{isMemberOf}
 use Rattle.text.specs.Bytes.{same}
 
 -- the bytes of label l's name field
@@ -23,7 +23,7 @@ firstLabel test l (suc m) = cond (test l) l (firstLabel test (suc l) m)
 
 -- m is a member of Group g with the name w
 abbrev pub isNamed : List ℕ → List ℤ → ℕ → List ℕ → ℕ → Bool
-isNamed s t g w m = isMember t g m && sameName (nameOf s t m) w
+isNamed s t g w m = isMemberOf t g m && sameName (nameOf s t m) w
 
 -- the member of Group g with the name w; 0 where it has none
 unfoldable pub member : List ℕ → List ℤ → ℕ → ℕ → List ℕ → ℕ

@@ -16,7 +16,7 @@ use Rattle.cells.specs.Table.{kind}
 use Rattle.cells.specs.Accepted.{Accepted}
 use Rattle.order.specs.LabelLists.{_∈_, joined}
 use Rattle.order.specs.Placing.{next, rounds}
-use Rattle.order.specs.Order.{isG, isV, isMember, members, needs, ordered, listed, groupPlan, wholePlan}
+use Rattle.order.specs.Order.{isG, isV, isMemberOf, members, needs, ordered, listed, groupPlan, wholePlan}
 use Rattle.order.proofs.Tests.{so-or-not}
 use Rattle.order.proofs.Lists.{in-here, in-right}
 use Rattle.order.proofs.Tables.{kind-g, kind-v, g-def, def-label, top-group}
@@ -55,7 +55,7 @@ module _ (t : List ℤ) (n : ℕ) (ok : Accepted t n) where
 
   -- a Group has no more members than there are labels
   order-few : (g : ℕ) → length (ordered t n g) ≤ n
-  order-few g = omega (arith, rounds-short (needs t n) (members t n g) (length (members t n g)) [], labels-few (isMember t g) n)
+  order-few g = omega (arith, rounds-short (needs t n) (members t n g) (length (members t n g)) [], labels-few (isMemberOf t g) n)
 
   group-label : (g : ℕ) → isG t g ≡ true → g ≤ n
   group-label g ig = def-label t n ok g (g-def t g ig) .1

@@ -3,7 +3,7 @@ use Prim.Native.Nat.{_-_, _≤_, _<_}
 use native.Mathlib.Omega.{arith}
 use borrow.Author.Needs.{needs}
 use lib.ListN.{length, length-set}
-use Rattle.order.specs.Order.{isMember, members}
+use Rattle.order.specs.Order.{isMemberOf, members}
 use Rattle.order.proofs.Tables.{member-of, def-label}
 use Rattle.groups.proofs.Chains.{labels-few, Walk, walk-start, walk-room, walk-in, walk-step, walk-end}
 use Rattle.groups.proofs.gather_members.Statement.{statement}
@@ -23,7 +23,7 @@ module _ (c : tie.In-loop Inv-loop μ-loop) where
   room =
       let a = c .before .before .before .before .before in
       let h : c .before .loop .m < length (members (a .args .table .now) (a .args .n) (a .args .group)) = walk-room _ _ _ _ _ _ (c .before .loop .inv .1) (c .loop-test .taken) in
-      omega (arith, labels-few (isMember (a .args .table .now) (a .args .group)) (a .args .n), a .pre .1 .0 .2)
+      omega (arith, labels-few (isMemberOf (a .args .table .now) (a .args .group)) (a .args .n), a .pre .1 .0 .2)
 
   label :
       let entry = c .before .before .before .before .before in

@@ -10,6 +10,14 @@ use Rattle.calls.proofs.Lists.{list-checked, list-unread}
 use Rattle.calls.proofs.follow_rows.Statement.{statement}
 use Rattle.calls.proofs.follow_rows.Tie as tie
 
+-- ---- earlier places, by later ones
+
+abbrev entry-of : tie.After-read-sheet → tie.Start
+entry-of c = c .before .before .before
+
+abbrev after-read-sheet : tie.After-enum-told → tie.After-read-sheet
+after-read-sheet c = c .before .before .before
+
 read-sheet-requires : tie.Need-read-sheet-requires
 read-sheet-requires c κs = search needs
 
@@ -24,16 +32,16 @@ slice-reshare-prefix-check-order c = search needs
 
 slice-aggregate-check-order : tie.Need-slice-aggregate-check-order
 slice-aggregate-check-order c =
-    let made = c .before .before .before .before in
-    let entry = made .before .before .before in
+    let made = after-read-sheet (c .before) in
+    let entry = entry-of made in
     sym (length-take-le (8 * entry .args .n) (made .read-sheet .last .1 .1 .0) (omega (arith, entry .pre .1, made .read-sheet .kept .1 .1 .0)))
 
 check-order-requires : tie.Need-check-order-requires
 check-order-requires c κs =
-    let told = c .before in
-    let made = told .before .before .before in
-    let entry = made .before .before .before in
-    sheet-ready _ (length (entry .args .table .now)) _ (entry .pre .0) _ _ (made .read-sheet .ensures) (told .enum-told .given .1)
+    let at-enum-told = c .before in
+    let made = after-read-sheet at-enum-told in
+    let entry = entry-of made in
+    sheet-ready _ (length (entry .args .table .now)) _ (entry .pre .0) _ _ (made .read-sheet .ensures) (at-enum-told .enum-told .given .1)
 
 enum-known-row : tie.Need-enum-known-row
 enum-known-row c = search needs
@@ -43,21 +51,21 @@ same-length c = search needs
 
 returns : tie.Need-returns
 returns c =
-    let told = c .before .before in
-    let made = told .before .before .before in
-    let entry = made .before .before .before in
+    let at-enum-told = c .before .before in
+    let made = after-read-sheet at-enum-told in
+    let entry = entry-of made in
     list-checked _ (entry .args .order .now) (length (entry .args .table .now)) _ (entry .pre .0) _ _ (made .read-sheet .ensures) _
-    (told .enum-told .given .1) (c .check-order .ensures)
+    (at-enum-told .enum-told .given .1) (c .check-order .ensures)
 
 same-length-2 : tie.Need-same-length-2
 same-length-2 c = search needs
 
 returns-2 : tie.Need-returns-2
 returns-2 c =
-    let told = c .before in
-    let made = told .before .before .before in
-    let entry = made .before .before .before in
-    list-unread _ (entry .args .order .now) (length (entry .args .table .now)) _ (entry .pre .0) _ _ (made .read-sheet .ensures) _ _ _ (told .row .given .1)
+    let at-row = c .before in
+    let made = at-row .before .before .before in
+    let entry = entry-of made in
+    list-unread _ (entry .args .order .now) (length (entry .args .table .now)) _ (entry .pre .0) _ _ (made .read-sheet .ensures) _ _ _ (at-row .row .given .1)
 
 pub follow-rows-spec : {M : Type 1} → statement M
 follow-rows-spec =

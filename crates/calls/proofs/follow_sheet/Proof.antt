@@ -10,6 +10,14 @@ use Rattle.calls.proofs.Lists.{list-ready, list-follows, list-refused}
 use Rattle.calls.proofs.follow_sheet.Statement.{statement}
 use Rattle.calls.proofs.follow_sheet.Tie as tie
 
+-- ---- earlier places, by later ones
+
+abbrev entry-of : tie.After-follow-rows → tie.Start
+entry-of c = c .before .before .before
+
+abbrev after-follow-rows : tie.After-enum-told → tie.After-follow-rows
+after-follow-rows c = c .before .before .before
+
 follow-rows-requires : tie.Need-follow-rows-requires
 follow-rows-requires c κs = search needs
 
@@ -24,16 +32,16 @@ slice-reshare-prefix-run-down c = search needs
 
 slice-aggregate-run-down : tie.Need-slice-aggregate-run-down
 slice-aggregate-run-down c =
-    let judged = c .before .before .before .before in
-    let entry = judged .before .before .before in
+    let judged = after-follow-rows (c .before) in
+    let entry = entry-of judged in
     sym (length-take-le (8 * entry .args .n) (judged .follow-rows .last .1 .1 .1 .0) (omega (arith, entry .pre .1, judged .follow-rows .kept .1 .1 .1 .0)))
 
 run-down-requires : tie.Need-run-down-requires
 run-down-requires c κs =
-    let told = c .before .before in
-    let judged = told .before .before .before in
-    let entry = judged .before .before .before in
-    let w = list-ready _ (entry .args .order .now) (length (entry .args .table .now)) _ (entry .pre .0) _ _ (judged .follow-rows .ensures) (told .enum-told .given .1) in
+    let at-enum-told = c .before .before in
+    let judged = after-follow-rows at-enum-told in
+    let entry = entry-of judged in
+    let w = list-ready _ (entry .args .order .now) (length (entry .args .table .now)) _ (entry .pre .0) _ _ (judged .follow-rows .ensures) (at-enum-told .enum-told .given .1) in
     (w .0, omega arith, entry .pre .2, w .1)
 
 enum-known-row : tie.Need-enum-known-row
@@ -51,11 +59,11 @@ same-length-2 c = search needs
 returns : tie.Need-returns
 returns c =
     let done = c .before in
-    let told = done .before .before .before in
-    let judged = told .before .before .before in
-    let entry = judged .before .before .before in
+    let at-enum-told = done .before .before .before in
+    let judged = after-follow-rows at-enum-told in
+    let entry = entry-of judged in
     list-follows _ (entry .args .order .now) (length (entry .args .table .now)) _ (entry .pre .0) _ _ (judged .follow-rows .ensures) _ _
-    (told .enum-told .given .1) (done .run-down .ensures)
+    (at-enum-told .enum-told .given .1) (done .run-down .ensures)
 
 same-length-3 : tie.Need-same-length-3
 same-length-3 c = search needs
@@ -66,12 +74,12 @@ same-length-4 c = search needs
 returns-2 : tie.Need-returns-2
 returns-2 c =
     let cleared = c .before .before in
-    let told = cleared .before .before .before .before in
-    let judged = told .before .before .before in
-    let entry = judged .before .before .before in
+    let at-row = cleared .before .before .before .before in
+    let judged = at-row .before .before .before in
+    let entry = entry-of judged in
     let zeroed = cleared .clear-both .ensures in
     list-refused _ (entry .args .order .now) (length (entry .args .table .now)) _ (entry .pre .0) _ _ (judged .follow-rows .ensures) _ _ _ _ _
-    (told .row .given .1) (zeroed .0 ∙ ap zeros (judged .follow-rows .kept .1 .1 .1 .0)) (zeroed .1)
+    (at-row .row .given .1) (zeroed .0 ∙ ap zeros (judged .follow-rows .kept .1 .1 .1 .0)) (zeroed .1)
 
 pub follow-sheet-spec : {M : Type 1} → statement M
 follow-sheet-spec =

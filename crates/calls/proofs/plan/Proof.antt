@@ -13,10 +13,10 @@ enum-known-n c = search needs
 
 plan-sheet-requires : tie.Need-plan-sheet-requires
 plan-sheet-requires c κs =
-    let told = c .before .before .before in
-    let headed = told .before .before in
+    let at-n = c .before .before .before in
+    let headed = at-n .before .before in
     let entry = headed .before .before in
-    plan-ready (entry .args .text .now) (length (entry .args .table .now)) (length (entry .args .plan .now)) _ (headed .head-plan .ensures) _ (told .n .given .1)
+    plan-ready (entry .args .text .now) (length (entry .args .table .now)) (length (entry .args .plan .now)) _ (headed .head-plan .ensures) _ (at-n .n .given .1)
 
 enum-known-row : tie.Need-enum-known-row
 enum-known-row c = search needs
@@ -33,11 +33,11 @@ same-length-2 c = search needs
 returns : tie.Need-returns
 returns c =
     let done = c .before .before in
-    let told = done .before .before .before .before in
-    let headed = told .before .before in
+    let at-n = done .before .before .before .before in
+    let headed = at-n .before .before in
     let entry = headed .before .before in
     plan-answered (entry .args .text .now) (length (entry .args .table .now)) (length (entry .args .plan .now)) _
-    (headed .head-plan .ensures) _ _ _ _ (told .n .given .1) (done .plan-sheet .ensures)
+    (headed .head-plan .ensures) _ _ _ _ (at-n .n .given .1) (done .plan-sheet .ensures)
 
 same-length-3 : tie.Need-same-length-3
 same-length-3 c = search needs
@@ -48,12 +48,12 @@ same-length-4 c = search needs
 returns-2 : tie.Need-returns-2
 returns-2 c =
     let cleared = c .before .before in
-    let told = cleared .before .before .before .before in
-    let headed = told .before .before in
+    let at-row = cleared .before .before .before .before in
+    let headed = at-row .before .before in
     let entry = headed .before .before in
     let zeroed = cleared .clear-both .ensures in
     plan-refused (entry .args .text .now) (length (entry .args .table .now)) (length (entry .args .plan .now)) _
-    (headed .head-plan .ensures) _ _ _ _ (told .row .given .1) (zeroed .0) (zeroed .1)
+    (headed .head-plan .ensures) _ _ _ _ (at-row .row .given .1) (zeroed .0) (zeroed .1)
 
 pub plan-spec : {M : Type 1} → statement M
 plan-spec =

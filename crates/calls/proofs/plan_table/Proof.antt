@@ -8,6 +8,11 @@ use Rattle.calls.proofs.Answers.{table-plans}
 use Rattle.calls.proofs.plan_table.Statement.{statement}
 use Rattle.calls.proofs.plan_table.Tie as tie
 
+-- ---- earlier places, by later ones
+
+abbrev entry-of : tie.After-plan-of → tie.Start
+entry-of c = c .before .before .before
+
 mul-plan-of : tie.Need-mul-plan-of
 mul-plan-of c = search needs
 
@@ -47,10 +52,10 @@ same-length-2 c = search needs
 returns : tie.Need-returns
 returns c =
     let done = c .before in
-    let told = done .before .before .before in
-    let planned = told .before .before .before in
-    let entry = planned .before .before .before in
-    table-plans _ _ _ _ _ (entry .pre .0) (planned .plan-of .ensures) (made.Whole _) _ _ (told .whole .given .1) refl (done .clear-from .ensures)
+    let at-whole = done .before .before .before in
+    let planned = at-whole .before .before .before in
+    let entry = entry-of planned in
+    table-plans _ _ _ _ _ (entry .pre .0) (planned .plan-of .ensures) (made.Whole _) _ _ (at-whole .whole .given .1) refl (done .clear-from .ensures)
 
 same-length-3 : tie.Need-same-length-3
 same-length-3 c = search needs
@@ -61,10 +66,10 @@ same-length-4 c = search needs
 returns-2 : tie.Need-returns-2
 returns-2 c =
     let done = c .before in
-    let told = done .before .before .before in
-    let planned = told .before .before .before in
-    let entry = planned .before .before .before in
-    table-plans _ _ _ _ _ (entry .pre .0) (planned .plan-of .ensures) (made.Mixed _) _ _ (told .mixed .given .1) refl (done .clear-from2 .ensures)
+    let at-mixed = done .before .before .before in
+    let planned = at-mixed .before .before .before in
+    let entry = entry-of planned in
+    table-plans _ _ _ _ _ (entry .pre .0) (planned .plan-of .ensures) (made.Mixed _) _ _ (at-mixed .mixed .given .1) refl (done .clear-from2 .ensures)
 
 same-length-5 : tie.Need-same-length-5
 same-length-5 c = search needs
@@ -75,11 +80,11 @@ same-length-6 c = search needs
 returns-3 : tie.Need-returns-3
 returns-3 c =
     let cleared = c .before .before in
-    let told = cleared .before .before .before .before in
-    let planned = told .before .before .before in
-    let entry = planned .before .before .before in
+    let at-label = cleared .before .before .before .before in
+    let planned = at-label .before .before .before in
+    let entry = entry-of planned in
     let zeroed = cleared .clear-both .ensures in
-    table-plans _ _ _ _ _ (entry .pre .0) (planned .plan-of .ensures) (made.Cycle _) _ _ (told .label .given .1) (zeroed .0) (zeroed .1)
+    table-plans _ _ _ _ _ (entry .pre .0) (planned .plan-of .ensures) (made.Cycle _) _ _ (at-label .label .given .1) (zeroed .0) (zeroed .1)
 
 pub plan-table-spec : {M : Type 1} → statement M
 plan-table-spec =

@@ -13,11 +13,11 @@ enum-known-n c = search needs
 
 run-sheet-requires : tie.Need-run-sheet-requires
 run-sheet-requires c κs =
-    let told = c .before .before .before .before in
-    let headed = told .before .before in
+    let at-n = c .before .before .before .before in
+    let headed = at-n .before .before in
     let entry = headed .before .before in
     run-ready (entry .args .text .now) (length (entry .args .table .now)) (length (entry .args .plan .now)) (length (entry .args .results .now)) _
-    (headed .head-run .ensures) _ (told .n .given .1)
+    (headed .head-run .ensures) _ (at-n .n .given .1)
 
 enum-known-row : tie.Need-enum-known-row
 enum-known-row c = search needs
@@ -40,11 +40,11 @@ same-length-3 c = search needs
 returns : tie.Need-returns
 returns c =
     let done = c .before .before .before in
-    let told = done .before .before .before .before .before in
-    let headed = told .before .before in
+    let at-n = done .before .before .before .before .before in
+    let headed = at-n .before .before in
     let entry = headed .before .before in
     run-answered (entry .args .text .now) (length (entry .args .table .now)) (length (entry .args .plan .now)) (length (entry .args .results .now)) _
-    (headed .head-run .ensures) _ _ _ _ _ (told .n .given .1) (done .run-sheet .ensures)
+    (headed .head-run .ensures) _ _ _ _ _ (at-n .n .given .1) (done .run-sheet .ensures)
 
 same-length-4 : tie.Need-same-length-4
 same-length-4 c = search needs
@@ -59,12 +59,12 @@ returns-2 : tie.Need-returns-2
 returns-2 c =
     let cleared = c .before in
     let both = cleared .before .before .before .before in
-    let told = both .before .before .before .before in
-    let headed = told .before .before in
+    let at-row = both .before .before .before .before in
+    let headed = at-row .before .before in
     let entry = headed .before .before in
     let zeroed = both .clear-both .ensures in
     run-refused (entry .args .text .now) (length (entry .args .table .now)) (length (entry .args .plan .now)) (length (entry .args .results .now)) _
-    (headed .head-run .ensures) _ _ _ _ _ (told .row .given .1) (zeroed .0) (zeroed .1) (cleared .clear .ensures)
+    (headed .head-run .ensures) _ _ _ _ _ (at-row .row .given .1) (zeroed .0) (zeroed .1) (cleared .clear .ensures)
 
 pub run-spec : {M : Type 1} → statement M
 run-spec =

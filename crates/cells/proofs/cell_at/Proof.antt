@@ -10,8 +10,8 @@ returns c = search needs
 
 returns-2 : tie.Need-returns-2
 returns-2 c =
-    let s = c .before .before in
-    sym (cell-past (s .args .t .now) (s .args .label) (s .args .j) (omega arith))
+    let entry = c .before .before in
+    sym (cell-past (entry .args .t .now) (entry .args .label) (entry .args .j) (omega arith))
 
 sub-nat-at : tie.Need-sub-nat-at
 sub-nat-at c = search needs
@@ -27,8 +27,8 @@ nat-at-requires c κs = search needs
 
 returns-3 : tie.Need-returns-3
 returns-3 c =
-    let s = c .before .before .before in
-    c .nat-at .ensures ∙ sym (cell-at (s .args .t .now) (s .args .label) (s .args .j) (omega arith))
+    let entry = c .before .before .before in
+    c .nat-at .ensures ∙ sym (cell-at (entry .args .t .now) (entry .args .label) (entry .args .j) (omega arith))
 
 pub cell-at-spec : {M : Type 1} → statement M
 cell-at-spec =

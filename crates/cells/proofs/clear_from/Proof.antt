@@ -31,14 +31,14 @@ loop-less c = omega arith
 
 loop-again : tie.Need-loop-again Inv-loop μ-loop
 loop-again c =
-    let l = c .before .loop in
-    (length-set (l .t) (l .i) (pos 0) ∙ l .inv .0, l .inv .1 ∙ clear-step (l .t) (l .i) (c .loop-test .taken))
+    let loop = c .before .loop in
+    (length-set (loop .t) (loop .i) (pos 0) ∙ loop .inv .0, loop .inv .1 ∙ clear-step (loop .t) (loop .i) (c .loop-test .taken))
 
 same-length : tie.Need-same-length Inv-loop μ-loop
 same-length c = c .before .loop .inv .0
 
 returns : tie.Need-returns Inv-loop μ-loop
-returns c = let l = c .before .loop in sym (l .inv .1 ∙ clear-done (l .t) (l .i) (c .loop-test .left))
+returns c = let loop = c .before .loop in sym (loop .inv .1 ∙ clear-done (loop .t) (loop .i) (c .loop-test .left))
 
 pub clear-from-spec : {M : Type 1} → statement M
 clear-from-spec =

@@ -11,20 +11,20 @@ sub-result c = let s = c .before in rw (toZ-ofZ (s .fits .x), +ℤ-idl) (neg-fit
 
 cast-result : tie.Need-cast-result
 cast-result c =
-    let s = c .before in
-    let f = neg-fits (s .args .x) (s .pre) in
-    rw (toZ-ofZ (s .fits .x), +ℤ-idl, toZ-ofZ f)
-    (nonNeg-neg (s .args .x) (test-negative (s .args .x) true (s .fits .x) (c .if1 .taken)), fits-natAbs tt f)
+    let entry = c .before in
+    let f = neg-fits (entry .args .x) (entry .pre) in
+    rw (toZ-ofZ (entry .fits .x), +ℤ-idl, toZ-ofZ f)
+    (nonNeg-neg (entry .args .x) (test-negative (entry .args .x) true (entry .fits .x) (c .if1 .taken)), fits-natAbs tt f)
 
 cast-result-2 : tie.Need-cast-result-2
 cast-result-2 c =
-    let s = c .before in
-    cast-ok (s .args .x) (s .fits .x) (test-negative (s .args .x) false (s .fits .x) (c .if1 .left))
+    let entry = c .before in
+    cast-ok (entry .args .x) (entry .fits .x) (test-negative (entry .args .x) false (entry .fits .x) (c .if1 .left))
 
 returns : tie.Need-returns
 returns c =
-    let s = c .before in
-    rw (toZ-ofZ (s .fits .x), +ℤ-idl, toZ-ofZ (neg-fits (s .args .x) (s .pre))) (natAbs-neg (s .args .x))
+    let entry = c .before in
+    rw (toZ-ofZ (entry .fits .x), +ℤ-idl, toZ-ofZ (neg-fits (entry .args .x) (entry .pre))) (natAbs-neg (entry .args .x))
 
 returns-2 : tie.Need-returns-2
 returns-2 c = search needs

@@ -13,8 +13,8 @@ nat-of-requires c κs = search needs
 
 returns : tie.Need-returns
 returns c =
-    let i = c .before .int-at in
-    c .nat-of .ensures ∙ ap natOf (whole (i .result) (i .ok) ∙ i .ensures)
+    let int-at = c .before .int-at in
+    c .nat-of .ensures ∙ ap natOf (whole (int-at .result) (int-at .ok) ∙ int-at .ensures)
 
 pub nat-at-spec : {M : Type 1} → statement M
 nat-at-spec = tie.close (tie.spec int-at-requires nat-of-requires returns)

@@ -22,8 +22,8 @@ nat-of-requires c κs = search needs
 
 cast-state : tie.Need-cast-state
 cast-state c =
-    let s = c .before .before in
-    record { fits = omega (arith, state-is (s .args .results .now) (s .args .label) (s .pre .0 .low) (c .before .nat-of-arg .given) (c .nat-of .ensures), s .pre .1 .most) }
+    let entry = c .before .before in
+    record { fits = omega (arith, state-is (entry .args .results .now) (entry .args .label) (entry .pre .0 .low) (c .before .nat-of-arg .given) (c .nat-of .ensures), entry .pre .1 .most) }
 
 add-success : tie.Need-add-success
 add-success c = search needs
@@ -41,10 +41,10 @@ returns : tie.Need-returns
 returns c =
     let nat-of-arg = c .before .before .before .before .nat-of-arg in
     let nat-of = c .before .before .before .nat-of in
-    let s = c .before .before .before .before .before in
-    let p = state-is (s .args .results .now) (s .args .label) (s .pre .0 .low) (nat-of-arg .given) (nat-of .ensures) in
-    answer-number (s .args .results .now) (s .args .label) (s .args .left) (sym p ∙ c .before .before .if1 .taken)
-    (number-is (s .args .results .now) (s .args .label) (s .pre .0 .low) (c .before .success-arg .given)) (c .success .ensures)
+    let entry = c .before .before .before .before .before in
+    let p = state-is (entry .args .results .now) (entry .args .label) (entry .pre .0 .low) (nat-of-arg .given) (nat-of .ensures) in
+    answer-number (entry .args .results .now) (entry .args .label) (entry .args .left) (sym p ∙ c .before .before .if1 .taken)
+    (number-is (entry .args .results .now) (entry .args .label) (entry .pre .0 .low) (c .before .success-arg .given)) (c .success .ensures)
 
 failure-requires : tie.Need-failure-requires
 failure-requires c κs = search needs
@@ -52,9 +52,9 @@ failure-requires c κs = search needs
 returns-2 : tie.Need-returns-2
 returns-2 c =
     let nat-of-arg = c .before .before .before .nat-of-arg in
-    let s = c .before .before .before .before in
-    let p = state-is (s .args .results .now) (s .args .label) (s .pre .0 .low) (nat-of-arg .given) (c .before .before .nat-of .ensures) in
-    answer-failed (s .args .results .now) (s .args .label) (s .args .left) (λ e. c .before .if1 .left (p ∙ e)) p (c .failure .ensures)
+    let entry = c .before .before .before .before in
+    let p = state-is (entry .args .results .now) (entry .args .label) (entry .pre .0 .low) (nat-of-arg .given) (c .before .before .nat-of .ensures) in
+    answer-failed (entry .args .results .now) (entry .args .label) (entry .args .left) (λ e. c .before .if1 .left (p ∙ e)) p (c .failure .ensures)
 
 pub answer-at-spec : {M : Type 1} → statement M
 answer-at-spec =

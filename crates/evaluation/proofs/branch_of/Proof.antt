@@ -10,8 +10,8 @@ field-requires c κs = search needs
 
 returns : tie.Need-returns
 returns c =
-    let s = c .before .before in
-    branch-zero (s .args .table .now) (s .args .label) (s .args .test) (equal (s .args .test) 0 (s .fits .test .sfits) (omega arith) (c .before .if1 .taken)) (c .field .ensures)
+    let entry = c .before .before in
+    branch-zero (entry .args .table .now) (entry .args .label) (entry .args .test) (equal (entry .args .test) 0 (entry .fits .test .sfits) (omega arith) (c .before .if1 .taken)) (c .field .ensures)
 
 field-requires-2 : tie.Need-field-requires-2
 field-requires-2 c κs = search needs

@@ -19,8 +19,8 @@ same-length c = search needs
 returns : tie.Need-returns
 returns c =
     let evaluate = c .before .before .before .evaluate in
-    let s = c .before .before .before .before .before in
-    c .before .put-value .ensures ∙ ap (λ v. store (s .args .results .now) (s .args .label) v) (evaluate .ensures)
+    let entry = c .before .before .before .before .before in
+    c .before .put-value .ensures ∙ ap (λ v. store (entry .args .results .now) (entry .args .label) v) (evaluate .ensures)
 
 pub evaluate-into-spec : {M : Type 1} → statement M
 evaluate-into-spec = tie.close (tie.spec evaluate-requires put-value-requires same-length returns)

@@ -51,10 +51,10 @@ same-length c = search needs
 
 returns : tie.Need-returns
 returns c =
-    let s = c .before .before .before in
-    stores (s .args .results .now) _ (toZ-pos w64 {n = s .args .v .state} (omega arith)) (whole (s .args .v .number) (c .before .struct-told .given .0 .1))
-    (toZ-pos w64 {n = s .args .v .steps} (omega arith))
-    ∙ sym (store-at (s .args .results .now) (s .args .label) (s .args .v) (s .pre .low))
+    let entry = c .before .before .before in
+    stores (entry .args .results .now) _ (toZ-pos w64 {n = entry .args .v .state} (omega arith)) (whole (entry .args .v .number) (c .before .struct-told .given .0 .1))
+    (toZ-pos w64 {n = entry .args .v .steps} (omega arith))
+    ∙ sym (store-at (entry .args .results .now) (entry .args .label) (entry .args .v) (entry .pre .low))
 
 pub put-value-spec : {M : Type 1} → statement M
 put-value-spec =

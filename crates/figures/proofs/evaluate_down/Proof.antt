@@ -11,6 +11,11 @@ Inv-loop table order count results₀ i₀ results i = Going table order count r
 abbrev μ-loop : tie.MeasureT-loop
 μ-loop table order count results₀ i₀ results i = count - i
 
+-- ---- earlier places, by later ones
+
+abbrev turn-of : tie.After-results Inv-loop μ-loop → tie.In-loop Inv-loop μ-loop
+turn-of c = c .before .before .before .before
+
 loop-holds : tie.Need-loop-holds Inv-loop μ-loop
 loop-holds c = start _ _ _ _ (c .pre)
 
@@ -19,11 +24,11 @@ nat-at-requires c κs = search needs
 
 evaluate-into-requires : tie.Need-evaluate-into-requires Inv-loop μ-loop
 evaluate-into-requires c κs =
-    let g = c .before .before .before .loop .inv in
+    let inv = c .before .before .before .loop .inv in
     record {
-      ready = g .ready;
-      value = names-value _ _ _ _ g (c .before .nat-at .ensures) (omega (arith, c .before .before .loop-test .taken));
-      reached = reached-before _ _ _ _ g (c .before .nat-at .ensures) (omega (arith, c .before .before .loop-test .taken)) (omega arith);
+      ready = inv .ready;
+      value = names-value _ _ _ _ inv (c .before .nat-at .ensures) (omega (arith, c .before .before .loop-test .taken));
+      reached = reached-before _ _ _ _ inv (c .before .nat-at .ensures) (omega (arith, c .before .before .loop-test .taken)) (omega arith);
     }
 
 add-i : tie.Need-add-i Inv-loop μ-loop
@@ -31,13 +36,13 @@ add-i c = search needs
 
 loop-less : tie.Need-loop-less Inv-loop μ-loop
 loop-less c =
-    let loop-test = c .before .before .before .before .loop-test in
+    let loop-test = turn-of c .loop-test in
     omega (arith, loop-test .taken)
 
 loop-again : tie.Need-loop-again Inv-loop μ-loop
 loop-again c =
-    let inv = c .before .before .before .before .before .loop .inv in
-    let loop-test = c .before .before .before .before .loop-test in
+    let inv = turn-of c .before .loop .inv in
+    let loop-test = turn-of c .loop-test in
     let nat-at = c .before .before .before .nat-at in
     turn _ _ _ _ (inv) (loop-test .taken) (nat-at .ensures) (c .before .evaluate-into .ensures)
 

@@ -8,8 +8,8 @@ clear-requires c κs = search needs
 
 evaluate-down-requires : tie.Need-evaluate-down-requires
 evaluate-down-requires c κs =
-    let p = c .before .before .before .before .pre in
-    listed _ _ _ _ _ (p .0) (p .1) (p .2) (p .3) (c .before .before .clear .ensures)
+    let pre = c .before .before .before .before .pre in
+    listed _ _ _ _ _ (pre .0) (pre .1) (pre .2) (pre .3) (c .before .before .clear .ensures)
 
 same-length : tie.Need-same-length
 same-length c = search needs
@@ -17,8 +17,8 @@ same-length c = search needs
 returns : tie.Need-returns
 returns c =
     let clear = c .before .before .before .before .clear in
-    let p = c .before .before .before .before .before .before .pre in
-    settles _ _ _ _ _ (p .0) (p .1) (p .2) (p .3) (clear .ensures) (c .before .evaluate-down .ensures)
+    let pre = c .before .before .before .before .before .before .pre in
+    settles _ _ _ _ _ (pre .0) (pre .1) (pre .2) (pre .3) (clear .ensures) (c .before .evaluate-down .ensures)
 
 pub run-down-spec : {M : Type 1} → statement M
 run-down-spec = tie.close (tie.spec clear-requires evaluate-down-requires same-length returns)

@@ -8,7 +8,7 @@ use Rattle.following.proofs.check_in.Statement.{statement}
 use Rattle.following.proofs.check_in.Tie as tie
 
 find-cycle-requires : tie.Need-find-cycle-requires
-find-cycle-requires c κs = let p = c .before .before .pre in (p .0, (search (inl, inr), p .1))
+find-cycle-requires c κs = let pre = c .before .before .pre in (pre .0, (search (inl, inr), pre .1))
 
 found-at-requires : tie.Need-found-at-requires
 found-at-requires c κs = search needs
@@ -26,10 +26,10 @@ slice-aggregate-check-list c = search needs
 
 check-list-requires : tie.Need-check-list-requires
 check-list-requires c κs =
-    let p = c .before .before .before .before .before .before .before .before .pre in
-    let k = c .before .before .before .before .before .find-cycle in
+    let pre = c .before .before .before .before .before .before .before .before .pre in
+    let find-cycle = c .before .before .before .before .before .find-cycle in
     let w = length-replicate {0} {A = ℕ} 17 0 in
-    (p .0, ((omega (arith, p .1 .0, k .kept .1 .1 .1 .0), k .ensures .1), omega (arith, w, p .0 .few)))
+    (pre .0, ((omega (arith, pre .1 .0, find-cycle .kept .1 .1 .1 .0), find-cycle .ensures .1), omega (arith, w, pre .0 .few)))
 
 same-length-2 : tie.Need-same-length-2
 same-length-2 c = search needs

@@ -21,9 +21,9 @@ returns c =
 
 early-place-requires : tie.Need-early-place-requires
 early-place-requires c κs =
-    let p = c .before .before .before .before .before .before .before .before .pre in
-    let k = c .before .before .before .before .listed-place in
-    (p .0, (p .1 .0, (omega (arith, p .1 .1, k .kept .1 .1 .1 .0), sym (k .ensures) ∙ c .before .if1 .left)))
+    let pre = c .before .before .before .before .before .before .before .before .pre in
+    let listed-place = c .before .before .before .before .listed-place in
+    (pre .0, (pre .1 .0, (omega (arith, pre .1 .1, listed-place .kept .1 .1 .1 .0), sym (listed-place .ensures) ∙ c .before .if1 .left)))
 
 found-at-requires-2 : tie.Need-found-at-requires-2
 found-at-requires-2 c κs = search needs

@@ -25,8 +25,8 @@ returns : tie.Need-returns
 returns c =
     let entry = c .before .before .before .before .before .before .before .before .before .before in
     let p = entry .pre in
-    let v = c .before .before .before .before .before .before .mark-values in
-    c .before .before .first-early .ensures ∙ place-early _ _ (p .0) _ (v .ensures) (entry .args .order .now) (p .1 .1 .1) _ (p .1 .0 .1)
+    let mark-values = c .before .before .before .before .before .before .mark-values in
+    c .before .before .first-early .ensures ∙ place-early _ _ (p .0) _ (mark-values .ensures) (entry .args .order .now) (p .1 .1 .1) _ (p .1 .0 .1)
 
 pub early-place-spec : {M : Type 1} → statement M
 early-place-spec =

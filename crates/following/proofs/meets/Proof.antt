@@ -17,6 +17,14 @@ Inv-loop square left w v a j₀ j = (j ≤ w) × ((q : ℕ) → q < 64 * j → m
 abbrev μ-loop : tie.MeasureT-loop
 μ-loop square left w v a j₀ j = w - j
 
+-- ---- earlier places, by later ones
+
+abbrev turn-of : tie.Then1 Inv-loop μ-loop → tie.In-loop Inv-loop μ-loop
+turn-of c = c .before .before .before
+
+abbrev turn-from-else1 : tie.Else1 Inv-loop μ-loop → tie.In-loop Inv-loop μ-loop
+turn-from-else1 c = c .before .before .before
+
 mul-a : tie.Need-mul-a Inv-loop μ-loop
 mul-a c = search needs
 
@@ -40,12 +48,12 @@ shared-slice-read-if1-2 c = search needs
 
 returns : tie.Need-returns Inv-loop μ-loop
 returns c =
-    let loop-test = c .before .before .before .loop-test in
-    let l = c .before .before .before .before in
-    let a = c .before .before .before .before .before .args in
-    let x = getD (a .square .now) (a .v * a .w + l .loop .j) 0 in
-    let y = getD (a .left .now) (l .loop .j) 0 in
-    (λ _. meets-here _ _ _ _ _ (loop-test .taken) (bitAnd x y) refl (omega (arith, c .if1 .taken)) (omega (arith, and-le-r x y, c .before .shared-slice-known2 .given (l .loop .j))), λ _. refl)
+    let loop-test = turn-of c .loop-test in
+    let loop = turn-of c .before in
+    let args = turn-of c .before .before .args in
+    let x = getD (args .square .now) (args .v * args .w + loop .loop .j) 0 in
+    let y = getD (args .left .now) (loop .loop .j) 0 in
+    (λ _. meets-here _ _ _ _ _ (loop-test .taken) (bitAnd x y) refl (omega (arith, c .if1 .taken)) (omega (arith, and-le-r x y, c .before .shared-slice-known2 .given (loop .loop .j))), λ _. refl)
 
 add-j : tie.Need-add-j Inv-loop μ-loop
 add-j c = search needs
@@ -55,8 +63,8 @@ loop-less c = search needs
 
 loop-again : tie.Need-loop-again Inv-loop μ-loop
 loop-again c =
-    let inv = c .before .before .before .before .loop .inv in
-    let loop-test = c .before .before .before .loop-test in
+    let inv = turn-from-else1 c .before .loop .inv in
+    let loop-test = turn-from-else1 c .loop-test in
     (omega arith, apart-turn _ _ _ _ _ (loop-test .taken) (inv .1) (c .if1 .left))
 
 returns-2 : tie.Need-returns-2 Inv-loop μ-loop

@@ -15,40 +15,48 @@ Inv-loop table n next group items₀ m₀ p₀ items m p = (length items ≡ len
 abbrev μ-loop : tie.MeasureT-loop
 μ-loop table n next group items₀ m₀ p₀ items m p = length items₀ - m
 
+-- ---- earlier places, by later ones
+
+abbrev entry-of : tie.After-shared-slice-known2 Inv-loop μ-loop → tie.Start Inv-loop μ-loop
+entry-of c = c .before .before .before
+
+abbrev loop-of : tie.After-shared-slice-known3 Inv-loop μ-loop → tie.At-loop Inv-loop μ-loop
+loop-of c = c .before .before .before
+
 -- in a turn: there is room for the member at hand, which is a label
 module _ (c : tie.In-loop Inv-loop μ-loop) where
   room :
-      let entry = c .before .before .before .before .before in
+      let entry = entry-of (c .before .before) in
       c .before .loop .m < length (entry .args .items .now)
   room =
-      let a = c .before .before .before .before .before in
-      let h : c .before .loop .m < length (members (a .args .table .now) (a .args .n) (a .args .group)) = walk-room _ _ _ _ _ _ (c .before .loop .inv .1) (c .loop-test .taken) in
-      omega (arith, labels-few (isMemberOf (a .args .table .now) (a .args .group)) (a .args .n), a .pre .1 .0 .2)
+      let entry = entry-of (c .before .before) in
+      let h : c .before .loop .m < length (members (entry .args .table .now) (entry .args .n) (entry .args .group)) = walk-room _ _ _ _ _ _ (c .before .loop .inv .1) (c .loop-test .taken) in
+      omega (arith, labels-few (isMemberOf (entry .args .table .now) (entry .args .group)) (entry .args .n), entry .pre .1 .0 .2)
 
   label :
-      let entry = c .before .before .before .before .before in
+      let entry = entry-of (c .before .before) in
       (1 ≤ c .before .loop .p) × (c .before .loop .p ≤ entry .args .n)
   label =
-      let a = c .before .before .before .before .before in
+      let entry = entry-of (c .before .before) in
       let m = walk-in _ _ _ _ _ _ (c .before .loop .inv .1) (c .loop-test .taken) in
-      def-label _ _ (a .pre .0) (c .before .loop .p) (member-of _ _ (a .pre .0) (a .args .group) (c .before .loop .p) m .0)
+      def-label _ _ (entry .pre .0) (c .before .loop .p) (member-of _ _ (entry .pre .0) (entry .args .group) (c .before .loop .p) m .0)
 
 mul-p : tie.Need-mul-p Inv-loop μ-loop
 mul-p c = search needs
 
 shared-slice-read-p : tie.Need-shared-slice-read-p Inv-loop μ-loop
 shared-slice-read-p c =
-    let entry = c .before .before .before in
+    let entry = entry-of c in
     omega (arith, entry .pre .1 .0)
 
 loop-holds : tie.Need-loop-holds Inv-loop μ-loop
 loop-holds c =
-    let a = c .before .before .before in
-    (refl, walk-start _ _ _ _ _ (a .pre .1 .1))
+    let entry = entry-of c in
+    (refl, walk-start _ _ _ _ _ (entry .pre .1 .1))
 
 mul-items : tie.Need-mul-items Inv-loop μ-loop
 mul-items c =
-    let good = c .before .before .before .before .before .good in
+    let good = entry-of (c .before .before) .good in
     omega (arith, room c, good)
 
 slice-write-items : tie.Need-slice-write-items Inv-loop μ-loop
@@ -56,7 +64,7 @@ slice-write-items c = omega (arith, room c, c .before .loop .inv .0)
 
 add-m : tie.Need-add-m Inv-loop μ-loop
 add-m c =
-    let good = c .before .before .before .before .before .good in
+    let good = entry-of (c .before .before) .good in
     omega (arith, room c, good)
 
 widen-requires : tie.Need-widen-requires Inv-loop μ-loop
@@ -64,17 +72,17 @@ widen-requires c κs = search needs
 
 add-p : tie.Need-add-p Inv-loop μ-loop
 add-p c =
-    let entry = c .before .before .before .before .before .before in
+    let entry = entry-of (c .before .before .before) in
     omega (arith, label (c .before), c .widen .ensures, entry .pre .0 .few)
 
 mul-p-2 : tie.Need-mul-p-2 Inv-loop μ-loop
 mul-p-2 c =
-    let entry = c .before .before .before .before .before .before in
+    let entry = entry-of (c .before .before .before) in
     omega (arith, label (c .before), c .widen .ensures, entry .pre .0 .few)
 
 shared-slice-read-p-2 : tie.Need-shared-slice-read-p-2 Inv-loop μ-loop
 shared-slice-read-p-2 c =
-    let entry = c .before .before .before .before .before .before .before in
+    let entry = entry-of (loop-of c .before) in
     omega (arith, label (c .before .before), c .before .widen .ensures, entry .pre .1 .0 .1)
 
 loop-less : tie.Need-loop-less Inv-loop μ-loop
@@ -82,11 +90,11 @@ loop-less c = omega (arith, room (c .before .before))
 
 loop-again : tie.Need-loop-again Inv-loop μ-loop
 loop-again c =
-    let l = c .before .before .before in
+    let loop = loop-of c in
     rw (c .before .widen .ensures) (
-      length-set (l .loop .items) _ _
-          ∙ l .loop .inv .0,
-      walk-step _ _ _ _ _ _ (l .loop .inv .1) (c .before .before .loop-test .taken) (omega (arith, room (c .before .before), l .loop .inv .0)),
+      length-set (loop .loop .items) _ _
+          ∙ loop .loop .inv .0,
+      walk-step _ _ _ _ _ _ (loop .loop .inv .1) (c .before .before .loop-test .taken) (omega (arith, room (c .before .before), loop .loop .inv .0)),
     )
 
 same-length : tie.Need-same-length Inv-loop μ-loop

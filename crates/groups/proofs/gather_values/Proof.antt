@@ -23,17 +23,25 @@ Inv-loop table n items₀ m₀ l₀ items m l =
 abbrev μ-loop : tie.MeasureT-loop
 μ-loop table n items₀ m₀ l₀ items m l = n + 1 - l
 
+-- ---- earlier places, by later ones
+
+abbrev entry-of : tie.After-kind-of Inv-loop μ-loop → tie.Start Inv-loop μ-loop
+entry-of c = c .before .before .before .before
+
+abbrev loop-of : tie.After-kind-of Inv-loop μ-loop → tie.At-loop Inv-loop μ-loop
+loop-of c = c .before .before
+
 room : (l : tie.At-loop Inv-loop μ-loop) → l .loop .m ≤ l .before .before .args .n
 room l =
-    let a = l .before .before in
-    let t = a .args .table .now in
+    let entry = l .before .before in
+    let t = entry .args .table .now in
     omega (
       arith,
       ap length (l .loop .inv .4),
-      length-append (take (l .loop .m) (l .loop .items)) (filter (isV t) (upFrom (l .loop .l) (a .args .n + 1 - l .loop .l))),
+      length-append (take (l .loop .m) (l .loop .items)) (filter (isV t) (upFrom (l .loop .l) (entry .args .n + 1 - l .loop .l))),
       length-take-le (l .loop .m)
           (l .loop .items) (l .loop .inv .3),
-      labels-few (isV t) (a .args .n),
+      labels-few (isV t) (entry .args .n),
     )
 
 loop-holds : tie.Need-loop-holds Inv-loop μ-loop
@@ -47,22 +55,22 @@ cast-items c = search needs
 
 mul-items : tie.Need-mul-items Inv-loop μ-loop
 mul-items c =
-    let entry = c .before .before .before .before .before in
-    let point = c .before .before .before in
-    omega (arith, room point, entry .pre .0 .few)
+    let entry = entry-of (c .before) in
+    let loop = loop-of (c .before) in
+    omega (arith, room loop, entry .pre .0 .few)
 
 slice-write-items : tie.Need-slice-write-items Inv-loop μ-loop
 slice-write-items c =
-    let entry = c .before .before .before .before .before in
-    let point = c .before .before .before in
-    let inv = c .before .before .before .loop .inv in
-    omega (arith, room point, entry .pre .1, inv .0)
+    let entry = entry-of (c .before) in
+    let loop = loop-of (c .before) in
+    let inv = loop-of (c .before) .loop .inv in
+    omega (arith, room loop, entry .pre .1, inv .0)
 
 add-m : tie.Need-add-m Inv-loop μ-loop
 add-m c =
-    let entry = c .before .before .before .before .before in
-    let point = c .before .before .before in
-    omega (arith, room point, entry .pre .0 .few)
+    let entry = entry-of (c .before) in
+    let loop = loop-of (c .before) in
+    omega (arith, room loop, entry .pre .0 .few)
 
 add-l : tie.Need-add-l Inv-loop μ-loop
 add-l c = search needs
@@ -72,25 +80,25 @@ loop-less c = search needs
 
 loop-again : tie.Need-loop-again Inv-loop μ-loop
 loop-again c =
-    let l = c .before .before .before in
-    let a = c .before .before .before .before .before in
-    let t = a .args .table .now in
-    let e = c .before .kind-of .ensures in
+    let loop = loop-of (c .before) in
+    let entry = entry-of (c .before) in
+    let t = entry .args .table .now in
+    let kind-of-ensures = c .before .kind-of .ensures in
     ⊎-elim (λ w. rw (w .1, w .2) (
-      length-set (l .loop .items) _ _ ∙ l .loop .inv .0,
+      length-set (loop .loop .items) _ _ ∙ loop .loop .inv .0,
       omega arith,
       omega arith,
-      simp length-set (omega (arith, room l, a .pre .1, l .loop .inv .0)),
-      take-label (isV t) (a .args .n) (l .loop .items) (l .loop .l) (l .loop .m) (c .before .before .loop-test .taken) (l .loop .inv .4)
-          (eq-eqb (kind t (l .loop .l)) valueCode (sym e ∙ w .0 .taken)) (omega (arith, room l, a .pre .1, l .loop .inv .0)),
+      simp length-set (omega (arith, room loop, entry .pre .1, loop .loop .inv .0)),
+      take-label (isV t) (entry .args .n) (loop .loop .items) (loop .loop .l) (loop .loop .m) (c .before .before .loop-test .taken) (loop .loop .inv .4)
+          (eq-eqb (kind t (loop .loop .l)) valueCode (sym kind-of-ensures ∙ w .0 .taken)) (omega (arith, room loop, entry .pre .1, loop .loop .inv .0)),
     ))
     (λ w. rw (w .1, w .2) (
-      l .loop .inv .0,
+      loop .loop .inv .0,
       omega arith,
       omega arith,
-      l .loop .inv .3,
-      skip-label (isV t) (a .args .n) (l .loop .items) (l .loop .l) (l .loop .m) (c .before .before .loop-test .taken) (l .loop .inv .4)
-          (ne-eqb (kind t (l .loop .l)) valueCode (λ z. w .0 .left (e ∙ z))),
+      loop .loop .inv .3,
+      skip-label (isV t) (entry .args .n) (loop .loop .items) (loop .loop .l) (loop .loop .m) (c .before .before .loop-test .taken) (loop .loop .inv .4)
+          (ne-eqb (kind t (loop .loop .l)) valueCode (λ z. w .0 .left (kind-of-ensures ∙ z))),
     ))
     (c .if1 .came)
 
@@ -100,8 +108,8 @@ same-length c = c .before .loop .inv .0
 returns : tie.Need-returns Inv-loop μ-loop
 returns c =
     let entry = c .before .before .before in
-    let l = c .before in
-    no-more (isV (entry .args .table .now)) (entry .args .n) (l .loop .items) (l .loop .l) (l .loop .m) (omega (arith, c .loop-test .left)) (l .loop .inv .3) (l .loop .inv .4)
+    let loop = c .before in
+    no-more (isV (entry .args .table .now)) (entry .args .n) (loop .loop .items) (loop .loop .l) (loop .loop .m) (omega (arith, c .loop-test .left)) (loop .loop .inv .3) (loop .loop .inv .4)
 
 pub gather-values-spec : {M : Type 1} → statement M
 gather-values-spec =

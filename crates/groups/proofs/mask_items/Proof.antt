@@ -22,20 +22,34 @@ Inv-loop table n items mask₀ w i₀ mask i = (length mask ≡ length mask₀) 
 abbrev μ-loop : tie.MeasureT-loop
 μ-loop table n items mask₀ w i₀ mask i = length items - i
 
+-- ---- earlier places, by later ones
+
+abbrev entry-of : tie.At-loop Inv-loop μ-loop → tie.Start Inv-loop μ-loop
+entry-of c = c .before .before .before .before .before .before .before
+
+abbrev after-clear-marks : tie.At-loop Inv-loop μ-loop → tie.After-clear-marks Inv-loop μ-loop
+after-clear-marks c = c .before .before .before
+
+abbrev loop-of : tie.After-widen Inv-loop μ-loop → tie.At-loop Inv-loop μ-loop
+loop-of c = c .before .before .before
+
+abbrev turn-of : tie.After-gives-values Inv-loop μ-loop → tie.In-loop Inv-loop μ-loop
+turn-of c = c .before .before .before
+
 module _ (c : tie.After-widen Inv-loop μ-loop) where
   here :
-      let entry = c .before .before .before .before .before .before .before .before .before .before in
+      let entry = entry-of (loop-of c) in
       c .widen .result ∈ entry .args .items .now
   here =
-      let entry = c .before .before .before .before .before .before .before .before .before .before in
-      let loop = c .before .before .before .loop in
+      let entry = entry-of (loop-of c) in
+      let loop = loop-of c .loop in
       subst (λ (x : ℕ). x ∈ entry .args .items .now) (sym (c .widen .ensures)) (in-at (entry .args .items .now) (loop .i) (c .before .before .loop-test .taken))
 
   label :
-      let entry = c .before .before .before .before .before .before .before .before .before .before in
+      let entry = entry-of (loop-of c) in
       (1 ≤ c .widen .result) × (c .widen .result ≤ entry .args .n)
   label =
-      let entry = c .before .before .before .before .before .before .before .before .before .before in
+      let entry = entry-of (loop-of c) in
       item-label _ _ (entry .pre .0) _ (entry .pre .1 .0) (c .widen .result) here
 
 add-w : tie.Need-add-w Inv-loop μ-loop
@@ -61,16 +75,16 @@ widen-requires c κs = search needs
 
 gives-values-requires : tie.Need-gives-values-requires Inv-loop μ-loop
 gives-values-requires c κs =
-    let entry = c .before .before .before .before .before .before .before .before .before .before in
+    let entry = entry-of (loop-of c) in
     (entry .pre .0, label c)
 
 put-mark-requires : tie.Need-put-mark-requires Inv-loop μ-loop
 put-mark-requires c κs =
-    let entry = c .before .before .before .before .before .before .before .before .before .before .before .before .before in
-    let clear-marks = c .before .before .before .before .before .before .before .before .before .clear-marks in
-    let inv = c .before .before .before .before .before .before .loop .inv in
-    let point = c .before .before .before in
-    (omega (arith, label point), omega (arith, entry .pre .1 .1, inv .0, clear-marks .kept .0))
+    let entry = entry-of (turn-of (c .before .before) .before) in
+    let clear-marks = after-clear-marks (turn-of (c .before .before) .before) .clear-marks in
+    let inv = turn-of (c .before .before) .before .loop .inv in
+    let at-widen = c .before .before .before in
+    (omega (arith, label at-widen), omega (arith, entry .pre .1 .1, inv .0, clear-marks .kept .0))
 
 add-i : tie.Need-add-i Inv-loop μ-loop
 add-i c = search needs
@@ -80,37 +94,37 @@ loop-less c = search needs
 
 loop-again : tie.Need-loop-again Inv-loop μ-loop
 loop-again c =
-    let l = c .before .before .before .before .before in
-    let a = c .before .before .before .before .before .before .before .before .before .before .before .before in
-    let q = c .before .before in
-    let t = a .args .table .now in
-    let h = c .before .before .before .before .loop-test .taken in
-    let b = label q in
+    let loop = turn-of (c .before) .before in
+    let entry = entry-of (turn-of (c .before) .before) in
+    let at-widen = c .before .before in
+    let t = entry .args .table .now in
+    let taken = turn-of (c .before) .loop-test .taken in
+    let b = label at-widen in
     ⊎-elim (λ w. rw (w .5) (
-      w .2 .kept .0 ∙ l .loop .inv .0,
+      w .2 .kept .0 ∙ loop .loop .inv .0,
       omega arith,
-      mask-put t (a .args .n) (a .args .items .now) (l .loop .mask) (l .loop .i) _ (q .widen .ensures) h (l .loop .inv .2) (omega (arith, b))
+      mask-put t (entry .args .n) (entry .args .items .now) (loop .loop .mask) (loop .loop .i) _ (at-widen .widen .ensures) taken (loop .loop .inv .2) (omega (arith, b))
           (sym (c .before .gives-values .ensures) ∙ w .0 .taken) _ (w .2 .ensures),
     ))
     (λ w. rw (w .1) (
-      l .loop .inv .0,
+      loop .loop .inv .0,
       omega arith,
-      mask-skip t (a .args .n) (a .args .items .now) (l .loop .mask) (l .loop .i) _ (q .widen .ensures) h (l .loop .inv .2)
+      mask-skip t (entry .args .n) (entry .args .items .now) (loop .loop .mask) (loop .loop .i) _ (at-widen .widen .ensures) taken (loop .loop .inv .2)
           (sym (c .before .gives-values .ensures) ∙ w .0 .left),
     ))
     (c .if1 .came)
 
 same-length : tie.Need-same-length Inv-loop μ-loop
 same-length c =
-    let clear-marks = c .before .before .before .before .clear-marks in
+    let clear-marks = after-clear-marks (c .before) .clear-marks in
     c .before .loop .inv .0 ∙ clear-marks .kept .0
 
 returns : tie.Need-returns Inv-loop μ-loop
 returns c =
-    let l = c .before in
-    let a = c .before .before .before .before .before .before .before .before in
-    let e = take-all (l .loop .i) (a .args .items .now) (omega (arith, c .loop-test .left)) in
-    λ p. subst (λ (k : List ℕ). (mark (l .loop .mask) (a .args .n / 64 + 1) 0 p ≡ true) ↔ ((p ∈ k) × Holder (a .args .table .now) p)) e (l .loop .inv .2 p)
+    let loop = c .before in
+    let entry = entry-of (c .before) in
+    let e = take-all (loop .loop .i) (entry .args .items .now) (omega (arith, c .loop-test .left)) in
+    λ p. subst (λ (k : List ℕ). (mark (loop .loop .mask) (entry .args .n / 64 + 1) 0 p ≡ true) ↔ ((p ∈ k) × Holder (entry .args .table .now) p)) e (loop .loop .inv .2 p)
 
 pub mask-items-spec : {M : Type 1} → statement M
 mask-items-spec =

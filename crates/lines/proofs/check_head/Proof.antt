@@ -8,6 +8,20 @@ use Rattle.lines.proofs.Heads.{none-counted, some-counted, counted-is, 
 use Rattle.lines.proofs.check_head.Statement.{statement}
 use Rattle.lines.proofs.check_head.Tie as tie
 
+-- ---- earlier places, by later ones
+
+abbrev after-text-lines : tie.Else2 → tie.After-text-lines
+after-text-lines c = c .before .before .before
+
+abbrev after-text-lines-from-then3 : tie.Then3 → tie.After-text-lines
+after-text-lines-from-then3 c = c .before .before .before .before
+
+abbrev after-text-lines-from-then4 : tie.Then4 → tie.After-text-lines
+after-text-lines-from-then4 c = c .before .before .before .before .before
+
+abbrev after-text-lines-from-else4 : tie.Else4 → tie.After-text-lines
+after-text-lines-from-else4 c = c .before .before .before .before .before
+
 text-lines-requires : tie.Need-text-lines-requires
 text-lines-requires c κs = search needs
 
@@ -23,8 +37,8 @@ first-line-right-requires c κs =
 
 returns-2 : tie.Need-returns-2
 returns-2 c =
-    let entry = c .before .before .before .before .before .before in
-    let text-lines = c .before .before .before .before .text-lines in
+    let entry = after-text-lines-from-then3 c .before .before in
+    let text-lines = after-text-lines-from-then3 c .text-lines in
     let if1 = c .before .before .before .if1 in
     head-none (entry .args .text .now) (some-counted (entry .args .text .now) (λ z. if1 .left (text-lines .ensures ∙ z)))
     (sym (c .before .before .first-line-right .ensures) ∙ c .before .if2 .taken)
@@ -32,8 +46,8 @@ returns-2 c =
 
 returns-3 : tie.Need-returns-3
 returns-3 c =
-    let entry = c .before .before .before .before .before .before .before in
-    let text-lines = c .before .before .before .before .before .text-lines in
+    let entry = after-text-lines-from-then4 c .before .before in
+    let text-lines = after-text-lines-from-then4 c .text-lines in
     let if1 = c .before .before .before .before .if1 in
     let first-line-right = c .before .before .before .first-line-right in
     head-many (entry .args .text .now) (some-counted (entry .args .text .now) (λ z. if1 .left (text-lines .ensures ∙ z))) (sym (first-line-right .ensures) ∙ c .before .before .if2 .taken)
@@ -44,8 +58,8 @@ sub-t6 c = search needs
 
 returns-4 : tie.Need-returns-4
 returns-4 c =
-    let entry = c .before .before .before .before .before .before .before in
-    let text-lines = c .before .before .before .before .before .text-lines in
+    let entry = after-text-lines-from-else4 c .before .before in
+    let text-lines = after-text-lines-from-else4 c .text-lines in
     let if1 = c .before .before .before .before .if1 in
     let first-line-right = c .before .before .before .first-line-right in
     let q = text-lines .ensures ∙ counted-is (entry .args .text .now) (some-counted (entry .args .text .now) (λ z. if1 .left (text-lines .ensures ∙ z))) in
@@ -54,8 +68,8 @@ returns-4 c =
 
 returns-5 : tie.Need-returns-5
 returns-5 c =
-    let entry = c .before .before .before .before .before in
-    let text-lines = c .before .before .before .text-lines in
+    let entry = after-text-lines c .before .before in
+    let text-lines = after-text-lines c .text-lines in
     head-first (entry .args .text .now) (some-counted (entry .args .text .now) (λ z. c .before .before .if1 .left (text-lines .ensures ∙ z)))
     (sym (c .before .first-line-right .ensures) ∙ c .if2 .left)
 

@@ -17,17 +17,17 @@ sub-if1 c = search needs
 
 returns : tie.Need-returns
 returns c =
-    let a = c .before .args in
-    let h : a .to ≤ length (a .text .now) = omega arith in
-    sym (same-lengths (slice (a .from) (a .to) (a .text .now)) dash (λ e. c .if1 .taken (sym (length-slice (a .from) (a .to) (a .text .now) h) ∙ e)))
+    let args = c .before .args in
+    let h : args .to ≤ length (args .text .now) = omega arith in
+    sym (same-lengths (slice (args .from) (args .to) (args .text .now)) dash (λ e. c .if1 .taken (sym (length-slice (args .from) (args .to) (args .text .now) h) ∙ e)))
 
 shared-slice-read-result : tie.Need-shared-slice-read-result
 shared-slice-read-result c = search needs
 
 returns-2 : tie.Need-returns-2
 returns-2 c =
-    let a = c .before .before .args in
-    rw (one-byte (a .text .now) (a .from) (a .to) (omega arith) (omega arith)) (sym (and-true _ true refl))
+    let args = c .before .before .args in
+    rw (one-byte (args .text .now) (args .from) (args .to) (omega arith) (omega arith)) (sym (and-true _ true refl))
 
 pub is-dash-spec : {M : Type 1} → statement M
 is-dash-spec = tie.close (tie.spec sub-if1 returns shared-slice-read-result returns-2)

@@ -15,9 +15,9 @@ sub-if1 c = search needs
 
 returns : tie.Need-returns
 returns c =
-    let a = c .before .before .args in
-    let h : a .to ≤ length (a .text .now) = omega arith in
-    not-one (slice (a .from) (a .to) (a .text .now)) (λ e. c .if1 .taken (sym (length-slice (a .from) (a .to) (a .text .now) h) ∙ e))
+    let args = c .before .before .args in
+    let h : args .to ≤ length (args .text .now) = omega arith in
+    not-one (slice (args .from) (args .to) (args .text .now)) (λ e. c .if1 .taken (sym (length-slice (args .from) (args .to) (args .text .now) h) ∙ e))
 
 shared-slice-read-code-of : tie.Need-shared-slice-read-code-of
 shared-slice-read-code-of c = search needs
@@ -27,8 +27,8 @@ code-of-requires c κs = search needs
 
 returns-2 : tie.Need-returns-2
 returns-2 c =
-    let a = c .before .before .before .before .args in
-    c .code-of .ensures ∙ sym (ap kindCode (one-byte (a .text .now) (a .from) (a .to) (omega arith) (omega arith)))
+    let args = c .before .before .before .before .args in
+    c .code-of .ensures ∙ sym (ap kindCode (one-byte (args .text .now) (args .from) (args .to) (omega arith) (omega arith)))
 
 pub kind-code-spec : {M : Type 1} → statement M
 kind-code-spec =

@@ -11,6 +11,14 @@ use Rattle.text.proofs.Labels.{label-most}
 use Rattle.lines.proofs.label_field.Statement.{statement}
 use Rattle.lines.proofs.label_field.Tie as tie
 
+-- ---- earlier places, by later ones
+
+abbrev entry-of : tie.After-known-told → tie.Start
+entry-of c = c .before .before .before .before .before
+
+abbrev after-read-label : tie.After-known-told → tie.After-read-label
+after-read-label c = c .before .before .before
+
 read-label-requires : tie.Need-read-label-requires
 read-label-requires c κs = search needs
 
@@ -18,12 +26,12 @@ enum-known-v : tie.Need-enum-known-v
 enum-known-v c = search needs
 
 most : (c : tie.After-known-told) →
-    let entry = c .before .before .before .before .before in
+    let entry = entry-of c in
     c .before .v .given .0 .0 ≤ entry .args .n
 most c =
-    let read-label = c .before .before .before .read-label in
-    let a = c .before .before .before .before .before .args in
-    label-most (a .n) (slice (a .from) (a .to) (a .text .now)) (c .before .v .given .0 .0) (sym (read-label .ensures) ∙ c .before .v .given .1)
+    let read-label = after-read-label c .read-label in
+    let args = entry-of c .args in
+    label-most (args .n) (slice (args .from) (args .to) (args .text .now)) (c .before .v .given .0 .0) (sym (read-label .ensures) ∙ c .before .v .given .1)
 
 cast-t9 : tie.Need-cast-t9
 cast-t9 c = omega (arith, most c)
@@ -33,9 +41,9 @@ enum-told c = search needs
 
 returns : tie.Need-returns
 returns c =
-    let read-label = c .before .before .before .read-label in
-    let v = c .before .v .given in
-    rw (sym (read-label .ensures) ∙ v .1) (ap Holds (toZ-pos w64 {n = v .0 .0} (omega (arith, most c))))
+    let read-label = after-read-label c .read-label in
+    let v-given = c .before .v .given in
+    rw (sym (read-label .ensures) ∙ v-given .1) (ap Holds (toZ-pos w64 {n = v-given .0 .0} (omega (arith, most c))))
 
 returns-2 : tie.Need-returns-2
 returns-2 c = rw (sym (c .before .before .read-label .ensures) ∙ c .enum-told .given .1)

@@ -19,8 +19,8 @@ enum-told c = search needs
 returns : tie.Need-returns
 returns c =
     let read-number = c .before .before .before .read-number in
-    let x = c .before .x .given in
-    rw (sym (read-number .ensures) ∙ x .1) (ap Holds (toZ-ofZ (sfits-of {w = w64} {z = x .0 .0} (c .known-told .given .0 .1))))
+    let x-given = c .before .x .given in
+    rw (sym (read-number .ensures) ∙ x-given .1) (ap Holds (toZ-ofZ (sfits-of {w = w64} {z = x-given .0 .0} (c .known-told .given .0 .1))))
 
 returns-2 : tie.Need-returns-2
 returns-2 c = rw (sym (c .before .before .read-number .ensures) ∙ c .enum-told .given .1)

@@ -83,15 +83,15 @@ same-length c = simp length-set
 returns : tie.Need-returns
 returns c =
     let g = c .struct-told6 .given in
-    let r = c .before .before .before .before .before .before .args .row in
+    let row = c .before .before .before .before .before .before .args .row in
     simp (
       towards-suc,
-      toZ-ofZ (sfits-of {w = w64} {z = r .code} (g .0 .1)),
-      toZ-ofZ (sfits-of {w = w64} {z = r .start} (g .1 .0 .1)),
-      toZ-ofZ (sfits-of {w = w64} {z = r .length} (g .1 .1 .0 .1)),
-      toZ-ofZ (sfits-of {w = w64} {z = r .a} (g .1 .1 .1 .0 .1)),
-      toZ-ofZ (sfits-of {w = w64} {z = r .b} (g .1 .1 .1 .1 .0 .1)),
-      toZ-ofZ (sfits-of {w = w64} {z = r .c} (g .1 .1 .1 .1 .1 .0 .1)),
+      toZ-ofZ (sfits-of {w = w64} {z = row .code} (g .0 .1)),
+      toZ-ofZ (sfits-of {w = w64} {z = row .start} (g .1 .0 .1)),
+      toZ-ofZ (sfits-of {w = w64} {z = row .length} (g .1 .1 .0 .1)),
+      toZ-ofZ (sfits-of {w = w64} {z = row .a} (g .1 .1 .1 .0 .1)),
+      toZ-ofZ (sfits-of {w = w64} {z = row .b} (g .1 .1 .1 .1 .0 .1)),
+      toZ-ofZ (sfits-of {w = w64} {z = row .c} (g .1 .1 .1 .1 .1 .0 .1)),
     )
 
 pub put-cells-spec : {M : Type 1} → statement M

@@ -15,6 +15,17 @@ use Rattle.lines.proofs.Rows.{read-name-wrong, read-operands-wrong, rea
 use Rattle.lines.proofs.read_cells.Statement.{statement}
 use Rattle.lines.proofs.read_cells.Tie as tie
 
+-- ---- earlier places, by later ones
+
+abbrev after-fields-of : tie.After-enum-told2 → tie.After-fields-of
+after-fields-of c = c .before .before .before .before
+
+abbrev after-fields-of-from-enum-told3 : tie.After-enum-told3 → tie.After-fields-of
+after-fields-of-from-enum-told3 c = c .before .before .before .before .before .before .before
+
+abbrev after-fields-of-from-known-told : tie.After-known-told → tie.After-fields-of
+after-fields-of-from-known-told c = c .before .before .before .before .before .before .before .before
+
 known : (c : tie.Start) → isKind (c .args .code) ≡ true
 known c = rw (c .pre .1) (kind-known (slice (c .args .from) (c .args .e .kind) (c .args .text .now)) (omega (arith, c .pre .1, c .pre .2)))
 
@@ -41,8 +52,8 @@ enum-told-2 c = search needs
 
 returns : tie.Need-returns
 returns c =
-    let entry = c .before .before .before .before .before .before in
-    let fields-of = c .before .before .before .before .fields-of in
+    let entry = after-fields-of c .before .before in
+    let fields-of = after-fields-of c .fields-of in
     read-name-wrong (entry .args .n) (entry .args .text .now) (entry .args .from) (entry .args .e) (entry .pre .0) (entry .args .code) (fields-of .result) (entry .pre .1) (fields-of .ensures)
     (sym (c .before .before .read-field .ensures) ∙ c .enum-told2 .given .1)
 
@@ -57,21 +68,21 @@ enum-told-3 c = search needs
 
 returns-2 : tie.Need-returns-2
 returns-2 c =
-    let entry = c .before .before .before .before .before .before .before .before .before in
-    let fields-of = c .before .before .before .before .before .before .before .fields-of in
+    let entry = after-fields-of-from-enum-told3 c .before .before in
+    let fields-of = after-fields-of-from-enum-told3 c .fields-of in
     read-operands-wrong (entry .args .n) (entry .args .text .now) (entry .args .from) (entry .args .e) (entry .pre .0) (entry .args .code) (fields-of .result) (entry .pre .1) (fields-of .ensures)
     (sym (c .before .before .read-operands .ensures) ∙ c .enum-told3 .given .1)
 
 cells-of-requires : tie.Need-cells-of-requires
 cells-of-requires c κs =
-    let point = c .before .before .before .before .before .before .before .before .before .before in
-    let f = c .before .before .before .before .before .before .before .before .before .before .pre .0 in
-    (f .wide1, inside point .0, inside point .1, known point)
+    let entry = after-fields-of-from-known-told c .before .before in
+    let pre = after-fields-of-from-known-told c .before .before .pre .0 in
+    (pre .wide1, inside entry .0, inside entry .1, known entry)
 
 returns-3 : tie.Need-returns-3
 returns-3 c =
-    let entry = c .before .before .before .before .before .before .before .before .before .before .before in
-    let fields-of = c .before .before .before .before .before .before .before .before .before .fields-of in
+    let entry = after-fields-of-from-known-told (c .before) .before .before in
+    let fields-of = after-fields-of-from-known-told (c .before) .fields-of in
     let read-field = c .before .before .before .before .before .before .before .read-field in
     let enum-told = c .before .before .before .before .before .enum-told in
     let read-operands = c .before .before .before .before .read-operands in

@@ -16,14 +16,28 @@ Inv-loop text n table₀ at₀ label₀ table at label = Going text n table₀ a
 abbrev μ-loop : tie.MeasureT-loop
 μ-loop text n table₀ at₀ label₀ table at label = n + 1 - label
 
+-- ---- earlier places, by later ones
+
+abbrev entry-of : tie.In-loop Inv-loop μ-loop → tie.Start Inv-loop μ-loop
+entry-of c = c .before .before .before
+
+abbrev turn-of : tie.After-known-told Inv-loop μ-loop → tie.In-loop Inv-loop μ-loop
+turn-of c = c .before .before .before .before .before .before
+
+abbrev turn-from-known-told2 : tie.After-known-told2 Inv-loop μ-loop → tie.In-loop Inv-loop μ-loop
+turn-from-known-told2 c = c .before .before .before .before .before .before
+
+abbrev after-step : tie.After-known-told Inv-loop μ-loop → tie.After-step Inv-loop μ-loop
+after-step c = c .before .before .before .before
+
 loop-holds : tie.Need-loop-holds Inv-loop μ-loop
 loop-holds c = start (c .before .args .text .now) (c .before .args .n) (headed (c .before .args .text .now) (c .before .pre .0)) (c .before .pre .1) (c .before .args .table .now)
 
 step-requires : tie.Need-step-requires Inv-loop μ-loop
 step-requires c κs =
-    let entry = c .before .before .before .before in
+    let entry = entry-of (c .before) in
     let h = headed (entry .args .text .now) (entry .pre .0) in
-    let g = c .before .before .loop .inv in (
+    let inv = c .before .before .loop .inv in (
       (
         inside (entry .args .text .now) (entry .args .n) (headed (entry .args .text .now) (entry .pre .0)) (entry .pre .1) (entry .args .table .now) (c .before .before .loop .at)
             (c .before .before .loop .label) (c .before .before .loop .table) (c .before .before .loop .inv) (omega arith),
@@ -33,10 +47,10 @@ step-requires c κs =
         h .allowed,
       ),
       (
-        g .low,
+        inv .low,
         omega
             (arith, h .high),
-        omega (arith, g .size, entry .pre .2),
+        omega (arith, inv .size, entry .pre .2),
       ),
     )
 
@@ -44,34 +58,34 @@ enum-known-row : tie.Need-enum-known-row Inv-loop μ-loop
 enum-known-row c = search needs
 
 refused : (c : tie.After-known-told Inv-loop μ-loop) →
-    let entry = c .before .before .before .before .before .before .before .before .before in
-    let loop = c .before .before .before .before .before .before .before .loop in
+    let entry = entry-of (turn-of c) in
+    let loop = turn-of c .before .loop in
     Stopped (entry .args .n) (loop .label) (entry .args .text .now) (loop .at) (c .before .row .given .0 .0)
 refused c =
-    let entry = c .before .before .before .before .before .before .before .before .before in
-    let loop = c .before .before .before .before .before .before .before .loop in
-    let step = c .before .before .before .before .step in
+    let entry = entry-of (turn-of c) in
+    let loop = turn-of c .before .loop in
+    let step = after-step c .step in
     stopped (entry .args .n) (loop .label) (entry .args .text .now) (loop .at) (c .before .row .given .0 .0) (sym (step .ensures .0) ∙ c .before .row .given .1)
 
 -- a line that is refused leaves the table as it was
 kept : (c : tie.After-known-told Inv-loop μ-loop) →
-    let loop = c .before .before .before .before .before .before .before .loop in
-    let step = c .before .before .before .before .step in
+    let loop = turn-of c .before .loop in
+    let step = after-step c .step in
     step .last .1 .1 .1 .1 .0 ≡ loop .table
 kept c =
-    let loop = c .before .before .before .before .before .before .before .loop in
-    let step = c .before .before .before .before .step in
+    let loop = turn-of c .before .loop in
+    let step = after-step c .step in
     step .ensures .1 ∙ refused c .cells (8 * (loop .label - 1)) (loop .table)
 
 same-length : tie.Need-same-length Inv-loop μ-loop
 same-length c =
-    let inv = c .before .before .before .before .before .before .before .loop .inv in
+    let inv = turn-of c .before .loop .inv in
     ap length (kept c) ∙ inv .size
 
 returns : tie.Need-returns Inv-loop μ-loop
 returns c =
-    let entry = c .before .before .before .before .before .before .before .before .before in
-    let loop = c .before .before .before .before .before .before .before .loop in (
+    let entry = entry-of (turn-of c) in
+    let loop = turn-of c .before .loop in (
       stop (entry .args .text .now) (entry .args .n) (headed (entry .args .text .now) (entry .pre .0)) (entry .pre .1) (entry .args .table .now) (loop .at) (loop .label) (loop .table) (loop .inv)
           (omega arith) (c .before .row .given .0 .0) (refused c),
       kept c ∙ loop .inv .table,
@@ -88,8 +102,8 @@ loop-less c = omega arith
 
 loop-again : tie.Need-loop-again Inv-loop μ-loop
 loop-again c =
-    let entry = c .before .before .before .before .before .before .before .before .before in
-    let loop = c .before .before .before .before .before .before .before .loop in
+    let entry = entry-of (turn-from-known-told2 c) in
+    let loop = turn-from-known-told2 c .before .loop in
     let step = c .before .before .before .before .step in
     turn (entry .args .text .now) (entry .args .n) (headed (entry .args .text .now) (entry .pre .0)) (entry .pre .1) (entry .args .table .now) (loop .at) (loop .label) (loop .table) (loop .inv)
     (omega arith) (c .before .next .given .0 .0) (step .last .1 .1 .1 .1 .0)
@@ -101,11 +115,11 @@ same-length-2 c = c .before .loop .inv .size
 returns-2 : tie.Need-returns-2 Inv-loop μ-loop
 returns-2 c =
     let entry = c .before .before .before in
-    let g = c .before .loop .inv in
-    let q : c .before .loop .label - 1 ≡ entry .args .n = omega (arith, g .high) in (
+    let inv = c .before .loop .inv in
+    let q : c .before .loop .label - 1 ≡ entry .args .n = omega (arith, inv .high) in (
       done (entry .args .text .now) (entry .args .n) (headed (entry .args .text .now) (entry .pre .0)) (entry .pre .1) (entry .args .table .now) (c .before .loop .at) (c .before .loop .label)
           (c .before .loop .table) (c .before .loop .inv) (omega arith),
-      g .table ∙ ap (λ k. linesWritten (entry .args .text .now) (entry .args .n) k (entry .args .table .now)) q,
+      inv .table ∙ ap (λ k. linesWritten (entry .args .text .now) (entry .args .n) k (entry .args .table .now)) q,
     )
 
 pub read-lines-spec : {M : Type 1} → statement M

@@ -6,6 +6,17 @@ use borrow.Author.Needs.{sfits-of, needs}
 use Rattle.lines.proofs.read_operands.Statement.{statement}
 use Rattle.lines.proofs.read_operands.Tie as tie
 
+-- ---- earlier places, by later ones
+
+abbrev after-a : tie.After-read-field2 → tie.After-a
+after-a c = c .before .before .before
+
+abbrev after-read-field2 : tie.After-enum-told3 → tie.After-read-field2
+after-read-field2 c = c .before .before .before .before .before .before .before
+
+abbrev after-read-field2-from-known-told3 : tie.After-known-told3 → tie.After-read-field2
+after-read-field2-from-known-told3 c = c .before .before .before .before .before .before .before .before
+
 add-read-field : tie.Need-add-read-field
 add-read-field c = search needs
 
@@ -35,8 +46,8 @@ enum-told-2 c = search needs
 
 returns-2 : tie.Need-returns-2
 returns-2 c =
-    let read-field = c .before .before .before .before .before .before .before .read-field in
-    let a = c .before .before .before .before .before .a in
+    let read-field = after-a (c .before .before) .before .before .read-field in
+    let a = after-a (c .before .before) .a in
     rw (sym (read-field .ensures) ∙ a .given .1, sym (c .before .before .read-field2 .ensures) ∙ c .enum-told2 .given .1)
 
 add-read-field-3 : tie.Need-add-read-field-3
@@ -53,18 +64,18 @@ enum-told-3 c = search needs
 
 returns-3 : tie.Need-returns-3
 returns-3 c =
-    let read-field = c .before .before .before .before .before .before .before .before .before .before .before .before .read-field in
-    let a = c .before .before .before .before .before .before .before .before .before .before .a in
-    let read-field2 = c .before .before .before .before .before .before .before .read-field2 in
+    let read-field = after-a (after-read-field2 c) .before .before .read-field in
+    let a = after-a (after-read-field2 c) .a in
+    let read-field2 = after-read-field2 c .read-field2 in
     let b = c .before .before .before .before .before .b in
     rw (sym (read-field .ensures) ∙ a .given .1, sym (read-field2 .ensures) ∙ b .given .1, sym (c .before .before .read-field3 .ensures) ∙ c .enum-told3 .given .1)
 
 returns-4 : tie.Need-returns-4
 returns-4 c =
-    let read-field = c .before .before .before .before .before .before .before .before .before .before .before .before .before .read-field in
-    let a = c .before .before .before .before .before .before .before .before .before .before .before .a in
-    let known-told = c .before .before .before .before .before .before .before .before .before .before .known-told in
-    let read-field2 = c .before .before .before .before .before .before .before .before .read-field2 in
+    let read-field = after-a (after-read-field2-from-known-told3 c) .before .before .read-field in
+    let a = after-a (after-read-field2-from-known-told3 c) .a in
+    let known-told = after-read-field2-from-known-told3 c .before .before .known-told in
+    let read-field2 = after-read-field2-from-known-told3 c .read-field2 in
     let b = c .before .before .before .before .before .before .b in
     let known-told2 = c .before .before .before .before .before .known-told2 in
     let read-field3 = c .before .before .before .read-field3 in

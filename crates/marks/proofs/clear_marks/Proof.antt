@@ -32,13 +32,13 @@ loop-less c = search needs
 
 loop-again : tie.Need-loop-again Inv-loop μ-loop
 loop-again c =
-    let l = c .before in
-    let r = l .loop .s in
-    let j = l .loop .j in (
-      length-set r j 0 ∙ l .loop .inv .0,
+    let loop = c .before in
+    let r = loop .loop .s in
+    let j = loop .loop .j in (
+      length-set r j 0 ∙ loop .loop .inv .0,
       omega (arith, c .loop-test .taken),
-      below-more (λ (i : ℕ). getD (set r j 0) i 0 ≡ 0) j (λ i h. getD-set-other r j i 0 0 (λ z. omega arith) ∙ l .loop .inv .2 i h)
-          (getD-set-same r j 0 0 (omega (arith, c .loop-test .taken, l .loop .inv .0, c .before .before .pre))),
+      below-more (λ (i : ℕ). getD (set r j 0) i 0 ≡ 0) j (λ i h. getD-set-other r j i 0 0 (λ z. omega arith) ∙ loop .loop .inv .2 i h)
+          (getD-set-same r j 0 0 (omega (arith, c .loop-test .taken, loop .loop .inv .0, c .before .before .pre))),
     )
 
 same-length : tie.Need-same-length Inv-loop μ-loop

@@ -16,6 +16,14 @@ Inv-loop s w j₀ j = (j ≤ w) × ((q : ℕ) → q < 64 * j → mark s w 0 q �
 abbrev μ-loop : tie.MeasureT-loop
 μ-loop s w j₀ j = w - j
 
+-- ---- earlier places, by later ones
+
+abbrev entry-of : tie.Then1 Inv-loop μ-loop → tie.Start Inv-loop μ-loop
+entry-of c = c .before .before .before .before
+
+abbrev loop-of : tie.Then1 Inv-loop μ-loop → tie.At-loop Inv-loop μ-loop
+loop-of c = c .before .before .before
+
 loop-holds : tie.Need-loop-holds Inv-loop μ-loop
 loop-holds c = (omega arith, λ q h. absurd (omega arith))
 
@@ -30,20 +38,20 @@ mul-result c = search needs
 
 cast-result : tie.Need-cast-result Inv-loop μ-loop
 cast-result c =
-    let entry = c .before .before .before .before in
-    let loop = c .before .before .before .loop in
+    let entry = entry-of c in
+    let loop = loop-of c .loop in
     omega (arith, trailing-le 64 (getD (entry .args .s .now) (loop .j) 0))
 
 add-result : tie.Need-add-result Inv-loop μ-loop
 add-result c =
-    let entry = c .before .before .before .before in
-    let loop = c .before .before .before .loop in
+    let entry = entry-of c in
+    let loop = loop-of c .loop in
     omega (arith, trailing-le 64 (getD (entry .args .s .now) (loop .j) 0))
 
 returns : tie.Need-returns Inv-loop μ-loop
 returns c =
-    let l = c .before .before .before in
-    first-found _ _ _ (l .loop .inv .1) (c .before .before .loop-test .taken) (omega (arith, c .if1 .taken)) (omega (arith, c .before .shared-slice-known .given (l .loop .j)))
+    let loop = loop-of c in
+    first-found _ _ _ (loop .loop .inv .1) (c .before .before .loop-test .taken) (omega (arith, c .if1 .taken)) (omega (arith, c .before .shared-slice-known .given (loop .loop .j)))
 
 add-j : tie.Need-add-j Inv-loop μ-loop
 add-j c = search needs

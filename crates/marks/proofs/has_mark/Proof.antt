@@ -24,8 +24,8 @@ shr-result c = search needs
 
 returns : tie.Need-returns
 returns c =
-    let a = c .before .args in
-    bit-shift (getD (a .s .now) (a .p * a .w + a .q / 64) 0) (a .q % 64) ∙ sym (inside (a .s .now) (a .w) (a .p) (a .q) (c .before .pre .0))
+    let args = c .before .args in
+    bit-shift (getD (args .s .now) (args .p * args .w + args .q / 64) 0) (args .q % 64) ∙ sym (inside (args .s .now) (args .w) (args .p) (args .q) (c .before .pre .0))
 
 pub has-mark-spec : {M : Type 1} → statement M
 has-mark-spec =

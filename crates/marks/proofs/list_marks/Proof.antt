@@ -55,12 +55,12 @@ loop-less c = search needs
 loop-again : tie.Need-loop-again Inv-loop μ-loop
 loop-again c =
     let loop-test = c .before .before .before .before .before .before .loop-test in
-    let l = c .before .before .before .before .before .before .before in
-    let w = c .before .before .list-word in (
-      w .kept .1 .1 .0 ∙ l .loop .inv .0,
+    let loop = c .before .before .before .before .before .before .before in
+    let list-word = c .before .before .list-word in (
+      list-word .kept .1 .1 .0 ∙ loop .loop .inv .0,
       omega arith,
-      omega (arith, w .ensures .1, l .loop .inv .2),
-      listing-turn _ _ _ _ _ (loop-test .taken) (take (l .loop .m) (l .loop .list)) _ (l .loop .inv .3) (w .ensures .0),
+      omega (arith, list-word .ensures .1, loop .loop .inv .2),
+      listing-turn _ _ _ _ _ (loop-test .taken) (take (loop .loop .m) (loop .loop .list)) _ (loop .loop .inv .3) (list-word .ensures .0),
     )
 
 same-length : tie.Need-same-length Inv-loop μ-loop
@@ -68,12 +68,12 @@ same-length c = c .before .loop .inv .0
 
 returns : tie.Need-returns Inv-loop μ-loop
 returns c =
-    let l = c .before in
-    let a = l .before .before .before .before .args in
-    let e : l .loop .j ≡ a .w = le-antisymm (l .loop .inv .1) (omega arith) in (
-      λ q. l .loop .inv .3 q ∙ ap (λ (j : ℕ). one (ltb q (64 * j) && mark (a .s .now) (a .w) (a .p) q && mark (a .mask .now) (a .w) 0 q)) e
-          ∙ listing-end (a .s .now) (a .mask .now) (a .w) (a .p) q,
-      omega (arith, l .loop .inv .2),
+    let loop = c .before in
+    let args = loop .before .before .before .before .args in
+    let e : loop .loop .j ≡ args .w = le-antisymm (loop .loop .inv .1) (omega arith) in (
+      λ q. loop .loop .inv .3 q ∙ ap (λ (j : ℕ). one (ltb q (64 * j) && mark (args .s .now) (args .w) (args .p) q && mark (args .mask .now) (args .w) 0 q)) e
+          ∙ listing-end (args .s .now) (args .mask .now) (args .w) (args .p) q,
+      omega (arith, loop .loop .inv .2),
     )
 
 pub list-marks-spec : {M : Type 1} → statement M

@@ -23,11 +23,11 @@ abbrev μ-loop : tie.MeasureT-loop
 -- there is room for what is left
 room : (c : tie.In-loop Inv-loop μ-loop) → c .before .loop .m < length (c .before .loop .list)
 room c =
-    let l = c .before in
-    let x = l .loop .x in
-    let b = l .before .args .base in
-    let n : length (places 64 b x) ≡ suc (length (places 64 b (bitAnd x (x - 1)))) = ap length (places-step 64 b x (omega arith) (l .loop .inv .1)) in
-    omega (arith, l .loop .inv .0, l .loop .inv .2, places-le 64 b (l .before .args .word), l .before .pre)
+    let loop = c .before in
+    let x = loop .loop .x in
+    let base = loop .before .args .base in
+    let n : length (places 64 base x) ≡ suc (length (places 64 base (bitAnd x (x - 1)))) = ap length (places-step 64 base x (omega arith) (loop .loop .inv .1)) in
+    omega (arith, loop .loop .inv .0, loop .loop .inv .2, places-le 64 base (loop .before .args .word), loop .before .pre)
 
 listed : (l : List ℕ) (m v : ℕ) (r : List ℕ) → m < length l → take (m + 1) (set l m v) ++ r ≡ take m l ++ v ∷ r
 listed l m v r h = rw (add-one, take-suc-set l m v) (append-assoc (take m l) (v ∷ []) r)
@@ -61,16 +61,16 @@ loop-less c = omega (arith, and-le-r (c .before .loop .x) (c .before .loop .x - 
 
 loop-again : tie.Need-loop-again Inv-loop μ-loop
 loop-again c =
-    let l = c .before in
-    let x = l .loop .x in
-    let b = l .before .args .base in
-    let e = places-step 64 b x (omega arith) (l .loop .inv .1) in
-    let n : length (places 64 b x) ≡ suc (length (places 64 b (bitAnd x (x - 1)))) = ap length e in (
-      length-set (l .loop .list) (l .loop .m) (b + trailingZeros 64 x) ∙ l .loop .inv .0,
-      omega (arith, and-le-l x (x - 1), l .loop .inv .1),
-      omega (arith, l .loop .inv .2),
-      listed (l .loop .list) (l .loop .m) (b + trailingZeros 64 x) (places 64 b (bitAnd x (x - 1))) (room c)
-          ∙ ap (λ (r : List ℕ). take (l .loop .m) (l .loop .list) ++ r) (sym e) ∙ l .loop .inv .3,
+    let loop = c .before in
+    let x = loop .loop .x in
+    let base = loop .before .args .base in
+    let e = places-step 64 base x (omega arith) (loop .loop .inv .1) in
+    let n : length (places 64 base x) ≡ suc (length (places 64 base (bitAnd x (x - 1)))) = ap length e in (
+      length-set (loop .loop .list) (loop .loop .m) (base + trailingZeros 64 x) ∙ loop .loop .inv .0,
+      omega (arith, and-le-l x (x - 1), loop .loop .inv .1),
+      omega (arith, loop .loop .inv .2),
+      listed (loop .loop .list) (loop .loop .m) (base + trailingZeros 64 x) (places 64 base (bitAnd x (x - 1))) (room c)
+          ∙ ap (λ (r : List ℕ). take (loop .loop .m) (loop .loop .list) ++ r) (sym e) ∙ loop .loop .inv .3,
     )
 
 same-length : tie.Need-same-length Inv-loop μ-loop
@@ -78,11 +78,11 @@ same-length c = c .before .loop .inv .0
 
 returns : tie.Need-returns Inv-loop μ-loop
 returns c =
-    let l = c .before in
-    let b = l .before .args .base in
-    let z : places 64 b (l .loop .x) ≡ [] = ap (places 64 b) (c .loop-test .left) ∙ places-none 64 b in (
-      sym (append-nil (take (l .loop .m) (l .loop .list))) ∙ ap (λ (r : List ℕ). take (l .loop .m) (l .loop .list) ++ r) (sym z) ∙ l .loop .inv .3,
-      omega (arith, l .loop .inv .2, ap length z, places-le 64 b (l .before .args .word)),
+    let loop = c .before in
+    let base = loop .before .args .base in
+    let z : places 64 base (loop .loop .x) ≡ [] = ap (places 64 base) (c .loop-test .left) ∙ places-none 64 base in (
+      sym (append-nil (take (loop .loop .m) (loop .loop .list))) ∙ ap (λ (r : List ℕ). take (loop .loop .m) (loop .loop .list) ++ r) (sym z) ∙ loop .loop .inv .3,
+      omega (arith, loop .loop .inv .2, ap length z, places-le 64 base (loop .before .args .word)),
     )
 
 pub list-word-spec : {M : Type 1} → statement M

@@ -17,18 +17,29 @@ Inv-loop table n square₀ k₀ square k = (length square ≡ length square₀) 
 abbrev μ-loop : tie.MeasureT-loop
 μ-loop table n square₀ k₀ square k = k
 
+-- ---- earlier places, by later ones
+
+abbrev entry-of : tie.In-loop Inv-loop μ-loop → tie.Start Inv-loop μ-loop
+entry-of c = c .before .before .before
+
+abbrev loop-of : tie.After-gives-values Inv-loop μ-loop → tie.At-loop Inv-loop μ-loop
+loop-of c = c .before .before
+
+abbrev turn-of : tie.After-merge-row-arg Inv-loop μ-loop → tie.In-loop Inv-loop μ-loop
+turn-of c = c .before .before .before .before
+
 loop-holds : tie.Need-loop-holds Inv-loop μ-loop
-loop-holds c = let p = c .before .pre in (refl, p .0 .some, omega arith, lifting-start _ _ (p .0) _ (p .1 .1))
+loop-holds c = let pre = c .before .pre in (refl, pre .0 .some, omega arith, lifting-start _ _ (pre .0) _ (pre .1 .1))
 
 gives-values-requires : tie.Need-gives-values-requires Inv-loop μ-loop
 gives-values-requires c κs =
-    let entry = c .before .before .before in
+    let entry = entry-of c in
     (entry .pre .0, (c .before .loop .inv .1, c .before .loop .inv .2))
 
 cell-of-requires : tie.Need-cell-of-requires Inv-loop μ-loop
 cell-of-requires c κs =
-    let entry = c .before .before .before .before .before in
-    let inv = c .before .before .before .loop .inv in
+    let entry = entry-of (c .before .before) in
+    let inv = loop-of (c .before) .loop .inv in
     (entry .pre .0, (inv .1, inv .2, omega arith, omega arith))
 
 add-merge-row : tie.Need-add-merge-row Inv-loop μ-loop
@@ -36,12 +47,12 @@ add-merge-row c = search needs
 
 merge-row-requires : tie.Need-merge-row-requires Inv-loop μ-loop
 merge-row-requires c κs =
-    let entry = c .before .before .before .before .before .before .before in
+    let entry = entry-of (turn-of c) in
     let p = entry .pre in
-    let l = c .before .before .before .before .before in
-    let r : (entry .args .n + 1) * width (entry .args .n) ≤ length (l .loop .square) = omega (arith, p .1 .0, l .loop .inv .0) in
-    let b : c .before .cell-of .result ≤ entry .args .n = omega (arith, c .before .cell-of .ensures, p .0 .falls (l .loop .k) (l .loop .inv .1) (l .loop .inv .2), l .loop .inv .2) in
-    let own = row-room _ _ _ _ (l .loop .inv .2) r in
+    let loop = turn-of c .before in
+    let r : (entry .args .n + 1) * width (entry .args .n) ≤ length (loop .loop .square) = omega (arith, p .1 .0, loop .loop .inv .0) in
+    let b : c .before .cell-of .result ≤ entry .args .n = omega (arith, c .before .cell-of .ensures, p .0 .falls (loop .loop .k) (loop .loop .inv .1) (loop .loop .inv .2), loop .loop .inv .2) in
+    let own = row-room _ _ _ _ (loop .loop .inv .2) r in
     let group = row-room _ _ _ _ b r in
     (omega arith, omega arith)
 
@@ -53,22 +64,22 @@ loop-less c = search needs
 
 loop-again : tie.Need-loop-again Inv-loop μ-loop
 loop-again c =
-    let l = c .before .before .before in
-    let a = c .before .before .before .before .before in
-    let k = l .loop .k in
+    let loop = loop-of (c .before) in
+    let entry = entry-of (c .before .before) in
+    let k = loop .loop .k in
     let two : 2 ≤ k = omega (arith, c .before .before .loop-test .taken) in
     ⊎-elim (λ w. rw (w .6) (
-      w .3 .kept .0 ∙ l .loop .inv .0,
+      w .3 .kept .0 ∙ loop .loop .inv .0,
       omega arith,
       omega arith,
-      lifting-turn _ _ (a .pre .0) _ _ (l .loop .inv .3) two (l .loop .inv .2) (sym (c .before .gives-values .ensures) ∙ w .0 .taken) _
+      lifting-turn _ _ (entry .pre .0) _ _ (loop .loop .inv .3) two (loop .loop .inv .2) (sym (c .before .gives-values .ensures) ∙ w .0 .taken) _
           _ (w .1 .ensures) (w .3 .ensures),
     ))
     (λ w. rw (w .1) (
-      l .loop .inv .0,
+      loop .loop .inv .0,
       omega arith,
       omega arith,
-      lifting-skip _ _ (a .pre .0) _ _ (l .loop .inv .3) two (l .loop .inv .2) (sym (c .before .gives-values .ensures) ∙ w .0 .left),
+      lifting-skip _ _ (entry .pre .0) _ _ (loop .loop .inv .3) two (loop .loop .inv .2) (sym (c .before .gives-values .ensures) ∙ w .0 .left),
     ))
     (c .if1 .came)
 
@@ -78,9 +89,9 @@ same-length c = c .before .loop .inv .0
 returns : tie.Need-returns Inv-loop μ-loop
 returns c =
     let entry = c .before .before .before in
-    let l = c .before in
-    let e : l .loop .k ≡ 1 = omega (arith, l .loop .inv .1, c .loop-test .left) in
-    subst (λ (k : ℕ). Lifting (entry .args .table .now) (entry .args .n) k (l .loop .square)) e (l .loop .inv .3)
+    let loop = c .before in
+    let e : loop .loop .k ≡ 1 = omega (arith, loop .loop .inv .1, c .loop-test .left) in
+    subst (λ (k : ℕ). Lifting (entry .args .table .now) (entry .args .n) k (loop .loop .square)) e (loop .loop .inv .3)
 
 pub lift-spec : {M : Type 1} → statement M
 lift-spec =

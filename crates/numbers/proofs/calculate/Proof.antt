@@ -58,8 +58,8 @@ enum-told-4 c = search needs
 
 nearest-requires : tie.Need-nearest-requires
 nearest-requires c κs =
-    let s = c .before .before .before in
-    rw (toZ-ofZ (s .fits .a), toZ-ofZ (s .fits .b)) (s .pre .0, s .pre .1, nonzero-size (s .args .b) (unequal (s .args .b) 0 (c .if1 .left)))
+    let entry = c .before .before .before in
+    rw (toZ-ofZ (entry .fits .a), toZ-ofZ (entry .fits .b)) (entry .pre .0, entry .pre .1, nonzero-size (entry .args .b) (unequal (entry .args .b) 0 (c .if1 .left)))
 
 ranged-requires-4 : tie.Need-ranged-requires-4
 ranged-requires-4 c κs = search needs
@@ -67,37 +67,37 @@ ranged-requires-4 c κs = search needs
 returns : tie.Need-returns
 unfolding result
 returns c =
-    let s = c .before .before .before in
-    is s Sum refl (c .before .enum-told .given .1) (c .ranged .ensures)
+    let entry = c .before .before .before in
+    is entry Sum refl (c .before .enum-told .given .1) (c .ranged .ensures)
 
 returns-2 : tie.Need-returns-2
 unfolding result
 returns-2 c =
-    let s = c .before .before .before in
-    is s Difference refl (c .before .enum-told2 .given .1) (c .ranged2 .ensures)
+    let entry = c .before .before .before in
+    is entry Difference refl (c .before .enum-told2 .given .1) (c .ranged2 .ensures)
 
 returns-3 : tie.Need-returns-3
 unfolding result
 returns-3 c =
-    let s = c .before .before .before in
-    is s Product refl (c .before .enum-told3 .given .1) (c .ranged3 .ensures)
+    let entry = c .before .before .before in
+    is entry Product refl (c .before .enum-told3 .given .1) (c .ranged3 .ensures)
 
 returns-4 : tie.Need-returns-4
 unfolding calculated
 returns-4 c =
-    let s = c .before .before .before in
-    rw (c .before .enum-told4 .given .1, equal (s .args .b) 0 (s .fits .b .sfits) (omega arith) (c .if1 .taken))
+    let entry = c .before .before .before in
+    rw (c .before .enum-told4 .given .1, equal (entry .args .b) 0 (entry .fits .b .sfits) (omega arith) (c .if1 .taken))
 
 returns-5 : tie.Need-returns-5
 unfolding result
 returns-5 c =
     let enum-told4 = c .before .before .before .enum-told4 in
-    let s = c .before .before .before .before .before in
-    let n = c .before .nearest in
-    calculated-by (s .args .tie) (s .args .op) Quotient (s .args .a) (s .args .b) _
+    let entry = c .before .before .before .before .before in
+    let nearest = c .before .nearest in
+    calculated-by (entry .args .tie) (entry .args .op) Quotient (entry .args .a) (entry .args .b) _
     (enum-told4 .given .1)
-    (unequal (s .args .b) 0 (c .before .before .if1 .left))
-    (toZ-ofZ (sfits-of (n .ok)) ∙ (rw (toZ-ofZ (s .fits .a), toZ-ofZ (s .fits .b)) at (n .ensures)))
+    (unequal (entry .args .b) 0 (c .before .before .if1 .left))
+    (toZ-ofZ (sfits-of (nearest .ok)) ∙ (rw (toZ-ofZ (entry .fits .a), toZ-ofZ (entry .fits .b)) at (nearest .ensures)))
     (c .ranged4 .ensures)
 
 pub calculate-spec : {M : Type 1} → statement M

@@ -69,9 +69,9 @@ loop-again c =
 
 returns-4 : tie.Need-returns-4 Inv-loop μ-loop
 returns-4 c =
-    let s = c .before .before .args in
-    let l = c .before .loop in
-    sym (l .inv .2 ∙ ap (digitsOf (s .max) (l .v)) (slice-none (l .i) (s .to) (s .text .now) (omega arith)) ∙ digits-end (s .max) (l .v) (l .inv .1))
+    let args = c .before .before .args in
+    let loop = c .before .loop in
+    sym (loop .inv .2 ∙ ap (digitsOf (args .max) (loop .v)) (slice-none (loop .i) (args .to) (args .text .now) (omega arith)) ∙ digits-end (args .max) (loop .v) (loop .inv .1))
 
 pub digits-spec : {M : Type 1} → statement M
 digits-spec =

@@ -11,33 +11,41 @@ use Rattle.numbers.proofs.Rounding.{up-size, quotient-by}
 use Rattle.numbers.proofs.nearest.Statement.{statement}
 use Rattle.numbers.proofs.nearest.Tie as tie
 
+-- ---- earlier places, by later ones
+
+abbrev entry-of : tie.After-magnitude3 → tie.Start
+entry-of c = c .before .before .before
+
+abbrev after-magnitude : tie.After-round-up → tie.After-magnitude
+after-magnitude c = c .before .before .before
+
 -- the sizes of the quotient, the remainder and the divisor
 size-q : (c : tie.After-magnitude) → c .magnitude .result ≡ natAbs (c .before .args .a) / natAbs (c .before .args .b)
 size-q c =
-    let s = c .before in
-    c .magnitude .ensures ∙ quot-read (s .args .a) (s .args .b) (s .fits .a) (s .fits .b) (s .pre .0)
+    let entry = c .before in
+    c .magnitude .ensures ∙ quot-read (entry .args .a) (entry .args .b) (entry .fits .a) (entry .fits .b) (entry .pre .0)
 
 size-r : (c : tie.After-magnitude2) → c .magnitude2 .result ≡ natAbs (c .before .before .args .a) % natAbs (c .before .before .args .b)
 size-r c =
-    let s = c .before .before in
-    c .magnitude2 .ensures ∙ rem-read (s .args .a) (s .args .b) (s .fits .a) (s .fits .b) (s .pre .0)
+    let entry = c .before .before in
+    c .magnitude2 .ensures ∙ rem-read (entry .args .a) (entry .args .b) (entry .fits .a) (entry .fits .b) (entry .pre .0)
 
 size-b : (c : tie.After-magnitude3) →
-    let entry = c .before .before .before in
+    let entry = entry-of c in
     c .magnitude3 .result ≡ natAbs (entry .args .b)
 size-b c =
-    let entry = c .before .before .before in
+    let entry = entry-of c in
     rw (toZ-ofZ (entry .fits .b)) at (c .magnitude3 .ensures)
 
 small : (c : tie.After-is-negative2) →
-    let magnitude = c .before .before .before .before .before .magnitude in
+    let magnitude = after-magnitude (c .before .before) .magnitude in
     magnitude .result + c .before .before .round-up .result < 2 ^ 63
 small c =
-    let u = c .before .before in
-    let q = u .before .before .before in
-    let s = q .before .args in
-    let up = up-size (s .tie) (q .magnitude .result) (u .before .before .magnitude2 .result) (u .before .magnitude3 .result) in
-    omega (arith, size-q q, div-le-self (natAbs (s .a)) (natAbs (s .b)), u .round-up .ensures, up)
+    let at-round-up = c .before .before in
+    let at-magnitude = after-magnitude at-round-up in
+    let args = at-magnitude .before .args in
+    let up = up-size (args .tie) (at-magnitude .magnitude .result) (at-round-up .before .before .magnitude2 .result) (at-round-up .before .magnitude3 .result) in
+    omega (arith, size-q at-magnitude, div-le-self (natAbs (args .a)) (natAbs (args .b)), at-round-up .round-up .ensures, up)
 
 div-q : tie.Need-div-q
 div-q c =
@@ -54,9 +62,9 @@ magnitude-requires c κs =
 
 magnitude-requires-2 : tie.Need-magnitude-requires-2
 magnitude-requires-2 c κs =
-    let s = c .before in
-    let x = s .args in
-    let e = rem-read (x .a) (x .b) (s .fits .a) (s .fits .b) (s .pre .0) in
+    let entry = c .before in
+    let x = entry .args in
+    let e = rem-read (x .a) (x .b) (entry .fits .a) (entry .fits .b) (entry .pre .0) in
     omega (arith, e, mod-le (natAbs (x .a)) (natAbs (x .b)))
 
 magnitude-requires-3 : tie.Need-magnitude-requires-3
@@ -64,8 +72,8 @@ magnitude-requires-3 c κs = rw (toZ-ofZ (c .before .before .fits .b)) (omega ar
 
 round-up-requires : tie.Need-round-up-requires
 round-up-requires c κs =
-    let x = c .before .before .before .args in
-    omega (arith, size-r (c .before), mod-le (natAbs (x .a)) (natAbs (x .b)))
+    let args = entry-of c .args in
+    omega (arith, size-r (c .before), mod-le (natAbs (args .a)) (natAbs (args .b)))
 
 is-negative-requires : tie.Need-is-negative-requires
 is-negative-requires c κs = search needs
@@ -82,13 +90,13 @@ with-sign-requires c κs = omega (arith, small c)
 returns : tie.Need-returns
 returns c =
     let na = c .before .before in
-    let u = na .before in
-    let b = u .before in
-    let s = b .before .before .before in
+    let at-round-up = na .before in
+    let at-magnitude3 = at-round-up .before in
+    let entry = entry-of at-magnitude3 in
     toZ-ofZ (sfits-of (c .with-sign .ok))
-    ∙ quotient-by (s .args .tie) (s .args .a) (s .args .b) (size-q (b .before .before)) (size-r (b .before))
-    (rw (size-b b) at (u .round-up .ensures))
-    (rw (na .is-negative .ensures, c .before .is-negative2 .ensures, toZ-ofZ (s .fits .a), toZ-ofZ (s .fits .b)) at (c .with-sign .ensures))
+    ∙ quotient-by (entry .args .tie) (entry .args .a) (entry .args .b) (size-q (at-magnitude3 .before .before)) (size-r (at-magnitude3 .before))
+    (rw (size-b at-magnitude3) at (at-round-up .round-up .ensures))
+    (rw (na .is-negative .ensures, c .before .is-negative2 .ensures, toZ-ofZ (entry .fits .a), toZ-ofZ (entry .fits .b)) at (c .with-sign .ensures))
 
 pub nearest-spec : {M : Type 1} → statement M
 nearest-spec =

@@ -8,13 +8,13 @@ returns c = range-low (c .before .args .x) (rw (toZ-ofZ (c .before .fits .x)) at
 
 returns-2 : tie.Need-returns-2
 returns-2 c =
-    let s = c .before .before in
-    range-high (s .args .x) (rw (toZ-ofZ (s .fits .x)) at (c .if2 .taken))
+    let entry = c .before .before in
+    range-high (entry .args .x) (rw (toZ-ofZ (entry .fits .x)) at (c .if2 .taken))
 
 returns-3 : tie.Need-returns-3
 returns-3 c =
-    let s = c .before .before in
-    rw (toZ-ofZ (s .fits .x)) (range-in (s .args .x) (rw (toZ-ofZ (s .fits .x)) at (c .before .if1 .left)) (rw (toZ-ofZ (s .fits .x)) at (c .if2 .left)))
+    let entry = c .before .before in
+    rw (toZ-ofZ (entry .fits .x)) (range-in (entry .args .x) (rw (toZ-ofZ (entry .fits .x)) at (c .before .if1 .left)) (rw (toZ-ofZ (entry .fits .x)) at (c .if2 .left)))
 
 pub ranged-spec : {M : Type 1} → statement M
 ranged-spec = tie.close (tie.spec returns returns-2 returns-3)

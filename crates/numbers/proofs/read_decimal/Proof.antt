@@ -7,8 +7,8 @@ use Rattle.numbers.proofs.read_decimal.Tie as tie
 
 returns : tie.Need-returns
 returns c =
-    let s = c .before .before in
-    let x = s .args in
+    let entry = c .before .before in
+    let x = entry .args in
     decimal-empty (x .from) (x .to) (x .text .now) (x .max) (c .if1 .taken)
 
 shared-slice-read-if2 : tie.Need-shared-slice-read-if2
@@ -19,24 +19,24 @@ add-if3 c = search needs
 
 returns-2 : tie.Need-returns-2
 returns-2 c =
-    let s = c .before .before .before .before .before in
-    let x = s .args in
-    decimal-led (x .from) (x .to) (x .text .now) (omega arith) (s .pre .1) (x .max) (c .before .if2 .taken) (c .if3 .taken)
+    let entry = c .before .before .before .before .before in
+    let x = entry .args in
+    decimal-led (x .from) (x .to) (x .text .now) (omega arith) (entry .pre .1) (x .max) (c .before .if2 .taken) (c .if3 .taken)
 
 returns-3 : tie.Need-returns-3
 returns-3 c =
-    let s = c .before .before .before .before .before in
-    let x = s .args in
-    decimal-zero (x .from) (x .to) (x .text .now) (omega arith) (s .pre .1) (x .max) (c .before .if2 .taken) (c .if3 .left)
+    let entry = c .before .before .before .before .before in
+    let x = entry .args in
+    decimal-zero (x .from) (x .to) (x .text .now) (omega arith) (entry .pre .1) (x .max) (c .before .if2 .taken) (c .if3 .left)
 
 digits-requires : tie.Need-digits-requires
 digits-requires c κs = search needs
 
 returns-4 : tie.Need-returns-4
 returns-4 c =
-    let s = c .before .before .before .before .before in
-    let x = s .args in
-    c .digits .ensures ∙ decimal-plain (x .from) (x .to) (x .text .now) (omega arith) (s .pre .1) (x .max) (c .before .if2 .left)
+    let entry = c .before .before .before .before .before in
+    let x = entry .args in
+    c .digits .ensures ∙ decimal-plain (x .from) (x .to) (x .text .now) (omega arith) (entry .pre .1) (x .max) (c .before .if2 .left)
 
 pub read-decimal-spec : {M : Type 1} → statement M
 read-decimal-spec =

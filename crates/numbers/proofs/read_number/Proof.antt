@@ -10,8 +10,8 @@ use Rattle.numbers.proofs.read_number.Tie as tie
 
 returns : tie.Need-returns
 returns c =
-    let s = c .before .before in
-    let x = s .args in
+    let entry = c .before .before in
+    let x = entry .args in
     number-empty (x .from) (x .to) (x .text .now) (c .if1 .taken)
 
 shared-slice-read-if2 : tie.Need-shared-slice-read-if2
@@ -28,11 +28,11 @@ signed-requires c κs = rw (c .read-decimal .ensures) (decimal-most numberLimit 
 
 returns-2 : tie.Need-returns-2
 returns-2 c =
-    let s = c .before .before .before .before .before .before in
-    let x = s .args in
+    let entry = c .before .before .before .before .before .before in
+    let x = entry .args in
     c .signed .ensures
     ∙ ap (signedOf true) (c .before .read-decimal .ensures)
-    ∙ number-negative (x .from) (x .to) (x .text .now) (omega arith) (s .pre .1) (c .before .before .if2 .taken)
+    ∙ number-negative (x .from) (x .to) (x .text .now) (omega arith) (entry .pre .1) (c .before .before .if2 .taken)
 
 read-decimal-requires-2 : tie.Need-read-decimal-requires-2
 read-decimal-requires-2 c κs = search needs
@@ -42,11 +42,11 @@ signed-requires-2 c κs = rw (c .read-decimal2 .ensures) (decimal-most numberLim
 
 returns-3 : tie.Need-returns-3
 returns-3 c =
-    let s = c .before .before .before .before .before .before in
-    let x = s .args in
+    let entry = c .before .before .before .before .before .before in
+    let x = entry .args in
     c .signed2 .ensures
     ∙ ap (signedOf false) (c .before .read-decimal2 .ensures)
-    ∙ number-plain (x .from) (x .to) (x .text .now) (omega arith) (s .pre .1) (c .before .before .if2 .left)
+    ∙ number-plain (x .from) (x .to) (x .text .now) (omega arith) (entry .pre .1) (c .before .before .if2 .left)
 
 pub read-number-spec : {M : Type 1} → statement M
 read-number-spec =

@@ -30,14 +30,14 @@ returns-3 c =
 with-sign-requires : tie.Need-with-sign-requires
 with-sign-requires c κs =
     let entry = c .before .before .before .before in
-    let d = c .before .before .d .given in
-    omega (arith, subst (AtMost numberLimit) (d .1) (entry .pre))
+    let d-given = c .before .before .d .given in
+    omega (arith, subst (AtMost numberLimit) (d-given .1) (entry .pre))
 
 returns-4 : tie.Need-returns-4
 returns-4 c =
-    let d = c .before .before .before .d .given in
-    let s = c .before .before .before .before .before .args in
-    rw (d .1, ne-eqb (d .0 .0) 0 (c .before .if1 .left), and-false (s .negative))
+    let d-given = c .before .before .before .d .given in
+    let args = c .before .before .before .before .before .args in
+    rw (d-given .1, ne-eqb (d-given .0 .0) 0 (c .before .if1 .left), and-false (args .negative))
     (ap Is (toZ-ofZ (sfits-of (c .with-sign .ok)) ∙ c .with-sign .ensures))
 
 pub signed-spec : {M : Type 1} → statement M

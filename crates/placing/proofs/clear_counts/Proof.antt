@@ -17,12 +17,20 @@ Inv-loop items unmet₀ i₀ unmet i = (length unmet ≡ length unmet₀) × (i 
 abbrev μ-loop : tie.MeasureT-loop
 μ-loop items unmet₀ i₀ unmet i = length items - i
 
+-- ---- earlier places, by later ones
+
+abbrev entry-of : tie.At-loop Inv-loop μ-loop → tie.Start Inv-loop μ-loop
+entry-of c = c .before .before .before
+
+abbrev loop-of : tie.After-widen Inv-loop μ-loop → tie.At-loop Inv-loop μ-loop
+loop-of c = c .before .before .before
+
 inside : (c : tie.After-widen Inv-loop μ-loop) →
-    let loop = c .before .before .before .loop in
+    let loop = loop-of c .loop in
     c .widen .result < length (loop .unmet)
 inside c =
-    let entry = c .before .before .before .before .before .before in
-    let loop = c .before .before .before .loop in
+    let entry = entry-of (loop-of c) in
+    let loop = loop-of c .loop in
     let i = in-at (entry .args .items .now) (loop .i) (c .before .before .loop-test .taken) in
     omega (arith, c .widen .ensures, entry .pre (getD (entry .args .items .now) (loop .i) 0) i, loop .inv .0)
 
@@ -40,7 +48,7 @@ widen-requires c κs = search needs
 
 mul-unmet : tie.Need-mul-unmet Inv-loop μ-loop
 mul-unmet c =
-    let loop = c .before .before .before .loop in
+    let loop = loop-of c .loop in
     omega (arith, c .widen .ensures, c .before .shared-slice-known2 .given (loop .i))
 
 slice-write-unmet : tie.Need-slice-write-unmet Inv-loop μ-loop
@@ -54,8 +62,8 @@ loop-less c = search needs
 
 loop-again : tie.Need-loop-again Inv-loop μ-loop
 loop-again c =
-    let entry = c .before .before .before .before .before .before in
-    let l = c .before .before .before in (
+    let entry = entry-of (loop-of c) in
+    let l = loop-of c in (
       length-set (l .loop .unmet) _ _ ∙ l .loop .inv .0,
       omega (arith, c .before .before .loop-test .taken),
       clear-turn (entry .args .items .now) (l .loop .unmet) (l .loop .i) _ (c .before .before .loop-test .taken) (c .widen .ensures) (inside c) (l .loop .inv .2),
@@ -66,9 +74,9 @@ same-length c = c .before .loop .inv .0
 
 returns : tie.Need-returns Inv-loop μ-loop
 returns c =
-    let entry = c .before .before .before .before in
-    let l = c .before in
-    λ p m. l .loop .inv .2 p (subst (λ (k : List ℕ). p ∈ k) (sym (take-all (l .loop .i) (entry .args .items .now) (omega (arith, c .loop-test .left)))) m)
+    let entry = entry-of (c .before) in
+    let loop = c .before in
+    λ p m. loop .loop .inv .2 p (subst (λ (k : List ℕ). p ∈ k) (sym (take-all (loop .loop .i) (entry .args .items .now) (omega (arith, c .loop-test .left)))) m)
 
 pub clear-counts-spec : {M : Type 1} → statement M
 clear-counts-spec =

@@ -22,18 +22,29 @@ Inv-loop items w unmet ready₀ i₀ ready i =
 abbrev μ-loop : tie.MeasureT-loop
 μ-loop items w unmet ready₀ i₀ ready i = length items - i
 
+-- ---- earlier places, by later ones
+
+abbrev entry-of : tie.After-slice-known Inv-loop μ-loop → tie.Start Inv-loop μ-loop
+entry-of c = c .before .before .before
+
+abbrev loop-of : tie.After-widen Inv-loop μ-loop → tie.At-loop Inv-loop μ-loop
+loop-of c = c .before .before .before
+
+abbrev turn-of : tie.After-shared-slice-known4 Inv-loop μ-loop → tie.In-loop Inv-loop μ-loop
+turn-of c = c .before .before .before
+
 module _ (c : tie.After-widen Inv-loop μ-loop) where
   here :
-      let entry = c .before .before .before .before .before .before .before in
+      let entry = entry-of (loop-of c .before) in
       c .widen .result ∈ entry .args .items .now
   here =
-      let entry = c .before .before .before .before .before .before .before in
-      let loop = c .before .before .before .loop in
+      let entry = entry-of (loop-of c .before) in
+      let loop = loop-of c .loop in
       subst (λ (x : ℕ). x ∈ entry .args .items .now) (sym (c .widen .ensures)) (in-at (entry .args .items .now) (loop .i) (c .before .before .loop-test .taken))
 
 loop-holds : tie.Need-loop-holds Inv-loop μ-loop
 loop-holds c =
-    let entry = c .before .before .before in
+    let entry = entry-of c in
     (refl, omega arith, λ p. (λ m. both-ways (mark (entry .args .ready .now) (entry .args .w) 0 p) m (entry .pre .1 p), λ y. absurd (omega (arith, y .0))))
 
 mul-widen : tie.Need-mul-widen Inv-loop μ-loop
@@ -47,20 +58,20 @@ widen-requires c κs = search needs
 
 mul-if1 : tie.Need-mul-if1 Inv-loop μ-loop
 mul-if1 c =
-    let loop = c .before .before .before .loop in
+    let loop = loop-of c .loop in
     omega (arith, c .widen .ensures, c .before .shared-slice-known3 .given (loop .i))
 
 shared-slice-read-if1 : tie.Need-shared-slice-read-if1 Inv-loop μ-loop
 shared-slice-read-if1 c =
-    let entry = c .before .before .before .before .before .before .before .before in
+    let entry = entry-of (turn-of c .before .before) in
     entry .pre .0 .0 _ (here (c .before))
 
 put-mark-requires : tie.Need-put-mark-requires Inv-loop μ-loop
 put-mark-requires c κs =
-    let entry = c .before .before .before .before .before .before .before .before .before .before in
-    let inv = c .before .before .before .before .before .before .loop .inv in
-    let point = c .before .before .before in
-    (entry .pre .0 .1 _ (here point), omega (arith, entry .pre .0 .2, inv .0))
+    let entry = entry-of (turn-of (c .before .before) .before .before) in
+    let inv = turn-of (c .before .before) .before .loop .inv in
+    let at-widen = c .before .before .before in
+    (entry .pre .0 .1 _ (here at-widen), omega (arith, entry .pre .0 .2, inv .0))
 
 add-i : tie.Need-add-i Inv-loop μ-loop
 add-i c = search needs
@@ -70,19 +81,19 @@ loop-less c = search needs
 
 loop-again : tie.Need-loop-again Inv-loop μ-loop
 loop-again c =
-    let l = c .before .before .before .before .before in
-    let a = c .before .before .before .before .before .before .before .before .before in
-    let q = c .before .before in
-    let h = c .before .before .before .before .loop-test .taken in
-    let items = a .args .items .now in
-    let unmet = a .args .unmet .now in
+    let loop = turn-of (c .before) .before in
+    let entry = entry-of (turn-of (c .before) .before .before) in
+    let at-widen = c .before .before in
+    let h = turn-of (c .before) .loop-test .taken in
+    let items = entry .args .items .now in
+    let unmet = entry .args .unmet .now in
     ⊎-elim (λ w. rw (w .5) (
-      w .2 .kept .0 ∙ l .loop .inv .0,
+      w .2 .kept .0 ∙ loop .loop .inv .0,
       omega arith,
-      ready-put items unmet (l .loop .ready) (l .loop .i) (a .args .w) _ (q .widen .ensures) h (l .loop .inv .2)
-          (a .pre .0 .1 _ (here q)) (w .0 .taken) _ (w .2 .ensures),
+      ready-put items unmet (loop .loop .ready) (loop .loop .i) (entry .args .w) _ (at-widen .widen .ensures) h (loop .loop .inv .2)
+          (entry .pre .0 .1 _ (here at-widen)) (w .0 .taken) _ (w .2 .ensures),
     ))
-    (λ w. rw (w .1) (l .loop .inv .0, omega arith, ready-skip items unmet (l .loop .ready) (l .loop .i) (a .args .w) _ (q .widen .ensures) h (l .loop .inv .2) (w .0 .left)))
+    (λ w. rw (w .1) (loop .loop .inv .0, omega arith, ready-skip items unmet (loop .loop .ready) (loop .loop .i) (entry .args .w) _ (at-widen .widen .ensures) h (loop .loop .inv .2) (w .0 .left)))
     (c .if1 .came)
 
 same-length : tie.Need-same-length Inv-loop μ-loop
@@ -90,10 +101,10 @@ same-length c = c .before .loop .inv .0
 
 returns : tie.Need-returns Inv-loop μ-loop
 returns c =
-    let l = c .before in
-    let a = c .before .before .before .before .before in
-    let e = take-all (l .loop .i) (a .args .items .now) (omega (arith, c .loop-test .left)) in
-    λ p. subst (λ (k : List ℕ). (mark (l .loop .ready) (a .args .w) 0 p ≡ true) ↔ ((p ∈ k) × (getD (a .args .unmet .now) p 0 ≡ 0))) e (l .loop .inv .2 p)
+    let loop = c .before in
+    let entry = entry-of (c .before .before) in
+    let e = take-all (loop .loop .i) (entry .args .items .now) (omega (arith, c .loop-test .left)) in
+    λ p. subst (λ (k : List ℕ). (mark (loop .loop .ready) (entry .args .w) 0 p ≡ true) ↔ ((p ∈ k) × (getD (entry .args .unmet .now) p 0 ≡ 0))) e (loop .loop .inv .2 p)
 
 pub mark-ready-spec : {M : Type 1} → statement M
 mark-ready-spec =

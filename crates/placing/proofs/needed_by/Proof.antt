@@ -11,8 +11,8 @@ has-mark-requires c κs =
 
 list-marks-requires : tie.Need-list-marks-requires
 list-marks-requires c κs =
-    let p = c .before .before .before .before .before .before .pre in
-    (p .1, p .2, p .3, p .4)
+    let pre = c .before .before .before .before .before .before .pre in
+    (pre .1, pre .2, pre .3, pre .4)
 
 same-length : tie.Need-same-length
 same-length c = c .before .before .list-marks .kept .1 .1 .1 .1 .0
@@ -21,8 +21,8 @@ returns : tie.Need-returns
 returns c =
     let has-mark = c .before .before .before .before .before .has-mark in
     let if1 = c .before .before .before .before .if1 in
-    let e = c .before .before .list-marks .ensures in
-    (λ p. e .0 p ∙ needed-masked _ _ _ p _ (sym (has-mark .ensures) ∙ if1 .taken), e .1)
+    let list-marks-ensures = c .before .before .list-marks .ensures in
+    (λ p. list-marks-ensures .0 p ∙ needed-masked _ _ _ p _ (sym (has-mark .ensures) ∙ if1 .taken), list-marks-ensures .1)
 
 returns-2 : tie.Need-returns-2
 returns-2 c = (λ p. needed-none _ _ _ p _ (sym (c .before .has-mark .ensures) ∙ c .if1 .left), omega arith)

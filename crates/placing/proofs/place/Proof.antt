@@ -17,178 +17,200 @@ Inv-loop items square w mask unmet₀ ready₀ list₀ order₀ k₀ unmet ready
 abbrev μ-loop : tie.MeasureT-loop
 μ-loop items square w mask unmet₀ ready₀ list₀ order₀ k₀ unmet ready list order k = length items - k
 
+-- ---- earlier places, by later ones
+
+abbrev entry-from-start-arg3 : tie.After-start-arg3 Inv-loop μ-loop → tie.Start Inv-loop μ-loop
+entry-from-start-arg3 c = c .before .before .before .before .before .before .before .before .before .before
+
+abbrev entry-of : tie.At-loop Inv-loop μ-loop → tie.Start Inv-loop μ-loop
+entry-of c = entry-from-start-arg3 (c .before .before .before .before .before .before .before .before)
+
+abbrev after-start-arg2 : tie.At-loop Inv-loop μ-loop → tie.After-start-arg2 Inv-loop μ-loop
+after-start-arg2 c = c .before .before .before .before .before .before .before .before .before
+
+abbrev after-start-arg3 : tie.At-loop Inv-loop μ-loop → tie.After-start-arg3 Inv-loop μ-loop
+after-start-arg3 c = c .before .before .before .before .before .before .before .before
+
+abbrev after-start : tie.After-slice-known7 Inv-loop μ-loop → tie.After-start Inv-loop μ-loop
+after-start c = c .before .before .before .before .before .before
+
+abbrev after-ready : tie.At-loop Inv-loop μ-loop → tie.After-ready Inv-loop μ-loop
+after-ready c = c .before .before .before .before
+
+abbrev loop-of : tie.After-first-mark Inv-loop μ-loop → tie.At-loop Inv-loop μ-loop
+loop-of c = c .before .before .before
+
+abbrev turn-of : tie.Else1 Inv-loop μ-loop → tie.In-loop Inv-loop μ-loop
+turn-of c = c .before .before .before
+
+abbrev turn-from-then1 : tie.Then1 Inv-loop μ-loop → tie.In-loop Inv-loop μ-loop
+turn-from-then1 c = c .before .before .before
+
+abbrev else1-of : tie.After-slice-known8 Inv-loop μ-loop → tie.Else1 Inv-loop μ-loop
+else1-of c = c .before .before .before .before
+
+abbrev after-drop-mark : tie.After-needed-by Inv-loop μ-loop → tie.After-drop-mark Inv-loop μ-loop
+after-drop-mark c = c .before .before .before .before
+
+abbrev after-needed-by : tie.After-lower-arg3 Inv-loop μ-loop → tie.After-needed-by Inv-loop μ-loop
+after-needed-by c = c .before .before .before .before .before
+
+abbrev after-needed-by-from-slice-known11 : tie.After-slice-known11 Inv-loop μ-loop → tie.After-needed-by Inv-loop μ-loop
+after-needed-by-from-slice-known11 c = after-needed-by (c .before .before .before .before .before)
+
 -- in the loop: buffers are as long as at entry
 module _ (l : tie.At-loop Inv-loop μ-loop) where
   long :
-      let back = l .before .before .before .before .before .before .before .before .before .before .before .before in
-      let entry = back .before .before .before .before .before .before in
+      let entry = entry-of l in
       (length (l .loop .unmet) ≡ length (entry .args .unmet .now)) × (length (l .loop .ready) ≡ length (entry .args .ready .now)) × (length (l .loop .list) ≡ length (entry .args .list .now))
   long =
-      let k = l .before .before .before .before .before .before .before .start .kept .1 .1 .1 .1 in
-      (l .loop .inv .0 ∙ k .0, l .loop .inv .1 ∙ k .1 .0, l .loop .inv .2 ∙ k .1 .1 .0)
+      let start-kept = after-start (l .before) .start .kept .1 .1 .1 .1 in
+      (l .loop .inv .0 ∙ start-kept .0, l .loop .inv .1 ∙ start-kept .1 .0, l .loop .inv .2 ∙ start-kept .1 .1 .0)
 
 -- where there is an item to place
 module _ (c : tie.Else1 Inv-loop μ-loop) where
   low :
-      let back = c .before .before .before .before .before .before .before .before .before .before .before .before in
-      let entry = back .before .before .before .before .before .before .before .before .before .before in
+      let entry = entry-of (turn-of c .before) in
       c .before .first-mark .result < 64 * entry .args .w
   low = omega (arith, c .before .first-mark .ensures .within, c .if1 .left)
 
   item :
-      let back = c .before .before .before .before .before .before .before .before .before .before .before .before in
-      let entry = back .before .before .before .before .before .before .before .before .before .before in
+      let entry = entry-of (turn-of c .before) in
       c .before .first-mark .result ∈ entry .args .items .now
   item =
-      let back = c .before .before .before .before .before .before .before .before .before .before .before .before in
-      let entry = back .before .before .before .before .before .before .before .before .before .before in
-      let inv = c .before .before .before .before .loop .inv in
+      let entry = entry-of (turn-of c .before) in
+      let inv = turn-of c .before .loop .inv in
       item-is _ _ (entry .pre .0 .rising) _ _ _ _ _ (inv .4) _ (c .before .first-mark .ensures) low .0
 
 start-requires : tie.Need-start-requires Inv-loop μ-loop
 start-requires c κs =
-    let p = c .before .before .before .before .before .before .before .before .before .before .pre in
-    (p .0, (p .1 .0, p .1 .1))
+    let pre = entry-from-start-arg3 c .pre in
+    (pre .0, (pre .1 .0, pre .1 .1))
 
 loop-holds : tie.Need-loop-holds Inv-loop μ-loop
 loop-holds c =
-    let back = c .before .before .before .before .before .before .before .before .before .before .before .before in
-    let entry = back .before .before .before .before .before in
-    let start = c .before .before .before .before .before .before .start in
+    let entry = entry-from-start-arg3 (after-start c .before) in
+    let start = after-start c .start in
     (refl, refl, refl, refl, going-start _ _ (entry .pre .0 .rising) _ _ _ _ (start .ensures))
 
 first-mark-requires : tie.Need-first-mark-requires Inv-loop μ-loop
 first-mark-requires c κs =
-    let back = c .before .before .before .before .before .before .before .before .before .before .before .before in
-    let entry = back .before .before .before .before .before .before .before .before in
+    let entry = entry-of (c .before .before) in
     (omega (arith, long (c .before .before), entry .pre .1 .1), entry .pre .0 .narrow)
 
 mul-if1 : tie.Need-mul-if1 Inv-loop μ-loop
 mul-if1 c =
-    let back = c .before .before .before .before .before .before .before .before .before .before .before .before in
-    let entry = back .before .before .before .before .before .before .before .before .before in
+    let entry = entry-of (loop-of c) in
     omega (arith, entry .pre .0 .narrow)
 
 same-length : tie.Need-same-length Inv-loop μ-loop
 same-length c =
-    let point = c .before .before .before .before in
-    long point .0
+    let loop = turn-from-then1 c .before in
+    long loop .0
 
 same-length-2 : tie.Need-same-length-2 Inv-loop μ-loop
 same-length-2 c =
-    let point = c .before .before .before .before in
-    long point .1
+    let loop = turn-from-then1 c .before in
+    long loop .1
 
 same-length-3 : tie.Need-same-length-3 Inv-loop μ-loop
 same-length-3 c =
-    let point = c .before .before .before .before in
-    long point .2
+    let loop = turn-from-then1 c .before in
+    long loop .2
 
 same-length-4 : tie.Need-same-length-4 Inv-loop μ-loop
 same-length-4 c =
-    let inv = c .before .before .before .before .loop .inv in
+    let inv = turn-from-then1 c .before .loop .inv in
     inv .3
 
 returns : tie.Need-returns Inv-loop μ-loop
 returns c =
-    let back = c .before .before .before .before .before .before .before .before .before .before .before .before in
-    let entry = back .before .before .before .before .before .before .before .before .before .before in
-    let inv = c .before .before .before .before .loop .inv in
-    let loop-test = c .before .before .before .loop-test in
+    let entry = entry-of (turn-from-then1 c .before) in
+    let inv = turn-from-then1 c .before .loop .inv in
+    let loop-test = turn-from-then1 c .loop-test in
     going-none _ _ (entry .pre .0 .rising) _ _ _ _ _ (inv .4) _ (c .before .first-mark .ensures) (loop-test .taken) (c .if1 .taken)
 
 drop-mark-requires : tie.Need-drop-mark-requires Inv-loop μ-loop
 drop-mark-requires c κs =
-    let back = c .before .before .before .before .before .before .before .before .before .before .before .before in
-    let entry = back .before .before .before .before .before .before .before .before .before .before .before in
-    let point = c .before .before .before .before .before in
-    ((low (c .before), omega (arith, long point, entry .pre .1 .1)), c .before .before .first-mark .ensures .here (low (c .before)))
+    let entry = entry-of (turn-of (c .before) .before) in
+    let loop = turn-of (c .before) .before in
+    ((low (c .before), omega (arith, long loop, entry .pre .1 .1)), c .before .before .first-mark .ensures .here (low (c .before)))
 
 cast-order : tie.Need-cast-order Inv-loop μ-loop
 cast-order c =
-    let back = c .before .before .before .before .before .before .before .before .before .before .before .before in
-    let entry = back .before .before .before .before .before .before .before .before .before .before .before .before .before .before in
-    let point = c .before .before .before .before in
-    omega (arith, low point, entry .pre .0 .narrow)
+    let entry = entry-of (turn-of (else1-of c) .before) in
+    let else1 = else1-of c in
+    omega (arith, low else1, entry .pre .0 .narrow)
 
 mul-order : tie.Need-mul-order Inv-loop μ-loop
 mul-order c =
-    let back = c .before .before .before .before .before .before .before .before .before .before .before .before in
-    let entry = back .before .before .before .before .before .before .before .before .before .before .before .before .before .before in
-    let loop-test = c .before .before .before .before .before .before .before .loop-test in
+    let entry = entry-of (turn-of (else1-of c) .before) in
+    let loop-test = turn-of (else1-of c) .loop-test in
     omega (arith, loop-test .taken, entry .pre .0 .few)
 
 slice-write-order : tie.Need-slice-write-order Inv-loop μ-loop
 slice-write-order c =
-    let back = c .before .before .before .before .before .before .before .before .before .before .before .before in
-    let entry = back .before .before .before .before .before .before .before .before .before .before .before .before .before .before in
-    let inv = c .before .before .before .before .before .before .before .before .loop .inv in
-    let loop-test = c .before .before .before .before .before .before .before .loop-test in
+    let entry = entry-of (turn-of (else1-of c) .before) in
+    let inv = turn-of (else1-of c) .before .loop .inv in
+    let loop-test = turn-of (else1-of c) .loop-test in
     omega (arith, loop-test .taken, entry .pre .1 .2, inv .3)
 
 add-k : tie.Need-add-k Inv-loop μ-loop
 add-k c =
-    let back = c .before .before .before .before .before .before .before .before .before .before .before .before in
-    let entry = back .before .before .before .before .before .before .before .before .before .before .before .before .before .before in
-    let loop-test = c .before .before .before .before .before .before .before .loop-test in
+    let entry = entry-of (turn-of (else1-of c) .before) in
+    let loop-test = turn-of (else1-of c) .loop-test in
     omega (arith, loop-test .taken, entry .pre .0 .few)
 
 needed-by-requires : tie.Need-needed-by-requires Inv-loop μ-loop
 needed-by-requires c κs =
-    let back = c .before .before .before .before .before .before .before .before .before .before .before .before in
-    let entry = back .before .before .before .before .before .before .before .before .before .before .before .before .before .before .before in
-    let point = c .before .before .before .before .before .before .before .before .before in
+    let entry = entry-of (turn-of (else1-of (c .before)) .before) in
+    let loop = turn-of (else1-of (c .before)) .before in
     let f = entry .pre .0 in
-    let q = c .before .before .before .before .before in
-    (low q, f .rows _ (item q), f .mask-room, omega (arith, entry .pre .1 .0, long point), f .narrow)
+    let else1 = else1-of (c .before) in
+    (low else1, f .rows _ (item else1), f .mask-room, omega (arith, entry .pre .1 .0, long loop), f .narrow)
 
 lower-requires : tie.Need-lower-requires Inv-loop μ-loop
 lower-requires c κs =
-    let back = c .before .before .before .before .before .before .before .before .before .before .before .before in
-    let back-2 = back .before .before .before .before .before .before .before .before .before .before .before .before in
-    let a = back-2 .before .before .before .before .before .before .before .before .before in
-    let first-mark = c .before .before .before .before .before .before .before .before .before .before .before .before .first-mark in
-    let drop-mark = c .before .before .before .before .before .before .before .before .before .drop-mark in
-    let f = a .pre .0 in
-    let q = c .before .before .before .before .before .before .before .before .before .before .before in
-    let l = c .before .before .before .before .before .before .before .before .before .before .before .before .before .before .before in
-    let e = c .before .before .before .before .before .needed-by in
-    let of = need-item _ _ _ _ _ _ f (take (e .result) (e .last .1 .1 .1 .1 .0)) (e .ensures .0) in (
-      (omega (arith, e .ensures .1, e .kept .1 .1 .1 .1 .0, long l, a .pre .1 .0), λ p m. omega (arith, long l, f .counted p (of p m)), λ p m. f .below p (of p m)),
+    let entry = entry-of (turn-of (else1-of (after-needed-by c .before .before)) .before) in
+    let first-mark = else1-of (after-needed-by c .before .before) .before .first-mark in
+    let drop-mark = after-drop-mark (after-needed-by c) .drop-mark in
+    let f = entry .pre .0 in
+    let else1 = else1-of (after-needed-by c .before .before) in
+    let loop = turn-of (else1-of (after-needed-by c .before .before)) .before in
+    let needed-by = after-needed-by c .needed-by in
+    let of = need-item _ _ _ _ _ _ f (take (needed-by .result) (needed-by .last .1 .1 .1 .1 .0)) (needed-by .ensures .0) in (
+      (omega (arith, needed-by .ensures .1, needed-by .kept .1 .1 .1 .1 .0, long loop, entry .pre .1 .0), λ p m. omega (arith, long loop, f .counted p (of p m)), λ p m. f .below p (of p m)),
       (
-        need-once _ _ _ _ (take (e .result) (e .last .1 .1 .1 .1 .0)) (e .ensures .0),
-        unmet-of _ _ (f .rising) _ _ _ _ _ (l .loop .inv .4) _ (first-mark .ensures) (low q) (e .last .1 .1 .1 .1 .0) (e .result) (e .ensures .0) of,
-        omega (arith, drop-mark .kept .0, long l, a .pre .1 .1),
+        need-once _ _ _ _ (take (needed-by .result) (needed-by .last .1 .1 .1 .1 .0)) (needed-by .ensures .0),
+        unmet-of _ _ (f .rising) _ _ _ _ _ (loop .loop .inv .4) _ (first-mark .ensures) (low else1) (needed-by .last .1 .1 .1 .1 .0) (needed-by .result) (needed-by .ensures .0) of,
+        omega (arith, drop-mark .kept .0, long loop, entry .pre .1 .1),
       ),
     )
 
 loop-less : tie.Need-loop-less Inv-loop μ-loop
 loop-less c =
-    let back = c .before .before .before .before .before .before .before .before .before .before .before .before in
-    let loop-test = back .before .before .before .before .before .before .before .loop-test in
+    let loop-test = turn-of (else1-of (after-needed-by-from-slice-known11 c .before .before)) .loop-test in
     omega (arith, loop-test .taken)
 
 loop-again : tie.Need-loop-again Inv-loop μ-loop
 loop-again c =
-    let back = c .before .before .before .before .before .before .before .before .before .before .before .before in
-    let back-2 = back .before .before .before .before .before .before .before .before .before .before .before .before in
-    let a = back-2 .before .before .before .before .before .before .before .before .before .before .before .before .before .before in
-    let l = back .before .before .before .before .before .before .before .before in
-    let loop-test = back .before .before .before .before .before .before .before .loop-test in
-    let first-mark = back .before .before .before .before .before .first-mark in
-    let drop-mark = c .before .before .before .before .before .before .before .before .before .before .before .before .before .before .drop-mark in
+    let entry = entry-of (turn-of (else1-of (after-needed-by-from-slice-known11 c .before .before)) .before) in
+    let loop = turn-of (else1-of (after-needed-by-from-slice-known11 c .before .before)) .before in
+    let loop-test = turn-of (else1-of (after-needed-by-from-slice-known11 c .before .before)) .loop-test in
+    let first-mark = else1-of (after-needed-by-from-slice-known11 c .before .before) .before .first-mark in
+    let drop-mark = after-drop-mark (after-needed-by-from-slice-known11 c) .drop-mark in
     let lower = c .before .before .before .before .lower in
-    let f = a .pre .0 in
-    let q = c .before .before .before .before .before .before .before .before .before .before .before .before .before .before .before .before in
-    let e = c .before .before .before .before .before .before .before .before .before .before .needed-by in
+    let f = entry .pre .0 in
+    let else1 = else1-of (after-needed-by-from-slice-known11 c .before .before) in
+    let needed-by = after-needed-by-from-slice-known11 c .needed-by in
     let k = lower .kept in (
-      k .1 .1 .1 .0 ∙ l .loop .inv .0,
-      k .1 .1 .1 .1 .0 ∙ drop-mark .kept .0 ∙ l .loop .inv .1,
-      e .kept .1 .1 .1 .1 .0 ∙ l .loop .inv .2,
-      length-set (l .loop .order) _ _ ∙ l .loop .inv .3,
-      going-step _ _ (f .rising) _ _ _ _ _ (l .loop .inv .4) _ (first-mark .ensures) (low q) (e .last .1 .1 .1 .1 .0) (e .result) (e .ensures .0)
-          (need-item _ _ _ _ _ _ f (take (e .result) (e .last .1 .1 .1 .1 .0)) (e .ensures .0)) (loop-test .taken)
-          (omega (arith, loop-test .taken, a .pre .1 .2, l .loop .inv .3)) _ _ _ (drop-mark .ensures) (lower .ensures),
+      k .1 .1 .1 .0 ∙ loop .loop .inv .0,
+      k .1 .1 .1 .1 .0 ∙ drop-mark .kept .0 ∙ loop .loop .inv .1,
+      needed-by .kept .1 .1 .1 .1 .0 ∙ loop .loop .inv .2,
+      length-set (loop .loop .order) _ _ ∙ loop .loop .inv .3,
+      going-step _ _ (f .rising) _ _ _ _ _ (loop .loop .inv .4) _ (first-mark .ensures) (low else1) (needed-by .last .1 .1 .1 .1 .0) (needed-by .result) (needed-by .ensures .0)
+          (need-item _ _ _ _ _ _ f (take (needed-by .result) (needed-by .last .1 .1 .1 .1 .0)) (needed-by .ensures .0)) (loop-test .taken)
+          (omega (arith, loop-test .taken, entry .pre .1 .2, loop .loop .inv .3)) _ _ _ (drop-mark .ensures) (lower .ensures),
     )
 
 same-length-5 : tie.Need-same-length-5 Inv-loop μ-loop
@@ -205,8 +227,7 @@ same-length-8 c = c .before .loop .inv .3
 
 returns-2 : tie.Need-returns-2 Inv-loop μ-loop
 returns-2 c =
-    let back = c .before .before .before .before .before .before .before .before .before .before .before .before in
-    let entry = back .before .before .before .before .before .before .before in
+    let entry = entry-of (c .before) in
     going-end _ _ (entry .pre .0 .rising) _ _ _ _ _ (c .before .loop .inv .4) (omega (arith, c .loop-test .left))
 
 pub place-spec : {M : Type 1} → statement M

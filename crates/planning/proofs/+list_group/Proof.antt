@@ -48,9 +48,35 @@ list-group-Inv-loop table n next plan₀ at group to₀ x₀ plan to x = (length
 abbrev list-group-μ-loop : list-group-lts.MeasureT-loop
 list-group-μ-loop table n next plan₀ at group to₀ x₀ plan to x = steps n next n x
 
+-- ---- earlier places, by later ones
+
+abbrev entry-of : (t : ℕ) → list-group-lts.At-loop (claims t) (list-group-at t) list-group.Post list-group-Inv-loop list-group-μ-loop
+    → list-group-lts.Start (claims t) (list-group-at t) list-group.Post list-group-Inv-loop list-group-μ-loop
+entry-of t c = c .before .before .before
+
+abbrev loop-of : (t : ℕ) → list-group-lts.After-shared-slice-known3 (claims t) (list-group-at t) list-group.Post list-group-Inv-loop list-group-μ-loop
+    → list-group-lts.At-loop (claims t) (list-group-at t) list-group.Post list-group-Inv-loop list-group-μ-loop
+loop-of t c = c .before .before .before
+
+abbrev turn-of : (t : ℕ) → list-group-lts.After-kind-of (claims t) (list-group-at t) list-group.Post list-group-Inv-loop list-group-μ-loop
+    → list-group-lts.In-loop (claims t) (list-group-at t) list-group.Post list-group-Inv-loop list-group-μ-loop
+turn-of t c = c .before .before .before
+
+abbrev after-widen : (t : ℕ) → list-group-lts.Then1 (claims t) (list-group-at t) list-group.Post list-group-Inv-loop list-group-μ-loop
+    → list-group-lts.After-widen (claims t) (list-group-at t) list-group.Post list-group-Inv-loop list-group-μ-loop
+after-widen t c = c .before .before .before
+
+abbrev after-widen-from-else2 : (t : ℕ) → list-group-lts.Else2 (claims t) (list-group-at t) list-group.Post list-group-Inv-loop list-group-μ-loop
+    → list-group-lts.After-widen (claims t) (list-group-at t) list-group.Post list-group-Inv-loop list-group-μ-loop
+after-widen-from-else2 t c = c .before .before .before .before
+
+abbrev after-kind-of : (t : ℕ) → list-group-lts.After-list-group-arg (claims t) (list-group-at t) list-group.Post list-group-Inv-loop list-group-μ-loop
+    → list-group-lts.After-kind-of (claims t) (list-group-at t) list-group.Post list-group-Inv-loop list-group-μ-loop
+after-kind-of t c = c .before .before .before
+
 -- in a turn: the member at hand is a label above the Group
 label : (t : ℕ) (c : list-group-lts.In-loop (claims t) (list-group-at t) list-group.Post list-group-Inv-loop list-group-μ-loop) →
-    let entry = c .before .before .before .before in
+    let entry = entry-of t (c .before) in
     (1 ≤ c .before .loop .x) × (c .before .loop .x ≤ entry .args .n) × (entry .args .group < c .before .loop .x)
 label t c =
     let entry = c .before .before .before .before in
@@ -59,21 +85,21 @@ label t c =
 -- where it is a value, there is room for it
 module _ (t : ℕ) (c : list-group-lts.Then1 (claims t) (list-group-at t) list-group.Post list-group-Inv-loop list-group-μ-loop) where
   value :
-      let entry = c .before .before .before .before .before .before .before .before in
-      let loop = c .before .before .before .before .before .loop in
+      let entry = entry-of t (turn-of t (c .before) .before) in
+      let loop = turn-of t (c .before) .before .loop in
       kind (entry .args .table .now) (loop .x) ≡ valueCode
   value =
-      let entry = c .before .before .before .before .before .before .before .before in
-      let widen = c .before .before .before .widen in
+      let entry = entry-of t (turn-of t (c .before) .before) in
+      let widen = after-widen t c .widen in
       ap (kind (entry .args .table .now)) (sym (widen .ensures)) ∙ sym (c .before .kind-of .ensures) ∙ c .if1 .taken
 
   room :
-      let loop = c .before .before .before .before .before .loop in
+      let loop = turn-of t (c .before) .before .loop in
       loop .to < length (loop .plan)
   room =
-      let entry = c .before .before .before .before .before .before .before .before in
-      let inv = c .before .before .before .before .before .loop .inv in
-      let loop-test = c .before .before .before .before .loop-test in
+      let entry = entry-of t (turn-of t (c .before) .before) in
+      let inv = turn-of t (c .before) .before .loop .inv in
+      let loop-test = turn-of t (c .before) .loop-test in
       let p = entry .pre .1 in
       value-room _ _ (p .0) _ _ _ _ _ _ _ (inv .1) (loop-test .taken) value (kind-g (entry .args .table .now) (entry .args .group) (p .1 .1 .0 .2)) _ (omega (arith, p .1 .1 .1, inv .0))
 
@@ -85,48 +111,48 @@ list-group-shared-slice-read-x t c = omega (arith, c .before .before .pre .1 .1 
 
 list-group-loop-holds : (t : ℕ) → list-group-lts.Need-loop-holds (claims t) (list-group-at t) list-group.Post list-group-Inv-loop list-group-μ-loop
 list-group-loop-holds t c =
-    let p = c .before .before .pre .1 in
-    let g = p .1 .1 .0 in
-    (refl, turn-start _ _ (p .0) _ _ _ _ _ (p .1 .0 .1 (c .before .before .args .group) (g .0) (g .1)))
+    let pre = c .before .before .pre .1 in
+    let g = pre .1 .1 .0 in
+    (refl, turn-start _ _ (pre .0) _ _ _ _ _ (pre .1 .0 .1 (c .before .before .args .group) (g .0) (g .1)))
 
 list-group-widen-requires : (t : ℕ) → list-group-lts.Need-widen-requires (claims t) (list-group-at t) list-group.Post list-group-Inv-loop list-group-μ-loop
 list-group-widen-requires t c κs = search needs
 
 list-group-add-x : (t : ℕ) → list-group-lts.Need-add-x (claims t) (list-group-at t) list-group.Post list-group-Inv-loop list-group-μ-loop
 list-group-add-x t c =
-    let entry = c .before .before .before .before .before in
+    let entry = entry-of t (c .before .before) in
     let b = label t (c .before) in
     omega (arith, b, c .widen .ensures, entry .pre .1 .0 .few)
 
 list-group-mul-x-2 : (t : ℕ) → list-group-lts.Need-mul-x-2 (claims t) (list-group-at t) list-group.Post list-group-Inv-loop list-group-μ-loop
 list-group-mul-x-2 t c =
-    let entry = c .before .before .before .before .before in
+    let entry = entry-of t (c .before .before) in
     let b = label t (c .before) in
     omega (arith, b, c .widen .ensures, entry .pre .1 .0 .few)
 
 list-group-shared-slice-read-x-2 : (t : ℕ) → list-group-lts.Need-shared-slice-read-x-2 (claims t) (list-group-at t) list-group.Post list-group-Inv-loop list-group-μ-loop
 list-group-shared-slice-read-x-2 t c =
-    let entry = c .before .before .before .before .before .before in
+    let entry = entry-of t (loop-of t c) in
     let b = label t (c .before .before) in
     omega (arith, b, c .before .widen .ensures, entry .pre .1 .1 .0 .0)
 
 list-group-kind-of-requires : (t : ℕ) → list-group-lts.Need-kind-of-requires (claims t) (list-group-at t) list-group.Post list-group-Inv-loop list-group-μ-loop
 list-group-kind-of-requires t c κs =
-    let entry = c .before .before .before .before .before .before in
+    let entry = entry-of t (loop-of t c) in
     let b = label t (c .before .before) in
     (entry .pre .1 .0, (omega (arith, b, c .before .widen .ensures), omega (arith, b, c .before .widen .ensures)))
 
 list-group-cast-plan : (t : ℕ) → list-group-lts.Need-cast-plan (claims t) (list-group-at t) list-group.Post list-group-Inv-loop list-group-μ-loop
 list-group-cast-plan t c =
-    let entry = c .before .before .before .before .before .before .before .before in
-    let point = c .before .before .before .before in
-    let widen = c .before .before .before .widen in
-    let b = label t point in
+    let entry = entry-of t (turn-of t (c .before) .before) in
+    let turn = turn-of t (c .before) in
+    let widen = after-widen t c .widen in
+    let b = label t turn in
     record { sfits = omega (arith, b, widen .ensures, entry .pre .1 .0 .few) }
 
 list-group-mul-t20 : (t : ℕ) → list-group-lts.Need-mul-t20 (claims t) (list-group-at t) list-group.Post list-group-Inv-loop list-group-μ-loop
 list-group-mul-t20 t c =
-    let good = c .before .before .before .before .before .before .before .before .good in
+    let good = entry-of t (turn-of t (c .before) .before) .good in
     omega (arith, room t c, good)
 
 list-group-slice-set-from-plan : (t : ℕ) → list-group-lts.Need-slice-set-from-plan (claims t) (list-group-at t) list-group.Post list-group-Inv-loop list-group-μ-loop
@@ -134,25 +160,25 @@ list-group-slice-set-from-plan t c = room t c
 
 list-group-add-to : (t : ℕ) → list-group-lts.Need-add-to (claims t) (list-group-at t) list-group.Post list-group-Inv-loop list-group-μ-loop
 list-group-add-to t c =
-    let good = c .before .before .before .before .before .before .before .before .good in
+    let good = entry-of t (turn-of t (c .before) .before) .good in
     omega (arith, room t c, good)
 
 list-group-loop-less : (t : ℕ) → list-group-lts.Need-loop-less (claims t) (list-group-at t) list-group.Post list-group-Inv-loop list-group-μ-loop
 list-group-loop-less t c =
-    let entry = c .before .before .before .before .before .before .before .before in
-    let inv = c .before .before .before .before .before .loop .inv in
-    let loop-test = c .before .before .before .before .loop-test in
-    let widen = c .before .before .before .widen in
+    let entry = entry-of t (turn-of t (c .before) .before) in
+    let inv = turn-of t (c .before) .before .loop .inv in
+    let loop-test = turn-of t (c .before) .loop-test in
+    let widen = after-widen t c .widen in
     rw (widen .ensures) (turn-less _ _ (entry .pre .1 .0) _ _ _ _ _ _ _ (inv .1) (loop-test .taken))
 
 list-group-loop-again : (t : ℕ) → list-group-lts.Need-loop-again (claims t) (list-group-at t) list-group.Post list-group-Inv-loop list-group-μ-loop
 list-group-loop-again t c =
-    let entry = c .before .before .before .before .before .before .before .before in
-    let loop = c .before .before .before .before .before .loop in
-    let point = c .before .before .before .before in
-    let loop-test = c .before .before .before .before .loop-test in
-    let widen = c .before .before .before .widen in
-    let b = label t point in (
+    let entry = entry-of t (turn-of t (c .before) .before) in
+    let loop = turn-of t (c .before) .before .loop in
+    let turn = turn-of t (c .before) in
+    let loop-test = turn-of t (c .before) .loop-test in
+    let widen = after-widen t c .widen in
+    let b = label t turn in (
       length-set (loop .plan) _ _ ∙ loop .inv .0,
       rw (widen .ensures) (value-turn _ _ (entry .pre .1 .0) _ _ _ _ _ _ _ (loop .inv .1) (loop-test .taken) (value t c) _
           (toZ-pos w64 {n = loop .x} (omega (arith, b, entry .pre .1 .0 .few))) (room t c)),
@@ -160,14 +186,14 @@ list-group-loop-again t c =
 
 list-group-list-group-requires : (t : ℕ) → list-group-lts.Need-list-group-requires (claims t) (list-group-at t) list-group.Post list-group-Inv-loop list-group-μ-loop
 list-group-list-group-requires t c κs =
-    let point = c .before .before .before .before .before .before in
-    let loop-test = c .before .before .before .before .before .before .loop-test in
-    let widen = c .before .before .before .before .before .widen in
-    let kind-of = c .before .before .before .kind-of in
-    let a = c .before .before .before .before .before .before .before .before .before .before in
+    let turn = turn-of t (after-kind-of t c) in
+    let loop-test = turn-of t (after-kind-of t c) .loop-test in
+    let widen = after-kind-of t c .before .before .widen in
+    let kind-of = after-kind-of t c .kind-of in
+    let a = entry-of t (turn-of t (after-kind-of t c) .before) in
     let p = a .pre .1 in
-    let l = c .before .before .before .before .before .before .before in
-    let b = label t point in
+    let l = turn-of t (after-kind-of t c) .before in
+    let b = label t turn in
     let k = ap (kind (a .args .table .now)) (sym (widen .ensures)) ∙ sym (kind-of .ensures) ∙ c .before .if2 .taken in
     rw (widen .ensures) (
       omega (arith, b, a .pre .0, p .1 .1 .0),
@@ -185,20 +211,20 @@ list-group-list-group-requires t c κs =
 
 list-group-loop-less-2 : (t : ℕ) → list-group-lts.Need-loop-less-2 (claims t) (list-group-at t) list-group.Post list-group-Inv-loop list-group-μ-loop
 list-group-loop-less-2 t c =
-    let entry = c .before .before .before .before .before .before .before .before .before .before .before .before in
-    let inv = c .before .before .before .before .before .before .before .before .before .loop .inv in
-    let loop-test = c .before .before .before .before .before .before .before .before .loop-test in
-    let widen = c .before .before .before .before .before .before .before .widen in
+    let entry = entry-of t (turn-of t (after-kind-of t (c .before .before)) .before) in
+    let inv = turn-of t (after-kind-of t (c .before .before)) .before .loop .inv in
+    let loop-test = turn-of t (after-kind-of t (c .before .before)) .loop-test in
+    let widen = after-kind-of t (c .before .before) .before .before .widen in
     rw (widen .ensures) (turn-less _ _ (entry .pre .1 .0) _ _ _ _ _ _ _ (inv .1) (loop-test .taken))
 
 list-group-loop-again-2 : (t : ℕ) → list-group-lts.Need-loop-again-2 (claims t) (list-group-at t) list-group.Post list-group-Inv-loop list-group-μ-loop
 list-group-loop-again-2 t c =
-    let loop = c .before .before .before .before .before .before .before .before .before .loop in
-    let loop-test = c .before .before .before .before .before .before .before .before .loop-test in
-    let widen = c .before .before .before .before .before .before .before .widen in
-    let kind-of = c .before .before .before .before .before .kind-of in
+    let loop = turn-of t (after-kind-of t (c .before .before)) .before .loop in
+    let loop-test = turn-of t (after-kind-of t (c .before .before)) .loop-test in
+    let widen = after-kind-of t (c .before .before) .before .before .widen in
+    let kind-of = after-kind-of t (c .before .before) .kind-of in
     let if2 = c .before .before .before .if2 in
-    let a = c .before .before .before .before .before .before .before .before .before .before .before .before in
+    let a = entry-of t (turn-of t (after-kind-of t (c .before .before)) .before) in
     let k = ap (kind (a .args .table .now)) (sym (widen .ensures)) ∙ sym (kind-of .ensures) ∙ if2 .taken in (
       c .before .list-group .kept .1 .1 .1 .0 ∙ loop .inv .0,
       rw (widen .ensures) (group-turn _ _ (a .pre .1 .0) _ _ _ _ _ _ _ (loop .inv .1) (loop-test .taken) k _ _
@@ -208,18 +234,18 @@ list-group-loop-again-2 t c =
 
 list-group-loop-less-3 : (t : ℕ) → list-group-lts.Need-loop-less-3 (claims t) (list-group-at t) list-group.Post list-group-Inv-loop list-group-μ-loop
 list-group-loop-less-3 t c =
-    let entry = c .before .before .before .before .before .before .before .before .before in
-    let inv = c .before .before .before .before .before .before .loop .inv in
-    let loop-test = c .before .before .before .before .before .loop-test in
-    let widen = c .before .before .before .before .widen in
+    let entry = entry-of t (turn-of t (c .before .before) .before) in
+    let inv = turn-of t (c .before .before) .before .loop .inv in
+    let loop-test = turn-of t (c .before .before) .loop-test in
+    let widen = after-widen-from-else2 t c .widen in
     rw (widen .ensures) (turn-less _ _ (entry .pre .1 .0) _ _ _ _ _ _ _ (inv .1) (loop-test .taken))
 
 list-group-loop-again-3 : (t : ℕ) → list-group-lts.Need-loop-again-3 (claims t) (list-group-at t) list-group.Post list-group-Inv-loop list-group-μ-loop
 list-group-loop-again-3 t c =
-    let entry = c .before .before .before .before .before .before .before .before .before in
-    let inv = c .before .before .before .before .before .before .loop .inv in
-    let loop-test = c .before .before .before .before .before .loop-test in
-    let widen = c .before .before .before .before .widen in
+    let entry = entry-of t (turn-of t (c .before .before) .before) in
+    let inv = turn-of t (c .before .before) .before .loop .inv in
+    let loop-test = turn-of t (c .before .before) .loop-test in
+    let widen = after-widen-from-else2 t c .widen in
     let e = c .before .before .kind-of .ensures ∙ ap (kind (entry .args .table .now)) (widen .ensures) in
     (inv .0, rw (widen .ensures) (none-turn _ _ (entry .pre .1 .0) _ _ _ _ _ _ _ (inv .1) (loop-test .taken) (λ z. c .before .if1 .left (e ∙ z)) (λ z. c .if2 .left (e ∙ z))))
 
@@ -228,7 +254,7 @@ list-group-same-length t c = c .before .loop .inv .0
 
 list-group-returns : (t : ℕ) → list-group-lts.Need-returns (claims t) (list-group-at t) list-group.Post list-group-Inv-loop list-group-μ-loop
 list-group-returns t c =
-    let entry = c .before .before .before .before in
+    let entry = entry-of t (c .before) in
     turn-end _ _ (entry .pre .1 .0) _ _ _ _ _ _ _ (c .before .loop .inv .1) (kind-g (entry .args .table .now) (entry .args .group) (entry .pre .1 .1 .1 .0 .2)) (c .loop-test .left)
 
 pub +list-group-spec : {M : Type 1} → statement M

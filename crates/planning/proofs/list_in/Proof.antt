@@ -11,6 +11,36 @@ use borrow.Author.Needs.{needs}
 use Rattle.planning.proofs.list_in.Statement.{statement}
 use Rattle.planning.proofs.list_in.Tie as tie
 
+-- ---- earlier places, by later ones
+
+abbrev entry-of : tie.After-slice-known5 → tie.Start
+entry-of c = c .before .before .before .before .before .before
+
+abbrev entry-from-link-members : tie.After-link-members → tie.Start
+entry-from-link-members c = entry-of (c .before .before .before .before)
+
+abbrev after-link-members : tie.After-order-groups-arg7 → tie.After-link-members
+after-link-members c = c .before .before .before .before .before .before .before .before .before
+
+abbrev after-order-groups : tie.After-list-group-arg2 → tie.After-order-groups
+after-order-groups c = c .before .before .before .before .before .before .before .before .before .before .before .before .before .before .before .before .before
+
+abbrev after-order-groups-from-list-mixed-arg7 : tie.After-list-mixed-arg7 → tie.After-order-groups
+after-order-groups-from-list-mixed-arg7 c =
+    let half = c .before .before .before .before .before .before .before .before .before .before .before in
+    half .before .before .before .before .before .before .before .before .before .before .before
+
+abbrev after-order-groups-from-slice-known21 : tie.After-slice-known21 → tie.After-order-groups
+after-order-groups-from-slice-known21 c = after-order-groups-from-list-mixed-arg7 (c .before .before .before .before .before .before .before .before .before .before .before .before .before .before)
+
+abbrev after-slice-known14 : tie.After-slice-known21 → tie.After-slice-known14
+after-slice-known14 c =
+    let half = c .before .before .before .before .before .before .before .before .before .before .before .before in
+    half .before .before .before .before .before .before .before .before .before .before .before .before
+
+abbrev after-plan : tie.After-slice-known21 → tie.After-plan
+after-plan c = c .before .before .before .before .before .before .before .before .before .before .before .before
+
 -- what `order_groups` answered
 orders : (t : List ℤ) (n : ℕ) (next : List ℕ) (r b : Bool) → GroupOrders t n next r → r ≡ b → GroupOrders t n next b
 orders t n next r b h e = subst (GroupOrders t n next) e h
@@ -20,19 +50,16 @@ link-members-requires c κs = search needs
 
 order-groups-requires : tie.Need-order-groups-requires
 order-groups-requires c κs =
-    let back = c .before .before .before .before .before .before .before .before .before .before .before .before in
-    let entry = back .before .before .before .before .before .before .before in
+    let entry = entry-from-link-members (after-link-members c) in
     let p = entry .pre in
-    let k = c .before .before .before .before .before .before .before .before .before .link-members in
-    (p .0, (((omega (arith, p .1 .1 .1 .0 .0, k .kept .1 .1 .0), p .1 .1 .1 .1 .0), p .1 .1 .1 .1 .1), (p .1 .1 .0, k .ensures)))
+    let link-members = after-link-members c .link-members in
+    (p .0, (((omega (arith, p .1 .1 .1 .0 .0, link-members .kept .1 .1 .0), p .1 .1 .1 .1 .0), p .1 .1 .1 .1 .1), (p .1 .1 .0, link-members .ensures)))
 
 list-mixed-requires : tie.Need-list-mixed-requires
 list-mixed-requires c κs =
-    let back = c .before .before .before .before .before .before .before .before .before .before .before .before in
-    let back-2 = back .before .before .before .before .before .before .before .before .before .before .before .before in
-    let back-2-2 = back-2 .before .before .before .before .before .before .before .before .before .before .before .before in
-    let entry = back-2-2 .before .before .before .before .before .before in
-    let order-groups = back .before .before .before .before .before .before .before .before .before .before .order-groups in
+    let back-2-2 = after-link-members (after-order-groups-from-list-mixed-arg7 c .before) .before .before .before .before in
+    let entry = entry-of back-2-2 in
+    let order-groups = after-order-groups-from-list-mixed-arg7 c .order-groups in
     let p = entry .pre in
     let k = order-groups .kept .1 .1 .1 .1 in (
       p .0,
@@ -54,11 +81,9 @@ same-length c = search needs
 
 same-length-2 : tie.Need-same-length-2
 same-length-2 c =
-    let back = c .before .before .before .before .before .before .before .before .before .before .before .before in
-    let back-2 = back .before .before .before .before .before .before .before .before .before .before .before .before in
-    let back-2-2 = back-2 .before .before .before .before .before .before .before .before .before .before .before .before in
-    let link-members = back-2-2 .before .before .before .before .before .before .before .before .before .before .link-members in
-    let order-groups = back-2 .before .before .before .before .before .before .before .before .before .before .before .before .order-groups in
+    let back-2-2 = after-order-groups-from-slice-known21 c in
+    let link-members = after-link-members (back-2-2 .before) .link-members in
+    let order-groups = after-order-groups-from-slice-known21 c .order-groups in
     order-groups .kept .1 .1 .1 .0 ∙ link-members .kept .1 .1 .0
 
 same-length-3 : tie.Need-same-length-3
@@ -81,28 +106,24 @@ same-length-8 c = search needs
 
 returns : tie.Need-returns
 returns c =
-    let back = c .before .before .before .before .before .before .before .before .before .before .before .before in
-    let back-2 = back .before .before .before .before .before .before .before .before .before .before .before .before in
-    let back-2-2 = back-2 .before .before .before .before .before .before .before .before .before .before .before .before in
-    let back-2-2-2 = back-2-2 .before .before .before .before .before .before .before .before .before .before .before .before in
-    let a = back-2-2-2 .before .before .before .before .before .before .before .before in
-    let order-groups = back-2 .before .before .before .before .before .before .before .before .before .before .before .before .order-groups in
-    let if1 = back .before .before .before .before .before .before .before .before .before .if1 in
+    let back-2-2 = after-order-groups-from-slice-known21 c in
+    let back-2-2-2 = after-link-members (back-2-2 .before) .before .before in
+    let entry = entry-of (back-2-2-2 .before .before) in
+    let order-groups = after-order-groups-from-slice-known21 c .order-groups in
+    let if1 = c .before .before .before .before .before .before .before .before .before .before .before .before .before .before .before .before .before .before .before .before .before .if1 in
     let list-mixed = c .before .before .before .before .before .before .before .before .before .before .before .before .before .list-mixed in
-    plan-mixed _ _ (a .pre .0) _ _ _ (a .pre .1 .0 .1) (orders (a .args .table .now) (a .args .n) _ _ _ (order-groups .ensures) (if1 .taken)) (list-mixed .ensures)
+    plan-mixed _ _ (entry .pre .0) _ _ _ (entry .pre .1 .0 .1) (orders (entry .args .table .now) (entry .args .n) _ _ _ (order-groups .ensures) (if1 .taken)) (list-mixed .ensures)
 
 list-group-requires : tie.Need-list-group-requires
 list-group-requires c κs =
-    let back = c .before .before .before .before .before .before .before .before .before .before .before .before in
-    let back-2 = back .before .before .before .before .before .before .before .before .before .before .before .before in
-    let a = back-2 .before .before .before .before .before .before .before .before .before .before .before .before .before in
-    let link-members = back .before .before .before .before .before .before .before .before .before .before .before .before .before .before .before .link-members in
-    let k = back .before .before .before .before .before .order-groups in
-    let o = orders (a .args .table .now) (a .args .n) _ _ _ (k .ensures) (c .before .before .if1 .left) in (
-      a .pre .0,
+    let entry = entry-from-link-members (after-link-members (after-order-groups c .before)) in
+    let link-members = after-link-members (after-order-groups c .before) .link-members in
+    let order-groups = after-order-groups c .order-groups in
+    let o = orders (entry .args .table .now) (entry .args .n) _ _ _ (order-groups .ensures) (c .before .before .if1 .left) in (
+      entry .pre .0,
       (
-        (omega (arith, k .kept .1 .1 .1 .0, link-members .kept .1 .1 .0, a .pre .1 .1 .1 .0 .0), o .0),
-        ((omega arith, a .pre .0 .some, a .pre .0 .root), omega (arith, a .pre .1 .0 .0, whole-short _ _ (a .pre .0) (a .pre .1 .0 .1) (o .1))),
+        (omega (arith, order-groups .kept .1 .1 .1 .0, link-members .kept .1 .1 .0, entry .pre .1 .1 .1 .0 .0), o .0),
+        ((omega arith, entry .pre .0 .some, entry .pre .0 .root), omega (arith, entry .pre .1 .0 .0, whole-short _ _ (entry .pre .0) (entry .pre .1 .0 .1) (o .1))),
       ),
     )
 
@@ -132,13 +153,11 @@ same-length-16 c = search needs
 
 returns-2 : tie.Need-returns-2
 returns-2 c =
-    let back = c .before .before .before .before .before .before .before .before .before .before .before .before in
-    let back-2 = back .before .before .before .before .before .before .before .before .before .before .before .before in
-    let a = back-2 .before .before .before .before .before .before .before .before .before .before .before .before .before .before .before in
-    let order-groups = back .before .before .before .before .before .before .before .order-groups in
+    let entry = entry-from-link-members (after-link-members (after-order-groups (c .before .before) .before)) in
+    let order-groups = after-order-groups (c .before .before) .order-groups in
     let if1 = c .before .before .before .before .if1 in
-    let o = orders (a .args .table .now) (a .args .n) _ _ _ (order-groups .ensures) (if1 .left) in
-    plan-whole _ _ (a .pre .0) _ _ _ (a .pre .1 .0 .1) (o .1) (c .before .list-group .ensures)
+    let o = orders (entry .args .table .now) (entry .args .n) _ _ _ (order-groups .ensures) (if1 .left) in
+    plan-whole _ _ (entry .pre .0) _ _ _ (entry .pre .1 .0 .1) (o .1) (c .before .list-group .ensures)
 
 pub list-in-spec : {M : Type 1} → statement M
 list-in-spec =

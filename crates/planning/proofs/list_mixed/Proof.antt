@@ -8,6 +8,17 @@ use borrow.Author.Needs.{needs}
 use Rattle.planning.proofs.list_mixed.Statement.{statement}
 use Rattle.planning.proofs.list_mixed.Tie as tie
 
+-- ---- earlier places, by later ones
+
+abbrev entry-of : tie.After-gather-values → tie.Start
+entry-of c = c .before .before .before .before .before .before .before .before .before
+
+abbrev after-gather-values : tie.After-place-items-arg6 → tie.After-gather-values
+after-gather-values c = c .before .before .before .before .before .before .before .before .before
+
+abbrev after-place-items : tie.After-put-all-arg2 → tie.After-place-items
+after-place-items c = c .before .before .before .before .before .before .before .before .before .before .before .before
+
 gather-values-requires : tie.Need-gather-values-requires
 gather-values-requires c κs = search needs
 
@@ -22,22 +33,19 @@ part-place-items-end c = search needs
 
 place-items-requires : tie.Need-place-items-requires
 place-items-requires c κs =
-    let back = c .before .before .before .before .before .before .before .before .before .before .before .before in
-    let entry = back .before .before .before .before .before .before in
-    let gather-values = c .before .before .before .before .before .before .before .before .before .gather-values in
+    let entry = entry-of (after-gather-values c) in
+    let gather-values = after-gather-values c .gather-values in
     let p = entry .pre in
     (p .0, (value-items _ _ (p .0) _ _ (gather-values .ensures), (p .1 .1 .0, p .1 .1 .1 .1)))
 
 put-all-requires : tie.Need-put-all-requires
 put-all-requires c κs =
-    let back = c .before .before .before .before .before .before .before .before .before .before .before .before in
-    let back-2 = back .before .before .before .before .before .before .before .before .before .before .before .before in
-    let entry = back-2 .before .before .before .before .before .before .before in
-    let gather-values = back .before .before .before .before .before .before .before .before .before .before .gather-values in
+    let entry = entry-of (after-gather-values (after-place-items c .before)) in
+    let gather-values = after-gather-values (after-place-items c .before) .gather-values in
     let p = entry .pre in
-    let e = c .before .before .before .before .before .before .before .before .before .before .before .before .place-items in
+    let place-items = after-place-items c .place-items in
     let m = items-few _ _ (p .0) _ (value-items _ _ (p .0) _ _ (gather-values .ensures)) in
-    (omega (arith, e .ensures .within, m, e .kept .1 .1 .1 .1 .1 .1 .1 .1 .0, p .1 .1 .1 .1 .orders), omega (arith, e .ensures .within, m, p .1 .0))
+    (omega (arith, place-items .ensures .within, m, place-items .kept .1 .1 .1 .1 .1 .1 .1 .1 .0, p .1 .1 .1 .1 .orders), omega (arith, place-items .ensures .within, m, p .1 .0))
 
 same-length : tie.Need-same-length
 same-length c = search needs
@@ -62,11 +70,9 @@ same-length-7 c = search needs
 
 returns : tie.Need-returns
 returns c =
-    let back = c .before .before .before .before .before .before .before .before .before .before .before .before in
-    let back-2 = back .before .before .before .before .before .before .before .before .before .before .before .before in
-    let a = back-2 .before .before .before .before .before .before .before .before .before in
-    let gather-values = back .before .before .before .before .before .before .before .before .before .before .before .before .gather-values in
-    let e = c .before .before .before .before .before .before .before .before .before .before .before .before .before .before .place-items in
+    let a = entry-of (after-gather-values (after-place-items (c .before .before) .before)) in
+    let gather-values = after-gather-values (after-place-items (c .before .before) .before) .gather-values in
+    let e = after-place-items (c .before .before) .place-items in
     subst (λ (l : List ℕ). PutAt l 0 (a .args .plan .now) (c .before .put-all .last .1 .1 .0) (e .result)) (mixed-is _ _ (a .pre .0) _ _ (gather-values .ensures) (a .pre .1 .0 .1) _ _ (e .ensures))
     (c .before .put-all .ensures)
 

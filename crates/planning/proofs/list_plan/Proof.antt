@@ -38,9 +38,9 @@ slice-aggregate-list-in-7 c = search needs
 
 list-in-requires : tie.Need-list-in-requires
 list-in-requires c κs =
-    let a = c .before .before .before .before .before .before .before .before .before .before in
-    let h : a .args .n ≤ labelLimit = a .pre .0 .few in
-    (a .pre .0, (a .pre .1 .0, (a .pre .1 .1, zero-lists (a .args .n) 1025 17 (omega arith) (omega arith))))
+    let entry = c .before .before .before .before .before .before .before .before .before .before in
+    let h : entry .args .n ≤ labelLimit = entry .pre .0 .few in
+    (entry .pre .0, (entry .pre .1 .0, (entry .pre .1 .1, zero-lists (entry .args .n) 1025 17 (omega arith) (omega arith))))
 
 same-length-2 : tie.Need-same-length-2
 same-length-2 c = search needs

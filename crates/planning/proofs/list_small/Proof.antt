@@ -28,9 +28,9 @@ slice-aggregate-list-in-7 c = search needs
 
 list-in-requires : tie.Need-list-in-requires
 list-in-requires c κs =
-    let a = c .before .before .before .before .before .before .before .before .before in
-    let h : a .args .n ≤ 127 = a .pre .1 .0 in
-    (a .pre .0, (a .pre .1 .1 .0, (a .pre .1 .1 .1, zero-lists (a .args .n) 128 2 (omega arith) (omega arith))))
+    let entry = c .before .before .before .before .before .before .before .before .before in
+    let h : entry .args .n ≤ 127 = entry .pre .1 .0 in
+    (entry .pre .0, (entry .pre .1 .1 .0, (entry .pre .1 .1 .1, zero-lists (entry .args .n) 128 2 (omega arith) (omega arith))))
 
 same-length : tie.Need-same-length
 same-length c = search needs

@@ -7,7 +7,7 @@ use Rattle.planning.proofs.plan_in.Statement.{statement}
 use Rattle.planning.proofs.plan_in.Tie as tie
 
 find-cycle-requires : tie.Need-find-cycle-requires
-find-cycle-requires c κs = let p = c .before .before .pre in (p .0, (inl refl, p .1 .1))
+find-cycle-requires c κs = let pre = c .before .before .pre in (pre .0, (inl refl, pre .1 .1))
 
 same-length : tie.Need-same-length
 same-length c = search needs
@@ -24,10 +24,10 @@ needs-of-requires c κs = search needs
 list-plan-requires : tie.Need-list-plan-requires
 list-plan-requires c κs =
     let if1 = c .before .before .before .before .before .before .if1 in
-    let p = c .before .before .before .before .before .before .before .before .before .before .before .before .pre in
-    let k = c .before .before .before .before .before .before .before .before .before .find-cycle in
-    let m = c .before .before .before .before .needs-of in
-    (p .0, ((p .1 .0, sym (k .ensures .0) ∙ if1 .left), (omega (arith, p .1 .1 .0, k .kept .1 .1 .1 .0, m .kept .1 .1 .0), m .ensures)))
+    let pre = c .before .before .before .before .before .before .before .before .before .before .before .before .pre in
+    let find-cycle = c .before .before .before .before .before .before .before .before .before .find-cycle in
+    let needs-of = c .before .before .before .before .needs-of in
+    (pre .0, ((pre .1 .0, sym (find-cycle .ensures .0) ∙ if1 .left), (omega (arith, pre .1 .1 .0, find-cycle .kept .1 .1 .1 .0, needs-of .kept .1 .1 .0), needs-of .ensures)))
 
 same-length-2 : tie.Need-same-length-2
 same-length-2 c = search needs

@@ -11,9 +11,9 @@ slice-aggregate-plan-in c = search needs
 
 plan-in-requires : tie.Need-plan-in-requires
 plan-in-requires c κs =
-    let a = c .before .before .before in
-    let h : a .args .n ≤ 127 = c .before .before .if1 .taken in
-    (a .pre .0, (a .pre .1, zero-square (a .args .n) 128 2 (omega arith) (omega arith)))
+    let entry = c .before .before .before in
+    let h : entry .args .n ≤ 127 = c .before .before .if1 .taken in
+    (entry .pre .0, (entry .pre .1, zero-square (entry .args .n) 128 2 (omega arith) (omega arith)))
 
 same-length : tie.Need-same-length
 same-length c = search needs
@@ -26,9 +26,9 @@ slice-aggregate-plan-in-2 c = search needs
 
 plan-in-requires-2 : tie.Need-plan-in-requires-2
 plan-in-requires-2 c κs =
-    let a = c .before .before .before .before in
-    let h : a .args .n ≤ 255 = c .before .before .if2 .taken in
-    (a .pre .0, (a .pre .1, zero-square (a .args .n) 256 4 (omega arith) (omega arith)))
+    let entry = c .before .before .before .before in
+    let h : entry .args .n ≤ 255 = c .before .before .if2 .taken in
+    (entry .pre .0, (entry .pre .1, zero-square (entry .args .n) 256 4 (omega arith) (omega arith)))
 
 same-length-2 : tie.Need-same-length-2
 same-length-2 c = search needs
@@ -41,9 +41,9 @@ slice-aggregate-plan-in-3 c = search needs
 
 plan-in-requires-3 : tie.Need-plan-in-requires-3
 plan-in-requires-3 c κs =
-    let a = c .before .before .before .before .before in
-    let h : a .args .n ≤ 511 = c .before .before .if3 .taken in
-    (a .pre .0, (a .pre .1, zero-square (a .args .n) 512 8 (omega arith) (omega arith)))
+    let entry = c .before .before .before .before .before in
+    let h : entry .args .n ≤ 511 = c .before .before .if3 .taken in
+    (entry .pre .0, (entry .pre .1, zero-square (entry .args .n) 512 8 (omega arith) (omega arith)))
 
 same-length-3 : tie.Need-same-length-3
 same-length-3 c = search needs
@@ -56,9 +56,9 @@ slice-aggregate-plan-in-4 c = search needs
 
 plan-in-requires-4 : tie.Need-plan-in-requires-4
 plan-in-requires-4 c κs =
-    let a = c .before .before .before .before .before in
-    let h : a .args .n ≤ labelLimit = a .pre .0 .few in
-    (a .pre .0, (a .pre .1, zero-square (a .args .n) 1025 17 (omega arith) (omega arith)))
+    let entry = c .before .before .before .before .before in
+    let h : entry .args .n ≤ labelLimit = entry .pre .0 .few in
+    (entry .pre .0, (entry .pre .1, zero-square (entry .args .n) 1025 17 (omega arith) (omega arith)))
 
 same-length-4 : tie.Need-same-length-4
 same-length-4 c = search needs

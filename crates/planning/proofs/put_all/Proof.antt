@@ -17,9 +17,17 @@ Inv-loop order r plan₀ i₀ plan i = (length plan ≡ length plan₀) × (i �
 abbrev μ-loop : tie.MeasureT-loop
 μ-loop order r plan₀ i₀ plan i = r - i
 
+-- ---- earlier places, by later ones
+
+abbrev entry-of : tie.After-shared-slice-known2 Inv-loop μ-loop → tie.Start Inv-loop μ-loop
+entry-of c = c .before .before .before .before
+
+abbrev loop-of : tie.After-widen Inv-loop μ-loop → tie.At-loop Inv-loop μ-loop
+loop-of c = c .before .before .before
+
 small : (c : tie.After-widen Inv-loop μ-loop) → c .widen .result < 65536
 small c =
-    let loop = c .before .before .before .loop in
+    let loop = loop-of c .loop in
     omega (arith, c .widen .ensures, c .before .shared-slice-known2 .given (loop .i))
 
 loop-holds : tie.Need-loop-holds Inv-loop μ-loop
@@ -30,7 +38,7 @@ mul-widen c = search needs
 
 shared-slice-read-widen : tie.Need-shared-slice-read-widen Inv-loop μ-loop
 shared-slice-read-widen c =
-    let entry = c .before .before .before .before in
+    let entry = entry-of c in
     omega (arith, c .before .loop-test .taken, entry .pre .0)
 
 widen-requires : tie.Need-widen-requires Inv-loop μ-loop
@@ -44,8 +52,8 @@ mul-t11 c = search needs
 
 slice-set-from-plan : tie.Need-slice-set-from-plan Inv-loop μ-loop
 slice-set-from-plan c =
-    let entry = c .before .before .before .before .before in
-    let inv = c .before .before .before .loop .inv in
+    let entry = entry-of (c .before) in
+    let inv = loop-of c .loop .inv in
     omega (arith, c .before .before .loop-test .taken, entry .pre .1, inv .0)
 
 add-i : tie.Need-add-i Inv-loop μ-loop
@@ -56,12 +64,12 @@ loop-less c = search needs
 
 loop-again : tie.Need-loop-again Inv-loop μ-loop
 loop-again c =
-    let l = c .before .before .before in
-    let a = c .before .before .before .before .before in (
-      length-set (l .loop .plan) _ _ ∙ l .loop .inv .0,
+    let loop = loop-of c in
+    let a = entry-of (c .before) in (
+      length-set (loop .loop .plan) _ _ ∙ loop .loop .inv .0,
       omega (arith, c .before .before .loop-test .taken),
-      put-label (a .args .order .now) _ (l .loop .plan) (l .loop .i) (l .loop .inv .2) _ (omega (arith, c .before .before .loop-test .taken, a .pre .0))
-          (omega (arith, c .before .before .loop-test .taken, a .pre .1, l .loop .inv .0))
+      put-label (a .args .order .now) _ (loop .loop .plan) (loop .loop .i) (loop .loop .inv .2) _ (omega (arith, c .before .before .loop-test .taken, a .pre .0))
+          (omega (arith, c .before .before .loop-test .taken, a .pre .1, loop .loop .inv .0))
           (toZ-pos w64 {n = c .widen .result} (omega (arith, small c)) ∙ ap pos (c .widen .ensures)),
     )
 
@@ -70,10 +78,10 @@ same-length c = c .before .loop .inv .0
 
 returns : tie.Need-returns Inv-loop μ-loop
 returns c =
-    let l = c .before in
-    let a = c .before .before .before in
-    let e : l .loop .i ≡ a .args .r = omega (arith, l .loop .inv .1, c .loop-test .left) in
-    subst (λ (k : ℕ). PutAt (take k (a .args .order .now)) 0 (a .args .plan .now) (l .loop .plan) k) e (l .loop .inv .2)
+    let loop = c .before in
+    let entry = c .before .before .before in
+    let e : loop .loop .i ≡ entry .args .r = omega (arith, loop .loop .inv .1, c .loop-test .left) in
+    subst (λ (k : ℕ). PutAt (take k (entry .args .order .now)) 0 (entry .args .plan .now) (loop .loop .plan) k) e (loop .loop .inv .2)
 
 pub put-all-spec : {M : Type 1} → statement M
 put-all-spec =

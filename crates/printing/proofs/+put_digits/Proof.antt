@@ -29,8 +29,8 @@ claims t = (put-digits-below t, put-digits.Post, put-reads.Asked, put-reads.Lear
 
 put-digits-returns : (t : ℕ) → put-digits-lts.Need-returns (claims t) (put-digits-at t) put-digits.Post
 put-digits-returns t c =
-    let a = c .before .before .args in
-    rw (c .if1 .taken, digits-none) (nothing (a .out .now) (a .at) (omega arith) (omega arith))
+    let args = c .before .before .args in
+    rw (c .if1 .taken, digits-none) (nothing (args .out .now) (args .at) (omega arith) (omega arith))
 
 put-digits-put-digits-requires : (t : ℕ) → put-digits-lts.Need-put-digits-requires (claims t) (put-digits-at t) put-digits.Post
 put-digits-put-digits-requires t c κs =

@@ -12,7 +12,7 @@ nat-of-requires : tie.Need-nat-of-requires
 nat-of-requires c κs = search needs
 
 returns : tie.Need-returns
-returns c = let i = c .before .result-at in c .nat-of .ensures ∙ ap natOf (whole (i .result) (i .ok) ∙ i .ensures)
+returns c = let result-at = c .before .result-at in c .nat-of .ensures ∙ ap natOf (whole (result-at .result) (result-at .ok) ∙ result-at .ensures)
 
 pub count-at-spec : {M : Type 1} → statement M
 count-at-spec = tie.close (tie.spec result-at-requires nat-of-requires returns)

@@ -7,6 +7,20 @@ use borrow.Author.Needs.{needs}
 use Rattle.printing.proofs.print_with.Statement.{statement}
 use Rattle.printing.proofs.print_with.Tie as tie
 
+-- ---- earlier places, by later ones
+
+abbrev after-run : tie.After-count → tie.After-run
+after-run c = c .before .before .before .before .before
+
+abbrev after-run-from-count2 : tie.After-count2 → tie.After-run
+after-run-from-count2 c = c .before .before .before .before .before
+
+abbrev after-count : tie.After-put-answer-arg5 → tie.After-count
+after-count c = c .before .before .before .before .before .before
+
+abbrev after-count2 : tie.After-put-answer-arg10 → tie.After-count2
+after-count2 c = c .before .before .before .before .before .before
+
 run-requires : tie.Need-run-requires
 run-requires c κs = search needs
 
@@ -18,9 +32,9 @@ slice-aggregate-put-answer c = search needs
 
 put-answer-requires : tie.Need-put-answer-requires
 put-answer-requires c κs =
-    let told = c .before .before .before .before .before .before in
-    let ran = told .before .before .before .before .before in
-    let is = told .count .given .1 in
+    let at-count = after-count c in
+    let ran = after-run at-count in
+    let is = at-count .count .given .1 in
     (count-in _ _ _ _ _ _ _ _ (ran .run .ensures) _ is refl, names-in _ _ _ _ _ _ _ _ (ran .run .ensures) _ is refl)
 
 enum-known-count-2 : tie.Need-enum-known-count-2
@@ -31,9 +45,9 @@ slice-aggregate-put-answer-2 c = search needs
 
 put-answer-requires-2 : tie.Need-put-answer-requires-2
 put-answer-requires-2 c κs =
-    let told = c .before .before .before .before .before .before in
-    let ran = told .before .before .before .before .before in
-    let is = told .count2 .given .1 in
+    let at-count2 = after-count2 c in
+    let ran = after-run-from-count2 at-count2 in
+    let is = at-count2 .count2 .given .1 in
     (count-in _ _ _ _ _ _ _ _ (ran .run .ensures) _ is refl, names-in _ _ _ _ _ _ _ _ (ran .run .ensures) _ is refl)
 
 enum-known-row : tie.Need-enum-known-row
@@ -58,9 +72,9 @@ returns : tie.Need-returns
 unfolding wholeWord
 returns c =
     let written = c .before .before in
-    let told = written .before .before .before .before .before .before .before in
-    let ran = told .before .before .before .before .before in
-    print-written _ _ _ _ _ _ _ _ (ran .run .ensures) _ (told .count .given .1) _ _ _ (omega arith) (omega arith) refl refl (written .put-answer .ensures)
+    let at-count = after-count (written .before) in
+    let ran = after-run at-count in
+    print-written _ _ _ _ _ _ _ _ (ran .run .ensures) _ (at-count .count .given .1) _ _ _ (omega arith) (omega arith) refl refl (written .put-answer .ensures)
 
 same-length-5 : tie.Need-same-length-5
 same-length-5 c = search needs
@@ -78,9 +92,9 @@ returns-2 : tie.Need-returns-2
 unfolding mixedWord
 returns-2 c =
     let written = c .before .before in
-    let told = written .before .before .before .before .before .before .before in
-    let ran = told .before .before .before .before .before in
-    print-written _ _ _ _ _ _ _ _ (ran .run .ensures) _ (told .count2 .given .1) _ _ _ (omega arith) (omega arith) refl refl (written .put-answer2 .ensures)
+    let at-count2 = after-count2 (written .before) in
+    let ran = after-run-from-count2 at-count2 in
+    print-written _ _ _ _ _ _ _ _ (ran .run .ensures) _ (at-count2 .count2 .given .1) _ _ _ (omega arith) (omega arith) refl refl (written .put-answer2 .ensures)
 
 same-length-9 : tie.Need-same-length-9
 same-length-9 c = search needs
@@ -97,10 +111,10 @@ same-length-12 c = search needs
 returns-3 : tie.Need-returns-3
 returns-3 c =
     let written = c .before .before in
-    let told = written .before .before .before in
-    let ran = told .before .before .before .before .before in
+    let at-row = written .before .before .before in
+    let ran = at-row .before .before .before .before .before in
     let bits = written .before .before .known-told3 .given in
-    print-written _ _ _ _ _ _ _ _ (ran .run .ensures) _ (told .row .given .1) _ _ _ (omega (arith, bits)) (omega (arith, bits)) refl refl (written .put-refusal .ensures)
+    print-written _ _ _ _ _ _ _ _ (ran .run .ensures) _ (at-row .row .given .1) _ _ _ (omega (arith, bits)) (omega (arith, bits)) refl refl (written .put-refusal .ensures)
 
 pub print-with-spec : {M : Type 1} → statement M
 print-with-spec =

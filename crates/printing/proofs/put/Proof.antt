@@ -21,8 +21,8 @@ behind-requires c κs = search needs
 
 returns-2 : tie.Need-returns-2
 returns-2 c =
-    let a = c .before .before .before .args in
-    one (a .out .now) (a .at) (a .byte) (c .behind .result) (omega arith) (omega arith) (c .behind .ensures)
+    let args = c .before .before .before .args in
+    one (args .out .now) (args .at) (args .byte) (c .behind .result) (omega arith) (omega arith) (c .behind .ensures)
 
 pub put-spec : {M : Type 1} → statement M
 put-spec = tie.close (tie.spec slice-write-out add-result same-length returns behind-requires returns-2)

@@ -16,6 +16,14 @@ Inv-loop out₀ at bytes end₀ i₀ out end i = (i ≤ length bytes) × Wrote o
 abbrev μ-loop : tie.MeasureT-loop
 μ-loop out₀ at bytes end₀ i₀ out end i = length bytes - i
 
+-- ---- earlier places, by later ones
+
+abbrev entry-of : tie.At-loop Inv-loop μ-loop → tie.Start Inv-loop μ-loop
+entry-of c = c .before .before .before
+
+abbrev turn-of : tie.After-put Inv-loop μ-loop → tie.In-loop Inv-loop μ-loop
+turn-of c = c .before .before .before
+
 loop-holds : tie.Need-loop-holds Inv-loop μ-loop
 loop-holds c = (omega arith, nothing _ _ (omega arith) (omega arith))
 
@@ -34,21 +42,21 @@ loop-less c = omega arith
 loop-again : tie.Need-loop-again Inv-loop μ-loop
 loop-again c =
     let written = c .before .before in
-    let start = written .before .before .before .before in
+    let start = turn-of written .before in
     let l = start .loop in
-    let bytes = start .before .before .before .args .bytes .now in
-    let h = written .before .before .before .loop-test .taken in
-    (omega arith, rw (add-one, take-suc bytes (l .i) 0 h) (then _ _ _ _ _ (l .inv .1) _ _ _ (written .put .ensures)))
+    let bytes = entry-of start .args .bytes .now in
+    let taken = turn-of written .loop-test .taken in
+    (omega arith, rw (add-one, take-suc bytes (l .i) 0 taken) (then _ _ _ _ _ (l .inv .1) _ _ _ (written .put .ensures)))
 
 same-length : tie.Need-same-length Inv-loop μ-loop
 same-length c = same-size _ _ _ _ _ (c .before .loop .inv .1)
 
 returns : tie.Need-returns Inv-loop μ-loop
 returns c =
-    let l = c .before .loop in
-    let b = c .before .before .before .before .args .bytes .now in
-    let e : l .i ≡ length b = omega arith in
-    rw (e, take-length b) at (l .inv .1)
+    let loop = c .before .loop in
+    let bytes = entry-of (c .before) .args .bytes .now in
+    let e : loop .i ≡ length bytes = omega arith in
+    rw (e, take-length bytes) at (loop .inv .1)
 
 pub put-all-spec : {M : Type 1} → statement M
 put-all-spec =

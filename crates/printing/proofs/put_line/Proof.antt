@@ -28,10 +28,10 @@ returns c =
     let word = results .before .before .before .before in
     let name = word .before .before .before .before in
     let label = name .before .before .before .before in
-    let a = label .before .before .before .before .before .args in
-    let third = field-then _ _ (a .word .now) space _ _ (word .put-text .ensures) _ _ _ (results .put-results .ensures) in
-    let second = field-then _ _ (nameField (a .text .now) (a .table .now) (a .label)) space _ _ (name .put-name .ensures) _ _ _ third in
-    field-then _ _ (decimal (a .label)) space _ _ (label .put-count .ensures) _ _ _ second
+    let args = label .before .before .before .before .before .args in
+    let third = field-then _ _ (args .word .now) space _ _ (word .put-text .ensures) _ _ _ (results .put-results .ensures) in
+    let second = field-then _ _ (nameField (args .text .now) (args .table .now) (args .label)) space _ _ (name .put-name .ensures) _ _ _ third in
+    field-then _ _ (decimal (args .label)) space _ _ (label .put-count .ensures) _ _ _ second
 
 pub put-line-spec : {M : Type 1} → statement M
 put-line-spec =

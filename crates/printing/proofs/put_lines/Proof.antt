@@ -18,8 +18,8 @@ abbrev μ-loop : tie.MeasureT-loop
 
 loop-holds : tie.Need-loop-holds Inv-loop μ-loop
 loop-holds c =
-    let a = c .before .before .before .args in
-    (omega arith, rw (lines-none (a .text .now) (a .table .now) (a .results .now) (a .word .now) (a .plan .now)) (nothing (a .out .now) (a .at) (omega arith) (omega arith)))
+    let args = c .before .before .before .args in
+    (omega arith, rw (lines-none (args .text .now) (args .table .now) (args .results .now) (args .word .now) (args .plan .now)) (nothing (args .out .now) (args .at) (omega arith) (omega arith)))
 
 nat-at-requires : tie.Need-nat-at-requires Inv-loop μ-loop
 nat-at-requires c κs = search needs
@@ -39,12 +39,12 @@ loop-again : tie.Need-loop-again Inv-loop μ-loop
 loop-again c =
     let written = c .before .before in
     let label = written .before .before in
-    let l = label .before .before .loop in
+    let loop = label .before .before .loop in
     let entry = label .before .before .before .before .before .before in
     let a = entry .args in
-    let h : l .i < length (a .plan .now) = omega (arith, entry .pre .0) in
-    let more = one-line-more (a .text .now) (a .table .now) (a .results .now) (a .word .now) (a .plan .now) (l .i) _ h (label .nat-at .ensures) in
-    (omega arith, rw more (then _ _ _ _ _ (l .inv .1) _ _ _ (written .put-line .ensures)))
+    let h : loop .i < length (a .plan .now) = omega (arith, entry .pre .0) in
+    let more = one-line-more (a .text .now) (a .table .now) (a .results .now) (a .word .now) (a .plan .now) (loop .i) _ h (label .nat-at .ensures) in
+    (omega arith, rw more (then _ _ _ _ _ (loop .inv .1) _ _ _ (written .put-line .ensures)))
 
 same-length : tie.Need-same-length Inv-loop μ-loop
 same-length c = same-size _ _ _ _ _ (c .before .loop .inv .1)
@@ -52,9 +52,9 @@ same-length c = same-size _ _ _ _ _ (c .before .loop .inv .1)
 returns : tie.Need-returns Inv-loop μ-loop
 returns c =
     let entry = c .before .before .before .before .before in
-    let l = c .before .loop in
-    let e : l .i ≡ entry .args .count = omega arith in
-    rw e at (l .inv .1)
+    let loop = c .before .loop in
+    let e : loop .i ≡ entry .args .count = omega arith in
+    rw e at (loop .inv .1)
 
 pub put-lines-spec : {M : Type 1} → statement M
 put-lines-spec =

@@ -6,6 +6,11 @@ use borrow.Author.Needs.{needs}
 use Rattle.printing.proofs.put_name.Statement.{statement}
 use Rattle.printing.proofs.put_name.Tie as tie
 
+-- ---- earlier places, by later ones
+
+abbrev entry-of : tie.After-cell-at → tie.Start
+entry-of c = c .before .before .before
+
 cell-at-requires : tie.Need-cell-at-requires
 cell-at-requires c κs = search needs
 
@@ -15,7 +20,7 @@ cell-at-requires-2 c κs = search needs
 add-end : tie.Need-add-end
 add-end c =
     let first = c .before in
-    let entry = first .before .before .before in
+    let entry = entry-of first in
     omega (arith, c .cell-at2 .ensures, first .cell-at .ensures, entry .pre (entry .args .label), entry .good)
 
 sub-put-text : tie.Need-sub-put-text
@@ -28,7 +33,7 @@ part-put-text-end : tie.Need-part-put-text-end
 part-put-text-end c =
     let second = c .before in
     let first = second .before in
-    let entry = first .before .before .before in
+    let entry = entry-of first in
     omega (arith, second .cell-at2 .ensures, first .cell-at .ensures, entry .pre (entry .args .label))
 
 put-text-requires : tie.Need-put-text-requires
@@ -42,11 +47,11 @@ returns c =
     let written = c .before .before in
     let second = written .before .before .before in
     let first = second .before in
-    let a = first .before .before .before .args in
+    let args = entry-of first .args in
     let x = first .cell-at in
     let y = second .cell-at2 in
     let e : x .result + y .result - x .result ≡ y .result = omega arith in
-    rw (← x .ensures, ← y .ensures, ← drop-take (x .result) (y .result) (a .text .now), ← e) (written .put-text .ensures)
+    rw (← x .ensures, ← y .ensures, ← drop-take (x .result) (y .result) (args .text .now), ← e) (written .put-text .ensures)
 
 pub put-name-spec : {M : Type 1} → statement M
 put-name-spec =

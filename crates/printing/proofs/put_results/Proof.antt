@@ -36,10 +36,10 @@ returns c =
     let steps = first .before .before in
     let number = steps .before .result-at in
     let state = steps .before .before .count-at in
-    let a = steps .before .before .before .before .args in
+    let args = steps .before .before .before .before .args in
     let fields = field-then _ _ (integer (number .result)) space _ _ (rw (whole (number .result) (number .ok)) at (second .put-number .ensures)) _ _ _ (third .put-count2 .ensures) in
     let line = field-then _ _ (decimal (state .result)) space _ _ (first .put-count .ensures) _ _ _ fields in
-    rw (state-is (a .results .now) (a .label), number-is (a .results .now) (a .label), steps-is (a .results .now) (a .label))
+    rw (state-is (args .results .now) (args .label), number-is (args .results .now) (args .label), steps-is (args .results .now) (args .label))
     (rw (← state .ensures, ← steps .count-at2 .ensures, ← number .ensures) line)
 
 pub put-results-spec : {M : Type 1} → statement M

@@ -7,10 +7,10 @@ use Rattle.printing.proofs.result_at.Statement.{statement}
 use Rattle.printing.proofs.result_at.Tie as tie
 
 returns : tie.Need-returns
-returns c = let a = c .before .args in result-zero (a .results .now) (a .label) (a .j) (c .if1 .taken)
+returns c = let args = c .before .args in result-zero (args .results .now) (args .label) (args .j) (c .if1 .taken)
 
 returns-2 : tie.Need-returns-2
-returns-2 c = let a = c .before .before .args in result-past (a .results .now) (a .label) (a .j) (c .if2 .taken)
+returns-2 c = let args = c .before .before .args in result-past (args .results .now) (args .label) (args .j) (c .if2 .taken)
 
 sub-int-at : tie.Need-sub-int-at
 sub-int-at c = search needs
@@ -26,8 +26,8 @@ int-at-requires c κs = search needs
 
 returns-3 : tie.Need-returns-3
 returns-3 c =
-    let a = c .before .before .before .args in
-    whole (c .int-at .result) (c .int-at .ok) ∙ c .int-at .ensures ∙ result-in (a .results .now) (a .label) (a .j) (omega arith)
+    let args = c .before .before .before .args in
+    whole (c .int-at .result) (c .int-at .ok) ∙ c .int-at .ensures ∙ result-in (args .results .now) (args .label) (args .j) (omega arith)
 
 pub result-at-spec : {M : Type 1} → statement M
 result-at-spec =

@@ -81,7 +81,8 @@ abbrev loop-from-slice-known11 : (t : ℕ) → visit-lts.After-slice-known11 (cl
 loop-from-slice-known11 t c = c .before .before .before .before .before .before .before .before .before
 
 -- from before what joins, so that its outcomes can be rewritten
-abbrev turn-of : (t : ℕ) → visit-lts.After-slice-known5 (claims t) (visit-at t) visit.Post visit-Inv-loop visit-μ-loop → visit-lts.In-loop (claims t) (visit-at t) visit.Post visit-Inv-loop visit-μ-loop
+abbrev turn-of : (t : ℕ) → visit-lts.After-slice-known5 (claims t) (visit-at t) visit.Post visit-Inv-loop visit-μ-loop
+    → visit-lts.In-loop (claims t) (visit-at t) visit.Post visit-Inv-loop visit-μ-loop
 turn-of t c = c .before .before
 
 abbrev turn-from-visit-arg3 : (t : ℕ) → visit-lts.After-visit-arg3 (claims t) (visit-at t) visit.Post visit-Inv-loop visit-μ-loop

@@ -32,11 +32,11 @@ returns : tie.Need-returns
 returns c =
     let start = c .before .before in
     let label = start .before .before in
-    let told = label .before .before in
-    let done = told .before .before .before in
+    let at-n = label .before .before in
+    let done = at-n .before .before .before in
     let entry = done .before .before .before in
     let leaves = done .read .ensures in
-    part-answered (entry .args .text .now) (length (entry .args .table .now)) (entry .args .label) _ _ _ _ (rw (told .n .given .1) at leaves)
+    part-answered (entry .args .text .now) (length (entry .args .table .now)) (entry .args .label) _ _ _ _ (rw (at-n .n .given .1) at leaves)
     (rw (toZ-ofZ (entry .fits .label)) at (label .label-in .ensures)) (start .cell-at .ensures) (c .cell-at2 .ensures)
 
 same-length-2 : tie.Need-same-length-2

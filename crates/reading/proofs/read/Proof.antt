@@ -12,8 +12,8 @@ enum-known-n c = search needs
 
 read-body-requires : tie.Need-read-body-requires
 read-body-requires c κs =
-    let told = c .before .before in
-    head-passed _ _ (told .before .before .check-head .ensures) _ (told .n .given .1)
+    let at-n = c .before .before in
+    head-passed _ _ (at-n .before .before .check-head .ensures) _ (at-n .n .given .1)
 
 enum-known-row : tie.Need-enum-known-row
 enum-known-row c = search needs
@@ -33,8 +33,8 @@ same-length-2 c = search needs
 returns-2 : tie.Need-returns-2
 returns-2 c =
     let cleared = c .before in
-    let told = cleared .before .before .before in
-    head-refused _ _ _ (told .before .before .check-head .ensures) _ _ _ (told .row .given .1) (cleared .clear .ensures)
+    let at-row = cleared .before .before .before in
+    head-refused _ _ _ (at-row .before .before .check-head .ensures) _ _ _ (at-row .row .given .1) (cleared .clear .ensures)
 
 pub read-spec : {M : Type 1} → statement M
 read-spec =

@@ -49,10 +49,10 @@ same-length-3 c = search needs
 returns-3 : tie.Need-returns-3
 returns-3 c =
     let cleared = c .before in
-    let told = cleared .before .before .before in
-    let made = told .before .before .before in
+    let at-row = cleared .before .before .before in
+    let made = at-row .before .before .before in
     let entry = made .before .before .before .before in
-    refused-leaves _ _ _ (entry .pre) (omega arith) _ _ (made .read-sheet .ensures) _ _ _ (told .row .given .1)
+    refused-leaves _ _ _ (entry .pre) (omega arith) _ _ (made .read-sheet .ensures) _ _ _ (at-row .row .given .1)
     (cleared .clear2 .ensures ∙ ap zeros (made .read-sheet .kept .1 .1 .0))
 
 pub read-body-spec : {M : Type 1} → statement M

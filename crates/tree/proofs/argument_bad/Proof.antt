@@ -6,6 +6,14 @@ use borrow.Author.Needs.{needs}
 use Rattle.tree.proofs.argument_bad.Statement.{statement}
 use Rattle.tree.proofs.argument_bad.Tie as tie
 
+-- ---- earlier places, by later ones
+
+abbrev after-argument-place : tie.Then2 → tie.After-argument-place
+after-argument-place c = c .before .before .before .before .before
+
+abbrev after-argument-place-from-else2 : tie.Else2 → tie.After-argument-place
+after-argument-place-from-else2 c = c .before .before .before .before .before
+
 cell-at-requires : tie.Need-cell-at-requires
 cell-at-requires c κs = search needs
 
@@ -26,21 +34,21 @@ takes-requires c κs = search needs
 
 returns-2 : tie.Need-returns-2
 returns-2 c =
-    let argument-place = c .before .before .before .before .before .argument-place in
+    let argument-place = after-argument-place c .argument-place in
     let cell-at2 = c .before .before .before .cell-at2 in
-    let k = c .before .before .before .before .before .before .cell-at in
-    let d = c .before .before .cell-at3 in
-    rw (← k .ensures, ← cell-at2 .ensures, ← d .ensures)
-    (sym (argument-wrong (k .result) (d .result) (omega (arith, c .if2 .taken, c .before .takes .ensures, argument-place .ensures))))
+    let cell-at = after-argument-place c .before .cell-at in
+    let cell-at3 = c .before .before .cell-at3 in
+    rw (← cell-at .ensures, ← cell-at2 .ensures, ← cell-at3 .ensures)
+    (sym (argument-wrong (cell-at .result) (cell-at3 .result) (omega (arith, c .if2 .taken, c .before .takes .ensures, argument-place .ensures))))
 
 returns-3 : tie.Need-returns-3
 returns-3 c =
-    let argument-place = c .before .before .before .before .before .argument-place in
+    let argument-place = after-argument-place-from-else2 c .argument-place in
     let cell-at2 = c .before .before .before .cell-at2 in
-    let k = c .before .before .before .before .before .before .cell-at in
-    let d = c .before .before .cell-at3 in
-    rw (← k .ensures, ← cell-at2 .ensures, ← d .ensures)
-    (sym (argument-fine (k .result) (d .result) (omega (arith, c .if2 .left, c .before .takes .ensures, argument-place .ensures))))
+    let cell-at = after-argument-place-from-else2 c .before .cell-at in
+    let cell-at3 = c .before .before .cell-at3 in
+    rw (← cell-at .ensures, ← cell-at2 .ensures, ← cell-at3 .ensures)
+    (sym (argument-fine (cell-at .result) (cell-at3 .result) (omega (arith, c .if2 .left, c .before .takes .ensures, argument-place .ensures))))
 
 pub argument-bad-spec : {M : Type 1} → statement M
 argument-bad-spec =

@@ -21,9 +21,9 @@ returns : tie.Need-returns
 returns c =
     let if1 = c .before .before .before .before .before .before .if1 in
     let put-cell = c .before .before .before .before .put-cell in
-    let s = c .before .before .before .before .before .before .before in
-    c .before .put-cell2 .ensures ∙ ap (λ w. set w (8 * (s .args .x - 1) + 7) (pos (s .args .level))) (put-cell .ensures)
-    ∙ sym (assigned-some (s .args .x) (s .args .table .now) (s .args .owner) (s .args .level) (if1 .taken))
+    let entry = c .before .before .before .before .before .before .before in
+    c .before .put-cell2 .ensures ∙ ap (λ w. set w (8 * (entry .args .x - 1) + 7) (pos (entry .args .level))) (put-cell .ensures)
+    ∙ sym (assigned-some (entry .args .x) (entry .args .table .now) (entry .args .owner) (entry .args .level) (if1 .taken))
 
 returns-2 : tie.Need-returns-2
 returns-2 c = sym (assigned-none (c .before .args .x) (c .before .args .table .now) (c .before .args .owner) (c .before .args .level) (c .if1 .left))

@@ -18,8 +18,8 @@ loop-holds c = (omega arith, omega arith, clear-start (c .args .table .now) (c .
 
 put-cell-requires : tie.Need-put-cell-requires Inv-loop μ-loop
 put-cell-requires c κs =
-    let g = c .before .before .loop in
-    (g .inv .0, omega (arith, g .inv .2 .over .size), omega arith, omega arith)
+    let loop = c .before .before .loop in
+    (loop .inv .0, omega (arith, loop .inv .2 .over .size), omega arith, omega arith)
 
 add-label : tie.Need-add-label Inv-loop μ-loop
 add-label c = omega arith
@@ -29,10 +29,10 @@ loop-less c = omega arith
 
 loop-again : tie.Need-loop-again Inv-loop μ-loop
 loop-again c =
-    let s = c .before .before .before .before .before in
+    let entry = c .before .before .before .before .before in
     let g = c .before .before .before .before .loop in
     let q : g .label + 1 - 1 ≡ g .label = omega arith in
-    (omega arith, omega arith, rw (q, c .before .put-cell .ensures) (clear-turn (s .args .table .now) (s .args .n) (s .pre .0) (g .table) (g .label) (g .inv .0) (omega arith) (g .inv .2)))
+    (omega arith, omega arith, rw (q, c .before .put-cell .ensures) (clear-turn (entry .args .table .now) (entry .args .n) (entry .pre .0) (g .table) (g .label) (g .inv .0) (omega arith) (g .inv .2)))
 
 same-length : tie.Need-same-length Inv-loop μ-loop
 same-length c = c .before .loop .inv .2 .over .size

@@ -24,9 +24,9 @@ returns : tie.Need-returns
 returns c =
     let if1 = c .before .before .before .before .before .if1 in
     let cell-at = c .before .before .before .cell-at in
-    let s = c .before .before .before .before .before .before in
-    c .before .put-cell .ensures ∙ ap (λ v. set (s .args .table .now) (8 * (s .args .x - 1) + 7) (pos (v + 1))) (cell-at .ensures)
-    ∙ sym (counted-some (s .args .x) (s .args .table .now) (if1 .taken))
+    let entry = c .before .before .before .before .before .before in
+    c .before .put-cell .ensures ∙ ap (λ v. set (entry .args .table .now) (8 * (entry .args .x - 1) + 7) (pos (v + 1))) (cell-at .ensures)
+    ∙ sym (counted-some (entry .args .x) (entry .args .table .now) (if1 .taken))
 
 returns-2 : tie.Need-returns-2
 returns-2 c = sym (counted-none (c .before .args .x) (c .before .args .table .now) (c .if1 .left))

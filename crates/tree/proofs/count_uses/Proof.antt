@@ -18,9 +18,9 @@ loop-holds c = (omega arith, omega arith, count-start (c .args .table .now) (c .
 
 count-parts-requires : tie.Need-count-parts-requires Inv-loop μ-loop
 count-parts-requires c κs =
-    let s = c .before .before .before in
-    let g = c .before .before .loop in
-    count-ready (s .args .table .now) (s .args .n) (s .pre .1) (g .table) (g .label) (g .inv .0) (omega arith) (g .inv .2)
+    let entry = c .before .before .before in
+    let loop = c .before .before .loop in
+    count-ready (entry .args .table .now) (entry .args .n) (entry .pre .1) (loop .table) (loop .label) (loop .inv .0) (omega arith) (loop .inv .2)
 
 add-label : tie.Need-add-label Inv-loop μ-loop
 add-label c = omega arith

@@ -21,16 +21,16 @@ loop-holds c = (omega arith, omega arith, first-start (cellBad (c .args .rule) (
 
 check-requires : tie.Need-check-requires Inv-loop μ-loop
 check-requires c κs =
-    let s = c .before .before in
-    readable (s .args .table .now) (s .args .n) (c .before .loop .label) (s .pre) (c .before .loop .inv .0) (omega arith)
+    let entry = c .before .before in
+    readable (entry .args .table .now) (entry .args .n) (c .before .loop .label) (entry .pre) (c .before .loop .inv .0) (omega arith)
 
 returns : tie.Need-returns Inv-loop μ-loop
 returns c =
     let loop = c .before .before .before .loop in
-    let s = c .before .before .before .before in
+    let entry = c .before .before .before .before in
     let k = loop .label in
-    let check = cellBad (s .args .rule) (s .args .table .now) in
-    ap (λ r. Refused r k) (c .before .check .ensures) ∙ sym (first-bad check (s .args .n) k (omega arith) (λ z. c .if1 .taken (c .before .check .ensures ∙ z))) ∙ loop .inv .2
+    let check = cellBad (entry .args .rule) (entry .args .table .now) in
+    ap (λ r. Refused r k) (c .before .check .ensures) ∙ sym (first-bad check (entry .args .n) k (omega arith) (λ z. c .if1 .taken (c .before .check .ensures ∙ z))) ∙ loop .inv .2
 
 add-label : tie.Need-add-label Inv-loop μ-loop
 add-label c = omega arith
@@ -41,15 +41,15 @@ loop-less c = omega arith
 loop-again : tie.Need-loop-again Inv-loop μ-loop
 loop-again c =
     let loop = c .before .before .before .loop in
-    let s = c .before .before .before .before in
+    let entry = c .before .before .before .before in
     let k = loop .label in
-    let check = cellBad (s .args .rule) (s .args .table .now) in
-    (omega arith, omega arith, sym (first-fine check (s .args .n) k (omega arith) (sym (c .before .check .ensures) ∙ c .if1 .left)) ∙ loop .inv .2)
+    let check = cellBad (entry .args .rule) (entry .args .table .now) in
+    (omega arith, omega arith, sym (first-fine check (entry .args .n) k (omega arith) (sym (c .before .check .ensures) ∙ c .if1 .left)) ∙ loop .inv .2)
 
 returns-2 : tie.Need-returns-2 Inv-loop μ-loop
 returns-2 c =
-    let s = c .before .before in
-    sym (first-end (cellBad (s .args .rule) (s .args .table .now)) (s .args .n) (c .before .loop .label) (omega arith)) ∙ c .before .loop .inv .2
+    let entry = c .before .before in
+    sym (first-end (cellBad (entry .args .rule) (entry .args .table .now)) (entry .args .n) (c .before .loop .label) (omega arith)) ∙ c .before .loop .inv .2
 
 pub first-bad-spec : {M : Type 1} → statement M
 first-bad-spec =

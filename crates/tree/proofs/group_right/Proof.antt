@@ -5,6 +5,14 @@ use borrow.Author.Needs.{needs}
 use Rattle.tree.proofs.group_right.Statement.{statement}
 use Rattle.tree.proofs.group_right.Tie as tie
 
+-- ---- earlier places, by later ones
+
+abbrev else1-of : tie.Else3 → tie.Else1
+else1-of c = c .before .before .before
+
+abbrev else1-from-cell-at2 : tie.After-cell-at2 → tie.Else1
+else1-from-cell-at2 c = c .before .before .before .before
+
 returns : tie.Need-returns
 returns c = sym (fits-first (c .before .args .table .now) (c .before .args .label) (c .before .args .definition) (c .if1 .taken))
 
@@ -16,16 +24,16 @@ cell-at-requires-2 c κs = search needs
 
 returns-2 : tie.Need-returns-2
 returns-2 c =
-    let if1 = c .before .before .before .before .if1 in
+    let if1 = else1-from-cell-at2 c .if1 in
     let if2 = c .before .before .before .if2 in
-    let s = c .before .before .before .before .before in
-    sym (fits-below (s .args .table .now) (s .args .label) (s .args .definition) (if1 .left) (if2 .taken) (c .before .before .cell-at .result) (c .cell-at2 .result)
+    let entry = else1-from-cell-at2 c .before in
+    sym (fits-below (entry .args .table .now) (entry .args .label) (entry .args .definition) (if1 .left) (if2 .taken) (c .before .before .cell-at .result) (c .cell-at2 .result)
     (c .before .before .cell-at .ensures) (c .before .if3 .taken) (c .cell-at2 .ensures))
 
 returns-3 : tie.Need-returns-3
 returns-3 c =
-    let if1 = c .before .before .before .if1 in
-    let s = c .before .before .before .before in
+    let if1 = else1-of c .if1 in
+    let s = else1-of c .before in
     sym (fits-above (s .args .table .now) (s .args .label) (s .args .definition) (if1 .left) (c .before .before .if2 .taken) (c .before .cell-at .result) (c .before .cell-at .ensures) (c .if3 .left))
 
 returns-4 : tie.Need-returns-4

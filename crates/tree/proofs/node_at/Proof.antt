@@ -24,11 +24,11 @@ part-at-requires-3 c κs = search needs
 
 returns : tie.Need-returns
 returns c =
-    let s = c .before .before .before .before .before .before in
+    let entry = c .before .before .before .before .before .before in
     let code = c .before .before .before .before .before .cell-at in
     let fields = c .before .before .before .fields-of in
     let definition = c .before .before .before .before .is-definition in
-    node-is (s .args .table .now) (s .args .label) (code .result) (fields .result) (code .ensures) (fields .ensures) (definition .result) (c .before .before .part-at .result)
+    node-is (entry .args .table .now) (entry .args .label) (code .result) (fields .result) (code .ensures) (fields .ensures) (definition .result) (c .before .before .part-at .result)
     (c .before .part-at2 .result) (c .part-at3 .result) (definition .ensures) (c .before .before .part-at .ensures) (c .before .part-at2 .ensures) (c .part-at3 .ensures)
 
 pub node-at-spec : {M : Type 1} → statement M

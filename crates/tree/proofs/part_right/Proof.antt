@@ -13,8 +13,8 @@ is-expression-requires c κs = search needs
 
 returns-2 : tie.Need-returns-2
 returns-2 c =
-    let s = c .before .before .before in
-    c .is-expression .ensures ∙ sym (fits-part (s .args .table .now) (s .args .label) (s .args .x) (c .before .before .if1 .left) (c .before .if2 .taken))
+    let entry = c .before .before .before in
+    c .is-expression .ensures ∙ sym (fits-part (entry .args .table .now) (entry .args .label) (entry .args .x) (c .before .before .if1 .left) (c .before .if2 .taken))
 
 returns-3 : tie.Need-returns-3
 returns-3 c = sym (fits-low (c .before .before .args .table .now) (c .before .before .args .label) (c .before .before .args .x) (c .before .if1 .left) (c .if2 .left))

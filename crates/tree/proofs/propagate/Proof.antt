@@ -9,6 +9,17 @@ use borrow.Author.Needs.{needs}
 use Rattle.tree.proofs.propagate.Statement.{statement}
 use Rattle.tree.proofs.propagate.Tie as tie
 
+-- ---- earlier places, by later ones
+
+abbrev after-node-at : tie.After-assign-arg → tie.After-node-at
+after-node-at c = c .before .before .before .before
+
+abbrev after-node-at-from-assign-parts-arg2 : tie.After-assign-parts-arg2 → tie.After-node-at
+after-node-at-from-assign-parts-arg2 c = c .before .before .before .before .before .before
+
+abbrev else1-of : tie.After-assign-parts-arg2 → tie.Else1
+else1-of c = c .before .before .before .before .before
+
 node-at-requires : tie.Need-node-at-requires
 node-at-requires c κs = search needs
 
@@ -18,10 +29,10 @@ cell-at-requires c κs = search needs
 assign-requires : tie.Need-assign-requires
 assign-requires c κs =
     let if1 = c .before .before .before .if1 in
-    let s = c .before .before .before .before .before .before in
-    let n = c .before .before .before .before .node-at in
-    let d = sym (ap (λ (p : Node). p .definition) (n .ensures)) ∙ if1 .taken in
-    (s .pre .room, omega (arith, c .before .cell-at .ensures, s .pre .group d), omega arith)
+    let entry = after-node-at c .before .before in
+    let node-at = after-node-at c .node-at in
+    let d = sym (ap (λ (p : Node). p .definition) (node-at .ensures)) ∙ if1 .taken in
+    (entry .pre .room, omega (arith, c .before .cell-at .ensures, entry .pre .group d), omega arith)
 
 assign-parts-requires : tie.Need-assign-parts-requires
 assign-parts-requires c κs =
@@ -56,20 +67,20 @@ cell-at-requires-3 c κs = search needs
 
 add-assign-parts : tie.Need-add-assign-parts
 add-assign-parts c =
-    let if1 = c .before .before .before .before .before .if1 in
-    let s = c .before .before .before .before .before .before .before .before in
-    let n = c .before .before .before .before .before .before .node-at in
-    let d = sym (ap (λ (p : Node). p .definition) (n .ensures)) ∙ if1 .left in
-    omega (arith, c .before .cell-at3 .ensures, s .pre .level d)
+    let if1 = else1-of c .if1 in
+    let entry = after-node-at-from-assign-parts-arg2 c .before .before in
+    let node-at = after-node-at-from-assign-parts-arg2 c .node-at in
+    let d = sym (ap (λ (p : Node). p .definition) (node-at .ensures)) ∙ if1 .left in
+    omega (arith, c .before .cell-at3 .ensures, entry .pre .level d)
 
 assign-parts-requires-2 : tie.Need-assign-parts-requires-2
 assign-parts-requires-2 c κs =
-    let if1 = c .before .before .before .before .before .if1 in
+    let if1 = else1-of c .if1 in
     let cell-at2 = c .before .before .before .cell-at2 in
-    let s = c .before .before .before .before .before .before .before .before in
-    let n = c .before .before .before .before .before .before .node-at in
-    let d = sym (ap (λ (p : Node). p .definition) (n .ensures)) ∙ if1 .left in
-    (rw (n .ensures) (s .pre .inside), omega (arith, cell-at2 .ensures, s .pre .owner d), omega (arith, c .before .cell-at3 .ensures, s .pre .level d))
+    let entry = after-node-at-from-assign-parts-arg2 c .before .before in
+    let node-at = after-node-at-from-assign-parts-arg2 c .node-at in
+    let d = sym (ap (λ (p : Node). p .definition) (node-at .ensures)) ∙ if1 .left in
+    (rw (node-at .ensures) (entry .pre .inside), omega (arith, cell-at2 .ensures, entry .pre .owner d), omega (arith, c .before .cell-at3 .ensures, entry .pre .level d))
 
 same-length-2 : tie.Need-same-length-2
 same-length-2 c = search needs

@@ -18,9 +18,9 @@ loop-holds c = (omega arith, omega arith, propagate-start (c .args .table .now) 
 
 propagate-requires : tie.Need-propagate-requires Inv-loop μ-loop
 propagate-requires c κs =
-    let s = c .before .before .before in
-    let g = c .before .before .loop in
-    propagate-ready (s .args .table .now) (s .args .n) (s .pre .0) (g .table) (g .label) (g .inv .0) (omega arith) (g .inv .2)
+    let entry = c .before .before .before in
+    let loop = c .before .before .loop in
+    propagate-ready (entry .args .table .now) (entry .args .n) (entry .pre .0) (loop .table) (loop .label) (loop .inv .0) (omega arith) (loop .inv .2)
 
 add-label : tie.Need-add-label Inv-loop μ-loop
 add-label c = omega arith

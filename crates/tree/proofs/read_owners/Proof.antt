@@ -10,9 +10,9 @@ propagate-all-requires c κs = search needs
 
 late-rows-requires : tie.Need-late-rows-requires
 late-rows-requires c κs =
-    let s = c .before .before .before .before in
-    let h = c .before .before .propagate-all in
-    over-formed (s .args .table .now) (s .args .n) (h .last .0) (s .pre .0 .structure .formed) (h .ensures .over)
+    let entry = c .before .before .before .before in
+    let propagate-all = c .before .before .propagate-all in
+    over-formed (entry .args .table .now) (entry .args .n) (propagate-all .last .0) (entry .pre .0 .structure .formed) (propagate-all .ensures .over)
 
 clear-targets-requires : tie.Need-clear-targets-requires
 clear-targets-requires c κs = search needs
@@ -23,11 +23,11 @@ same-length c = search needs
 returns : tie.Need-returns
 returns c =
     let late-rows-2 = c .before .before .before .late-rows in
-    let s = c .before .before .before .before .before .before .before .before in
-    let h = c .before .before .before .before .before .before .propagate-all in (
-      late-rows-2 .ensures ∙ late-rows (s .args .table .now) (s .args .n) (s .pre .0) (h .last .0) (h .ensures),
-      owning (s .args .table .now) (s .args .n) (s .pre .0) (h .last .0)
-          (c .before .clear-targets .last .0) (h .ensures) (c .before .clear-targets .ensures),
+    let entry = c .before .before .before .before .before .before .before .before in
+    let propagate-all = c .before .before .before .before .before .before .propagate-all in (
+      late-rows-2 .ensures ∙ late-rows (entry .args .table .now) (entry .args .n) (entry .pre .0) (propagate-all .last .0) (propagate-all .ensures),
+      owning (entry .args .table .now) (entry .args .n) (entry .pre .0) (propagate-all .last .0)
+          (c .before .clear-targets .last .0) (propagate-all .ensures) (c .before .clear-targets .ensures),
     )
 
 pub read-owners-spec : {M : Type 1} → statement M

@@ -8,6 +8,14 @@ use borrow.Author.Needs.{needs}
 use Rattle.tree.proofs.structure_bad.Statement.{statement}
 use Rattle.tree.proofs.structure_bad.Tie as tie
 
+-- ---- earlier places, by later ones
+
+abbrev after-node-at : tie.Then2 → tie.After-node-at
+after-node-at c = c .before .before .before .before
+
+abbrev after-node-at-from-else2 : tie.Else2 → tie.After-node-at
+after-node-at-from-else2 c = c .before .before .before .before
+
 node-at-requires : tie.Need-node-at-requires
 node-at-requires c κs = c .pre .known
 
@@ -21,28 +29,28 @@ parts-right-requires c κs =
 
 returns : tie.Need-returns
 returns c =
-    let node-at = c .before .before .before .before .node-at in
+    let node-at = after-node-at c .node-at in
     let group-right = c .before .before .before .group-right in
-    let s = c .before .before .before .before .before in
-    sym (structure-is (s .args .table .now) (s .args .label) (node-at .result .definition) (group-right .result) (c .before .parts-right .result)
-    (ap (λ (p : Node). p .definition) (node-at .ensures) ∙ node-definition (s .args .table .now) (s .args .label)) (group-right .ensures) (c .before .parts-right .ensures)
+    let entry = after-node-at c .before in
+    sym (structure-is (entry .args .table .now) (entry .args .label) (node-at .result .definition) (group-right .result) (c .before .parts-right .result)
+    (ap (λ (p : Node). p .definition) (node-at .ensures) ∙ node-definition (entry .args .table .now) (entry .args .label)) (group-right .ensures) (c .before .parts-right .ensures)
     ∙ rw (c .before .before .if1 .taken, c .if2 .taken))
 
 returns-2 : tie.Need-returns-2
 returns-2 c =
-    let node-at = c .before .before .before .before .node-at in
+    let node-at = after-node-at-from-else2 c .node-at in
     let group-right = c .before .before .before .group-right in
-    let s = c .before .before .before .before .before in
-    sym (structure-is (s .args .table .now) (s .args .label) (node-at .result .definition) (group-right .result) (c .before .parts-right .result)
-    (ap (λ (p : Node). p .definition) (node-at .ensures) ∙ node-definition (s .args .table .now) (s .args .label)) (group-right .ensures) (c .before .parts-right .ensures)
+    let entry = after-node-at-from-else2 c .before in
+    sym (structure-is (entry .args .table .now) (entry .args .label) (node-at .result .definition) (group-right .result) (c .before .parts-right .result)
+    (ap (λ (p : Node). p .definition) (node-at .ensures) ∙ node-definition (entry .args .table .now) (entry .args .label)) (group-right .ensures) (c .before .parts-right .ensures)
     ∙ rw (c .before .before .if1 .taken, c .if2 .left))
 
 returns-3 : tie.Need-returns-3
 returns-3 c =
-    let s = c .before .before .before in
-    sym (structure-is (s .args .table .now) (s .args .label) (c .before .before .node-at .result .definition) (c .before .group-right .result)
-    (all (partRight (s .args .table .now) (s .args .label)) (parts (s .args .table .now) (s .args .label)))
-    (ap (λ (p : Node). p .definition) (c .before .before .node-at .ensures) ∙ node-definition (s .args .table .now) (s .args .label)) (c .before .group-right .ensures) refl
+    let entry = c .before .before .before in
+    sym (structure-is (entry .args .table .now) (entry .args .label) (c .before .before .node-at .result .definition) (c .before .group-right .result)
+    (all (partRight (entry .args .table .now) (entry .args .label)) (parts (entry .args .table .now) (entry .args .label)))
+    (ap (λ (p : Node). p .definition) (c .before .before .node-at .ensures) ∙ node-definition (entry .args .table .now) (entry .args .label)) (c .before .group-right .ensures) refl
     ∙ rw (c .if1 .left))
 
 pub structure-bad-spec : {M : Type 1} → statement M

@@ -14,9 +14,6 @@ use Rattle.groups.proofs.order_group.Tie as tie
 abbrev entry-of : tie.After-gather-members-arg2 → tie.Start
 entry-of c = c .before .before .before .before .before .before .before .before .before .before
 
-abbrev after-slice-known7 : tie.After-gather-members → tie.After-slice-known7
-after-slice-known7 c = c .before .before .before
-
 abbrev after-gather-members : tie.After-place-items-arg6 → tie.After-gather-members
 after-gather-members c = c .before .before .before .before .before .before .before .before .before
 
@@ -28,9 +25,6 @@ after-place-items-from-relink-arg2 c = c .before .before .before .before .before
 
 abbrev after-place-items-from-slice-known14 : tie.After-slice-known14 → tie.After-place-items
 after-place-items-from-slice-known14 c = c .before .before .before .before .before .before .before .before .before .before .before .before .before .before .before .before
-
-abbrev after-slice-known10 : tie.After-slice-known14 → tie.After-slice-known10
-after-slice-known10 c = c .before .before .before .before .before .before .before .before .before .before .before .before
 
 -- what was placed
 module _ (c : tie.After-place-items) where

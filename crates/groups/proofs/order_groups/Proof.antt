@@ -35,9 +35,6 @@ turn-from-then2 c = turn-of (c .before .before .before .before .before .before .
 abbrev after-order-group : tie.Then2 Inv-loop μ-loop → tie.After-order-group Inv-loop μ-loop
 after-order-group c = c .before .before .before .before .before .before .before .before .before .before .before .before .before .before .before
 
-abbrev after-items : tie.Then2 Inv-loop μ-loop → tie.After-items Inv-loop μ-loop
-after-items c = c .before .before .before .before .before .before .before .before .before .before .before .before
-
 loop-holds : tie.Need-loop-holds Inv-loop μ-loop
 loop-holds c =
     let entry = entry-of c in

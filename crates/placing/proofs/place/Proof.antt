@@ -25,17 +25,8 @@ entry-from-start-arg3 c = c .before .before .before .before .before .before .bef
 abbrev entry-of : tie.At-loop Inv-loop μ-loop → tie.Start Inv-loop μ-loop
 entry-of c = entry-from-start-arg3 (c .before .before .before .before .before .before .before .before)
 
-abbrev after-start-arg2 : tie.At-loop Inv-loop μ-loop → tie.After-start-arg2 Inv-loop μ-loop
-after-start-arg2 c = c .before .before .before .before .before .before .before .before .before
-
-abbrev after-start-arg3 : tie.At-loop Inv-loop μ-loop → tie.After-start-arg3 Inv-loop μ-loop
-after-start-arg3 c = c .before .before .before .before .before .before .before .before
-
 abbrev after-start : tie.After-slice-known7 Inv-loop μ-loop → tie.After-start Inv-loop μ-loop
 after-start c = c .before .before .before .before .before .before
-
-abbrev after-ready : tie.At-loop Inv-loop μ-loop → tie.After-ready Inv-loop μ-loop
-after-ready c = c .before .before .before .before
 
 abbrev loop-of : tie.After-first-mark Inv-loop μ-loop → tie.At-loop Inv-loop μ-loop
 loop-of c = c .before .before .before

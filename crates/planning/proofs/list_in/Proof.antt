@@ -33,14 +33,6 @@ after-order-groups-from-list-mixed-arg7 c =
 abbrev after-order-groups-from-slice-known21 : tie.After-slice-known21 → tie.After-order-groups
 after-order-groups-from-slice-known21 c = after-order-groups-from-list-mixed-arg7 (c .before .before .before .before .before .before .before .before .before .before .before .before .before .before)
 
-abbrev after-slice-known14 : tie.After-slice-known21 → tie.After-slice-known14
-after-slice-known14 c =
-    let half = c .before .before .before .before .before .before .before .before .before .before .before .before in
-    half .before .before .before .before .before .before .before .before .before .before .before .before
-
-abbrev after-plan : tie.After-slice-known21 → tie.After-plan
-after-plan c = c .before .before .before .before .before .before .before .before .before .before .before .before
-
 -- what `order_groups` answered
 orders : (t : List ℤ) (n : ℕ) (next : List ℕ) (r b : Bool) → GroupOrders t n next r → r ≡ b → GroupOrders t n next b
 orders t n next r b h e = subst (GroupOrders t n next) e h

@@ -68,10 +68,6 @@ entry-from-widen t c = entry-of t (c .before .before .before)
 abbrev else1-of : (t : ℕ) → visit-lts.At-loop (claims t) (visit-at t) visit.Post visit-Inv-loop visit-μ-loop → visit-lts.Else1 (claims t) (visit-at t) visit.Post visit-Inv-loop visit-μ-loop
 else1-of t c = c .before .before .before
 
-abbrev after-shared-slice-known2 : (t : ℕ) → visit-lts.In-loop (claims t) (visit-at t) visit.Post visit-Inv-loop visit-μ-loop
-    → visit-lts.After-shared-slice-known2 (claims t) (visit-at t) visit.Post visit-Inv-loop visit-μ-loop
-after-shared-slice-known2 t c = c .before .before .before
-
 abbrev loop-of : (t : ℕ) → visit-lts.After-fill-arg3 (claims t) (visit-at t) visit.Post visit-Inv-loop visit-μ-loop
     → visit-lts.At-loop (claims t) (visit-at t) visit.Post visit-Inv-loop visit-μ-loop
 loop-of t c = c .before .before .before .before

@@ -26,10 +26,6 @@ value-gives = refl
 abbrev gives : Kind → Bool
 gives k = defines k && eqb (k .takes) 0
 
-pub gives-definition : (c : ℕ) → givesValues c ≡ true → isDefinition c ≡ true
-unfolding givesValues
-gives-definition c e = and-left (isDefinition c) (eqb (takes c) 0) e
-
 -- only a Group or a value does
 pub gives-cases : (c : ℕ) → givesValues c ≡ true → (c ≡ groupCode) ⊎ (c ≡ valueCode)
 unfolding givesValues takes isDefinition kinds
@@ -42,6 +38,10 @@ gives-cases c e = go (or-cases (eqb c groupCode) (eqb c valueCode) (by-rule give
 pub other-gives : (c : ℕ) → Other (valueCode ∷ groupCode ∷ []) c → givesValues c ≡ false
 unfolding givesValues takes isDefinition kinds
 other-gives c h = other gives (valueCode ∷ groupCode ∷ []) refl refl c h
+
+pub gives-definition : (c : ℕ) → givesValues c ≡ true → isDefinition c ≡ true
+unfolding givesValues
+gives-definition c e = and-left (isDefinition c) (eqb (takes c) 0) e
 
 -- an N line has no operands
 pub number-plain : operandA numberCode ≡ false

@@ -1,5 +1,5 @@
--- The laws of `sameName`: an equivalence; the same length; the same hash. Nothing but this file opens `sameName` or `comparedByte`: where
--- another comparison takes their place, its definitions change, and the first laws here.
+-- The laws of `sameName`: an equivalence; the same length; the same hash; equal bytes but for case. Nothing but this file opens `sameName` or
+-- `lowercaseByte`: another comparison would change their definitions and the first laws here.
 use mathlib.Core.Path.{_≡_, refl, ap, sym, _∙_}
 use mathlib.Core.Bool.{Bool, true, false, _&&_}
 use mathlib.Core.List.{List, [], _∷_}
@@ -7,28 +7,18 @@ use Prim.Native.Nat.{ℕ, suc, _+_, _*_, _%_, _≤_, _<_}
 use native.Mathlib.Omega.{arith}
 use lib.Dec.{eqb}
 use lib.ListN.{length, getD}
-use lib.Seq.{slice}
+use lib.Seq.{slice, ext-getD}
 use borrow.Author.Tests.{eq-eqb, ne-eqb}
-use Rattle.text.specs.Bytes.{same}
+use Rattle.text.specs.Bytes.{same, lowercaseByte, lowercase}
 use Rattle.text.proofs.Slices.{slice-at, slice-none}
 use Rattle.text.proofs.Bytes.{same-eq}
-use Rattle.paths.specs.Names.{sameName}
-use Rattle.paths.specs.Buckets.{comparedByte, compared, hashes, hashFrom, hashOf}
+use Rattle.text.proofs.Lowercase.{lowercase-at, lowercase-length, case-same, same-case}
+use Rattle.paths.specs.Names.{sameName, NamesButCase}
+use Rattle.paths.specs.Buckets.{hashes, hashFrom, hashOf}
 
--- ---- names are compared by `comparedByte` of each byte
-
-pub byte-is : (x : ℕ) → x ≡ comparedByte x
-unfolding comparedByte
-byte-is x = refl
-
-all-are : (w : List ℕ) → compared w ≡ w
-unfolding comparedByte
-all-are [] = refl
-all-are (x ∷ w) = ap (λ (l : List ℕ). x ∷ l) (all-are w)
-
-same-is : (x y : List ℕ) → sameName x y ≡ same (compared x) (compared y)
+same-is : (x y : List ℕ) → sameName x y ≡ same (lowercase x) (lowercase y)
 unfolding sameName
-same-is x y = rw (all-are x, all-are y)
+same-is x y = refl
 
 -- ---- an equivalence
 
@@ -37,11 +27,11 @@ itself [] = refl
 itself (x ∷ w) = rw (eq-eqb x x refl) (itself w)
 
 module _ (x y : List ℕ) where
-  to-equal : sameName x y ≡ true → compared x ≡ compared y
-  to-equal e = same-eq (compared x) (compared y) (sym (same-is x y) ∙ e)
+  to-equal : sameName x y ≡ true → lowercase x ≡ lowercase y
+  to-equal e = same-eq (lowercase x) (lowercase y) (sym (same-is x y) ∙ e)
 
-  from-equal : compared x ≡ compared y → sameName x y ≡ true
-  from-equal e = same-is x y ∙ rw e (itself (compared y))
+  from-equal : lowercase x ≡ lowercase y → sameName x y ≡ true
+  from-equal e = same-is x y ∙ rw e (itself (lowercase y))
 
 pub same-self : (w : List ℕ) → sameName w w ≡ true
 same-self w = from-equal w w refl
@@ -54,13 +44,9 @@ same-trans x y z e f = from-equal x z (to-equal x y e ∙ to-equal y z f)
 
 -- ---- the same length, the same hash
 
-size-is : (w : List ℕ) → length (compared w) ≡ length w
-size-is [] = refl
-size-is (x ∷ w) = ap suc (size-is w)
-
 module _ (x y : List ℕ) where
   pub same-size : sameName x y ≡ true → length x ≡ length y
-  same-size e = sym (size-is x) ∙ ap length (to-equal x y e) ∙ size-is y
+  same-size e = sym (lowercase-length x) ∙ ap length (to-equal x y e) ∙ lowercase-length y
 
   pub other-size : (length x ≡ length y → ⊥) → sameName x y ≡ false
   other-size f = go (sameName x y) refl
@@ -73,15 +59,30 @@ module _ (x y : List ℕ) where
   unfolding hashOf
   same-hash e = ap (hashFrom 0) (to-equal x y e)
 
+-- ---- equal bytes, but for case
+
+module _ (x y : List ℕ) where
+  pub same-names : sameName x y ≡ true → NamesButCase x y
+  same-names e = record { size = same-size x y e; bytes = λ i h. same-case (getD x i 0) (getD y i 0) (at i) }
+    where
+      at : (i : ℕ) → lowercaseByte (getD x i 0) ≡ lowercaseByte (getD y i 0)
+      at i = sym (lowercase-at x i) ∙ ap (λ (l : List ℕ). getD l i 0) (to-equal x y e) ∙ lowercase-at y i
+
+  pub names-same : NamesButCase x y → sameName x y ≡ true
+  names-same p = from-equal x y (ext-getD 0 (lowercase x) (lowercase y) (lowercase-length x ∙ p .size ∙ sym (lowercase-length y)) at)
+    where
+      at : (i : ℕ) → i < length (lowercase x) → getD (lowercase x) i 0 ≡ getD (lowercase y) i 0
+      at i h = lowercase-at x i ∙ case-same (getD x i 0) (getD y i 0) (p .bytes i (omega (arith, lowercase-length x))) ∙ sym (lowercase-at y i)
+
 -- ---- a hash is below 2 ^ 32
 
 small-from : (w : List ℕ) (h : ℕ) → h < hashes → hashFrom h w < hashes
 small-from [] h l = l
-small-from (x ∷ w) h l = small-from w ((h + x) * 2654435769 % hashes) (omega arith)
+small-from (x ∷ w) h l = small-from w ((h + x % 32) * 2654435769 % hashes) (omega arith)
 
 pub hash-small : (w : List ℕ) → hashOf w < hashes
 unfolding hashOf
-hash-small w = small-from (compared w) 0 (omega arith)
+hash-small w = small-from (lowercase w) 0 (omega arith)
 
 -- ---- the loop of a hash: at byte i, what is left hashed on gives the hash of the name
 
@@ -89,18 +90,18 @@ pub record Hashing (s : List ℕ) (from to hash i : ℕ) : Type 0 where
   pub low : from ≤ i
   pub high : i ≤ to
   pub small : hash < hashes
-  pub rest : hashFrom hash (compared (slice i to s)) ≡ hashOf (slice from to s)
+  pub rest : hashFrom hash (lowercase (slice i to s)) ≡ hashOf (slice from to s)
 
 pub hash-start : (s : List ℕ) (from to : ℕ) → from ≤ to → Hashing s from to 0 from
 unfolding hashOf
 hash-start s from to h = record { low = omega arith; high = h; small = omega arith; rest = refl }
 
 module _ {s : List ℕ} {from to hash i : ℕ} (h : Hashing s from to hash i) where
-  pub hash-turn : i < to → to ≤ length s → {b : ℕ} → b ≡ comparedByte (getD s i 0) → Hashing s from to ((hash + b) * 2654435769 % hashes) (i + 1)
+  pub hash-turn : i < to → to ≤ length s → {b : ℕ} → b ≡ lowercaseByte (getD s i 0) % 32 → Hashing s from to ((hash + b) * 2654435769 % hashes) (i + 1)
   hash-turn l k {b} e =
       record { low = omega (arith, h .low); high = omega arith; small = omega arith; rest = rw e (sym step ∙ h .rest) }
     where
-      step : hashFrom hash (compared (slice i to s)) ≡ hashFrom ((hash + comparedByte (getD s i 0)) * 2654435769 % hashes) (compared (slice (i + 1) to s))
+      step : hashFrom hash (lowercase (slice i to s)) ≡ hashFrom ((hash + lowercaseByte (getD s i 0) % 32) * 2654435769 % hashes) (lowercase (slice (i + 1) to s))
       step = rw (slice-at s i to l k)
 
   pub hash-done : to ≤ i → hash ≡ hashOf (slice from to s)
@@ -108,8 +109,8 @@ module _ {s : List ℕ} {from to hash i : ℕ} (h : Hashing s from to hash i) wh
 
 -- ---- the loop of a comparison: at byte i, what is left of two parts of one size is the same exactly if the whole is
 
-same-front : (x y : ℕ) (v w : List ℕ) → sameName (x ∷ v) (y ∷ w) ≡ (eqb (comparedByte x) (comparedByte y) && sameName v w)
-same-front x y v w = same-is (x ∷ v) (y ∷ w) ∙ ap (λ (b : Bool). eqb (comparedByte x) (comparedByte y) && b) (sym (same-is v w))
+same-front : (x y : ℕ) (v w : List ℕ) → sameName (x ∷ v) (y ∷ w) ≡ (eqb (lowercaseByte x) (lowercaseByte y) && sameName v w)
+same-front x y v w = same-is (x ∷ v) (y ∷ w) ∙ ap (λ (b : Bool). eqb (lowercaseByte x) (lowercaseByte y) && b) (sym (same-is v w))
 
 pub record Comparing (s : List ℕ) (a b size i : ℕ) : Type 0 where
   pub first : a + size ≤ length s
@@ -124,20 +125,20 @@ compare-start s a b size h k =
     record { first = h; second = k; upto = omega arith; rest = rw (p, q) }
 
 module _ {s : List ℕ} {a b size i : ℕ} (h : Comparing s a b size i) where
-  module _ (l : i < size) {x y : ℕ} (ex : x ≡ comparedByte (getD s (a + i) 0)) (ey : y ≡ comparedByte (getD s (b + i) 0)) where
-    at-byte : (eqb x y && sameName (slice (a + (i + 1)) (a + size) s) (slice (b + (i + 1)) (b + size) s)) ≡ sameName (slice a (a + size) s) (slice b (b + size) s)
+  module _ (l : i < size) {same : Bool} (e : same ≡ eqb (lowercaseByte (getD s (a + i) 0)) (lowercaseByte (getD s (b + i) 0))) where
+    at-byte : (same && sameName (slice (a + (i + 1)) (a + size) s) (slice (b + (i + 1)) (b + size) s)) ≡ sameName (slice a (a + size) s) (slice b (b + size) s)
     at-byte =
         let p : a + (i + 1) ≡ a + i + 1 = omega arith in
         let q : b + (i + 1) ≡ b + i + 1 = omega arith in
-        rw (ex, ey, p, q)
+        rw (e, p, q)
         (sym (same-front (getD s (a + i) 0) (getD s (b + i) 0) (slice (a + i + 1) (a + size) s) (slice (b + i + 1) (b + size) s))
         ∙ rw (← (slice-at s (a + i) (a + size) (omega arith) (h .first)), ← (slice-at s (b + i) (b + size) (omega arith) (h .second))) (h .rest))
 
-    pub compare-turn : x ≡ y → Comparing s a b size (i + 1)
-    compare-turn e = record { first = h .first; second = h .second; upto = omega arith; rest = rw (eq-eqb x y e) at at-byte }
+    pub compare-turn : same ≡ true → Comparing s a b size (i + 1)
+    compare-turn t = record { first = h .first; second = h .second; upto = omega arith; rest = rw t at at-byte }
 
-    pub compare-miss : (x ≡ y → ⊥) → false ≡ sameName (slice a (a + size) s) (slice b (b + size) s)
-    compare-miss e = rw (ne-eqb x y e) at at-byte
+    pub compare-miss : same ≡ false → false ≡ sameName (slice a (a + size) s) (slice b (b + size) s)
+    compare-miss f = rw f at at-byte
 
   pub compare-done : size ≤ i → true ≡ sameName (slice a (a + size) s) (slice b (b + size) s)
   compare-done l =

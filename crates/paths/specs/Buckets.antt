@@ -11,6 +11,7 @@ use Rattle.cells.specs.Limits.{labelLimit}
 use Rattle.cells.specs.Characters.{dot}
 use Rattle.cells.specs.Cells.{intAt}
 use Rattle.cells.specs.Table.{kind, nameStart, nameLength, owner, isDefinition}
+use Rattle.text.specs.Bytes.{lowercase}
 use Rattle.paths.specs.Names.{nameOf, sameName}
 use Rattle.paths.specs.Leads.{NamesApart}
 
@@ -32,27 +33,19 @@ pub record Searchable (s : List ℕ) (t : List ℤ) (n : ℕ) : Type 0 where
   pub beyond : (l : ℕ) → n < l → kind t l ≡ 0
   pub rooted : (l : ℕ) → isDefinition t l ≡ true → owner t l ≡ 0 → l ≡ 1
 
--- ---- the hash of a name, by what names are compared by
-
--- a byte of a name as `sameName` compares it
-unfoldable pub comparedByte : ℕ → ℕ
-comparedByte x = x
-
-abbrev pub compared : List ℕ → List ℕ
-compared [] = []
-compared (x ∷ w) = comparedByte x ∷ compared w
+-- ---- the hash of a name, by what `sameName` compares of it
 
 -- a hash is below this
 abbrev pub hashes : ℕ
 hashes = 4294967296
 
--- the hash of bytes, after bytes of hash h
+-- the hash of bytes, by the low five bits of each, after bytes of hash h
 abbrev pub hashFrom : ℕ → List ℕ → ℕ
 hashFrom h [] = h
-hashFrom h (x ∷ w) = hashFrom ((h + x) * 2654435769 % hashes) w
+hashFrom h (x ∷ w) = hashFrom ((h + x % 32) * 2654435769 % hashes) w
 
 unfoldable pub hashOf : List ℕ → ℕ
-hashOf w = hashFrom 0 (compared w)
+hashOf w = hashFrom 0 (lowercase w)
 
 -- ---- the buckets of each Group
 

@@ -1,20 +1,27 @@
 -- Names, and the members of a Group by their names.
+use mathlib.Core.Path.{_≡_}
 use mathlib.Core.Bool.{Bool, cond, _&&_}
 use mathlib.Core.List.{List}
-use Prim.Native.Nat.{ℕ, zero, suc, _+_}
+use Prim.Native.Nat.{ℕ, zero, suc, _+_, _<_}
 use lib.IntN.{ℤ}
+use lib.ListN.{length, getD}
 use lib.Seq.{slice}
 use Rattle.cells.specs.Table.{nameStart, nameLength}
 use Rattle.order.specs.Order.{isMemberOf}
-use Rattle.text.specs.Bytes.{same}
+use Rattle.text.specs.Bytes.{same, lowercase, SameButCase}
 
 -- the bytes of label l's name field
 abbrev pub nameOf : List ℕ → List ℤ → ℕ → List ℕ
 nameOf s t l = slice (nameStart t l) (nameStart t l + nameLength t l) s
 
--- "compared byte by byte"
+-- document 02, order 1: "Names now compare without regard to the case of ASCII letters, in member lists and in paths"
 unfoldable pub sameName : List ℕ → List ℕ → Bool
-sameName x y = same x y
+sameName x y = same (lowercase x) (lowercase y)
+
+-- two names are so the same exactly where they have one length and their bytes are equal but for case, place by place
+pub record NamesButCase (x y : List ℕ) : Type 0 where
+  pub size : length x ≡ length y
+  pub bytes : (i : ℕ) → i < length x → SameButCase (getD x i 0) (getD y i 0)
 
 -- the first of m labels, from l up, that passes the test; 0 where none does
 abbrev pub firstLabel : (ℕ → Bool) → ℕ → ℕ → ℕ

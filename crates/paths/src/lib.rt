@@ -3,7 +3,7 @@
 
 ghost use mathlib.Core.Path.{_≡_};
 ghost use mathlib.Core.Bool.{true, _&&_};
-ghost use Prim.Native.Nat.{ℕ, _+_, _-_, _*_, _≤_, _<_};
+ghost use Prim.Native.Nat.{ℕ, _+_, _-_, _*_, _%_, _≤_, _<_};
 ghost use lib.Dec.{eqb};
 ghost use lib.IntN.{pos};
 ghost use lib.ListN.{length, getD, set, drop};
@@ -12,10 +12,11 @@ ghost use Rattle.cells.specs.Limits.{labelLimit};
 ghost use Rattle.cells.specs.Characters.{dot};
 ghost use Rattle.cells.specs.Table.{owner, target, withColumn, isDefinition, hasPath};
 ghost use Rattle.refusals.specs.Refusal.{firstBad};
+ghost use Rattle.text.specs.Bytes.{lowercaseByte};
 ghost use Rattle.text.specs.Pieces.{cut};
 ghost use Rattle.text.specs.Scans.{runEnd};
 ghost use Rattle.paths.specs.Names.{nameOf, sameName, isNamed};
-ghost use Rattle.paths.specs.Buckets.{notDot, NameInText, Searchable, comparedByte, hashOf, hashes};
+ghost use Rattle.paths.specs.Buckets.{notDot, NameInText, Searchable, hashOf, hashes};
 ghost use Rattle.paths.specs.Buckets.{startOf, Stretch, Allotted, countedAt, sumTo, MembersCounted, bucketOf};
 ghost use Rattle.paths.specs.Buckets.{lastBelow, LinkedBelow, AllLinked, Fresh, firstIn, Walkable, linkedMember};
 ghost use Rattle.paths.specs.Paths.{headFrom, descended, targetCell, duplicateBad, pathHeadBad, laterBad, laterRows, headRows, pathsBad};
@@ -44,14 +45,14 @@ fn name_stop(text: &[u8], from: usize, to: usize) -> usize
     i
 }
 
-// A byte of a name, as names are compared.
-fn compared_byte(byte: u8) -> usize
-    ensures { λ r. ⌜ (r ≡ comparedByte byte) × (r < 256) ⌝ }
+// The low five bits of a byte as names are compared. Both cases of a letter have the same, so that nothing is left to be done for case.
+fn compared_bits(byte: u8) -> usize
+    ensures { λ r. ⌜ (r ≡ lowercaseByte byte % 32) × (r < 32) ⌝ }
 {
-    byte as usize
+    (byte % 32) as usize
 }
 
-// A hash of a name, by its bytes as names are compared.
+// A hash of a name, by what the comparison of names compares.
 fn hash_name(text: &[u8], from: usize, to: usize) -> usize
     requires { ⌜ (from ≤ to) × (to ≤ length (now text)) ⌝ }
     ensures { λ r. ⌜ r ≡ hashOf (slice from to (now (text .entry))) ⌝ }
@@ -59,7 +60,7 @@ fn hash_name(text: &[u8], from: usize, to: usize) -> usize
     let mut hash: usize = 0;
     let mut i = from;
     while i < to {
-        hash = (hash + compared_byte(text[i])) * FACTOR % HASHES;
+        hash = (hash + compared_bits(text[i])) * FACTOR % HASHES;
         i += 1;
     }
     hash
@@ -72,10 +73,11 @@ fn same_name(text: &[u8], a: usize, b: usize, size: usize) -> bool
 {
     let mut i: usize = 0;
     while i < size {
-        if compared_byte(text[a + i]) != compared_byte(text[b + i]) {
+        if text::same_but_case(text[a + i], text[b + i]) {
+            i += 1;
+        } else {
             return false;
         }
-        i += 1;
     }
     true
 }

@@ -1,11 +1,11 @@
--- Document 01, "Strength of each contract": "The starred sheets are one table of definition-level facts with one proof". For each sheet, from
--- its bytes on, the definitions of the calls give what the table says. The checker computes it.
+-- Document 01, "Strength of each contract": "The starred sheets are one table of definition-level facts with one proof"; the examples of
+-- document 02's orders stand in the same table. For each sheet, from its bytes on, the definitions of the calls give what the table says. The checker computes it.
 use mathlib.Core.Path.{_≡_, refl}
 use mathlib.Core.List.{map}
 use Rattle.numbers.specs.Decimal.{allDigits, digitsValue, digitsOf, decimalOf, numberOf}
 use Rattle.numbers.specs.Rounding.{rounded, quotient}
 use Rattle.numbers.specs.Arithmetic.{rangedOf, result, calculated}
-use Rattle.text.specs.Bytes.{isAllowed, isLetter, isAlphanumeric}
+use Rattle.text.specs.Bytes.{isAllowed, isLetter, isAlphanumeric, lowercaseByte}
 use Rattle.text.specs.Forms.{isName, isPath, labelOf}
 use Rattle.kinds.specs.Kinds.{kinds, kindAt, codeOf, isKind, isDefinition, isExpression, hasBody, hasPath, wantedBy, takes, clauseOf}
 use Rattle.lines.specs.Fields.{fieldOf}
@@ -29,7 +29,8 @@ use Rattle.samples.specs.Samples.{samples}
 
 pub samples-hold : map given samples ≡ map said samples
 unfolding samples isText isAllowed line labels firstLine headBad fieldCells kinds kindAt codeOf isKind isDefinition isExpression hasBody hasPath wantedBy takes clauseOf fieldOf labelOf numberOf
-    decimalOf digitsOf digitsValue allDigits linesBad lineBad rootLine isName isPath isLetter isAlphanumeric parts structureBad definitionOf ownerOf levelOf treeBad sameName member paths.duplicateBad
+    decimalOf digitsOf digitsValue allDigits linesBad lineBad rootLine isName isPath isLetter isAlphanumeric parts structureBad definitionOf ownerOf levelOf treeBad sameName
+    lowercaseByte member paths.duplicateBad
     paths.headFrom paths.headOf paths.targetOf paths.pathHeadBad paths.laterBad paths.targetBad paths.pathsBad tableShort ownedTable resolvedTable resolvedBad sheetCells sheetBad sheetTable readBad
     readReply readTable
     nameBegin nameSize namePart cycleBad planShort resultsShort openBad plannedBad planOf planBad planReply planCells runBad runReply runTable runPlan runResults digits decimal columnsLine refusalLine

@@ -1,5 +1,5 @@
--- Document 01's starred sample sheets, as one table. The sentences are the paper's, and so are the figures in them; the others are counted
--- by hand, as `sheets/README.md` says. The sheets are those of `sheets/`.
+-- Document 01's starred sample sheets and the examples of document 02's orders, as one table. The sentences are the papers', and so are the
+-- figures in them; the others are counted by hand, as `sheets/README.md` says. The sheets are those of `sheets/`.
 use mathlib.Core.List.{List, [], _∷_}
 use Prim.Native.Nat.{ℕ}
 use Prim.Native.String.{String}
@@ -216,6 +216,50 @@ usedTwice = record {
       ∷ [];
 }
 
+-- document 02, order 1: "Names now compare without regard to the case of ASCII letters, in member lists and in paths"; a name is printed
+-- with "the case as sent"
+abbrev pub capitalPath : Sample
+capitalPath = record {
+  sheet =
+      "kind name a b c"
+      ∷ "G - 0 - -"
+      ∷ "G right 1 - -"
+      ∷ "G lens 2 - -"
+      ∷ "V sphere 3 5 -"
+      ∷ "N - -325 - -"
+      ∷ "V Total 1 7 -"
+      ∷ "A - 8 9 -"
+      ∷ "R RIGHT.LENS.SPHERE - - -"
+      ∷ "N - 5 - -"
+      ∷ [];
+  read = Answered 9;
+  table = group 2 1 ∷ group 3 2 ∷ value 4 3 ∷ value 6 1 ∷ reads 6 4 ∷ [];
+  outcome = whole (printLine 4 "sphere" 1 (minus 325) 1 ∷ printLine 6 "Total" 1 (minus 320) 3 ∷ []);
+  print =
+      "label name order state number steps"
+      ∷ "4 sphere whole 1 -325 1"
+      ∷ "6 Total whole 1 -320 3"
+      ∷ [];
+}
+
+-- document 02, order 1: "So `Right` and `right` in one Group clash under 12"
+abbrev pub capitalClash : Sample
+capitalClash = record {
+  sheet =
+      "kind name a b c"
+      ∷ "G - 0 - -"
+      ∷ "G right 1 - -"
+      ∷ "G Right 1 - -"
+      ∷ [];
+  read = Refused 12 3;
+  table = [];
+  outcome = refusal 12 3;
+  print =
+      "refusal place"
+      ∷ "12 3"
+      ∷ [];
+}
+
 unfoldable pub samples : List Sample
 samples =
     example
@@ -227,4 +271,6 @@ samples =
     ∷ nearestQuotient
     ∷ readsItself
     ∷ usedTwice
+    ∷ capitalPath
+    ∷ capitalClash
     ∷ []

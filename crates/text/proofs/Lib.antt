@@ -5,3 +5,4 @@ pub mod Joined
 pub mod Fields
 pub mod Names
 pub mod Labels
+pub mod Lowercase

@@ -1,6 +1,7 @@
 -- Bytes, which are numbers below 256, and lists of them.
 use mathlib.Core.Path.{_≡_}
-use mathlib.Core.Bool.{Bool, true, false, _&&_, _||_}
+use mathlib.Core.Bool.{Bool, true, false, cond, _&&_, _||_}
+use mathlib.Core.Logic.{_⊎_}
 use mathlib.Core.List.{List, [], _∷_}
 use Prim.Native.Nat.{ℕ, _+_, _-_}
 use lib.Dec.{leb, eqb}
@@ -35,8 +36,34 @@ isNewline x = eqb x newline
 abbrev pub endsLines : List ℕ → Type 0
 endsLines s = getD s (length s - 1) 0 ≡ newline
 
+abbrev pub isCapital : ℕ → Bool
+isCapital x = leb capitalA x && leb x capitalZ
+
 unfoldable pub isLetter : ℕ → Bool
-isLetter x = (leb capitalA x && leb x capitalZ) || (leb smallA x && leb x smallZ)
+isLetter x = isCapital x || (leb smallA x && leb x smallZ)
 
 unfoldable pub isAlphanumeric : ℕ → Bool
 isAlphanumeric x = isLetter x || isDigit x
+
+-- ---- document 02, order 1: "Capitals and small letters"
+
+-- the small letter of a capital: 65 to 90 become 97 to 122
+abbrev pub smallOf : ℕ → ℕ
+smallOf x = x + (smallA - capitalA)
+
+-- "without regard to the case of ASCII letters": a capital becomes the small letter, and every other byte stays
+unfoldable pub lowercaseByte : ℕ → ℕ
+lowercaseByte x = cond (isCapital x) (smallOf x) x
+
+-- each byte so
+abbrev pub lowercase : List ℕ → List ℕ
+lowercase [] = []
+lowercase (x ∷ w) = lowercaseByte x ∷ lowercase w
+
+-- the two cases of one letter: x is the capital, y the small letter
+abbrev pub isTwoCases : ℕ → ℕ → Bool
+isTwoCases x y = isCapital x && eqb y (smallOf x)
+
+-- equal bytes, or the two cases of one letter
+abbrev pub SameButCase : ℕ → ℕ → Type 0
+SameButCase x y = (x ≡ y) ⊎ ((isTwoCases x y ≡ true) ⊎ (isTwoCases y x ≡ true))

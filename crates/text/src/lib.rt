@@ -3,10 +3,11 @@
 
 ghost use mathlib.Core.Path.{_≡_};
 ghost use Prim.Native.Nat.{_≤_, _<_};
+ghost use lib.Dec.{eqb};
 ghost use lib.ListN.{length};
 ghost use lib.Seq.{slice};
 ghost use Rattle.cells.specs.Limits.{labelLimit, sizeLimit};
-ghost use Rattle.text.specs.Bytes.{one, countBy, isNewline, isLetter, isAlphanumeric, same, endsLines};
+ghost use Rattle.text.specs.Bytes.{one, countBy, isNewline, isLetter, isAlphanumeric, lowercaseByte, isTwoCases, same, endsLines};
 ghost use Rattle.text.specs.Forms.{isName, isPath, labelOf};
 ghost use Rattle.text.specs.Scans.{runEnd, fieldEnd, nameEnd, isBad, isGraphic};
 use numbers::Decimal;
@@ -109,6 +110,33 @@ pub fn field_end(text: &[u8], from: usize, stop: u8) -> usize
 }
 
 // ---- names and paths
+
+// Whether x is a capital and y the small letter for it.
+fn are_two_cases(x: u8, y: u8) -> bool
+    requires { ⌜ x ≤ y ⌝ }
+    ensures { λ r. ⌜ r ≡ isTwoCases x y ⌝ }
+{
+    if y - x != b'a' - b'A' {
+        return false;
+    }
+    if x < b'A' {
+        return false;
+    }
+    x <= b'Z'
+}
+
+// Whether two bytes are equal, or the two cases of one letter. Most that are compared are equal, so that is asked first.
+pub fn same_but_case(x: u8, y: u8) -> bool
+    ensures { λ r. ⌜ r ≡ eqb (lowercaseByte x) (lowercaseByte y) ⌝ }
+{
+    if x == y {
+        return true;
+    }
+    if x < y {
+        return are_two_cases(x, y);
+    }
+    are_two_cases(y, x)
+}
 
 // An ASCII letter.
 fn is_letter(b: u8) -> bool

@@ -16,21 +16,21 @@ loop-holds c =
     let a = c .before .args in
     hash-start (a .text .now) (a .from) (a .to) (c .before .pre .0)
 
-shared-slice-read-compared-byte : tie.Need-shared-slice-read-compared-byte Inv-loop μ-loop
-shared-slice-read-compared-byte c = omega arith
+shared-slice-read-compared-bits : tie.Need-shared-slice-read-compared-bits Inv-loop μ-loop
+shared-slice-read-compared-bits c = omega arith
 
-compared-byte-requires : tie.Need-compared-byte-requires Inv-loop μ-loop
-compared-byte-requires c κs = search needs
+compared-bits-requires : tie.Need-compared-bits-requires Inv-loop μ-loop
+compared-bits-requires c κs = search needs
 
 add-hash : tie.Need-add-hash Inv-loop μ-loop
 add-hash c =
     let l = c .before .before .before .loop in
-    omega (arith, l .inv .small, c .compared-byte .ensures .1)
+    omega (arith, l .inv .small, c .compared-bits .ensures .1)
 
 mul-hash : tie.Need-mul-hash Inv-loop μ-loop
 mul-hash c =
     let l = c .before .before .before .loop in
-    omega (arith, l .inv .small, c .compared-byte .ensures .1)
+    omega (arith, l .inv .small, c .compared-bits .ensures .1)
 
 add-i : tie.Need-add-i Inv-loop μ-loop
 add-i c = omega arith
@@ -41,7 +41,7 @@ loop-less c = omega arith
 loop-again : tie.Need-loop-again Inv-loop μ-loop
 loop-again c =
     let l = c .before .before .before .loop in
-    hash-turn (l .inv) (omega arith) (omega arith) (c .compared-byte .ensures .0)
+    hash-turn (l .inv) (omega arith) (omega arith) (c .compared-bits .ensures .0)
 
 returns : tie.Need-returns Inv-loop μ-loop
 returns c = hash-done (c .before .loop .inv) (omega arith)
@@ -53,8 +53,8 @@ hash-name-spec =
     Inv-loop
     μ-loop
     loop-holds
-    shared-slice-read-compared-byte
-    compared-byte-requires
+    shared-slice-read-compared-bits
+    compared-bits-requires
     add-hash
     mul-hash
     add-i

@@ -16,29 +16,20 @@ loop-holds c =
     let a = c .before .args in
     compare-start (a .text .now) (a .a) (a .b) (a .size) (c .before .pre .0) (c .before .pre .1)
 
-add-compared-byte : tie.Need-add-compared-byte Inv-loop μ-loop
-add-compared-byte c = omega arith
+add-same-but-case : tie.Need-add-same-but-case Inv-loop μ-loop
+add-same-but-case c = omega arith
 
-shared-slice-read-compared-byte : tie.Need-shared-slice-read-compared-byte Inv-loop μ-loop
-shared-slice-read-compared-byte c = omega arith
+shared-slice-read-same-but-case : tie.Need-shared-slice-read-same-but-case Inv-loop μ-loop
+shared-slice-read-same-but-case c = omega arith
 
-compared-byte-requires : tie.Need-compared-byte-requires Inv-loop μ-loop
-compared-byte-requires c κs = search needs
+add-same-but-case-2 : tie.Need-add-same-but-case-2 Inv-loop μ-loop
+add-same-but-case-2 c = omega arith
 
-add-compared-byte-2 : tie.Need-add-compared-byte-2 Inv-loop μ-loop
-add-compared-byte-2 c = omega arith
+shared-slice-read-same-but-case-2 : tie.Need-shared-slice-read-same-but-case-2 Inv-loop μ-loop
+shared-slice-read-same-but-case-2 c = omega arith
 
-shared-slice-read-compared-byte-2 : tie.Need-shared-slice-read-compared-byte-2 Inv-loop μ-loop
-shared-slice-read-compared-byte-2 c = omega arith
-
-compared-byte-requires-2 : tie.Need-compared-byte-requires-2 Inv-loop μ-loop
-compared-byte-requires-2 c κs = search needs
-
-returns : tie.Need-returns Inv-loop μ-loop
-returns c =
-    let l = c .before .before .before .before .before .before .loop in
-    let compared-byte = c .before .before .before .compared-byte in
-    compare-miss (l .inv) (omega arith) (compared-byte .ensures .0) (c .before .compared-byte2 .ensures .0) (c .if1 .taken)
+same-but-case-requires : tie.Need-same-but-case-requires Inv-loop μ-loop
+same-but-case-requires c κs = search needs
 
 add-i : tie.Need-add-i Inv-loop μ-loop
 add-i c = omega arith
@@ -48,9 +39,13 @@ loop-less c = omega arith
 
 loop-again : tie.Need-loop-again Inv-loop μ-loop
 loop-again c =
-    let l = c .before .before .before .before .before .before .loop in
-    let compared-byte = c .before .before .before .compared-byte in
-    compare-turn (l .inv) (omega arith) (compared-byte .ensures .0) (c .before .compared-byte2 .ensures .0) (c .if1 .left)
+    let turn = c .before .before .before .before .before .loop in
+    compare-turn (turn .inv) (omega arith) (c .before .same-but-case .ensures) (c .if1 .taken)
+
+returns : tie.Need-returns Inv-loop μ-loop
+returns c =
+    let turn = c .before .before .before .before .before .loop in
+    compare-miss (turn .inv) (omega arith) (c .before .same-but-case .ensures) (c .if1 .left)
 
 returns-2 : tie.Need-returns-2 Inv-loop μ-loop
 returns-2 c = compare-done (c .before .loop .inv) (omega arith)
@@ -62,14 +57,13 @@ same-name-spec =
     Inv-loop
     μ-loop
     loop-holds
-    add-compared-byte
-    shared-slice-read-compared-byte
-    compared-byte-requires
-    add-compared-byte-2
-    shared-slice-read-compared-byte-2
-    compared-byte-requires-2
-    returns
+    add-same-but-case
+    shared-slice-read-same-but-case
+    add-same-but-case-2
+    shared-slice-read-same-but-case-2
+    same-but-case-requires
     add-i
     loop-less
     loop-again
+    returns
     returns-2)

@@ -22,7 +22,7 @@ static const char *const refusals[] = {
     "an expression that no field uses, or two or more",
     "the argument of a function in a value",
     "nested deeper than 32 levels",
-    "a name that its Group has already",
+    "a name that its Group has already, whatever the case of its letters",
     "the head of a path is not found",
     "a later name of a path is not found, or is asked of a value or function",
     "a read that leads to no value, or a call that leads to no function",
@@ -80,8 +80,15 @@ static int is_definition(const struct sheet *sheet, int64_t label)
     }
 }
 
-/* Whether the label's name field is this name. Cells that no Read writes, such
- * as a place outside the text, are no name. */
+/* A byte as names are compared: letters of ASCII in any case, whatever the locale
+ * says. */
+static uint8_t folded(uint8_t byte)
+{
+    return byte >= 'A' && byte <= 'Z' ? (uint8_t)(byte - 'A' + 'a') : byte;
+}
+
+/* Whether the label's name field is this name, the case of letters aside. Cells
+ * that no Read writes, such as a place outside the text, are no name. */
 static int has_name(const struct sheet *sheet, int64_t label, const char *name, size_t length)
 {
     int64_t start = cell(sheet, label, LINDYPO_COLUMN_NAME_START);
@@ -93,7 +100,7 @@ static int has_name(const struct sheet *sheet, int64_t label, const char *name, 
     if (length > sheet->text_length - (size_t)start)
         return 0;
     for (size_t at = 0; at < length; at++)
-        if (sheet->text[(size_t)start + at] != (uint8_t)name[at])
+        if (folded(sheet->text[(size_t)start + at]) != folded((uint8_t)name[at]))
             return 0;
     return 1;
 }

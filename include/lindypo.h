@@ -14,6 +14,11 @@
  *
  * Lengths are in bytes for the text and in cells of 64 bits for all others.
  *
+ * Names are compared without regard to the case of ASCII letters, in Groups and
+ * in paths: bytes 65 to 90 count as 97 to 122, every other byte as itself. What
+ * the calls give of a name is as it was sent. Kinds and column names are
+ * compared byte by byte.
+ *
  * A call writes every cell of every buffer lent for writing, so nothing of what
  * they held before is left: cells that an answer does not use are 0, and a
  * refusal leaves every cell 0.
@@ -30,9 +35,9 @@ extern "C" {
 
 /* The version of this header. lindypo_version() gives that of the library. */
 #define LINDYPO_VERSION_MAJOR 0
-#define LINDYPO_VERSION_MINOR 2
+#define LINDYPO_VERSION_MINOR 3
 #define LINDYPO_VERSION_PATCH 0
-#define LINDYPO_VERSION "0.2.0"
+#define LINDYPO_VERSION "0.3.0"
 
 /* Limits of a sheet. */
 #define LINDYPO_TEXT_MOST 65536        /* bytes of the text */
@@ -141,7 +146,7 @@ enum lindypo_refusal {
     LINDYPO_REFUSAL_ARGUMENT = 10, /* a P owned by a V */
     LINDYPO_REFUSAL_LEVEL = 11,    /* nested deeper than 32 levels */
     /* names and paths */
-    LINDYPO_REFUSAL_DUPLICATE = 12, /* a smaller label in its Group has that name */
+    LINDYPO_REFUSAL_DUPLICATE = 12, /* a smaller label in its Group has that name, in any case */
     LINDYPO_REFUSAL_HEAD = 13,      /* the first name of a path is not found */
     LINDYPO_REFUSAL_LATER = 14,     /* a later name is not found, or asked of a V or F */
     LINDYPO_REFUSAL_TARGET = 15,    /* an R that leads to no V, or a C that leads to no F */
@@ -190,7 +195,7 @@ lindypo_reply lindypo_read(const uint8_t *text, size_t text_length,
                            int64_t *table, size_t table_length);
 
 /* Name: writes the table as Read does, and gives a label's name field as a part
- * of the text. The part is empty where Read would refuse, where the label is
+ * of the text, so in the case in which it was sent. The part is empty where Read would refuse, where the label is
  * not from 1 to n, and where the field is `-`. */
 lindypo_part lindypo_name(const uint8_t *text, size_t text_length,
                           int64_t *table, size_t table_length, int64_t label);
@@ -249,7 +254,7 @@ lindypo_printed lindypo_print(const uint8_t *text, size_t text_length,
  * and are not to be freed. target/staticlib/liblindypo.a has the proved calls
  * alone; the libraries that ./install makes have these as well. */
 
-/* The version of the library: "0.2.0" and the like. */
+/* The version of the library: "0.3.0" and the like. */
 const char *lindypo_version(void);
 
 /* A refusal in general, in words: "a value that reaches itself". For 0 "no
@@ -261,8 +266,9 @@ const char *lindypo_refusal_words(uint64_t refusal);
 const char *lindypo_state_words(int64_t state);
 
 /* The label of the definition with this full name, its own name after those of
- * the Groups around it, outermost first, joined by dots: `right.prism`. 0 where
- * there is none.
+ * the Groups around it, outermost first, joined by dots: `right.prism`. The case
+ * of letters makes no difference: `RIGHT.Prism` is the same. 0 where there is
+ * none.
  *
  * Text and table are those of a Read that answered, and of no other text. The
  * path ends with a byte 0. Nothing outside the text and the table is read

@@ -95,13 +95,18 @@ static const struct path paths[] = {
     {"right.deep.half", 8},
     {"right.deep.decentration0001", 9},
     {"r", 10},
+    /* names as people type them */
+    {"RIGHT", 2},
+    {"Left.FAR", 5},
+    {"RIGHT.deep.Sphere", 7},
+    {"right.Deep.DECENTRATION0001", 9},
+    {"R", 10},
     /* nothing goes outward, and only Groups have members */
     {"right.far", 0},
     {"deep", 0},
     {"far.far", 0},
     {"right.deep.half.far", 0},
-    /* the bytes are those of the name, all and no other */
-    {"Right", 0},
+    /* the bytes are those of the name, all and no other, letters in any case */
     {"righ", 0},
     {"rights", 0},
     {"right.deep.decentration00011", 0},
@@ -126,6 +131,31 @@ static void found_in_a_sheet(void)
         expect(path, find(sheet, table, CELLS, path), paths[at].label);
         expect(path, find(sheet, table, CELLS + 20, path), paths[at].label);
     }
+}
+
+/* Bytes 65 to 90 count as 97 to 122. */
+static int small(int byte)
+{
+    return byte >= 65 && byte <= 90 ? byte + 32 : byte;
+}
+
+/* Names of one byte, each that a text can be lent with, and paths of each that a
+ * path can have. */
+static void every_byte(void)
+{
+    char text[256] = "", path[2] = "";
+    int64_t cells[2 * LINDYPO_TABLE_CELLS];
+    memcpy(cells, table, sizeof cells);
+    for (int byte = 1; byte < 256; byte++)
+        text[byte - 1] = (char)byte;
+    cells[LINDYPO_TABLE_CELLS + LINDYPO_COLUMN_NAME_LENGTH] = 1;
+    for (int named = 1; named < 256; named++)
+        for (int asked = 1; asked < 256; asked++) {
+            int is_same = asked != '.' && small(named) == small(asked);
+            cells[LINDYPO_TABLE_CELLS + LINDYPO_COLUMN_NAME_START] = named - 1;
+            path[0] = (char)asked;
+            expect("a byte", find(text, cells, 2 * LINDYPO_TABLE_CELLS, path), is_same ? 2 : 0);
+        }
 }
 
 /* A table that ends early has the labels that it is long enough for. */
@@ -241,6 +271,7 @@ int main(void)
     expect("the sheet reads", (int64_t)reply.refusal, 0);
     expect("the labels", (int64_t)reply.count, LABELS);
     found_in_a_sheet();
+    every_byte();
     found_in_part_of_a_table();
     nothing_lent();
     refused_table();

@@ -20,10 +20,10 @@ pub const WORD: Word = Word {
     summary: "evaluates values down an order that you give",
     operands: "[FILE...]",
     about: "\
-Evaluates the values of each sheet down the list that --order gives: labels or full names with
-commas between, or @FILE for a file with one a line. The list has to name every value once, each
-after all that it reaches, else refusals 17 and 18 say at which position it does not; the results
-are then those of `lindypo run`, whichever such list it is.
+Evaluates the values of each sheet down the list that --order gives: labels or full names, in
+capitals or small letters, with commas between, or @FILE for a file with one a line. The list has
+to name every value once, each after all that it reaches, else refusals 17 and 18 say at which
+position it does not; the results are then those of `lindypo run`, whichever such list it is.
 ",
     options: &[Opt {
         name: ORDER,

@@ -2,8 +2,8 @@
 
 use lindypo::{Label, Sheet};
 
-/// The label that a word is, or that of the definition whose full name it is. A
-/// label may be one that the sheet has not.
+/// The label that a word is, or that of the definition whose full name it is, in
+/// capitals or small letters. A label may be one that the sheet has not.
 pub fn of(sheet: &Sheet, word: &str) -> Option<Label> {
     match is_label(word) {
         true => word.parse().ok(),

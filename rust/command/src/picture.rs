@@ -4,7 +4,7 @@ use std::cell::Cell;
 use std::collections::BTreeSet;
 use std::ffi::OsStr;
 
-use lindypo::{Kind, Label, Refusal, Sheet};
+use lindypo::{same_name, Kind, Label, Refusal, Sheet};
 
 use crate::document::{self, Document, Failure, Maker};
 use crate::input::{self, Source};
@@ -142,14 +142,11 @@ fn definition(sheet: &Sheet, option: Opt, name: &OsStr) -> Result<Label, String>
     })
 }
 
-/// The definitions with the same last name, in small letters or capitals.
+/// The definitions with the same last name.
 fn meant(sheet: &Sheet, name: &str) -> String {
     let last = name.rsplit('.').next().unwrap_or("");
     let lines = sheet.lines().filter(|line| line.kind.is_definition());
-    let like = lines.filter(|line| {
-        line.name
-            .is_some_and(|name| name.eq_ignore_ascii_case(last))
-    });
+    let like = lines.filter(|line| line.name.is_some_and(|name| same_name(name, last)));
     let like = like.map(|line| format!("`{}`", sheet.full_name(line.label)));
     match like.take(NAMED).collect::<Vec<_>>() {
         names if names.is_empty() => "; `lindypo explain` lists them".to_string(),

@@ -1,4 +1,5 @@
-//! The rules of document 01's table of refusals, in plain words.
+//! The rules of document 01's table of refusals, as document 02 has changed
+//! them, in plain words.
 
 /// A rule by a short name, and what it says.
 pub struct Rule {
@@ -45,7 +46,7 @@ pub const RULES: [Rule; 18] = [
     ),
     rule(
         "name taken already",
-        "the members of a Group have different names",
+        "the members of a Group have names that differ by more than the case of letters",
     ),
     rule(
         "first name of a path",

@@ -2,7 +2,7 @@
 //! code.
 //!
 //! A sheet is a small program: values and functions in nested Groups that name
-//! each other by dotted paths. [`Sheet::read`] judges its text; the sheet then
+//! each other by dotted paths, in capitals or small letters. [`Sheet::read`] judges its text; the sheet then
 //! gives its lines and names, its [`Plan`], and its results, by the plan or by
 //! an order of the caller's.
 //!
@@ -59,6 +59,7 @@ mod diagnosis;
 mod faults;
 pub mod formula;
 mod line;
+mod names;
 pub mod raw;
 mod refusal;
 mod sheet;
@@ -68,6 +69,7 @@ pub use answer::{Order, Outcome, Plan, Results, Run, State};
 pub use diagnosis::bytes::MOST_BYTES;
 pub use faults::faults;
 pub use line::{Kind, Line};
+pub use names::same_name;
 pub use refusal::{Fault, Help, Mark, Refusal};
 pub use sheet::Sheet;
 

@@ -28,7 +28,7 @@ pub enum Refusal {
     Argument(Fault),
     /// 11: nested deeper than 32 levels.
     Level(Fault),
-    /// 12: a name that its Group has already.
+    /// 12: a name that its Group has already, whatever the case of its letters.
     Name(Fault),
     /// 13: the head of a path is not found.
     Head(Fault),
@@ -149,8 +149,12 @@ impl Refusal {
     /// ```
     /// let text = b"kind name a b c\nG - 0 - -\nV size 1 4 -\nV x 1 5 -\nN - 7 - -\nR sise - - -\n";
     /// let refusal = lindypo::Sheet::read(text).unwrap_err();
+    /// assert_eq!(
+    ///     refusal.sentence(),
+    ///     "the outermost Group has no member `sise`; is `size` (line 3) meant?"
+    /// );
     /// let near = &refusal.help()[0];
-    /// assert_eq!(near.sentence, "is `size` (line 3) meant?");
+    /// assert_eq!(near.sentence, "`size` is here");
     /// assert_eq!(near.mark.map(|mark| (mark.line, mark.column, mark.width)), Some((3, 3, 4)));
     /// assert_eq!(refusal.help()[1].sentence, "the outermost Group has `size` and `x`");
     /// ```

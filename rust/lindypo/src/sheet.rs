@@ -4,7 +4,7 @@ use std::str;
 
 use crate::diagnosis;
 use crate::raw;
-use crate::{Kind, Label, Line, Plan, Refusal, Results, Run};
+use crate::{same_name, Kind, Label, Line, Plan, Refusal, Results, Run};
 
 /// Cells for each label in the table and in the results.
 const TABLE_CELLS: usize = 8;
@@ -70,13 +70,13 @@ impl<'text> Sheet<'text> {
     }
 
     /// A definition's name or the path of an R or C, as that very part of the
-    /// text. `None` where the field is `-` or the label is not from 1 to n.
+    /// text, in the case in which it was sent. `None` where the field is `-` or the label is not from 1 to n.
     ///
     /// ```
-    /// let text = b"kind name a b c\nG - 0 - -\nG right 1 - -\n";
+    /// let text = b"kind name a b c\nG - 0 - -\nG Right 1 - -\n";
     /// let sheet = lindypo::Sheet::read(text)?;
     /// let name = sheet.name(2).unwrap();
-    /// assert_eq!(name, "right");
+    /// assert_eq!(name, "Right");
     /// assert_eq!(name.as_ptr(), text[28..].as_ptr());
     /// # Ok::<(), lindypo::Refusal>(())
     /// ```
@@ -87,7 +87,8 @@ impl<'text> Sheet<'text> {
     }
 
     /// A definition's name with those of the Groups around it, outermost first,
-    /// joined by dots; empty for label 1 and for what is no definition.
+    /// joined by dots, each as it was sent; empty for label 1 and for what is no
+    /// definition.
     pub fn full_name(&self, label: Label) -> String {
         let mut names = Vec::new();
         let mut at = self.line(label);
@@ -99,12 +100,14 @@ impl<'text> Sheet<'text> {
         names.join(".")
     }
 
-    /// The definition with this full name.
+    /// The definition with this full name, in capitals or small letters.
     ///
     /// ```
-    /// let text = b"kind name a b c\nG - 0 - -\nG right 1 - -\nG left 1 - -\nG lens 3 - -\n";
+    /// let text = b"kind name a b c\nG - 0 - -\nG right 1 - -\nG left 1 - -\nG Lens 3 - -\n";
     /// let sheet = lindypo::Sheet::read(text)?;
-    /// assert_eq!(sheet.find("left.lens"), Some(4));
+    /// assert_eq!(sheet.find("left.Lens"), Some(4));
+    /// assert_eq!(sheet.find("LEFT.lens"), Some(4));
+    /// assert_eq!(sheet.full_name(4), "left.Lens");
     /// assert_eq!(sheet.find("right.lens"), None);
     /// # Ok::<(), lindypo::Refusal>(())
     /// ```
@@ -207,7 +210,7 @@ impl<'text> Sheet<'text> {
     }
 
     fn member(&self, group: Label, name: &str) -> Option<Label> {
-        let is_meant = |line: &Line| line.name == Some(name);
+        let is_meant = |line: &Line| line.name.is_some_and(|own| same_name(own, name));
         self.members(group).find(is_meant).map(|line| line.label)
     }
 

@@ -67,7 +67,7 @@ impl Summary {
         self.states.iter().sum()
     }
 
-    /// "30 sheets, 17 of them refused; 13 of 18 values have a number".
+    /// "32 sheets, 18 of them refused; 15 of 20 values have a number".
     fn headline(&self) -> String {
         let sheets = counted(self.sheets(), "sheet");
         let values = values::headline(self.states[0], self.values());

@@ -23,8 +23,8 @@ pub const WORD: Word = Word {
 Evaluates one value once more and shows its formula, what it read with the values, and the calls
 that it entered with their arguments. Of a value without a number it says at which line that
 began, in which calls, and by which reads it was handed on. NAME is the value's full name, as
-`lindypo plan` lists it, or its label. Of many calls the first are shown, and the number of the
-others.
+`lindypo plan` lists it, in capitals or small letters, or its label. Of many calls the first are
+shown, and the number of the others.
 ",
     options: &[],
     examples: &[Example {

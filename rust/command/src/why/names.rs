@@ -23,7 +23,7 @@ pub fn unknown(sheet: &Sheet, name: &str) -> String {
     };
     let what = match is_label(name) {
         true => format!("label {name}"),
-        false => format!("`{name}`"),
+        false => format!("`{}`", sheet.full_name(label)),
     };
     match sheet.line(label).map(|line| line.kind) {
         Some(Kind::Group) => format!("{what} is a Group; {}", values_under(sheet, label)),

@@ -26,6 +26,12 @@ impl Finding {
         }
     }
 
+    /// With more at the end of the sentence.
+    pub fn go_on(mut self, more: &str) -> Self {
+        self.sentence += more;
+        self
+    }
+
     /// With a hint more.
     pub fn help(self, sentence: impl Into<String>) -> Self {
         self.may_help(Some(sentence.into()))

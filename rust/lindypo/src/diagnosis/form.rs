@@ -3,7 +3,7 @@
 use super::forms::{self, Form};
 use super::rows::{Rows, A, FIELDS, KIND};
 use super::{named, numbers, rewrite, words, Finding};
-use crate::{Kind, Label};
+use crate::{names, Kind, Label};
 
 /// What label 1 has to be.
 const OUTERMOST: [&str; 5] = ["G", "-", "0", "-", "-"];
@@ -118,7 +118,7 @@ fn label_instead(rows: &Rows, label: Label, at: usize) -> Option<String> {
 fn named_instead(rows: &Rows, path: &str, is_group: bool) -> Option<String> {
     let is_meant = |&label: &Label| {
         let is_kind = (rows.kind(label) == Some(Kind::Group)) == is_group;
-        rows.is_definition(label) && is_kind && words::ends_with(&rows.full_name(label), path)
+        rows.is_definition(label) && is_kind && names::ends_with(&rows.full_name(label), path)
     };
     let label = rows.labels().find(is_meant)?;
     let group = || format!("{} is label {label}: write `{label}`", rows.title(label));
@@ -128,9 +128,10 @@ fn named_instead(rows: &Rows, path: &str, is_group: bool) -> Option<String> {
 fn name_instead(rows: &Rows, field: &str) -> Option<String> {
     if let Some((group, name)) = field.rsplit_once('.') {
         let is_meant = |&label: &Label| {
-            rows.kind(label) == Some(Kind::Group) && words::ends_with(&rows.full_name(label), group)
+            rows.kind(label) == Some(Kind::Group) && names::ends_with(&rows.full_name(label), group)
         };
         let label = rows.labels().skip(1).find(is_meant)?;
+        let group = rows.shown_name(label);
         return Some(format!(
             "a definition has one name: write `{name}`, \
              and in field a {label}, the label of `{group}`"

@@ -5,7 +5,7 @@ use super::paths::{mark_name, names, outward, path_to, start, target_of, walk, w
 use super::rows::{Rows, A, NAME};
 use super::words;
 use super::Finding;
-use crate::{Kind, Label};
+use crate::{same_name, Kind, Label};
 
 /// The most members of a Group that a sentence names, and the most Groups.
 const MEMBERS: usize = 12;
@@ -15,10 +15,14 @@ const GROUPS: usize = 3;
 pub fn name(rows: &Rows, label: Label) -> Finding {
     let (group, name) = (rows.link(label, A), rows.name(label));
     let earlier = rows.member(group, name).unwrap_or(0);
-    let group = rows.title(group);
-    let sentence = format!("{group} has a member `{name}` already: label {earlier}");
+    let (group, first, line) = (rows.title(group), rows.name(earlier), earlier + 1);
+    let why = match first == name {
+        true => "",
+        false => ": names are compared without regard to capitals",
+    };
+    let sentence = format!("{group} has a member `{first}` already (line {line}){why}");
     Finding::at(rows.mark(label, NAME), sentence)
-        .see(rows.mark(earlier, NAME), format!("`{name}` is here first"))
+        .see(rows.mark(earlier, NAME), format!("`{first}` is here first"))
         .help("give one of them another name, or another Group")
 }
 
@@ -114,19 +118,24 @@ pub fn by_label(rows: &Rows, definition: Label, path: &str) -> Option<String> {
     }
 }
 
-/// The member of these Groups whose name is nearest to a name of the path.
+/// With the question whether a definition is meant, by a path that leads to it.
+fn ask(found: Finding, rows: &Rows, near: Label, path: &str) -> Finding {
+    let line = near + 1;
+    found
+        .go_on(&format!("; is `{path}` (line {line}) meant?"))
+        .see(rows.mark(near, NAME), format!("`{path}` is here"))
+}
+
+/// The member of these Groups whose name is nearest to a name of the path. Of
+/// those that are as near it is the first Group's, since the path would end there.
 fn alike(found: Finding, rows: &Rows, label: Label, at: usize, groups: &[Label]) -> Finding {
     let name = names(rows, label)[at];
     let members = groups.iter().flat_map(|&group| rows.members(group));
     let named = members.map(|&member| (member, rows.name(member)));
-    let Some(near) = near::nearest(name, named) else {
-        return found;
-    };
-    let (name, line) = (rows.name(near), near + 1);
-    found.see(
-        rows.mark(near, NAME),
-        format!("is `{name}` (line {line}) meant?"),
-    )
+    match near::nearest(name, named) {
+        Some(near) => ask(found, rows, near, rows.name(near)),
+        None => found,
+    }
 }
 
 /// Definitions elsewhere that the rest of a path names, with a path that leads
@@ -137,7 +146,8 @@ fn elsewhere(found: Finding, rows: &Rows, label: Label, at: usize) -> Finding {
     let is_meant = |&other: &Label| {
         let around = std::iter::successors(Some(other), |&at| rows.around(at));
         let rest = names[at..].iter().rev();
-        let is_named = |(label, name): (Label, &&str)| label > 1 && rows.name(label) == *name;
+        let is_named =
+            |(label, name): (Label, &&str)| label > 1 && same_name(rows.name(label), name);
         rows.kind(other) == Some(kind) && around.zip(rest).all(is_named)
     };
     let there = |other: Label| Some((other, path_to(rows, start, other)?));
@@ -167,10 +177,7 @@ fn anywhere(found: Finding, rows: &Rows, label: Label, at: usize) -> Finding {
     let near = near::nearest(names[at], others.map(|other| (other, rows.name(other))));
     let path = |near: Label| path_to(rows, start(rows, label), near);
     match near.and_then(|near| Some((near, path(near)?))) {
-        Some((near, path)) => {
-            let help = format!("is `{path}` (line {}) meant?", near + 1);
-            found.see(rows.mark(near, NAME), help)
-        }
+        Some((near, path)) => ask(found, rows, near, &path),
         None => found,
     }
 }
@@ -184,13 +191,15 @@ fn hidden(found: Finding, rows: &Rows, label: Label) -> Finding {
         let target = target_of(rows, group, path)?;
         (rows.kind(target) == Some(wanted(rows, label))).then(|| rows.member(group, head))?
     };
-    let groups = outward(rows, start(rows, label)).filter(has_head);
-    let Some(outer) = groups.skip(1).find_map(leads) else {
+    let mut groups = outward(rows, start(rows, label)).filter(has_head);
+    let inner = groups.next().and_then(|group| rows.member(group, head));
+    let (Some(inner), Some(outer)) = (inner, groups.find_map(leads)) else {
         return found;
     };
+    let (hidden, hiding, line) = (rows.name(outer), rows.name(inner), inner + 1);
     found.see(
         rows.mark(outer, NAME),
-        format!("this `{head}` is hidden by the one further in: give one another name"),
+        format!("this `{hidden}` is hidden by `{hiding}` further in (line {line}): give one another name"),
     )
 }
 

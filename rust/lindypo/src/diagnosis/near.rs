@@ -1,22 +1,31 @@
-//! Names that differ by a slip: letters left out, put in, changed or swapped,
-//! capitals, a name cut short.
+//! Names that differ by a slip: a letter or two left out, put in, changed or
+//! swapped; a name cut short. The case of letters makes no slip.
+
+use crate::names::folded;
 
 /// A name that is cut short has at least this many letters.
 const SHORT: usize = 3;
 
+/// The most slips between names that are near, and the letters for each: in a
+/// short name a letter changed makes another name.
+const SLIPS: usize = 2;
+const LETTERS: usize = 3;
+
 /// The nearest of the names to this one; the first where several are as near.
 /// `None` where none is near.
 pub fn nearest<T, N: AsRef<str>>(name: &str, names: impl IntoIterator<Item = (T, N)>) -> Option<T> {
-    let near = |(item, other): (T, N)| Some((slips(name, other.as_ref())?, item));
+    let name = folded(name);
+    let near = |(item, other): (T, N)| Some((slips(&name, &folded(other.as_ref()))?, item));
     let near = names.into_iter().filter_map(near);
     near.min_by_key(|(slips, _)| *slips).map(|(_, item)| item)
 }
 
-/// How many slips lie between two names, where they are few.
+/// How many slips lie between two folded names, where they are few.
 fn slips(a: &str, b: &str) -> Option<usize> {
     let [a, b] = [a, b].map(str::as_bytes);
-    let (least, most) = (a.len().min(b.len()), a.len().max(b.len()) / 3);
-    let is_short = least >= SHORT && a[..least].eq_ignore_ascii_case(&b[..least]);
+    let (least, longest) = (a.len().min(b.len()), a.len().max(b.len()));
+    let most = SLIPS.min(longest / LETTERS);
+    let is_short = least >= SHORT && a[..least] == b[..least];
     // each letter more is a slip
     let is_near = a.len().abs_diff(b.len()) <= most;
     match is_short {
@@ -29,16 +38,15 @@ fn slips(a: &str, b: &str) -> Option<usize> {
 /// The least number of letters put in, left out or changed, and of neighbours
 /// swapped, that leads from one name to the other, where it is not above `most`.
 fn distance(a: &[u8], b: &[u8], most: usize) -> Option<usize> {
-    let is_same = |a: u8, b: u8| a.eq_ignore_ascii_case(&b);
     let mut before = vec![0; b.len() + 1];
     let mut last: Vec<usize> = (0..=b.len()).collect();
     let mut row = before.clone();
     for (i, &letter) in (1..).zip(a) {
         row[0] = i;
         for (j, &other) in (1..).zip(b) {
-            let changed = last[j - 1] + usize::from(!is_same(letter, other));
+            let changed = last[j - 1] + usize::from(letter != other);
             let moved = (last[j] + 1).min(row[j - 1] + 1);
-            let is_swap = i > 1 && j > 1 && is_same(letter, b[j - 2]) && is_same(a[i - 2], other);
+            let is_swap = i > 1 && j > 1 && letter == b[j - 2] && a[i - 2] == other;
             let swapped = if is_swap { before[j - 2] + 1 } else { changed };
             row[j] = changed.min(moved).min(swapped);
         }
@@ -59,8 +67,10 @@ mod tests {
     #[test]
     fn slips_are_counted() {
         for (a, b, wanted) in [
-            ("size", "Size", Some(0)),
+            ("size", "size", Some(0)),
             ("centre", "center", Some(1)),
+            ("decentration", "dezentrasion", Some(2)),
+            ("decentration", "dezentrazzion", None),
             ("sphere", "sphre", Some(1)),
             ("sphere", "spheer", Some(1)),
             ("cylinder", "cyl", Some(5)),
@@ -77,6 +87,7 @@ mod tests {
     fn the_nearest_is_found() {
         let names = ["left", "sphere", "sphere2"].map(|name| (name, name));
         assert_eq!(nearest("Sphere2", names), Some("sphere2"));
+        assert_eq!(nearest("LETF", names), Some("left"));
         assert_eq!(nearest("spere", names), Some("sphere"));
         assert_eq!(nearest("bridge", names), None);
     }

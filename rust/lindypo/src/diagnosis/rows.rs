@@ -1,7 +1,7 @@
 //! The lines of a text as their fields, before there is a table.
 
 use super::words;
-use crate::{Kind, Label, Mark};
+use crate::{same_name, Kind, Label, Mark};
 
 /// The fields of a line.
 pub const KIND: usize = 0;
@@ -186,7 +186,7 @@ impl<'text> Rows<'text> {
 
     /// The smallest member of a Group with this name.
     pub fn member(&self, group: Label, name: &str) -> Option<Label> {
-        let is_meant = |&&label: &&Label| self.name(label) == name;
+        let is_meant = |&&label: &&Label| same_name(self.name(label), name);
         self.members(group).iter().find(is_meant).copied()
     }
 

@@ -121,12 +121,6 @@ pub fn is_first_line(fields: &[&str]) -> bool {
     fields == FIELDS
 }
 
-/// Whether a full name is this path, or ends with it after a dot.
-pub fn ends_with(full_name: &str, path: &str) -> bool {
-    let before = full_name.strip_suffix(path);
-    before.is_some_and(|before| before.is_empty() || before.ends_with('.'))
-}
-
 #[cfg(test)]
 mod tests {
     use super::*;

@@ -2,7 +2,7 @@
 
 use crate::diagnosis::forms::{self, Form};
 use crate::diagnosis::rows::{Rows, FIELDS, KIND, NAME};
-use crate::{Kind, Label};
+use crate::{same_name, Kind, Label};
 
 /// The kind that a line has by its letter, be it small.
 fn kind(rows: &Rows, label: Label) -> Option<Kind> {
@@ -30,7 +30,7 @@ pub fn may_use(rows: &Rows, label: Label) -> bool {
 pub fn may_define(rows: &Rows, label: Label, name: &str) -> bool {
     let fields = rows.fields(label);
     if fields.len() == FIELDS.len() && forms::is_name(fields[NAME]) {
-        return fields[NAME] == name;
+        return same_name(fields[NAME], name);
     }
     kind(rows, label).is_none_or(Kind::is_definition)
 }

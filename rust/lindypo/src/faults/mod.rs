@@ -24,7 +24,10 @@ use judge::Judge;
 /// let faults = lindypo::faults(text);
 /// let places: Vec<(u64, u64)> = faults.iter().map(|it| (it.number(), it.place())).collect();
 /// assert_eq!(places, [(7, 4), (13, 5)]);
-/// assert_eq!(faults[1].help()[0].sentence, "is `size` (line 3) meant?");
+/// assert_eq!(
+///     faults[1].sentence(),
+///     "the outermost Group has no member `sise`; is `size` (line 3) meant?"
+/// );
 /// assert!(lindypo::faults(b"kind name a b c\nG - 0 - -\n").is_empty());
 /// ```
 pub fn faults(text: &[u8]) -> Vec<Refusal> {

@@ -8,7 +8,7 @@ use super::Mistake;
 use crate::build::{Node, MOST_LINES};
 use crate::diagnosis::forms::Form;
 use crate::diagnosis::words::quoted;
-use crate::Mark;
+use crate::{same_name, Mark};
 
 /// An expression and where each of its nodes stands in the text; nodes as in
 /// `build::Expression`.
@@ -200,21 +200,24 @@ impl<'parser, 'text> Formula<'parser, 'text> {
     }
 
     fn read_or_argument(&mut self, names: &Names, mark: Mark) -> Result<(), Mistake> {
-        let is_argument = !names.is_marked && self.argument == Some(names.names[0]);
-        if is_argument && names.names.len() == 1 {
+        if self.argument_named(names).is_some() && names.names.len() == 1 {
             return self.put(Node::Argument, mark);
         }
         self.names_no_argument(names, mark)?;
         self.put(Node::Read(names.path()), mark)
     }
 
+    /// The argument, where the first name is its own.
+    fn argument_named(&self, names: &Names) -> Option<&'text str> {
+        let is_meant = |argument: &&str| !names.is_marked && same_name(argument, names.names[0]);
+        self.argument.filter(is_meant)
+    }
+
     /// A path whose first name is the argument's would be taken for it.
     fn names_no_argument(&self, names: &Names, mark: Mark) -> Result<(), Mistake> {
-        let head = names.names[0];
-        let is_hidden = |argument: &&str| !names.is_marked && argument.eq_ignore_ascii_case(head);
-        match self.argument.filter(is_hidden) {
+        match self.argument_named(names) {
             Some(argument) => {
-                let marked = names::marked(head);
+                let marked = names::marked(names.names[0]);
                 let sentence = format!(
                     "`{argument}` is the argument here, a number; {BETWEEN_MARKS}: {marked}"
                 );

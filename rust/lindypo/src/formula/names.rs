@@ -1,8 +1,9 @@
 //! Names in formulas: words, marks, and what to call an argument.
 
 use crate::build::{Expression, Node};
+use crate::same_name;
 
-/// The words of the grammar, whatever the case of their letters.
+/// The words of the grammar, compared as names are.
 #[derive(Debug, Clone, Copy, PartialEq, Eq)]
 pub enum Word {
     If,
@@ -22,7 +23,7 @@ impl Word {
     }
 
     pub fn of(name: &str) -> Option<Word> {
-        let is_meant = |word: &Word| word.text().eq_ignore_ascii_case(name);
+        let is_meant = |word: &Word| same_name(word.text(), name);
         Word::ALL.into_iter().find(is_meant)
     }
 }
@@ -48,11 +49,10 @@ pub fn written_path(path: &str) -> String {
     names.join(".")
 }
 
-/// A name for the argument that hides no name which the body reads or calls,
-/// whatever the case of its letters.
+/// A name for the argument that hides no name which the body reads or calls.
 pub fn argument(body: &Expression) -> String {
     let heads: Vec<&str> = body.nodes().iter().filter_map(head).collect();
-    let is_free = |name: &String| !heads.iter().any(|head| head.eq_ignore_ascii_case(name));
+    let is_free = |name: &String| !heads.iter().any(|head| same_name(head, name));
     let letters = ["x", "y", "z"].map(str::to_string).into_iter();
     let numbered = (1..).map(|count| format!("x{count}"));
     let mut names = letters.chain(numbered);

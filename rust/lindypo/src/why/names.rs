@@ -1,13 +1,13 @@
 //! Which value a name may mean that is none.
 
-use crate::diagnosis::{near, words};
-use crate::{Kind, Label, Sheet};
+use crate::diagnosis::near;
+use crate::{names, Kind, Label, Sheet};
 
 /// The most values that are offered.
 const OFFERED: usize = 3;
 
 /// The values that a name may mean which no value has: those with this name in
-/// any Group, in small letters or capitals; else the one that is nearest.
+/// any Group; else the one that is nearest.
 ///
 /// ```
 /// let sheet = lindypo::Sheet::read(
@@ -23,9 +23,7 @@ pub fn meant(sheet: &Sheet, name: &str) -> Vec<Label> {
         let lines = sheet.lines().filter(|line| line.kind == Kind::Value);
         lines.map(|line| (line.label, sheet.full_name(line.label)))
     };
-    let small = name.to_ascii_lowercase();
-    let is_same = |full_name: &str| words::ends_with(&full_name.to_ascii_lowercase(), &small);
-    let same = values().filter(|(_, full_name)| is_same(full_name));
+    let same = values().filter(|(_, full_name)| names::ends_with(full_name, name));
     let same: Vec<Label> = same.map(|(label, _)| label).take(OFFERED).collect();
     if !same.is_empty() {
         return same;

@@ -82,7 +82,7 @@ static int is_definition(const struct sheet *sheet, int64_t label)
 
 /* A byte as names are compared: letters of ASCII in any case, whatever the locale
  * says. */
-static uint8_t folded(uint8_t byte)
+static uint8_t lowercase_byte(uint8_t byte)
 {
     return byte >= 'A' && byte <= 'Z' ? (uint8_t)(byte - 'A' + 'a') : byte;
 }
@@ -100,7 +100,7 @@ static int has_name(const struct sheet *sheet, int64_t label, const char *name, 
     if (length > sheet->text_length - (size_t)start)
         return 0;
     for (size_t at = 0; at < length; at++)
-        if (folded(sheet->text[(size_t)start + at]) != folded((uint8_t)name[at]))
+        if (lowercase_byte(sheet->text[(size_t)start + at]) != lowercase_byte((uint8_t)name[at]))
             return 0;
     return 1;
 }

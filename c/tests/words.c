@@ -134,7 +134,7 @@ static void found_in_a_sheet(void)
 }
 
 /* Bytes 65 to 90 count as 97 to 122. */
-static int small(int byte)
+static int lowercase_byte(int byte)
 {
     return byte >= 65 && byte <= 90 ? byte + 32 : byte;
 }
@@ -151,7 +151,7 @@ static void every_byte(void)
     cells[LINDYPO_TABLE_CELLS + LINDYPO_COLUMN_NAME_LENGTH] = 1;
     for (int named = 1; named < 256; named++)
         for (int asked = 1; asked < 256; asked++) {
-            int is_same = asked != '.' && small(named) == small(asked);
+            int is_same = asked != '.' && lowercase_byte(named) == lowercase_byte(asked);
             cells[LINDYPO_TABLE_CELLS + LINDYPO_COLUMN_NAME_START] = named - 1;
             path[0] = (char)asked;
             expect("a byte", find(text, cells, 2 * LINDYPO_TABLE_CELLS, path), is_same ? 2 : 0);

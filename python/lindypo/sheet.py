@@ -38,8 +38,8 @@ class Refusal(Exception):
 class Line(NamedTuple):
     """What Read's table says of a line.
 
-    `name` is a definition's name or the path of a read or call; a, b and c are
-    labels, or the number of an N line, and 0 for a missing field.
+    `name` is a definition's name or the path of a read or call, as it was sent; a, b
+    and c are labels, or the number of an N line, and 0 for a missing field.
     """
 
     label: int
@@ -77,7 +77,8 @@ class Outcome(NamedTuple):
 
 
 class Run(NamedTuple):
-    """A plan, and each value's outcome by its full name, in the order of the plan."""
+    """A plan, and each value's outcome by its full name as it was sent, in the order of
+    the plan."""
 
     plan: Plan
     values: Dict[str, Outcome]
@@ -117,7 +118,8 @@ class Sheet:
         """The label of each definition by its full name, upward through the labels.
 
         A full name has the names of the Groups around before it, outermost first,
-        joined by dots; the outermost Group has none.
+        joined by dots, each as it was sent; the outermost Group has none. `find`
+        takes a name in any case.
         """
         return {name: label for label, name in self._full_names.items() if name}
 
@@ -126,7 +128,14 @@ class Sheet:
         return self._full_names[label]
 
     def find(self, full_name):
-        """The label of the definition with this full name, or None."""
+        """The label of the definition with this full name, in any case, or None.
+
+        >>> sheet = Sheet.read("kind name a b c\\nG - 0 - -\\nG Right 1 - -\\n")
+        >>> sheet.find("RIGHT"), sheet.find("right"), sheet.find("left")
+        (2, 2, None)
+        >>> sheet.full_name(2)
+        'Right'
+        """
         path = full_name.encode("utf-8", "surrogatepass")
         if b"\0" in path:
             return None
@@ -154,7 +163,7 @@ class Sheet:
         return Run(settled, self._values(settled.labels, results))
 
     def follow(self, order):
-        """Follow: evaluates the values down an order of labels or full names.
+        """Follow: evaluates the values down an order of labels or full names, in any case.
 
         It has to list every value once, each after every value that it reaches.
         Gives each value's outcome by its full name, in that order.

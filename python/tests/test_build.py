@@ -33,6 +33,14 @@ class Built(unittest.TestCase):
             "N - -325 - -\nD - 8 9 -\nP - - - -\nN - 2 - -\nC right.half 11 - -\nR right.sphere - - -\n",
         )
 
+    def test_names_in_any_case(self):
+        group = Group().group("Right", Group().value("Sphere", -325)).value("x", read("RIGHT.sphere") + 5)
+        self.assertIn(b"\nR RIGHT.sphere - - -\n", group.text())
+        self.assertEqual(number_of(group), -320)
+        with self.assertRaises(Refusal) as twice:
+            Sheet.read(Group().value("right", 1).value("Right", 2).text())
+        self.assertEqual((twice.exception.number, twice.exception.place), (12, 3))
+
     def test_nothing(self):
         self.assertEqual(Group().text(), b"kind name a b c\nG - 0 - -\n")
 

@@ -68,8 +68,9 @@ class Lines(unittest.TestCase):
 
     def test_find(self):
         for name, label in self.sheet.names.items():
-            self.assertEqual(self.sheet.find(name), label)
-        for name in ("", ".", "sphere", "right.", "right.total", "Right", "right.prism\0", "\u00e4", "\ud800"):
+            for typed in (name, name.upper(), name.capitalize(), name.swapcase()):
+                self.assertEqual(self.sheet.find(typed), label, typed)
+        for name in ("", ".", "sphere", "right.", "right.total", "rights", "right.prism\0", "\u00e4", "\ud800"):
             self.assertIsNone(self.sheet.find(name), name)
 
     def test_name(self):
@@ -77,6 +78,35 @@ class Lines(unittest.TestCase):
         self.assertEqual(names, [None, "total", "right.prism", None, None])
         for label in (0, -1, 15, 2**63, 2**64 + 2):
             self.assertIsNone(self.sheet.name(label))
+
+
+class Capitals(unittest.TestCase):
+    TEXT = HEAD + "G Right 1 - -\nV sphere 2 4 -\nN - -325 - -\nV Total 1 6 -\nR RIGHT.Sphere - - -\n"
+
+    def test_names_are_as_sent(self):
+        sheet = Sheet.read(self.TEXT)
+        self.assertEqual(sheet.names, {"Right": 2, "Right.sphere": 3, "Total": 5})
+        self.assertEqual(sheet.name(6), "RIGHT.Sphere")
+        self.assertEqual(sheet.lines[5].target, 3)
+        self.assertEqual(list(sheet.run().values), ["Right.sphere", "Total"])
+
+    def test_names_are_found(self):
+        sheet = Sheet.read(self.TEXT)
+        self.assertEqual(sheet.full_name(sheet.find("right.SPHERE")), "Right.sphere")
+        self.assertEqual(sheet.follow(["RIGHT.SPHERE", "total"]), sheet.run().values)
+
+    def test_letters_outside_ascii(self):
+        # the Kelvin sign and the long s become k and s where case goes by Unicode
+        sheet = Sheet.read(HEAD + "G ks 1 - -\n")
+        self.assertEqual([sheet.find(name) for name in ("KS", "\u212as", "k\u017f")], [2, None, None])
+
+    def test_one_name_twice(self):
+        self.assertEqual(refused(HEAD + "G right 1 - -\nG Right 1 - -\n"), (12, 3, 4))
+        self.assertEqual(refused(HEAD + "G a 1 - -\nG A 2 - -\nG b 2 - -\nG B 2 - -\n"), (12, 5, 6))
+
+    def test_kinds_and_column_names(self):
+        self.assertEqual(refused(HEAD + "g right 1 - -\n"), (6, 2, 3))
+        self.assertEqual(refused(HEAD.replace("kind", "Kind")), (2, 0, 1))
 
 
 class Orders(unittest.TestCase):

@@ -93,6 +93,32 @@ fn names_and_paths() {
     }
 }
 
+/// Names and paths stay as they are given. Whether names are there once and paths
+/// lead somewhere is for Read to judge, the case of letters aside.
+#[test]
+fn names_in_any_case() {
+    let mut twice = value("right", 1);
+    twice.value("Right", 2);
+    is_built(
+        &twice,
+        "V right 1 4 -\nV Right 1 5 -\nN - 1 - -\nN - 2 - -\n",
+    );
+    let text = twice.text().expect("a sheet that can be built");
+    let refusal = Sheet::read(&text).expect_err("one name twice");
+    assert_eq!((refusal.number(), refusal.place()), (12, 3));
+
+    let mut outermost = Group::new();
+    outermost
+        .group("Right", value("Sphere", -325))
+        .value("total", read("RIGHT.sphere") + 5);
+    let text = outermost.text().expect("a sheet that can be built");
+    let sheet = Sheet::read(&text).expect("a sheet that reads");
+    assert_eq!(Group::of_sheet(&sheet), outermost);
+    let results = sheet.run().expect("a plan").results;
+    let total = sheet.find("TOTAL").and_then(|label| results.of(label));
+    assert_eq!(total.and_then(|outcome| outcome.state.number()), Some(-320));
+}
+
 #[test]
 fn numbers() {
     let form = "a whole number: -1000000000 to 1000000000, with no leading zero, plus sign or `-0`";

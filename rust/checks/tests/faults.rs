@@ -1,8 +1,11 @@
 //! Every fault of a sheet: the first is the library's, none is said that only
 //! follows from another, and each points at the text.
 
+#[path = "common/capitals.rs"]
+mod capitals;
 mod common;
 
+use capitals::recased;
 use common::is_in_text;
 use generator::rows::{self, Row};
 use generator::Rng;
@@ -55,6 +58,29 @@ fn random_sheets() {
     for number in (1..=16).filter(|&number| number != 4) {
         assert!(met[number] > 0, "refusal {number} was not met");
     }
+}
+
+/// Whatever the case of names and paths, the faults are the same.
+#[test]
+fn names_in_any_case() {
+    let mut met = [0; 17];
+    for seed in 0..CASES {
+        let rng = &mut Rng::new(seed);
+        let mut text = generator::sheet_within(rng, 60);
+        for _ in 0..rng.range(1, 6) {
+            text = generator::damage(rng, text);
+        }
+        let recased = recased(rng, &text);
+        let (found, again) = (faults(&text), faults(&recased));
+        is_proper(&recased, &again);
+        let shown = String::from_utf8_lossy(&recased);
+        assert_eq!(places(&found), places(&again), "seed {seed}\n{shown}");
+        for fault in &again {
+            met[fault.number() as usize] += 1;
+        }
+    }
+    println!("by refusal {met:?}");
+    assert!(met[12..=15].iter().all(|&count| count > 50));
 }
 
 /// Damage upon damage.

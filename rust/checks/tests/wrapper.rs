@@ -1,11 +1,14 @@
 //! Random sheets: the wrapper says what the library's own calls say, and marks
 //! what is in the text.
 
+#[path = "common/capitals.rs"]
+mod capitals;
 mod common;
 
+use capitals::{in_any_case, recased};
 use common::is_in_text;
-use generator::Case;
-use lindypo::{raw, Label, Order, Refusal, Results, Run, Sheet};
+use generator::{Case, Rng};
+use lindypo::{raw, same_name, Label, Line, Order, Refusal, Results, Run, Sheet};
 
 const CASES: u64 = 6_000;
 
@@ -167,4 +170,61 @@ fn random_sheets() {
     for number in numbers {
         assert!(met.refusals[number] > 0, "refusal {number} was not met");
     }
+}
+
+/// Two sheets that differ in the case of names alone: every cell is the same,
+/// and a name is as its own text has it.
+fn is_same_but_case(sheet: &Sheet, other: &Sheet) {
+    let start = |sheet: &Sheet, name: &str| name.as_ptr() as usize - sheet.text().as_ptr() as usize;
+    for (line, again) in sheet.lines().zip(other.lines()) {
+        let names = line.name.zip(again.name);
+        assert_eq!(line.name.is_some(), again.name.is_some());
+        if let Some((name, again)) = names {
+            assert!(same_name(name, again), "{name} {again}");
+            assert_eq!(start(sheet, name), start(other, again));
+        }
+        let name = None;
+        assert_eq!(Line { name, ..line }, Line { name, ..again });
+    }
+    match (sheet.run(), other.run()) {
+        (Ok(run), Ok(again)) => {
+            assert_eq!((run.plan, run.results), (again.plan, again.results));
+        }
+        (Err(refusal), Err(again)) => is_same_refusal(&refusal, &again),
+        (run, again) => panic!("{run:?}, then {again:?}"),
+    }
+}
+
+fn is_same_refusal(refusal: &Refusal, again: &Refusal) {
+    let [refusal, again] = [refusal, again].map(|it| (it.number(), it.place()));
+    assert_eq!(refusal, again);
+}
+
+/// Whatever the case of names and paths, the library answers the same, and
+/// definitions are found by any case of their full names.
+#[test]
+fn names_in_any_case() {
+    let (mut found, mut refused) = (0, [0; 19]);
+    for seed in 0..CASES {
+        let (text, rng) = (generator::case(seed).text, &mut Rng::new(seed));
+        let recased = recased(rng, &text);
+        match (Sheet::read(&text), Sheet::read(&recased)) {
+            (Ok(sheet), Ok(other)) => {
+                is_same_but_case(&sheet, &other);
+                for line in sheet.members(1) {
+                    let name = in_any_case(rng, &sheet.full_name(line.label));
+                    assert_eq!(other.find(&name), Some(line.label), "{name}");
+                    found += 1;
+                }
+            }
+            (Err(refusal), Err(other)) => {
+                is_same_refusal(&refusal, &other);
+                refused[refusal.number() as usize] += 1;
+            }
+            (read, other) => panic!("seed {seed}: {read:?}, then {other:?}"),
+        }
+    }
+    println!("{found} found, refused by number {refused:?}");
+    assert!(found > 5_000);
+    assert!(refused[12..=15].iter().all(|&count| count > 20));
 }

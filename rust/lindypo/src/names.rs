@@ -18,7 +18,7 @@ pub fn same_name(a: &str, b: &str) -> bool {
 }
 
 /// What all names have in common that are one.
-pub fn folded(name: &str) -> String {
+pub fn lowercase(name: &str) -> String {
     name.to_ascii_lowercase()
 }
 
@@ -47,8 +47,8 @@ mod tests {
                 let is_same = small(a) == small(b);
                 let names = [letter(a), letter(b)];
                 assert_eq!(same_name(&names[0], &names[1]), is_same, "{a} {b}");
-                let folded = names.map(|name| folded(&name));
-                assert_eq!(folded[0] == folded[1], is_same, "{a} {b}");
+                let names = names.map(|name| lowercase(&name));
+                assert_eq!(names[0] == names[1], is_same, "{a} {b}");
             }
         }
     }

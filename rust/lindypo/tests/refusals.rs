@@ -300,11 +300,30 @@ fn refusal_11() {
 fn refusal_12() {
     says(
         "G - 0 - -\nV x 1 3 -\nN - 1 - -\nF x 1 5 -\nP - - - -",
-        "refusal 12, line 5, column 3: the outermost Group has a member `x` already: label 2",
+        "refusal 12, line 5, column 3: the outermost Group has a member `x` already (line 3)",
     );
     says(
         "G - 0 - -\nG g 1 - -\nG h 2 - -\nG h 1 - -\nG h 2 - -",
-        "refusal 12, line 6, column 3: the Group `g` has a member `h` already: label 3",
+        "refusal 12, line 6, column 3: the Group `g` has a member `h` already (line 4)",
+    );
+}
+
+/// The name that is there is said as it is written there.
+#[test]
+fn refusal_12_capitals() {
+    says(
+        "G - 0 - -\nG right 1 - -\nG left 1 - -\nV Prism 2 5 -\nN - 1 - -\nF prism 2 7 -\nP - - - -",
+        "refusal 12, line 7, column 3: the Group `right` has a member `Prism` already (line 5): \
+         names are compared without regard to capitals",
+    );
+    // kinds and column names keep their case
+    says(
+        "G - 0 - -\ng right 1 - -",
+        "refusal 6, line 3, column 1: `g` is no kind; the kinds are G V F N P R C A S M D I",
+    );
+    text_says(
+        b"Kind name a b c\nG - 0 - -\n",
+        "refusal 2, line 1, column 1: line one has to be `kind name a b c`",
     );
 }
 
@@ -318,6 +337,12 @@ fn refusal_13() {
         "G - 0 - -\nG g 1 - -\nG h 2 - -\nF f 3 5 -\nA - 6 7 -\nP - - - -\nR y.z - - -",
         "refusal 13, line 8, column 3: \
          neither the Group `g.h` nor a Group around it has a member `y`",
+    );
+    // of names that are as near, the one that the path would lead to
+    says(
+        "G - 0 - -\nV size 1 5 -\nG right 1 - -\nV SIZE 3 6 -\nN - 1 - -\nR Sise - - -",
+        "refusal 13, line 7, column 3: neither the Group `right` nor a Group around it \
+         has a member `Sise`; is `SIZE` (line 5) meant?",
     );
 }
 
@@ -339,6 +364,11 @@ fn refusal_14() {
     says(
         "G - 0 - -\nF f 1 3 -\nC f.g 4 - -\nP - - - -",
         "refusal 14, line 4, column 5: the function `f` is no Group, so it has no member `g`",
+    );
+    says(
+        "G - 0 - -\nG right 1 - -\nV x 1 5 -\nV prism 2 6 -\nR Right.prsim - - -\nN - 1 - -",
+        "refusal 14, line 6, column 9: \
+         the Group `right` has no member `prsim`; is `prism` (line 5) meant?",
     );
     let text = sheet("G - 0 - -\nG g 1 - -\nG h 2 - -\nV x 1 5 -\nR g.h.long.z - - -");
     assert_eq!(refusal(&text).mark().map(|mark| mark.width), Some(4));

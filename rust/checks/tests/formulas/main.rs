@@ -1,5 +1,7 @@
 //! Formulas as text: shown, written, wrong, and both ways on random sheets.
 
+#[path = "../common/capitals.rs"]
+mod capitals;
 mod mistakes;
 mod page;
 mod random;

@@ -212,8 +212,8 @@ fn arguments() {
     };
     says("f(x) = x.y", &text("x"));
     says("f(x) = x(1)", &text("x"));
-    says("f(x) = X", &text("X"));
     says("f(x) = X.y", &text("X"));
+    says("f(x) = X(1)", &text("X"));
 }
 
 /// Rows that the sheet itself would be refused by, at their places in the
@@ -250,7 +250,16 @@ fn forms_and_levels() {
 fn names_and_paths_of_the_sheet() {
     says(
         "g { a = 1\nb = 2\na = 3 }",
-        "line 3, column 1: the Group `g` has a member `a` already: line 1",
+        "line 3, column 1: the Group `g` has a member `a` already (line 1)",
+    );
+    says(
+        "g { A = 1\nb = 2\na = 3 }",
+        "line 3, column 1: the Group `g` has a member `A` already (line 1): \
+         names are compared without regard to capitals",
+    );
+    says(
+        "right {\nSphere = 1 }\nprism = RIGHT.shpere",
+        "line 3, column 15: the Group `right` has no member `shpere`; is `Sphere` (line 2) meant?",
     );
     says(
         "a = 1 +\n b",
@@ -276,7 +285,7 @@ const HINTS: [(&str, &[&str]); 5] = [
     (
         "# one\nright { sphere = 1 }\nprism = rigth.sphere",
         &[
-            "2:1:5 is `right` (line 2) meant?",
+            "2:1:5 `right` is here",
             "the outermost Group has `right` and `prism`",
         ],
     ),

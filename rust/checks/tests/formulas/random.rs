@@ -2,28 +2,28 @@
 
 use std::collections::BTreeMap;
 
+use crate::capitals::{in_any_case, recased};
 use generator::{rows, Rng};
-use lindypo::{build::Group, formula, Kind, Label, Mark, Order, Outcome, Refusal, Sheet};
+use lindypo::{
+    build::Group, formula, same_name, Kind, Label, Mark, Order, Outcome, Refusal, Sheet,
+};
 
 const SHEETS: u64 = 4_000;
 const TEXTS: u64 = 20_000;
 
 /// Names that formulas have to take care with, in place of the generator's; no
-/// two names of one sheet become one.
-const CLOSE_NAMES: [(&str, &str); 23] = [
+/// two names of one sheet become one, whatever their case.
+const CLOSE_NAMES: [(&str, &str); 20] = [
     ("a", "x"),
     ("b", "y"),
     ("c", "if"),
-    ("A", "X"),
-    ("B", "If"),
     ("sphere", "x"),
     ("prism", "then"),
-    ("Right", "y"),
-    ("right", "z"),
+    ("right", "y"),
     ("left", "else"),
     ("frame", "x1"),
     ("axis", "if"),
-    ("total", "X"),
+    ("total", "z"),
     ("abcdefghijklmnop", "x"),
     ("v0", "x"),
     ("v1", "y"),
@@ -31,19 +31,20 @@ const CLOSE_NAMES: [(&str, &str); 23] = [
     ("v3", "x1"),
     ("v4", "x2"),
     ("v5", "if"),
-    ("v6", "IF"),
+    ("v6", "z1"),
     ("v7", "then"),
     ("v8", "else"),
 ];
 
 fn close_name(name: &str) -> &str {
-    let found = CLOSE_NAMES.iter().find(|(from, _)| *from == name);
+    let found = CLOSE_NAMES.iter().find(|(from, _)| same_name(from, name));
     found.map_or(name, |(_, to)| to)
 }
 
-/// A random sheet that reads; every second one has close names.
+/// A random sheet that reads; every second one has close names, in any case.
 fn random_sheet(seed: u64) -> Vec<u8> {
-    let text = generator::sheet(&mut Rng::new(seed));
+    let rng = &mut Rng::new(seed);
+    let text = generator::sheet(rng);
     if seed.is_multiple_of(2) {
         return text;
     }
@@ -53,7 +54,7 @@ fn random_sheet(seed: u64) -> Vec<u8> {
         let names: Vec<&str> = names.split('.').map(close_name).collect();
         row[1] = names.join(".").into_bytes();
     }
-    rows::join(&rows)
+    recased(rng, &rows::join(&rows))
 }
 
 /// A sheet without its labels: the definitions of each Group in sequence, with
@@ -179,7 +180,9 @@ impl Scribbler<'_, '_> {
     }
 
     fn name(&mut self, name: &str, must_mark: bool) -> String {
-        let is_word = ["if", "then", "else"].contains(&name.to_ascii_lowercase().as_str());
+        let is_word = ["if", "then", "else"]
+            .iter()
+            .any(|word| same_name(word, name));
         match must_mark || is_word || self.rng.chance(10) {
             true => format!("`{name}`"),
             false => name.to_string(),
@@ -190,7 +193,7 @@ impl Scribbler<'_, '_> {
     fn path(&mut self, path: &str, argument: &str) {
         let mut names: Vec<String> = vec![];
         for (at, name) in path.split('.').enumerate() {
-            let is_hidden = at == 0 && name.eq_ignore_ascii_case(argument);
+            let is_hidden = at == 0 && same_name(name, argument);
             names.push(self.name(name, is_hidden));
         }
         self.put(&names.join("."));
@@ -243,7 +246,10 @@ impl Scribbler<'_, '_> {
         let line = self.sheet.line(label).expect("an expression");
         let sign = match line.kind {
             Kind::Number => return self.put(&line.a.to_string()),
-            Kind::Argument => return self.put(argument),
+            Kind::Argument => {
+                let argument = in_any_case(self.rng, argument);
+                return self.put(&argument);
+            }
             Kind::Read => return self.path(line.name.unwrap_or_default(), argument),
             Kind::Call => {
                 self.path(line.name.unwrap_or_default(), argument);

@@ -85,6 +85,21 @@ fn layout() {
     }
 }
 
+/// Names in capitals or small letters are one, the argument's too; names and
+/// paths stand in the sheet as they are written.
+#[test]
+fn capitals() {
+    is_written(
+        "Right { Half(Power) = power / 2 }  total = RIGHT.half(8)",
+        "G Right 1 - -\nF Half 2 5 -\nV total 1 8 -\n\
+         D - 6 7 -\nP - - - -\nN - 2 - -\nC RIGHT.half 9 - -\nN - 8 - -\n",
+    );
+    is_written(
+        "X = 1  f(x) = X + `X`",
+        "V X 1 4 -\nF f 1 5 -\nN - 1 - -\nA - 6 7 -\nP - - - -\nR X - - -\n",
+    );
+}
+
 /// A marked name is a definition's; a name alone that is the argument's is the
 /// argument.
 #[test]

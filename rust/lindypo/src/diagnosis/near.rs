@@ -1,7 +1,7 @@
 //! Names that differ by a slip: a letter or two left out, put in, changed or
 //! swapped; a name cut short. The case of letters makes no slip.
 
-use crate::names::folded;
+use crate::names::lowercase;
 
 /// A name that is cut short has at least this many letters.
 const SHORT: usize = 3;
@@ -14,13 +14,13 @@ const LETTERS: usize = 3;
 /// The nearest of the names to this one; the first where several are as near.
 /// `None` where none is near.
 pub fn nearest<T, N: AsRef<str>>(name: &str, names: impl IntoIterator<Item = (T, N)>) -> Option<T> {
-    let name = folded(name);
-    let near = |(item, other): (T, N)| Some((slips(&name, &folded(other.as_ref()))?, item));
+    let name = lowercase(name);
+    let near = |(item, other): (T, N)| Some((slips(&name, &lowercase(other.as_ref()))?, item));
     let near = names.into_iter().filter_map(near);
     near.min_by_key(|(slips, _)| *slips).map(|(_, item)| item)
 }
 
-/// How many slips lie between two folded names, where they are few.
+/// How many slips lie between two names in small letters, where they are few.
 fn slips(a: &str, b: &str) -> Option<usize> {
     let [a, b] = [a, b].map(str::as_bytes);
     let (least, longest) = (a.len().min(b.len()), a.len().max(b.len()));

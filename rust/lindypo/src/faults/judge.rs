@@ -6,7 +6,7 @@ use super::loose;
 use super::ways;
 use crate::diagnosis::rows::{Rows, Use, A, FIELDS};
 use crate::diagnosis::{bytes, form, lines, named, rows, tree, Finding};
-use crate::names::folded;
+use crate::names::lowercase;
 use crate::{Kind, Label, Refusal};
 
 /// What is known of a sheet. A line that refusals 1 and 5 to 7 are about is
@@ -28,7 +28,7 @@ pub struct Judge<'text> {
     loose_user: Label,
     /// By label, from 0: a field names it that may not.
     named: Vec<bool>,
-    /// The Groups and names, folded, that more than one member has.
+    /// The Groups and names, in small letters, that more than one member has.
     doubled: HashSet<(Label, String)>,
 }
 
@@ -182,7 +182,7 @@ impl<'text> Judge<'text> {
         let is_named = |&label: &Label| label > 1 && self.placed[label];
         let definitions: Vec<Label> = self.rows.labels().filter(is_named).collect();
         for label in definitions {
-            let named = (self.rows.link(label, A), folded(self.rows.name(label)));
+            let named = (self.rows.link(label, A), lowercase(self.rows.name(label)));
             if !names.insert(named.clone()) {
                 self.doubled.insert(named);
                 self.find(12, label, named::name(&self.rows, label));
@@ -203,6 +203,6 @@ impl<'text> Judge<'text> {
 
     /// Whether two members of a Group have a name.
     pub fn is_doubled(&self, group: Label, name: &str) -> bool {
-        self.doubled.contains(&(group, folded(name)))
+        self.doubled.contains(&(group, lowercase(name)))
     }
 }

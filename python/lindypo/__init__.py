@@ -1,9 +1,9 @@
 """Order sheets of a lens laboratory: read, planned and evaluated by proved code.
 
 A sheet is a small program: values and functions in nested Groups that name each
-other by dotted paths, in capitals or small letters. `Sheet.read` judges its text; the sheet then gives its
-lines and names, its plan, and its values, by the plan or by an order of the
-caller's.
+other by dotted paths, in capitals or small letters. `Sheet.read` judges its text;
+the sheet then gives its lines and names, its plan, and its values, by the plan or
+by an order of the caller's.
 
 >>> import lindypo
 >>> sheet = lindypo.Sheet.read('''kind name a b c

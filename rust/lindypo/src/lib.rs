@@ -2,9 +2,9 @@
 //! code.
 //!
 //! A sheet is a small program: values and functions in nested Groups that name
-//! each other by dotted paths, in capitals or small letters. [`Sheet::read`] judges its text; the sheet then
-//! gives its lines and names, its [`Plan`], and its results, by the plan or by
-//! an order of the caller's.
+//! each other by dotted paths, in capitals or small letters. [`Sheet::read`]
+//! judges its text; the sheet then gives its lines and names, its [`Plan`], and
+//! its results, by the plan or by an order of the caller's.
 //!
 //! ```
 //! use lindypo::{Order, Sheet, State};

@@ -38,6 +38,11 @@ fn files_and_folders_checked() {
 }
 
 #[test]
+fn names_in_any_case() {
+    is_replayed("capitals.txt");
+}
+
+#[test]
 fn sheets_in_json() {
     is_replayed("json.txt");
 }

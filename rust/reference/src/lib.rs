@@ -1,4 +1,5 @@
-//! The rules of order sheets (document 01, "the paper") in Rust.
+//! The rules of order sheets in Rust: document 01, "the paper", with order 1
+//! of document 02, names compared without regard to the case of letters.
 //!
 //! One module for each stage, in the order in which refusals are found:
 //! `text` (rows 1 to 3), `lines` (5 to 7), `tree` (8 to 11), `paths` (12 to

@@ -5,13 +5,20 @@ use std::ops::Range;
 use crate::sheet::{Kind, Label, Sheet};
 use crate::Refusal;
 
-/// A name as one number. Its bytes, 16 at most and none of them 0, can be
-/// read back from it, so two keys are equal exactly when the names are.
+/// A name as one number. Its bytes, 16 at most, can be read back from it but
+/// for the case of letters, so two keys are equal exactly when the names are.
 type NameKey = u128;
 
+/// The bit that a small letter has and its capital has not, in every byte.
+/// Digits have it, so in a name it changes capitals alone; a byte of the key
+/// that no byte of the name is in becomes a space, which no name has.
+const SMALL: NameKey = NameKey::from_ne_bytes([b'a' ^ b'A'; 16]);
+
 fn key(name: &[u8]) -> NameKey {
-    name.iter()
-        .fold(0, |key, &byte| key << 8 | NameKey::from(byte))
+    let bytes = name
+        .iter()
+        .fold(0, |key, &byte| key << 8 | NameKey::from(byte));
+    bytes | SMALL
 }
 
 /// The members of all Groups, sorted by Group, then by name, then by label.

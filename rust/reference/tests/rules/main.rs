@@ -1,7 +1,8 @@
-//! Document 01's rules, case by case.
+//! The rules of documents 01 and 02, case by case.
 
 mod buffers;
 mod evaluation;
+mod letters;
 mod orders;
 mod refusals;
 mod samples;
@@ -96,6 +97,16 @@ fn read_refusal(text: &[u8]) -> Option<(u64, u64)> {
         assert!(table.iter().all(|&cell| cell == 0));
     }
     refusal.map(pair)
+}
+
+#[track_caller]
+fn refuses(lines: &str, number: u64, place: u64) {
+    assert_eq!(read_refusal(&sheet(lines)), Some((number, place)));
+}
+
+#[track_caller]
+fn reads(lines: &str) {
+    assert_eq!(read_refusal(&sheet(lines)), None);
 }
 
 fn pair(refusal: Refusal) -> (u64, u64) {

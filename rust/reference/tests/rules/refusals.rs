@@ -1,16 +1,6 @@
 //! Rows 1 to 16: number and place of each refusal, and which one wins.
 
-use crate::{planned, read_refusal, rubbish, sheet, Builder};
-
-#[track_caller]
-fn refuses(lines: &str, number: u64, place: u64) {
-    assert_eq!(read_refusal(&sheet(lines)), Some((number, place)));
-}
-
-#[track_caller]
-fn reads(lines: &str) {
-    assert_eq!(read_refusal(&sheet(lines)), None);
-}
+use crate::{planned, read_refusal, reads, refuses, rubbish, sheet, Builder};
 
 /// A sheet of exactly this many bytes that reads up to row 3.
 fn text_of_length(length: usize) -> Vec<u8> {
@@ -467,7 +457,7 @@ fn row_12_names() {
         4,
     );
     reads("G - 0 - -\nG g 1 - -\nG g 2 - -\nG g 3 - -");
-    reads("G - 0 - -\nG g 1 - -\nG G 1 - -\nG g1 1 - -\nG gg 1 - -");
+    reads("G - 0 - -\nG g 1 - -\nG h 1 - -\nG g1 1 - -\nG gg 1 - -");
     reads(
         "G - 0 - -\nG abcdefghijklmnop 1 - -\nG abcdefghijklmnoq 1 - -\nG bbcdefghijklmnop 1 - -",
     );
@@ -497,7 +487,7 @@ fn rows_13_to_15_paths() {
     for path in ["f", "g.f"] {
         assert_eq!(around(&format!("C:{path} 1")), None, "{path}");
     }
-    for path in ["q", "Z", "q.z", "v", "zz"] {
+    for path in ["q", "q.z", "v", "zz"] {
         assert_eq!(around(&format!("R:{path}")), Some((13, 13)), "{path}");
         assert_eq!(around(&format!("C:{path} 1")), Some((13, 13)), "{path}");
     }

@@ -1,5 +1,6 @@
 //! Sheets spoilt on purpose, so that every refusal from 1 to 16 is met.
 
+use crate::letters::recase;
 use crate::random;
 use crate::rng::Rng;
 use crate::rows::{self, Row};
@@ -61,7 +62,7 @@ fn damage_text(rng: &mut Rng, mut text: Vec<u8>) -> Vec<u8> {
 
 /// Row 2.
 fn damage_line_one(rng: &mut Rng, text: Vec<u8>) -> Vec<u8> {
-    const OTHERS: [&[u8]; 8] = [
+    const OTHERS: [&[u8]; 9] = [
         b"",
         b"kind name a b",
         b"kind name a b c ",
@@ -69,6 +70,7 @@ fn damage_line_one(rng: &mut Rng, text: Vec<u8>) -> Vec<u8> {
         b"kind  name a b c",
         b"kind name a b c d",
         b"KIND name a b c",
+        b"Kind name a b c",
         b"kind2 name a b c",
     ];
     let end = text.iter().position(|&byte| byte == b'\n');
@@ -163,8 +165,8 @@ fn number(value: usize) -> Vec<u8> {
 
 /// Row 6, or another kind's fields.
 fn change_kind(rng: &mut Rng, rows: &mut [Row]) {
-    const KINDS: [&str; 16] = [
-        "X", "g", "GG", "-", "H", "K", "Q", "1", "G", "V", "F", "N", "P", "R", "A", "I",
+    const KINDS: [&str; 18] = [
+        "X", "g", "v", "r", "GG", "-", "H", "K", "Q", "1", "G", "V", "F", "N", "P", "R", "A", "I",
     ];
     let at = rng.below(rows.len());
     rows[at][0] = rng.pick(&KINDS).as_bytes().to_vec();
@@ -173,7 +175,8 @@ fn change_kind(rng: &mut Rng, rows: &mut [Row]) {
 /// Field contents at and beyond the edges of the forms, space between.
 const FORMS: &str = "- -- 0 -0 00 01 +1 1000000000 -1000000000 1000000001 -1000000001 \
     99999999999999999999 -1 a 1a a_b abcdefghijklmnop abcdefghijklmnopq . a. .a a..b \
-    a.b.c.d.e.f.g.h a.b.c.d.e.f.g.h.i a.1 ? a.abcdefghijklmnopq -a 1- 1.0 ~ _";
+    a.b.c.d.e.f.g.h a.b.c.d.e.f.g.h.i a.1 ? a.abcdefghijklmnopq -a 1- 1.0 ~ _ \
+    A A.B ABCDEFGHIJKLMNOP ABCDEFGHIJKLMNOPQ a@ a` a[ a{ @A";
 
 /// Row 7: a field of any form, most often a wrong one.
 fn change_form(rng: &mut Rng, rows: &mut [Row]) {
@@ -274,7 +277,8 @@ fn deepen(rng: &mut Rng, rows: &mut Vec<Row>) {
     }
 }
 
-/// Row 12 (or 13 to 15): a definition takes another's name, or a new one.
+/// Row 12 (or 13 to 15): a definition takes another's name, in the same letters
+/// or in others, or a new one.
 fn change_name(rng: &mut Rng, rows: &mut [Row]) {
     let (Some(at), Some(other)) = (
         find_kind(rng, &rows[1..], b"GVF"),
@@ -283,6 +287,9 @@ fn change_name(rng: &mut Rng, rows: &mut [Row]) {
         return;
     };
     rows[at + 1][1] = rows[other + 1][1].clone();
+    if rng.chance(50) {
+        recase(rng, &mut rows[at + 1][1]);
+    }
     if rng.chance(40) {
         rows[at + 1][2] = rows[other + 1][2].clone();
     }
@@ -291,8 +298,8 @@ fn change_name(rng: &mut Rng, rows: &mut [Row]) {
     }
 }
 
-/// Rows 13 to 16: another head, a name more, fewer or changed, another line's
-/// path, a definition's name, or a call in place of a read.
+/// Rows 13 to 16: another head, a name more, fewer or changed, a byte of one, or
+/// another line's path, or a definition's name; now and then in other letters.
 fn change_path(rng: &mut Rng, rows: &mut [Row]) {
     let Some(at) = find_kind(rng, rows, b"RC") else {
         return;
@@ -303,7 +310,7 @@ fn change_path(rng: &mut Rng, rows: &mut [Row]) {
     let path = rows[at][1].clone();
     let mut names: Vec<Vec<u8>> = path.split(|&b| b == b'.').map(<[u8]>::to_vec).collect();
     let last = names.len() - 1;
-    match rng.below(10) {
+    match rng.below(11) {
         0 => names[0] = b"nobody".to_vec(),
         1 => names[last] = b"nobody".to_vec(),
         2 => names.push(name),
@@ -313,7 +320,20 @@ fn change_path(rng: &mut Rng, rows: &mut [Row]) {
         4 => names.insert(0, name),
         5 => names[last] = name,
         6 => names = vec![rows[other][1].clone()],
+        7 => slip(rng, &mut names[last]),
         _ => names = vec![name],
     }
     rows[at][1] = names.join(&b'.');
+    if rng.chance(25) {
+        recase(rng, &mut rows[at][1]);
+    }
+}
+
+/// One byte of a name mistyped: a neighbour, so that it is that letter in no
+/// case.
+fn slip(rng: &mut Rng, name: &mut [u8]) {
+    if !name.is_empty() {
+        let at = rng.below(name.len());
+        name[at] ^= 1;
+    }
 }

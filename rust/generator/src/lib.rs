@@ -1,9 +1,10 @@
 //! Random order sheets from a seed, so that a failure can be run again, and
 //! fixed shapes for speed figures.
 //!
-//! `random` makes sheets that read, `damage` spoils them, `rows` takes them
-//! apart, `lent` chooses buffer lengths and orders for Follow, `everyday` and
-//! `shapes` hold the fixed sheets.
+//! `random` makes sheets that read, `damage` spoils them, `letters` writes their
+//! names in capitals and small letters, `rows` takes them apart, `lent` chooses
+//! buffer lengths and orders for Follow, `everyday` and `shapes` hold the fixed
+//! sheets.
 
 #![forbid(unsafe_code)]
 
@@ -11,6 +12,7 @@ mod builder;
 mod damage;
 mod everyday;
 mod lent;
+mod letters;
 mod random;
 mod rng;
 pub mod rows;
@@ -19,6 +21,7 @@ mod shapes;
 pub use damage::{damage, damaged};
 pub use everyday::everyday;
 pub use lent::{buffer_length, order, planned, print_length, proper_order};
+pub use letters::{capital_paths, is_same_name, recase, recased, OtherLetters};
 pub use random::{sheet, sheet_within};
 pub use rng::Rng;
 pub use shapes::{

@@ -7,6 +7,7 @@
 
 use std::io::Write;
 
+use crate::letters::{is_same_name, recase};
 use crate::rng::Rng;
 
 const OUTERMOST: usize = 0;
@@ -60,6 +61,8 @@ struct Manner {
     wild: bool,
     /// How long names are and how often they repeat.
     naming: usize,
+    /// Names and paths in other letters than their lists and definitions have.
+    recasing: usize,
 }
 
 impl Manner {
@@ -79,6 +82,7 @@ impl Manner {
             spread: false,
             wild: rng.chance(6),
             naming: rng.below(4),
+            recasing: *rng.pick(&[0, 0, 0, 0, 10, 50, 100]),
         };
         match rng.below(100) {
             // Values of several Groups that read each other crosswise.
@@ -251,7 +255,8 @@ impl Grower<'_> {
     /// A name that no member of the Group has yet.
     fn new_name(&mut self, group: usize) -> Vec<u8> {
         for _ in 0..4 {
-            let name = self.random_name();
+            let mut name = self.random_name();
+            self.recase(&mut name);
             if self.find(group, &name).is_none() {
                 return name;
             }
@@ -284,7 +289,14 @@ impl Grower<'_> {
         members
             .iter()
             .copied()
-            .find(|&m| self.nodes[m].name == name)
+            .find(|&m| is_same_name(&self.nodes[m].name, name))
+    }
+
+    /// The name in other letters, as often as the manner has it.
+    fn recase(&mut self, name: &mut [u8]) {
+        if self.rng.chance(self.manner.recasing) {
+            recase(self.rng, name);
+        }
     }
 
     /// Values get odd ranks, all different, functions even ones, few of them or
@@ -548,12 +560,18 @@ impl Grower<'_> {
             names.push(group);
         }
         names.truncate(found?);
-        let parts: Vec<&[u8]> = names
-            .iter()
-            .rev()
-            .map(|&n| &self.nodes[n].name[..])
-            .collect();
-        Some(parts.join(&b'.'))
+        Some(self.written(&names))
+    }
+
+    /// The path of these nodes, the target first, each name in letters of its
+    /// own.
+    fn written(&mut self, names: &[usize]) -> Vec<u8> {
+        let parts = names.iter().rev().map(|&node| {
+            let mut name = self.nodes[node].name.clone();
+            self.recase(&mut name);
+            name
+        });
+        parts.collect::<Vec<_>>().join(&b'.')
     }
 
     /// Whether a search from the Group `from` outward finds this very head.

@@ -1,6 +1,7 @@
 //! Fixed sheets for speed figures and for small stacks: the worst shapes.
 
 use crate::builder::{Builder, MAX_LINES};
+use crate::letters::capital_paths;
 
 /// A sheet with a name to print beside its figures.
 pub struct Shape {
@@ -13,6 +14,7 @@ pub fn shapes() -> Vec<Shape> {
     let shape = |name, text| Shape { name, text };
     let mut shapes = vec![
         shape("flat Group of 500 values", flat(500)),
+        shape("flat Group, paths in capitals", capital_paths(&flat(500))),
         shape("chain of 500, forward", forward(500)),
         shape("chain of 500, backward", backward(500)),
         shape("500 nested Groups", nested(500)),

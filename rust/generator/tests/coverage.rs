@@ -1,7 +1,7 @@
-//! The random trials meet every refusal, every state and both orders, and a
-//! seed always gives the same trial.
+//! The random trials meet every refusal, every state, both orders and names in
+//! other letters than their definitions, and a seed always gives the same trial.
 
-use generator::{case, Case};
+use generator::{any_sheet, capital_paths, case, recased, sheet, Case, OtherLetters, Rng};
 use reference::{Order, Refusal};
 
 const CASES: u64 = 20_000;
@@ -124,6 +124,72 @@ fn every_rule_is_met() {
     assert!(counts.whole > 2_000 && counts.mixed > 1_000);
     assert!(counts.other_orders > 500 && counts.names > 2_000);
     assert!(counts.longest > 900);
+}
+
+/// The names in other letters of a sheet that reads, and how many paths and names
+/// in paths it has.
+fn other_letters(text: &[u8]) -> (OtherLetters, usize, usize) {
+    let mut table = vec![0; 8 * generator::line_count(text)];
+    reference::read(text, &mut table).expect("a sheet that reads");
+    let paths = table.chunks(8).filter(|row| row[7] != 0);
+    let names = paths.clone().map(|row| {
+        let path = &text[row[1] as usize..][..row[2] as usize];
+        path.split(|&byte| byte == b'.').count()
+    });
+    let (paths, names) = (paths.clone().count(), names.sum());
+    (OtherLetters::of(text, &table), paths, names)
+}
+
+/// Most sheets have plain paths; in some, heads or later names or most heads are
+/// in other letters.
+#[test]
+fn paths_in_other_letters() {
+    let (mut plain, mut heads, mut later, mut most) = (0, 0, 0, 0);
+    for seed in 0..4_000 {
+        let (others, paths, _) = other_letters(&sheet(&mut Rng::new(seed)));
+        plain += usize::from(others == OtherLetters::default());
+        heads += usize::from(others.heads > 0);
+        later += usize::from(others.later_names > 0);
+        most += usize::from(others.heads > 3 && 2 * others.heads > paths);
+    }
+    println!("plain {plain}, heads {heads}, later names {later}, most paths {most}");
+    assert!(plain > 2_000 && heads > 600 && later > 300 && most > 200);
+}
+
+/// A text in other letters differs where names and paths stand, and nowhere
+/// else.
+#[test]
+fn recased_texts_differ_in_names_alone() {
+    let mut changed = 0;
+    for seed in 0..4_000 {
+        let rng = &mut Rng::new(seed);
+        let text = any_sheet(rng);
+        let other = recased(rng, &text);
+        assert!(text.eq_ignore_ascii_case(&other));
+        changed += usize::from(text != other);
+        let outside = |text: &[u8]| -> Vec<Vec<u8>> {
+            let lines = text.split(|&byte| byte == b'\n').enumerate();
+            let fields = lines.map(|(at, line)| {
+                let fields = line.split(|&byte| byte == b' ').enumerate();
+                let kept = fields.filter(|&(field, _)| at == 0 || field != 1);
+                kept.flat_map(|(_, field)| field.to_vec()).collect()
+            });
+            fields.collect()
+        };
+        assert_eq!(outside(&text), outside(&other));
+    }
+    assert!(changed > 3_000, "{changed} changed");
+}
+
+#[test]
+fn capital_paths_are_in_capitals_and_lead_where_they_did() {
+    for text in [generator::everyday(250, 3), generator::flat(50)] {
+        let capitals = capital_paths(&text);
+        let (others, paths, names) = other_letters(&capitals);
+        assert!(paths > 40);
+        assert_eq!((others.heads, others.later_names), (paths, names - paths));
+        assert_eq!(run(&capitals), run(&text));
+    }
 }
 
 /// Every refusal from 5 to 16 also has its sheet of 1,024 lines.

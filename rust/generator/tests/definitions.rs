@@ -2,8 +2,17 @@
 //! care for speed: reaching as a table filled until nothing changes, needs and
 //! plans by looking at every pair, evaluation as a function of what is left.
 
-use generator::{any_sheet, line_count, sheet, Rng};
-use reference::Order;
+use generator::{any_sheet, line_count, rows, sheet, Rng};
+use reference::{Order, Refusal};
+
+/// A name as it is compared: "without regard to the case of ASCII letters".
+fn compared(name: &[u8]) -> Vec<u8> {
+    let small = |&byte: &u8| match byte {
+        65..=90 => byte + 32,
+        _ => byte,
+    };
+    name.iter().map(small).collect()
+}
 
 /// A sheet that reads: its text and its table. Labels count from 1.
 struct Facts {
@@ -134,7 +143,7 @@ impl Facts {
     fn target(&self, label: usize) -> usize {
         let member = |group: usize, name: &[u8]| {
             let mut members = self.members(group).into_iter();
-            members.find(|&m| self.name(m) == name)
+            members.find(|&m| compared(self.name(m)) == compared(name))
         };
         let mut names = self.name(label).split(|&byte| byte == b'.');
         let head = names.next().expect("a head");
@@ -296,4 +305,44 @@ fn check_results(facts: &Facts, plan: &[usize], results: &[i64]) {
         wanted[3 * (value - 1)..][..3].copy_from_slice(&[state, number, steps]);
     }
     assert_eq!(results, wanted);
+}
+
+/// Row 12, "a smaller label in its Group has that name", by a look at every pair
+/// of lines; and whether the two names are written in the same letters.
+fn first_clash(rows: &[rows::Row]) -> Option<(Refusal, bool)> {
+    let is_definition = |row: &rows::Row| matches!(row[0][..], [b'G' | b'V' | b'F']);
+    let clash = |later: usize| {
+        let [_, name, group, ..] = &rows[later];
+        let is_same = |row: &&rows::Row| {
+            is_definition(row) && row[2] == *group && compared(&row[1]) == compared(name)
+        };
+        let smaller = rows[..later].iter().find(is_same)?;
+        let place = later as u64 + 1;
+        Some((Refusal { number: 12, place }, smaller[1] == *name))
+    };
+    let mut definitions = (1..rows.len()).filter(|&at| is_definition(&rows[at]));
+    definitions.find_map(clash)
+}
+
+#[test]
+fn row_12_is_the_first_name_met_again() {
+    let (mut same_letters, mut other_letters, mut none) = (0, 0, 0);
+    for seed in 0..20_000 {
+        let text = any_sheet(&mut Rng::new(2_000_000 + seed));
+        let refusal = reference::read(&text, &mut vec![0; 8 * line_count(&text)]).err();
+        if refusal.is_some_and(|refusal| refusal.number < 12) {
+            continue;
+        }
+        let rows = rows::split(&text).expect("lines of five fields");
+        let wanted = first_clash(&rows);
+        let given = refusal.filter(|refusal| refusal.number == 12);
+        assert_eq!(given, wanted.map(|(refusal, _)| refusal), "seed {seed}");
+        match wanted {
+            Some((_, true)) => same_letters += 1,
+            Some((_, false)) => other_letters += 1,
+            None => none += 1,
+        }
+    }
+    println!("same letters {same_letters}, other letters {other_letters}, none {none}");
+    assert!(same_letters > 50 && other_letters > 50 && none > 5_000);
 }

@@ -55,10 +55,16 @@ impl<T: Cell> LentCells<T> {
 
     /// The cells to lend, full of rubbish again.
     pub fn lend(&mut self) -> &mut [T] {
-        let end = self.cells.len() - MARGIN;
-        let part = &mut self.cells[MARGIN..end];
-        part.fill(self.rubbish);
+        let rubbish = self.rubbish;
+        let part = self.part();
+        part.fill(rubbish);
         part
+    }
+
+    /// The cells that were lent.
+    pub fn part(&mut self) -> &mut [T] {
+        let end = self.cells.len() - MARGIN;
+        &mut self.cells[MARGIN..end]
     }
 
     /// Whether the cells are these and every canary is as it was; else the

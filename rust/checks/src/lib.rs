@@ -6,7 +6,8 @@
 //! buffer that may be too short for it. What the library is
 //! lent stands between canaries: cells that must stay as they are, and bytes
 //! around the text and cells around the list that would change the reply if
-//! they were read.
+//! they were read. A random trial also lends the library the same sheet with the
+//! case of letters changed in its names and paths, which has to give the same.
 //!
 //! Beside the trials: the picture of the crates.
 
@@ -15,22 +16,29 @@
 mod calls;
 mod crates;
 mod lent;
+mod letters;
 mod tally;
 mod trial;
 
 use std::thread;
 
-pub use calls::Call;
+use generator::Rng;
+
+pub use calls::{Call, Lent};
 pub use crates::Crates;
+pub use letters::Letters;
 pub use tally::Tally;
-pub use trial::{Outcome, Trial, Wanted, WantedName, WantedPrint};
+pub use trial::{Expected, Outcome, Trial, Wanted, WantedName, WantedPrint};
 
 /// The random trial with this seed; a difference says how to run it again.
 pub fn check_seed(seed: u64) -> Result<Outcome, String> {
     let case = generator::case(seed);
-    Trial::of(&case).run().map_err(|difference| {
-        format!("seed {seed}: {difference}\nagain: cargo run --release -p checks -- {seed} 1")
-    })
+    let recased = generator::recased(&mut Rng::new(seed), &case.text);
+    Trial::of(&case)
+        .run_recased(&recased)
+        .map_err(|difference| {
+            format!("seed {seed}: {difference}\nagain: cargo run --release -p checks -- {seed} 1")
+        })
 }
 
 /// The random trials of `count` seeds from `first` on, up to a difference, on

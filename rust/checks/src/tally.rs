@@ -2,6 +2,7 @@
 
 use std::fmt;
 
+use crate::letters::Letters;
 use crate::{Call, Outcome};
 
 /// Rows of the table of refusals.
@@ -13,7 +14,8 @@ const ENOUGH: u64 = 5_000;
 const STATES: [&str; 5] = ["number", "range", "zero divisor", "spent", "deep"];
 
 /// How the calls replied, what Plan and Run came to, how many labels Name was
-/// asked for and gave a part to, and how many prints there was room for.
+/// asked for and gave a part to, how many prints there was room for, and how many
+/// sheets had names in other letters than those that they are the same as.
 #[derive(Debug, Default, Clone, PartialEq, Eq)]
 pub struct Tally {
     trials: u64,
@@ -27,6 +29,9 @@ pub struct Tally {
     named: u64,
     /// Prints that were whole.
     printed: u64,
+    /// Sheets with names in other letters: heads of paths, later names, names
+    /// that clash.
+    letters: [u64; 3],
 }
 
 impl Tally {
@@ -41,6 +46,15 @@ impl Tally {
         self.asked += outcome.asked;
         self.named += outcome.named;
         self.printed += u64::from(outcome.is_print_whole);
+        let Letters {
+            heads,
+            later_names,
+            clash,
+        } = outcome.letters;
+        add_all(
+            &mut self.letters,
+            &[heads, later_names, clash].map(u64::from),
+        );
     }
 
     pub fn merge(&mut self, other: &Tally) {
@@ -54,12 +68,13 @@ impl Tally {
         self.asked += other.asked;
         self.named += other.named;
         self.printed += other.printed;
+        add_all(&mut self.letters, &other.letters);
     }
 
     /// Whether every call answered and refused by each of its rows, plans were
     /// whole and mixed, values came to every state, Name gave parts, empty ones
-    /// too, and prints had room and had not; a short run need not have met all of
-    /// them.
+    /// too, prints had room and had not, and names were in other letters wherever
+    /// they are compared; a short run need not have met all of them.
     pub fn is_complete(&self) -> bool {
         let mut calls = Call::ALL.into_iter().zip(&self.replies);
         let replies = calls.all(|(call, counts)| !counts[..=call.last_row()].contains(&0));
@@ -67,7 +82,8 @@ impl Tally {
         let names = self.named > 0 && self.named < self.asked;
         let prints = self.printed > 0 && self.printed < self.trials;
         let states = !self.states.contains(&0);
-        self.trials < ENOUGH || (replies && orders && names && prints && states)
+        let letters = !self.letters.contains(&0);
+        self.trials < ENOUGH || (replies && orders && names && prints && states && letters)
     }
 
     pub fn total(&self) -> u64 {
@@ -105,6 +121,11 @@ impl fmt::Display for Tally {
         writeln!(f, "values: {}", states.join(", "))?;
         let cut = self.trials - self.printed;
         writeln!(f, "prints: {} whole, {cut} cut short", self.printed)?;
+        let [heads, later, clashes] = self.letters;
+        writeln!(
+            f,
+            "other letters: {heads} sheets in heads, {later} in later names, {clashes} in names that clash"
+        )?;
         write!(f, "names: {} of {} asked for", self.named, self.asked)
     }
 }

@@ -5,9 +5,13 @@ use lindypo::raw::{Part, Printed, Reply};
 
 use crate::calls::{Call, Lent};
 use crate::lent::{LentCells, LentPart, SURROUNDINGS};
+use crate::letters::Letters;
 
 /// Name is tried with every label of a sheet up to this many lines.
 const ALL_LABELS: usize = 40;
+
+/// In other letters, with one label in so many.
+const LABEL_STEP: usize = 4;
 
 /// The buffers that a call may be lent for writing.
 const BUFFERS: [&str; 3] = ["table", "plan", "results"];
@@ -41,22 +45,30 @@ pub struct Outcome {
     pub named: u64,
     /// Whether there was room for the whole print.
     pub is_print_whole: bool,
+    pub letters: Letters,
 }
 
 impl Outcome {
-    /// What the calls, these names and the print come to by the reference.
-    pub fn new(wanted: &[Wanted; 4], names: &[WantedName], print: &WantedPrint) -> Self {
-        let [read, plan, run, follow] = wanted.each_ref().map(|wanted| wanted.reply);
+    /// What the calls on a text, these names and the print come to by the
+    /// reference.
+    pub fn new(text: &[u8], expected: &Expected) -> Self {
+        let Expected {
+            calls,
+            names,
+            print,
+        } = expected;
+        let [read, plan, run, follow] = calls.each_ref().map(|wanted| wanted.reply);
         let is_named = |wanted: &&WantedName| wanted.part.length > 0;
         Outcome {
             read,
             plan,
             run,
             follow,
-            states: states(&wanted[2].buffers[2], run),
+            states: states(&calls[2].buffers[2], run),
             asked: names.len() as u64,
             named: names.iter().filter(is_named).count() as u64,
             is_print_whole: print.printed.length <= print.out.len() as u64,
+            letters: Letters::of(text, &calls[0]),
         }
     }
 
@@ -83,6 +95,14 @@ pub struct WantedName {
 pub struct WantedPrint {
     pub printed: Printed,
     pub out: Vec<u8>,
+}
+
+/// All that the reference wants of a trial: of the calls, in the sequence of
+/// `Call::ALL`, of Name for each label tried, and of the print.
+pub struct Expected {
+    pub calls: [Wanted; 4],
+    pub names: Vec<WantedName>,
+    pub print: WantedPrint,
 }
 
 impl<'a> Trial<'a> {
@@ -118,17 +138,64 @@ impl<'a> Trial<'a> {
     /// The reference's outcome where the library agrees with it in every cell,
     /// else the difference in words.
     pub fn run(&self) -> Result<Outcome, String> {
-        let wanted = self.wanted();
+        let expected = self.expected_of_all()?;
+        self.compare(&expected)?;
+        Ok(Outcome::new(self.text, &expected))
+    }
+
+    /// As `run`, and the library gives the same for this text too, the same but
+    /// for the case of letters in names and paths.
+    pub fn run_recased(&self, recased: &[u8]) -> Result<Outcome, String> {
+        let expected = self.expected_of_all()?;
+        self.compare(&expected)?;
+        let other = Trial {
+            text: recased,
+            ..*self
+        };
+        let in_letters = |difference| format!("in other letters: {difference}");
+        other.compare_recased(&expected).map_err(in_letters)?;
+        Ok(Outcome::new(self.text, &expected))
+    }
+
+    /// What the reference wants, with Name of these labels.
+    pub fn expected(&self, labels: impl FnOnce(Reply) -> Vec<i64>) -> Result<Expected, String> {
+        let calls = self.wanted();
+        let names = self.names(&calls[0], labels(calls[0].reply))?;
+        Ok(Expected {
+            names,
+            print: self.wanted_print(),
+            calls,
+        })
+    }
+
+    fn expected_of_all(&self) -> Result<Expected, String> {
         let lines = generator::line_count(self.text);
-        let names = self.names(&wanted[0], labels(wanted[0].reply, lines, self.label))?;
-        let print = self.wanted_print();
+        self.expected(|read| labels(read, lines, self.label))
+    }
+
+    /// The library in every surrounding; Name under one and the other in turn.
+    fn compare(&self, expected: &Expected) -> Result<(), String> {
         for (turn, surrounding) in SURROUNDINGS.into_iter().enumerate() {
-            // Name under one surrounding and the other in turn.
-            let names = names.iter().skip(turn).step_by(SURROUNDINGS.len());
-            self.compare(&wanted, names, surrounding)?;
-            self.compare_print(&print, surrounding.0)?;
+            let names = expected.names.iter().skip(turn).step_by(SURROUNDINGS.len());
+            self.compare_calls(&expected.calls, names, surrounding)?;
+            let (given, bytes) = self.library_print(surrounding.0);
+            compare_print(&expected.print, given, &bytes)?;
         }
-        Ok(Outcome::new(&wanted, &names, &print))
+        Ok(())
+    }
+
+    /// The library on this text gives what is wanted of the same in other letters;
+    /// prints may differ in the case of letters.
+    fn compare_recased(&self, expected: &Expected) -> Result<(), String> {
+        let names = expected.names.iter().step_by(LABEL_STEP);
+        self.compare_calls(&expected.calls, names, SURROUNDINGS[0])?;
+        let (given, mut bytes) = self.library_print(SURROUNDINGS[0].0);
+        bytes.part().make_ascii_lowercase();
+        let wanted = WantedPrint {
+            printed: expected.print.printed,
+            out: expected.print.out.to_ascii_lowercase(),
+        };
+        compare_print(&wanted, given, &bytes)
     }
 
     /// What the reference wants of each call, in the sequence of `Call::ALL`.
@@ -170,7 +237,7 @@ impl<'a> Trial<'a> {
     }
 
     /// What the reference's print answers and leaves.
-    pub fn wanted_print(&self) -> WantedPrint {
+    fn wanted_print(&self) -> WantedPrint {
         let mut out = vec![self.rubbish as u8; self.print];
         let reference::Printed { refusal, length } = reference::print_into(self.text, &mut out);
         let (refusal, place) = refusal.map_or((0, 0), |refusal| (refusal.number, refusal.place));
@@ -183,21 +250,17 @@ impl<'a> Trial<'a> {
         WantedPrint { printed, out }
     }
 
-    /// The library's print of the text between such bytes.
-    fn compare_print(&self, wanted: &WantedPrint, surrounding: u8) -> Result<(), String> {
-        let WantedPrint { printed, out } = wanted;
+    /// What the library's print of the text between such bytes answers, and what
+    /// it leaves.
+    fn library_print(&self, surrounding: u8) -> (Printed, LentCells<u8>) {
         let text = LentPart::new(self.text, surrounding);
         let mut bytes = LentCells::new(self.print, self.rubbish as u8);
         let given = lindypo::raw::print(text.part(), bytes.lend());
-        if given != *printed {
-            return Err(format!("the print answered {given:?}, wanted {printed:?}"));
-        }
-        let with_place = |difference| format!("bytes after the print: {difference}");
-        bytes.compare(out).map_err(with_place)
+        (given, bytes)
     }
 
     /// What the reference's Name gives for each of these labels.
-    pub fn names(&self, read: &Wanted, labels: Vec<i64>) -> Result<Vec<WantedName>, String> {
+    fn names(&self, read: &Wanted, labels: Vec<i64>) -> Result<Vec<WantedName>, String> {
         let mut table = vec![self.rubbish; self.table];
         let mut names = Vec::new();
         for label in labels {
@@ -213,7 +276,7 @@ impl<'a> Trial<'a> {
     }
 
     /// The library between these surroundings: every call, then these names.
-    fn compare<'n>(
+    fn compare_calls<'n>(
         &self,
         wanted: &[Wanted],
         names: impl Iterator<Item = &'n WantedName>,
@@ -261,6 +324,19 @@ fn compare_call(
         cells.compare(wanted).map_err(with_place)?;
     }
     Ok(())
+}
+
+fn compare_print(
+    wanted: &WantedPrint,
+    given: Printed,
+    bytes: &LentCells<u8>,
+) -> Result<(), String> {
+    let WantedPrint { printed, out } = wanted;
+    if given != *printed {
+        return Err(format!("the print answered {given:?}, wanted {printed:?}"));
+    }
+    let with_place = |difference| format!("bytes after the print: {difference}");
+    bytes.compare(out).map_err(with_place)
 }
 
 fn compare_name(

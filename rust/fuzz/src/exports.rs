@@ -2,7 +2,7 @@
 
 use std::slice;
 
-use checks::{Outcome, Tally, Trial, Wanted, WantedPrint};
+use checks::{Expected, Outcome, Tally, Trial};
 use generator::{Case, Rng};
 use lindypo::raw::{Part, Printed, Reply};
 
@@ -17,9 +17,7 @@ pub struct Oracle {
 /// What an input stands for; an execution points into it.
 struct Held {
     case: Case,
-    wanted: [Wanted; 4],
-    name: Part,
-    print: WantedPrint,
+    expected: Expected,
 }
 
 /// What one call replies and leaves in table, plan and results.
@@ -51,12 +49,12 @@ pub struct Execution {
 
 impl Execution {
     fn new(held: &Held) -> Self {
-        let Held {
-            case,
-            wanted,
-            name,
+        let Held { case, expected } = held;
+        let Expected {
+            calls,
+            names,
             print,
-        } = held;
+        } = expected;
         Execution {
             text: case.text.as_ptr(),
             text_length: case.text.len(),
@@ -65,11 +63,11 @@ impl Execution {
             lengths: [case.table, case.plan, case.results],
             rubbish: case.rubbish,
             label: case.label,
-            wanted: wanted.each_ref().map(|wanted| WantedCells {
+            wanted: calls.each_ref().map(|wanted| WantedCells {
                 reply: wanted.reply,
                 cells: wanted.buffers.each_ref().map(|cells| cells.as_ptr()),
             }),
-            name: *name,
+            name: names[0].part,
             print_length: case.print,
             printed: print.printed,
             print: print.out.as_ptr(),
@@ -81,18 +79,10 @@ impl Oracle {
     /// What the reference wants for an input.
     fn take(&mut self, input: &[u8]) -> &Execution {
         let case = crate::decode(input);
-        let trial = Trial::of(&case);
-        let wanted = trial.wanted();
-        let names = trial.names(&wanted[0], vec![case.label]);
-        let names = names.unwrap_or_else(|difference| panic!("{difference}"));
-        let print = trial.wanted_print();
-        self.tally.add(Outcome::new(&wanted, &names, &print));
-        let held = self.held.insert(Held {
-            name: names[0].part,
-            case,
-            wanted,
-            print,
-        });
+        let expected = Trial::of(&case).expected(|_| vec![case.label]);
+        let expected = expected.unwrap_or_else(|difference| panic!("{difference}"));
+        self.tally.add(Outcome::new(&case.text, &expected));
+        let held = self.held.insert(Held { case, expected });
         self.execution.insert(Execution::new(held))
     }
 }

@@ -47,7 +47,7 @@ fn every_file_of_the_sheets() {
 }
 
 /// What the program has to print, from Run's answer.
-fn print(text: &[u8]) -> String {
+pub fn print_of_run(text: &[u8]) -> String {
     let Buffers {
         mut table,
         mut plan,
@@ -80,7 +80,7 @@ fn every_print_of_the_sheets() {
     for path in paths {
         let text = fs::read(&path).expect("a sheet");
         let wanted = fs::read_to_string(path.with_extension("print")).expect("its print");
-        assert_eq!(print(&text), wanted, "{:?}", path.file_name());
+        assert_eq!(print_of_run(&text), wanted, "{:?}", path.file_name());
     }
 }
 

@@ -3,10 +3,11 @@
 #include <alloca.h>
 #include <stdio.h>
 #include <stdlib.h>
+#include <string.h>
 
 #include "lindypo.h"
 
-#define FAULTS 18
+#define FAULTS 23
 
 static const char *const words[FAULTS + 1] = {
     "",
@@ -28,6 +29,11 @@ static const char *const words[FAULTS + 1] = {
     "The print leaves the last byte as it was where it is shorter",
     "The print writes the byte after its buffer where there is no room",
     "The print answers the place for the refusal",
+    "Read does not find what a path in other letters leads to",
+    "Read takes a name in other letters for another name",
+    "Name gives the letters of the definition for those of a path",
+    "Run leaves out the target of a path in other letters",
+    "The print puts names in small letters",
 };
 
 static int fault;
@@ -49,6 +55,66 @@ __typeof__(lindypo_run) __real_lindypo_run, __wrap_lindypo_run;
 __typeof__(lindypo_follow) __real_lindypo_follow, __wrap_lindypo_follow;
 __typeof__(lindypo_print) __real_lindypo_print, __wrap_lindypo_print;
 
+/* Whether the path at a label is in other letters than the definitions that it
+ * leads to, which are the target and, name by name, the Groups around it. */
+static int has_other_letters(const uint8_t *text, const int64_t *table, uint64_t label)
+{
+    const int64_t *path = table + 8 * (label - 1);
+    int64_t end = path[1] + path[2];
+    for (int64_t at = path[7]; at > 0 && end > path[1];) {
+        const int64_t *definition = table + 8 * (at - 1);
+        end -= definition[2];
+        if (memcmp(text + end, text + definition[1], (size_t)definition[2]) != 0)
+            return 1;
+        end--; /* the dot */
+        at = definition[6];
+    }
+    return 0;
+}
+
+/* The first label whose path is in other letters; 0 where none is. Lines have a
+ * kind, cells after them have not. */
+static uint64_t first_other_letters(const uint8_t *text, const int64_t *table,
+                                    size_t table_length)
+{
+    for (uint64_t label = 1; 8 * label <= table_length && table[8 * (label - 1)] != 0; label++)
+        if (has_other_letters(text, table, label))
+            return label;
+    return 0;
+}
+
+/* A field, from 0, of the line at a label, of a text whose lines have five. */
+static lindypo_part field_at(const uint8_t *text, uint64_t label, int field)
+{
+    uint64_t start = 0;
+    for (; label > 0; label--)
+        while (text[start++] != '\n')
+            continue;
+    for (; field > 0; field--)
+        while (text[start++] != ' ')
+            continue;
+    uint64_t end = start;
+    while (text[end] != ' ' && text[end] != '\n')
+        end++;
+    return (lindypo_part){.start = start, .length = end - start};
+}
+
+/* Whether two lines have the same bytes in a field. */
+static int is_same_field(const uint8_t *text, uint64_t label, uint64_t other, int field)
+{
+    lindypo_part a = field_at(text, label, field), b = field_at(text, other, field);
+    return a.length == b.length && memcmp(text + a.start, text + b.start, a.length) == 0;
+}
+
+/* Whether a smaller label in its Group has this label's name, byte for byte. */
+static int clashes_in_same_letters(const uint8_t *text, uint64_t label)
+{
+    for (uint64_t other = 2; other < label; other++)
+        if (is_same_field(text, label, other, 1) && is_same_field(text, label, other, 2))
+            return 1;
+    return 0;
+}
+
 lindypo_reply __wrap_lindypo_read(const uint8_t *text, size_t text_length,
                                   int64_t *table, size_t table_length)
 {
@@ -63,6 +129,15 @@ lindypo_reply __wrap_lindypo_read(const uint8_t *text, size_t text_length,
         table[table_length - 1] = last;
     if (fault == 4 && reply.refusal == 12)
         table[table_length - 1] = last;
+    uint64_t label = 0;
+    if (fault == 19 && is_answer)
+        label = first_other_letters(text, table, table_length);
+    if (label != 0) {
+        memset(table, 0, table_length * sizeof *table);
+        reply = (lindypo_reply){.refusal = 13, .place = label};
+    }
+    if (fault == 20 && reply.refusal == 12 && !clashes_in_same_letters(text, reply.place))
+        reply = (lindypo_reply){.count = reply.place};
     return reply;
 }
 
@@ -71,7 +146,12 @@ lindypo_part __wrap_lindypo_name(const uint8_t *text, size_t text_length,
 {
     if (fault == 5)
         label = (int32_t)label;
-    return __real_lindypo_name(text, text_length, table, table_length, label);
+    lindypo_part part = __real_lindypo_name(text, text_length, table, table_length, label);
+    if (fault == 21 && part.length > 0 && has_other_letters(text, table, (uint64_t)label)) {
+        const int64_t *target = table + 8 * (table[8 * (label - 1) + 7] - 1);
+        part = (lindypo_part){.start = (uint64_t)target[1], .length = (uint64_t)target[2]};
+    }
+    return part;
 }
 
 lindypo_reply __wrap_lindypo_plan(const uint8_t *text, size_t text_length,
@@ -102,6 +182,11 @@ lindypo_reply __wrap_lindypo_run(const uint8_t *text, size_t text_length,
     }
     if (fault == 10 && reply.refusal == 16)
         __real_lindypo_read(text, text_length, table, table_length);
+    uint64_t label = 0;
+    if (fault == 22 && reply.refusal == 0)
+        label = first_other_letters(text, table, table_length);
+    if (label != 0)
+        table[8 * (label - 1) + 7] = 0;
     return reply;
 }
 
@@ -137,5 +222,8 @@ lindypo_printed __wrap_lindypo_print(const uint8_t *text, size_t text_length,
         out[out_length] = 0;
     if (fault == 18)
         printed.refusal = printed.place;
+    for (size_t at = 0; fault == 23 && at < out_length; at++)
+        if (out[at] >= 'A' && out[at] <= 'Z')
+            out[at] += 'a' - 'A';
     return printed;
 }

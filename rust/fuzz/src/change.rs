@@ -40,13 +40,15 @@ fn vary(rng: &mut Rng, text: Vec<u8>) -> Vec<u8> {
     let Some(mut rows) = rows::split(&text) else {
         return generator::damage(rng, text);
     };
-    match rng.below(8) {
+    match rng.below(10) {
         0 | 1 => swap_labels(rng, &mut rows),
         2 => grow(rng, &mut rows),
         3 => change_number(rng, &mut rows),
         4 => change_operation(rng, &mut rows),
         5 => change_group(rng, &mut rows),
         6 => read_another(rng, &mut rows),
+        7 => return generator::recased(rng, &text),
+        8 => recase_one(rng, &mut rows),
         _ => define(rng, &mut rows),
     }
     rows::join(&rows)
@@ -160,7 +162,15 @@ fn change_group(rng: &mut Rng, rows: &mut [Row]) {
     }
 }
 
-/// A leaf becomes a read of some definition's name, by way of its Group's too.
+/// The case of letters changes in one name or path.
+fn recase_one(rng: &mut Rng, rows: &mut [Row]) {
+    if let Some(at) = find(rng, rows, b"GVFRC") {
+        generator::recase(rng, &mut rows[at][1]);
+    }
+}
+
+/// A leaf becomes a read of some definition's name, by way of its Group's too,
+/// now and then in other letters.
 fn read_another(rng: &mut Rng, rows: &mut [Row]) {
     let leaf = find(rng, rows, b"NPR");
     let (Some(at), Some(target)) = (leaf, find(rng, &rows[1..], b"GVF")) else {
@@ -169,6 +179,9 @@ fn read_another(rng: &mut Rng, rows: &mut [Row]) {
     let mut path = rows[target + 1][1].clone();
     if let Some(group) = find(rng, &rows[1..], b"G").filter(|_| rng.chance(40)) {
         path = [&rows[group + 1][1][..], &path].join(&b'.');
+    }
+    if rng.chance(30) {
+        generator::recase(rng, &mut path);
     }
     rows[at] = row(["R", "-", "-", "-", "-"]);
     rows[at][1] = path;
@@ -181,7 +194,7 @@ fn define(rng: &mut Rng, rows: &mut Vec<Row>) {
     };
     let label = rows.len() + 1;
     let kind = *rng.pick(&["G", "V", "V", "V", "F"]);
-    let name = format!("n{}", rng.below(30));
+    let name = format!("{}{}", rng.pick(&["n", "N"]), rng.below(30));
     let body = (label + 1).to_string();
     let body = if kind == "G" { "-" } else { &body };
     rows.push(row([kind, &name, &(group + 1).to_string(), body, "-"]));
@@ -212,6 +225,23 @@ mod tests {
             read += usize::from(reads(&change(rng, &input)));
         }
         assert!((400..800).contains(&read), "{read} of 1,000");
+    }
+
+    /// Sheets that read with paths in other letters than their definitions come
+    /// of sheets without.
+    #[test]
+    fn changed_sheets_have_other_letters() {
+        let rng = &mut Rng::new(4);
+        let mut met = 0;
+        for _ in 0..1_000 {
+            let input = [Settings::default().to_bytes(), generator::flat(3)].concat();
+            let case = crate::decode(&change(rng, &input));
+            let mut table = vec![0; 8 * generator::line_count(&case.text)];
+            let count = reference::read(&case.text, &mut table);
+            let others = generator::OtherLetters::of(&case.text, &table);
+            met += usize::from(count.is_ok() && others.heads > 0);
+        }
+        assert!(met > 50, "{met} of 1,000");
     }
 
     #[test]

@@ -34,7 +34,7 @@ fn length(way: u8, amount: usize, needed: usize) -> usize {
     match way % 32 {
         0..=23 => needed,
         24..=26 => needed + 1,
-        27..=29 => needed + amount % 64,
+        27..=29 => needed + 1 + amount % 64,
         30 => needed.saturating_sub(1),
         _ => amount,
     }

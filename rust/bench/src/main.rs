@@ -11,7 +11,8 @@
 //! not.
 //!
 //! Built with `LINDYPO_EARLIER` set to the archive of an earlier library, it
-//! times that one too, in the same turns: the last column is our time to its.
+//! times that one too, in the same turns, on sheets of which it answers the same:
+//! the last column is our time to its.
 
 #![deny(unsafe_code)]
 

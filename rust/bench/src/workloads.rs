@@ -3,6 +3,8 @@
 use std::fs;
 use std::path::Path;
 
+use generator::{capital_paths, Rng};
+
 use crate::calls::Call;
 
 const LINES: [usize; 3] = [60, 250, 1_024];
@@ -74,6 +76,7 @@ pub fn workloads() -> Vec<Workload> {
     list.extend(LINES.map(|lines| Workload::everyday(lines, 1)));
     list.extend(LINES.map(|lines| Workload::everyday(lines, SHEETS)));
     list.extend(shapes());
+    list.extend(in_other_letters());
     list.extend([7, 9, 15, 16].map(refused));
     list
 }
@@ -115,6 +118,29 @@ fn shapes() -> Vec<Workload> {
         one("a value of 20,000 steps", evaluated, generator::spent(1)),
         one("deepest calls", evaluated, generator::deepest_calls()),
         one("500 short values", evaluated, generator::short_values(500)),
+    ]
+}
+
+/// Paths in capitals to names in small letters, and names and paths in letters
+/// of either case, as no processor can foresee them.
+fn in_other_letters() -> [Workload; 4] {
+    let all = &Call::ALL;
+    let everyday = |lines| {
+        let text = capital_paths(&generator::everyday(lines, 1));
+        Workload::one("everyday, paths in capitals", all, text)
+    };
+    let flat = capital_paths(&generator::flat(500));
+    let mixed = (1..=SHEETS)
+        .map(|seed| generator::recased(&mut Rng::new(seed), &generator::everyday(1_024, seed)));
+    [
+        everyday(250),
+        everyday(1_024),
+        Workload {
+            name: format!("{SHEETS} everyday, mixed letters"),
+            calls: all,
+            sheets: mixed.map(Sheet::new).collect(),
+        },
+        Workload::one("flat Group, paths in capitals", all, flat),
     ]
 }
 

@@ -1,14 +1,11 @@
 //! Every fault of a sheet: the first is the library's, none is said that only
 //! follows from another, and each points at the text.
 
-#[path = "common/capitals.rs"]
-mod capitals;
 mod common;
 
-use capitals::recased;
 use common::is_in_text;
 use generator::rows::{self, Row};
-use generator::Rng;
+use generator::{recased, Rng};
 use lindypo::{faults, Kind, Refusal, Sheet};
 
 const CASES: u64 = 4_000;

@@ -1,13 +1,10 @@
 //! Random sheets: the wrapper says what the library's own calls say, and marks
 //! what is in the text.
 
-#[path = "common/capitals.rs"]
-mod capitals;
 mod common;
 
-use capitals::{in_any_case, recased};
 use common::is_in_text;
-use generator::{Case, Rng};
+use generator::{recased, recased_name, Case, Rng};
 use lindypo::{raw, same_name, Label, Line, Order, Refusal, Results, Run, Sheet};
 
 const CASES: u64 = 6_000;
@@ -212,7 +209,7 @@ fn names_in_any_case() {
             (Ok(sheet), Ok(other)) => {
                 is_same_but_case(&sheet, &other);
                 for line in sheet.members(1) {
-                    let name = in_any_case(rng, &sheet.full_name(line.label));
+                    let name = recased_name(rng, &sheet.full_name(line.label));
                     assert_eq!(other.find(&name), Some(line.label), "{name}");
                     found += 1;
                 }

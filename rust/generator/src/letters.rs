@@ -23,6 +23,13 @@ pub fn recase(rng: &mut Rng, name: &mut [u8]) {
     }
 }
 
+/// A name or path in other letters.
+pub fn recased_name(rng: &mut Rng, name: &str) -> String {
+    let mut bytes = name.as_bytes().to_vec();
+    recase(rng, &mut bytes);
+    String::from_utf8(bytes).expect("letters of ASCII alone are changed")
+}
+
 /// A small letter for a capital, a capital for a small letter.
 fn swap_case(byte: &mut u8) {
     if byte.is_ascii_alphabetic() {

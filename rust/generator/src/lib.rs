@@ -21,7 +21,7 @@ mod shapes;
 pub use damage::{damage, damaged};
 pub use everyday::everyday;
 pub use lent::{buffer_length, order, planned, print_length, proper_order};
-pub use letters::{capital_paths, is_same_name, recase, recased, OtherLetters};
+pub use letters::{capital_paths, is_same_name, recase, recased, recased_name, OtherLetters};
 pub use random::{sheet, sheet_within};
 pub use rng::Rng;
 pub use shapes::{

@@ -1,7 +1,5 @@
 //! Formulas as text: shown, written, wrong, and both ways on random sheets.
 
-#[path = "../common/capitals.rs"]
-mod capitals;
 mod mistakes;
 mod page;
 mod random;

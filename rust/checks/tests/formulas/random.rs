@@ -2,8 +2,7 @@
 
 use std::collections::BTreeMap;
 
-use crate::capitals::{in_any_case, recased};
-use generator::{rows, Rng};
+use generator::{recased, recased_name, rows, Rng};
 use lindypo::{
     build::Group, formula, same_name, Kind, Label, Mark, Order, Outcome, Refusal, Sheet,
 };
@@ -247,7 +246,7 @@ impl Scribbler<'_, '_> {
         let sign = match line.kind {
             Kind::Number => return self.put(&line.a.to_string()),
             Kind::Argument => {
-                let argument = in_any_case(self.rng, argument);
+                let argument = recased_name(self.rng, argument);
                 return self.put(&argument);
             }
             Kind::Read => return self.path(line.name.unwrap_or_default(), argument),

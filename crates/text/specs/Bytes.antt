@@ -55,7 +55,7 @@ smallOf x = x + (smallA - capitalA)
 unfoldable pub lowercaseByte : ℕ → ℕ
 lowercaseByte x = cond (isCapital x) (smallOf x) x
 
--- each byte so
+-- bytes, a small letter for each capital
 abbrev pub lowercase : List ℕ → List ℕ
 lowercase [] = []
 lowercase (x ∷ w) = lowercaseByte x ∷ lowercase w

@@ -14,7 +14,7 @@ use Rattle.text.proofs.Slices.{slice-at, slice-none}
 use Rattle.text.proofs.Bytes.{same-eq}
 use Rattle.text.proofs.Lowercase.{lowercase-at, lowercase-length, case-same, same-case}
 use Rattle.paths.specs.Names.{sameName, NamesButCase}
-use Rattle.paths.specs.Buckets.{hashes, hashFrom, hashOf}
+use Rattle.paths.specs.Buckets.{hashes, hashFactor, hashFrom, hashOf}
 
 same-is : (x y : List ℕ) → sameName x y ≡ same (lowercase x) (lowercase y)
 unfolding sameName
@@ -78,7 +78,7 @@ module _ (x y : List ℕ) where
 
 small-from : (w : List ℕ) (h : ℕ) → h < hashes → hashFrom h w < hashes
 small-from [] h l = l
-small-from (x ∷ w) h l = small-from w ((h + x % 32) * 2654435769 % hashes) (omega arith)
+small-from (x ∷ w) h l = small-from w ((h + x % 32) * hashFactor % hashes) (omega arith)
 
 pub hash-small : (w : List ℕ) → hashOf w < hashes
 unfolding hashOf
@@ -97,11 +97,11 @@ unfolding hashOf
 hash-start s from to h = record { low = omega arith; high = h; small = omega arith; rest = refl }
 
 module _ {s : List ℕ} {from to hash i : ℕ} (h : Hashing s from to hash i) where
-  pub hash-turn : i < to → to ≤ length s → {b : ℕ} → b ≡ lowercaseByte (getD s i 0) % 32 → Hashing s from to ((hash + b) * 2654435769 % hashes) (i + 1)
+  pub hash-turn : i < to → to ≤ length s → {b : ℕ} → b ≡ lowercaseByte (getD s i 0) % 32 → Hashing s from to ((hash + b) * hashFactor % hashes) (i + 1)
   hash-turn l k {b} e =
       record { low = omega (arith, h .low); high = omega arith; small = omega arith; rest = rw e (sym step ∙ h .rest) }
     where
-      step : hashFrom hash (lowercase (slice i to s)) ≡ hashFrom ((hash + lowercaseByte (getD s i 0) % 32) * 2654435769 % hashes) (lowercase (slice (i + 1) to s))
+      step : hashFrom hash (lowercase (slice i to s)) ≡ hashFrom ((hash + lowercaseByte (getD s i 0) % 32) * hashFactor % hashes) (lowercase (slice (i + 1) to s))
       step = rw (slice-at s i to l k)
 
   pub hash-done : to ≤ i → hash ≡ hashOf (slice from to s)

@@ -39,10 +39,14 @@ pub record Searchable (s : List ℕ) (t : List ℤ) (n : ℕ) : Type 0 where
 abbrev pub hashes : ℕ
 hashes = 4294967296
 
+-- the factor of the hash: a large prime, far from any simple part of `hashes`
+abbrev pub hashFactor : ℕ
+hashFactor = 3266489917
+
 -- the hash of bytes, by the low five bits of each, after bytes of hash h
 abbrev pub hashFrom : ℕ → List ℕ → ℕ
 hashFrom h [] = h
-hashFrom h (x ∷ w) = hashFrom ((h + x % 32) * 2654435769 % hashes) w
+hashFrom h (x ∷ w) = hashFrom ((h + x % 32) * hashFactor % hashes) w
 
 unfoldable pub hashOf : List ℕ → ℕ
 hashOf w = hashFrom 0 (lowercase w)

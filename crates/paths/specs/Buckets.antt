@@ -39,7 +39,7 @@ pub record Searchable (s : List ℕ) (t : List ℤ) (n : ℕ) : Type 0 where
 abbrev pub hashes : ℕ
 hashes = 4294967296
 
--- the factor of the hash: a large prime, far from any simple part of `hashes`
+-- the factor of the hash, a prime
 abbrev pub hashFactor : ℕ
 hashFactor = 3266489917
 

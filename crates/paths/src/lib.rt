@@ -23,8 +23,8 @@ ghost use Rattle.paths.specs.Paths.{headFrom, descended, targetCell, dup
 ghost use Rattle.paths.specs.TargetCells.{headCell, targetBy, wrongTarget};
 use refusals::Verdict;
 
-// A hash is below 2^32. Of the factors tried, this prime spreads names that differ in their last digits best: members share a bucket a third as
-// often as with 2^32 divided by the golden ratio.
+// A hash is below 2^32. The factor is a prime: with it, members with names such as `v17` share a bucket a third as often as with 2^32 divided by
+// the golden ratio.
 const HASHES: usize = 4294967296;
 
 const FACTOR: usize = 3266489917;

@@ -9,12 +9,12 @@ use native.Mathlib.Numerals.{add-one}
 use native.Mathlib.Omega.{arith}
 use lib.Dec.{eqb, ltb}
 use lib.IntN.{ℤ}
-use lib.ListN.{length, getD, set, replicate, length-set, length-replicate}
+use lib.ListN.{length, getD, set, replicate, length-set}
 use lib.Seq.{slice, getD-set-same, getD-set-other}
 use borrow.Author.Tests.{eq-eqb, eqb-true, eqb-false, ltb-true, ltb-false}
 use Rattle.cells.specs.Limits.{labelLimit}
 use Rattle.cells.specs.Table.{nameStart, nameLength, owner, isDefinition}
-use Rattle.cells.proofs.Scratch.{zero-at}
+use Rattle.cells.proofs.Scratch.{long, zero-at}
 use Rattle.text.proofs.Bytes.{true-false, and-left, and-right}
 use Rattle.paths.specs.Names.{nameOf, sameName, isNamed, member}
 use Rattle.paths.specs.Buckets.{Searchable, hashes, hashOf, startOf, Stretch, Allotted, bucketOf, bucketAt, inBucket, lastBelow}
@@ -366,6 +366,3 @@ fresh-zeros n k h = record {
   room = omega (arith, long (3 * k));
   clear = λ i. (zero-at (k + 1) i, zero-at (3 * k) i);
 }
-  where
-    long : (m : ℕ) → length (replicate {0} {A = ℕ} m 0) ≡ m
-    long m = length-replicate {0} {A = ℕ} m 0

@@ -4,14 +4,11 @@ use mathlib.Core.List.{List}
 use Prim.Native.Nat.{ℕ, _+_, _*_, _≤_, _<_}
 use native.Mathlib.Omega.{arith}
 use native.Mathlib.Nat.{mul-le-mul}
-use lib.ListN.{length, getD, replicate, length-replicate}
-pub use Rattle.cells.proofs.Scratch.{zero-at}
+use lib.ListN.{length, getD, replicate}
+pub use Rattle.cells.proofs.Scratch.{long, zero-at}
 use Rattle.marks.proofs.Squares.{marks-none}
 use Rattle.reach.specs.MarkRows.{width, Blank, MarksRoom}
 use Rattle.reach.specs.Chains.{Empty}
-
-pub long : (k : ℕ) → length (replicate {0} {A = ℕ} k 0) ≡ k
-long k = length-replicate {0} {A = ℕ} k 0
 
 -- a rows of b words
 pub zero-square : (n a b : ℕ) → n + 1 ≤ a → width n ≤ b → ((n + 1) * width n ≤ length (replicate {0} {A = ℕ} (a * b) 0)) × ((d : ℕ) → Blank n (replicate (a * b) 0) d)

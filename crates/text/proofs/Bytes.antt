@@ -26,10 +26,6 @@ module _ (p : ℕ → Bool) (s : List ℕ) (i : ℕ) where
   pub count-end : length s ≤ i → countBy p (drop i s) ≡ 0
   count-end h = rw (past-drop s i h)
 
-pub one-le : (b : Bool) → one b ≤ 1
-one-le true = omega arith
-one-le false = omega arith
-
 -- a byte that passes is counted
 some-go : (b : Bool) (n : ℕ) → 1 ≤ n → 1 ≤ one b + n
 some-go b n h = omega arith

@@ -6,7 +6,8 @@ use lib.ListN.{getD, length, drop}
 use borrow.Author.Needs.{needs}
 use Rattle.text.specs.Bytes.{countBy, isNewline}
 use Rattle.text.specs.Scans.{isBad}
-use Rattle.text.proofs.Bytes.{count-step, count-end, one-le}
+use Rattle.cells.proofs.Tests.{one-le}
+use Rattle.text.proofs.Bytes.{count-step, count-end}
 use Rattle.text.proofs.survey.Statement.{statement}
 use Rattle.text.proofs.survey.Tie as tie
 

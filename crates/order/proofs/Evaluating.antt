@@ -12,7 +12,7 @@ use Rattle.order.specs.LabelLists.{_∈_}
 use Rattle.order.specs.Order.{Proper}
 use Rattle.order.specs.Evaluating.{Evaluation, down, Solves}
 use Rattle.order.proofs.Lists.{count-parts, count-here, split, in-here, in-there, in-left, in-right, in-cons, in-single, in-append}
-use Rattle.order.proofs.Mixed.{listed-once, listed-value}
+use Rattle.order.proofs.Proper.{listed-once, listed-value}
 
 module _ {S R : Type 0} (t : List ℤ) (E : Evaluation t S R) where
   abbrev run : List ℕ → S → S

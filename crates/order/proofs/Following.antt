@@ -20,7 +20,7 @@ use Rattle.order.proofs.Tests.{both-ways, so-or-not, not-so, and-left, 
 use Rattle.order.proofs.Lists.{zero-or-in, mem-of, of-mem, any-true, any-intro, count-parts, count-here, split, in-here, in-there}
 use Rattle.order.proofs.Positions.{found, first-none, first-one, found-one}
 use Rattle.order.proofs.Tables.{v-kind, kind-v, in-values, value-of, reaches-exact}
-use Rattle.order.proofs.Mixed.{listed-once, listed-value}
+use Rattle.order.proofs.Proper.{listed-once, listed-value}
 
 -- ---- the tests are the relations
 

@@ -14,7 +14,7 @@ use Rattle.order.proofs.Tests.{both-ways, so-or-not, not-so, one-true, 
 use Rattle.order.proofs.Lists.{count-here, count-there, in-single}
 use Rattle.order.proofs.Placing.{Late}
 use Rattle.order.proofs.Tables.{v-not-g, pos-of}
-use Rattle.order.proofs.Mixed.{no-cycle}
+use Rattle.order.proofs.Proper.{no-cycle}
 use Rattle.order.proofs.Needs.{holds, holds-intro, holds-v, only-itself}
 
 module _ (t : List ℤ) (n : ℕ) (ok : Accepted t n) (group : ℕ → List ℕ) (p : ℕ) where

@@ -48,7 +48,7 @@ record Placed (R : ℕ → ℕ → Bool) (items done : List ℕ) : Type 0 where
 
 module _ (R : ℕ → ℕ → Bool) (items : List ℕ) where
   -- what `next` gives is an item, is not placed, and needs only what is placed
-  next-some : (done : List ℕ) (p : ℕ) → next R items done ≡ some p
+  pub next-some : (done : List ℕ) (p : ℕ) → next R items done ≡ some p
       → (p ∈ items) × (count p done ≡ 0) × ((q : ℕ) → q ∈ items → R p q ≡ true → q ∈ done)
   next-some done p e =
       let w = first-some (λ p. not (mem p done) && not (waits R items done p)) items p e in
@@ -132,6 +132,10 @@ module _ (R : ℕ → ℕ → Bool) (items : List ℕ) where
 
   pub placed-sub : (x : ℕ) → x ∈ placed R items → x ∈ items
   placed-sub x h = omega (arith, placed-placed .of x)
+
+  -- and with each stand the items that it needs
+  pub placed-with : (x q : ℕ) → x ∈ placed R items → q ∈ items → R x q ≡ true → q ∈ placed R items
+  placed-with = placed-placed .with-needed
 
   -- all of them, where it did not get stuck
   pub placed-all : (x : ℕ) → stuck R items ≡ false → count x (placed R items) ≡ count x items

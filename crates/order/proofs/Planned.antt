@@ -1,7 +1,7 @@
 -- Demand 3, as far as it speaks of orders: what Plan's answer means.
 use mathlib.Core.Path.{_≡_, refl, subst}
 use mathlib.Core.Logic.{_⊎_, inl, inr, _↔_}
-use mathlib.Core.List.{List}
+use mathlib.Core.List.{List, []}
 use mathlib.Core.Bool.{Bool, true, false}
 use mathlib.Core.Option.{Option, none, some}
 use Prim.Native.Nat.{ℕ, zero, suc, _≤_, _<_}
@@ -11,14 +11,17 @@ use lib.IntN.{ℤ}
 use lib.ListN.{length}
 use Rattle.cells.specs.Accepted.{Accepted}
 use Rattle.order.specs.LabelLists.{count, _∈_}
-use Rattle.order.specs.Order.{isV, allLabels, values, reaches, NoCycle, Proper, Whole, firstCycle, someStuck, Answer, cycle, whole, mixed, plan, orderOf, place16}
+use Rattle.order.specs.Order.{isV, allLabels, values, Within, reaches, NoCycle, Proper, Consecutive, Whole, firstCycle, someTangled, planOrder}
+use Rattle.order.specs.Order.{Answer, cycle, whole, mixed, plan, orderOf, place16}
+use Rattle.order.specs.Tangles.{SomeTangled, ClearSideBySide}
 use Rattle.order.specs.PlanMeans.{SmallestCycle, Row16, PlanMeans}
 use Rattle.order.proofs.Tests.{both-ways}
 use Rattle.order.proofs.Lists.{zero-or-in, first-some, first-none, first-least, length-mono, length-upFrom}
 use Rattle.order.proofs.Tables.{v-kind, kind-v, v-def, kind-label, pos-of, in-labels, in-values, value-of, reaches-exact}
-use Rattle.order.proofs.Mixed.{listed-once, listed-value, mixed-proper, cycle-improper}
-use Rattle.order.proofs.Whole.{whole-proper, whole-whole}
-use Rattle.order.proofs.Free.{whole-free}
+use Rattle.order.proofs.Proper.{listed-once, listed-value, cycle-improper}
+use Rattle.order.proofs.TangledExact.{tangled-exact}
+use Rattle.order.proofs.BlockPlan.{order-proper, order-clear}
+use Rattle.order.proofs.Tangles.{whole-untangled, clear-whole}
 
 row16-one : (t : List ℤ) (a b : ℕ) → Row16 t a → Row16 t b → a ≡ b
 row16-one t zero zero r s = refl
@@ -63,14 +66,23 @@ module _ (t : List ℤ) (n : ℕ) (ok : Accepted t n) where
   pub place16-exactly : (k : ℕ) → (place16 t n ≡ k) ↔ Row16 t k
   place16-exactly k = (λ e. subst (Row16 t) e row-16, λ r. row16-one t (place16 t n) k row-16 r)
 
+  -- with no cycle some block has several members, or the plan is whole
+  untangled-whole : NoCycle t → someTangled t n ≡ false → Whole t (planOrder t n)
+  untangled-whole nc f =
+      clear-whole t n ok (planOrder t n) (order-clear t n ok nc) (λ s. both-ways (someTangled t n) (tangled-exact t n ok .1 s) f)
+
   -- Plan's answer means what it has to
   pub planned : PlanMeans t (plan t n)
-  planned = go (firstCycle t n) refl (someStuck t n) refl
+  planned = go (firstCycle t n) refl (someTangled t n) refl
     where
-      go : (c : Option ℕ) → firstCycle t n ≡ c → (s : Bool) → someStuck t n ≡ s → PlanMeans t (plan t n)
+      go : (c : Option ℕ) → firstCycle t n ≡ c → (s : Bool) → someTangled t n ≡ s → PlanMeans t (plan t n)
       go (some v) e s f = let c = cycle-smallest v e in rw e (c, cycle-improper t v (c .value) (c .itself))
-      go none e true f = rw (e, f) (mixed-proper t n ok (cycle-none e), λ o p w. both-ways (someStuck t n) f (whole-free t n ok o p w))
-      go none e false f = rw (e, f) (whole-proper t n ok f (cycle-none e), whole-whole t n ok f)
+      go none e true f =
+          let nc = cycle-none e in
+          rw (e, f) (order-proper t n ok nc, λ o p w. whole-untangled t n ok o p w (tangled-exact t n ok .0 f), order-clear t n ok nc)
+      go none e false f =
+          let nc = cycle-none e in
+          rw (e, f) (order-proper t n ok nc, untangled-whole nc f, order-clear t n ok nc)
 
   -- what it writes is a proper order, unless it refuses, and no longer than n
   pub plan-proper : NoCycle t → Proper t (orderOf (plan t n))
@@ -80,6 +92,23 @@ module _ (t : List ℤ) (n : ℕ) (ok : Accepted t n) where
       go (cycle v) p = absurd (nc v (p .0 .value) (p .0 .itself))
       go (whole o) p = p .0
       go (mixed o) p = p .0
+
+  -- "the values of a Group are side by side if neither it nor a Group around it is in a block of several", of what it writes
+  pub plan-clear : ClearSideBySide t (orderOf (plan t n))
+  plan-clear g k clear = go (plan t n) planned
+    where
+      go : (a : Answer) → PlanMeans t a → Consecutive (Within t g) (orderOf a)
+      go (cycle v) p = record {
+        front = [];
+        block = [];
+        back = [];
+        parts = refl;
+        inside = λ v m. absurd (omega arith);
+        before = λ v m. absurd (omega arith);
+        behind = λ v m. absurd (omega arith);
+      }
+      go (whole o) p = p .2 g k clear
+      go (mixed o) p = p .2 g k clear
 
   pub order-short : (o : List ℕ) → Proper t o → length o ≤ n
   order-short o p =
@@ -130,3 +159,10 @@ module _ (t : List ℤ) (n : ℕ) (ok : Accepted t n) where
       back (cycle v) e ((o, p), h) = let q : PlanMeans t (cycle v) = rw e at planned in absurd (q .1 o p)
       back (whole o) e (_, h) = let r : PlanMeans t (whole o) = rw e at planned in absurd (h o (r .0) (r .1))
       back (mixed o) e h = (o, e)
+
+  -- some proper order is whole exactly where no block has several members
+  pub untangled-exactly : NoCycle t → (SomeTangled t → ⊥) ↔ ((o : List ℕ) × Proper t o × Whole t o)
+  untangled-exactly nc = (
+    λ untangled. (planOrder t n, order-proper t n ok nc, clear-whole t n ok (planOrder t n) (order-clear t n ok nc) untangled),
+    λ h. whole-untangled t n ok (h .0) (h .1) (h .2),
+  )

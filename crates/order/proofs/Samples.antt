@@ -1,10 +1,10 @@
--- Worked examples, which antt computes: document 01's "Mistakes to shut out", and rows 16 to 18.
+-- Worked examples, which antt computes: document 01's "Mistakes to shut out", order 2's blocks, and rows 16 to 18.
 use mathlib.Core.Path.{_≡_, refl}
 use mathlib.Core.List.{List, [], _∷_}
 use Prim.Native.Nat.{ℕ}
 use lib.IntN.{ℤ, pos, negℤ}
 use Rattle.kinds.specs.Kinds.{groupCode, valueCode, functionCode, numberCode, kinds, kindAt, isDefinition, hasPath}
-use Rattle.order.specs.Order.{plan, whole, place16}
+use Rattle.order.specs.Order.{plan, whole, mixed, place16}
 use Rattle.order.specs.Following.{place17, place18}
 
 -- ---- rows of a table, each before the rows after it; names have no part in planning, and are left out
@@ -70,6 +70,31 @@ needed-first = refl
 smallest : plan (group 0 (value 1 5 (value 1 6 (value 1 7 (read 2 4 (number 3 (pos 1) (number 4 (pos 1) []))))))) 7 ≡ whole (3 ∷ 4 ∷ 2 ∷ [])
 unfolding isDefinition hasPath kindAt kinds
 smallest = refl
+
+-- ---- order 2: "A circle between frame and left made us list right mixed too". Groups 2, 3 and 4, two values in each; 5 reads 6 and 9
+-- reads 8, the others are numbers. Group 4 stays side by side.
+
+only-tangled-opened : plan
+    (group 0 (group 1 (group 1 (group 1 (value 2 11 (value 3 12 (value 4 13 (value 2 14 (value 3 15 (value 4 16
+    (read 5 6 (number 6 (pos 1) (number 7 (pos 1) (number 8 (pos 1) (read 9 8 (number 10 (pos 1) [])))))))))))))))) 16
+    ≡ mixed (6 ∷ 5 ∷ 8 ∷ 9 ∷ 7 ∷ 10 ∷ [])
+unfolding isDefinition hasPath kindAt kinds
+only-tangled-opened = refl
+
+-- all that is tangled is listed as before: document 01's sample 3
+sample-3 : plan
+    (group 0 (group 1 (group 1 (value 2 8 (value 2 9 (value 3 10 (value 3 11 (read 4 6 (number 5 (pos 20) (number 6 (pos 30) (read 7 5 []))))))))))) 11
+    ≡ mixed (5 ∷ 6 ∷ 4 ∷ 7 ∷ [])
+unfolding isDefinition hasPath kindAt kinds
+sample-3 = refl
+
+-- the circle lies inside Group 2, whose values stay side by side, behind 8, which one of them reads
+tangled-inside : plan
+    (group 0 (group 1 (group 2 (group 2 (value 3 11 (value 4 12 (value 1 13 (value 1 14 (value 3 15 (value 4 16
+    (read 5 6 (read 6 8 (number 7 (pos 1) (number 8 (pos 1) (number 9 (pos 1) (read 10 9 [])))))))))))))))) 16
+    ≡ mixed (7 ∷ 8 ∷ 6 ∷ 5 ∷ 9 ∷ 10 ∷ [])
+unfolding isDefinition hasPath kindAt kinds
+tangled-inside = refl
 
 -- ---- row 16's place: the smallest V that reaches itself, not one that only reaches a cycle
 

@@ -1,6 +1,6 @@
--- Document 01, "Reaching and planning", over a table t of n labels. What a definition mentions and reaches as a relation stands with the
--- table (`Mentions`, `Reaches`); here it is a test, proved equal to the relation. Tests are what plans are computed from; what makes an
--- order proper or whole is said without them.
+-- Document 01, "Reaching and planning", with order 2's blocks, over a table t of n labels. What a definition mentions and reaches as a
+-- relation stands with the table (`Mentions`, `Reaches`); here it is a test, proved equal to the relation. Tests are what plans are
+-- computed from; what makes an order proper or whole is said without them.
 use mathlib.Core.Path.{_≡_}
 use mathlib.Core.List.{List, [], _∷_, _++_}
 use mathlib.Core.Bool.{Bool, true, false, cond, not, _&&_, _||_}
@@ -13,7 +13,8 @@ use Rattle.cells.specs.Table.{kind, isDefinition, hasPath, owner, target}
 use Rattle.cells.specs.Reaches.{Reaches}
 use Rattle.order.specs.LabelLists.{one, count, _∈_, mem, upFrom, filter, any, first, joined}
 use Rattle.order.specs.Closure.{closure}
-use Rattle.order.specs.Placing.{placed, stuck}
+use Rattle.order.specs.Placing.{placed}
+use Rattle.order.specs.Blocks.{blockOf, several, tangled, placedBlocks}
 
 -- ---- Groups and values
 
@@ -104,34 +105,53 @@ reachesInto t n q x = any (λ y. within t q y && reaches t n x y) (values t n)
 abbrev pub needs : List ℤ → ℕ → ℕ → ℕ → Bool
 needs t n p q = not (eqb p q) && any (λ x. within t p x && reachesInto t n q x) (values t n)
 
--- ---- "Whole plan: in a Group, repeatedly place the smallest-labelled member not yet placed whose needed members are all placed"
+-- ---- order 2: "In a Group, members that need each other round a circle now form one block. Blocks are placed by the smallest label they
+-- hold, as soon as every block they need is placed"
 
+-- the block of g's member p, upward
+abbrev pub memberBlock : List ℤ → ℕ → ℕ → ℕ → List ℕ
+memberBlock t n g p = blockOf (needs t n) (members t n g) p
+
+-- the blocks of g in order, each known by the smallest label that it holds
 abbrev pub ordered : List ℤ → ℕ → ℕ → List ℕ
-ordered t n g = placed (needs t n) (members t n g)
+ordered t n g = placedBlocks (needs t n) (members t n g)
 
--- "a G is listed by the same rule in its place, F gives nothing", and a V is itself
+-- ---- "A block of several lists all values under its members, smallest label first, once those it reaches in the block are listed"
+
+-- v is one of the members of b's block, or lies under one
+abbrev pub inBlock : List ℤ → ℕ → ℕ → ℕ → ℕ → Bool
+inBlock t n g b v = any (λ p. within t p v) (memberBlock t n g b)
+
+abbrev pub blockValues : List ℤ → ℕ → ℕ → ℕ → List ℕ
+blockValues t n g b = filter (inBlock t n g b) (values t n)
+
+abbrev pub severalPlan : List ℤ → ℕ → ℕ → ℕ → List ℕ
+severalPlan t n g b = placed (reaches t n) (blockValues t n g b)
+
+-- ---- "A block that is one Group is listed by this same rule inside"; a V lists itself, and F gives nothing
+
 abbrev pub listed : List ℤ → (ℕ → List ℕ) → ℕ → List ℕ
 listed t group p = cond (isV t p) (p ∷ []) (cond (isG t p) (group p) [])
+
+abbrev pub blockListed : List ℤ → ℕ → ℕ → (ℕ → List ℕ) → ℕ → List ℕ
+blockListed t n g group b = cond (several (needs t n) (members t n g) b) (severalPlan t n g b) (listed t group b)
 
 -- what Group g lists, its Groups at most k deep
 abbrev pub groupPlan : List ℤ → ℕ → ℕ → ℕ → List ℕ
 groupPlan t n zero g = []
-groupPlan t n (suc k) g = joined (listed t (λ p. groupPlan t n k p)) (ordered t n g)
+groupPlan t n (suc k) g = joined (blockListed t n g (λ p. groupPlan t n k p)) (ordered t n g)
 
 -- the outermost Group's; n deep is enough, since a member's label is above its Group's
-abbrev pub wholePlan : List ℤ → ℕ → List ℕ
-wholePlan t n = groupPlan t n n 1
+abbrev pub planOrder : List ℤ → ℕ → List ℕ
+planOrder t n = groupPlan t n n 1
 
--- ---- "If some Group gets stuck, the plan is mixed: repeatedly the smallest V label whose reached values are all listed"
+-- ---- "'Mixed' is the answer when some block has several members", in any Group
 
-abbrev pub groupStuck : List ℤ → ℕ → ℕ → Bool
-groupStuck t n g = stuck (needs t n) (members t n g)
+abbrev pub groupTangled : List ℤ → ℕ → ℕ → Bool
+groupTangled t n g = tangled (needs t n) (members t n g)
 
-abbrev pub someStuck : List ℤ → ℕ → Bool
-someStuck t n = any (λ g. isG t g && groupStuck t n g) (allLabels n)
-
-abbrev pub mixedPlan : List ℤ → ℕ → List ℕ
-mixedPlan t n = placed (reaches t n) (values t n)
+abbrev pub someTangled : List ℤ → ℕ → Bool
+someTangled t n = any (λ g. isG t g && groupTangled t n g) (allLabels n)
 
 -- ---- the plan; row 16, "V reaches itself", a pass upward through the labels, whose place is the label
 
@@ -144,12 +164,12 @@ pub data Answer : Type 0 where
   mixed : List ℕ → Answer
 
 abbrev pub answer : List ℤ → ℕ → Option ℕ → Bool → Answer
-answer t n (some v) tangled = cycle v
-answer t n none true = mixed (mixedPlan t n)
-answer t n none false = whole (wholePlan t n)
+answer t n (some v) mix = cycle v
+answer t n none true = mixed (planOrder t n)
+answer t n none false = whole (planOrder t n)
 
 abbrev pub plan : List ℤ → ℕ → Answer
-plan t n = answer t n (firstCycle t n) (someStuck t n)
+plan t n = answer t n (firstCycle t n) (someTangled t n)
 
 -- the list that Plan writes; none where it refuses
 abbrev pub orderOf : Answer → List ℕ

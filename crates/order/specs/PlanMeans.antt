@@ -7,6 +7,7 @@ use Rattle.kinds.specs.Kinds.{valueCode}
 use Rattle.cells.specs.Table.{kind}
 use Rattle.cells.specs.Reaches.{Reaches}
 use Rattle.order.specs.Order.{NoCycle, Proper, Whole, Answer, cycle, whole, mixed}
+use Rattle.order.specs.Tangles.{ClearSideBySide}
 
 -- v is the smallest V that reaches itself
 pub record SmallestCycle (t : List ℤ) (v : ℕ) : Type 0 where
@@ -19,8 +20,9 @@ abbrev pub Row16 : List ℤ → ℕ → Type 0
 Row16 t zero = NoCycle t
 Row16 t (suc v) = SmallestCycle t (suc v)
 
--- 16 with its place, and no order is proper; or a proper order that is whole; or a proper order where no proper order is whole
+-- 16 with its place, and no order is proper; or a proper order that is whole; or a proper order where no proper order is whole. And, of
+-- the order that is listed, order 2's "the values of a Group are side by side if neither it nor a Group around it is in a block of several"
 abbrev pub PlanMeans : List ℤ → Answer → Type 0
 PlanMeans t (cycle v) = SmallestCycle t v × ((o : List ℕ) → Proper t o → ⊥)
-PlanMeans t (whole o) = Proper t o × Whole t o
-PlanMeans t (mixed o) = Proper t o × ((p : List ℕ) → Proper t p → Whole t p → ⊥)
+PlanMeans t (whole o) = Proper t o × Whole t o × ClearSideBySide t o
+PlanMeans t (mixed o) = Proper t o × ((p : List ℕ) → Proper t p → Whole t p → ⊥) × ClearSideBySide t o

@@ -1,8 +1,8 @@
--- (d) Where some proper order is whole, no Group is stuck.
+-- Where the values of a member begin in a proper order: behind those of a member that it needs, if its own are consecutive.
 use mathlib.Core.Path.{_≡_, sym, ap, _∙_}
 use mathlib.Core.Logic.{_⊎_, inl, inr}
 use mathlib.Core.List.{List, [], _∷_, _++_, append-assoc}
-use mathlib.Core.Bool.{true, false, _&&_}
+use mathlib.Core.Bool.{true, false}
 use Prim.Native.Nat.{ℕ, _+_, _<_}
 use native.Mathlib.Omega.{arith}
 use native.Mathlib.Decide.{ℕ-discrete}
@@ -10,15 +10,14 @@ use lib.IntN.{ℤ}
 use Rattle.cells.specs.Table.{owner, isDefinition}
 use Rattle.cells.specs.Accepted.{Accepted}
 use Rattle.order.specs.LabelLists.{count, _∈_}
-use Rattle.order.specs.Order.{isG, isV, allLabels, members, Within, within, reaches, Proper, Consecutive, Whole, needs, groupStuck, someStuck}
-use Rattle.order.proofs.Tests.{both-ways, not-so, and-right}
-use Rattle.order.proofs.Lists.{any-true, count-parts, count-here, split, in-there, in-left, in-right, in-append, in-single}
-use Rattle.order.proofs.Placing.{not-stuck}
+use Rattle.order.specs.Order.{isG, isV, Within, within, reaches, Proper, Consecutive, Whole}
+use Rattle.order.proofs.Tests.{both-ways, not-so}
+use Rattle.order.proofs.Lists.{count-parts, count-here, split, in-there, in-left, in-right, in-append, in-single}
 use Rattle.order.proofs.Joined.{ahead, ahead-past, ahead-in}
-use Rattle.order.proofs.Tables.{v-kind, kind-v, g-kind, v-def, v-not-g, pos-of, member-of, members-once, reaches-exact}
+use Rattle.order.proofs.Tables.{v-kind, kind-v, g-kind, v-def, v-not-g, pos-of, reaches-exact}
 use Rattle.order.proofs.Tree.{within-sound, apart, leaf}
-use Rattle.order.proofs.Mixed.{listed-once, listed-value}
-use Rattle.order.proofs.Needs.{holds, holds-v, holds-within, holds-in, needs-elim}
+use Rattle.order.proofs.Proper.{listed-once, listed-value}
+use Rattle.order.proofs.Needs.{holds, holds-v, holds-within, holds-in}
 
 module _ (t : List ℤ) (n : ℕ) (ok : Accepted t n) (o : List ℕ) (p : Proper t o) where
   -- a value alone is consecutive
@@ -45,7 +44,7 @@ module _ (t : List ℤ) (n : ℕ) (ok : Accepted t n) (o : List ℕ) (p : Proper
               both-ways (isG t q) (leaf t n ok q v (pos-of t n ok q (v-def t q iq)) (v-def t v (kind-v t v (listed-value p v m₁))) h z) (v-not-g t q iq)
 
   -- so are the values within a member that holds one, in a whole order
-  side : Whole t o → (q x : ℕ) → isDefinition t q ≡ true → holds t q x ≡ true → Consecutive (Within t q) o
+  pub side : Whole t o → (q x : ℕ) → isDefinition t q ≡ true → holds t q x ≡ true → Consecutive (Within t q) o
   side w q x d h = go (ℕ-discrete x q)
     where
       go : Dec (x ≡ q) → Consecutive (Within t q) o
@@ -53,7 +52,7 @@ module _ (t : List ℤ) (n : ℕ) (ok : Accepted t n) (o : List ℕ) (p : Proper
       go (no z) = w q (g-kind t q (leaf t n ok q x (pos-of t n ok q d) (v-def t x (holds-v t n ok q x h)) (holds-in t n ok q x h) z))
 
   -- the values of r begin before those of q, if a value of q reaches one of r and those of q are consecutive
-  begins : (q r x y : ℕ) → isDefinition t q ≡ true → isDefinition t r ≡ true → owner t q ≡ owner t r → (q ≡ r → ⊥)
+  pub begins : (q r x y : ℕ) → isDefinition t q ≡ true → isDefinition t r ≡ true → owner t q ≡ owner t r → (q ≡ r → ⊥)
       → holds t q x ≡ true → holds t r y ≡ true → reaches t n x y ≡ true
       → Consecutive (Within t q) o → ahead (within t r) o < ahead (within t q) o
   begins q r x y dq dr e z hx hy h b = at (split x (b .block) (in-block (in-append x (b .front) (b .block ++ b .back) there)))
@@ -86,18 +85,3 @@ module _ (t : List ℤ) (n : ℕ) (ok : Accepted t n) (o : List ℕ) (p : Proper
           go (inr m) =
               let m₁ : y ∈ b .block = rw f (in-left y c (x ∷ d) m) in
               absurd (apart t n ok q r y (pos-of t n ok q dq) (pos-of t n ok r dr) e z (b .inside y m₁) (holds-in t n ok r y hy))
-
-  -- a member begins behind the members that it needs
-  pub begins-behind : Whole t o → (g q r : ℕ) → q ∈ members t n g → r ∈ members t n g → needs t n q r ≡ true → ahead (within t r) o < ahead (within t q) o
-  begins-behind w g q r mq mr h =
-      let dq = member-of t n ok g q mq in
-      let dr = member-of t n ok g r mr in
-      let k = needs-elim t n ok q r h in
-      begins q r (k .1 .0) (k .1 .1) (dq .0) (dr .0) (dq .1 ∙ sym (dr .1)) (k .0) (k .1 .2) (k .1 .3) (k .1 .4) (side w q (k .1 .0) (dq .0) (k .1 .2))
-
-  -- (d) a proper order that is whole leaves no Group stuck: a member's rank is where its values begin
-  pub whole-free : Whole t o → someStuck t n ≡ false
-  whole-free w = not-so (someStuck t n) (λ h.
-      let g = any-true (λ g. isG t g && groupStuck t n g) (allLabels n) h in
-      both-ways (groupStuck t n (g .0)) (and-right (isG t (g .0)) (groupStuck t n (g .0)) (g .2))
-      (not-stuck (needs t n) (members t n (g .0)) (members-once t n ok (g .0)) (λ q. ahead (within t q) o) (begins-behind w (g .0))))

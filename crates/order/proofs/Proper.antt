@@ -1,8 +1,8 @@
--- (a) With no cycle the mixed plan is proper; (b) with a cycle no order is.
+-- Proper orders: what they list; with a cycle there is none; and what makes an order proper.
 use mathlib.Core.Path.{_≡_, ap, _∙_}
 use mathlib.Core.Logic.{_⊎_, inl, inr}
 use mathlib.Core.List.{List, _∷_, _++_}
-use mathlib.Core.Bool.{true, false}
+use mathlib.Core.Bool.{Bool, true, false}
 use Prim.Native.Nat.{ℕ, _<_}
 use native.Mathlib.Omega.{arith}
 use lib.IntN.{ℤ}
@@ -13,11 +13,11 @@ use Rattle.cells.specs.Accepted.{Accepted}
 use Rattle.cells.specs.Reaches.{Reaches}
 use Rattle.order.specs.LabelLists.{one, count, _∈_, filter}
 use Rattle.order.specs.Placing.{stuck}
-use Rattle.order.specs.Order.{isV, values, reaches, NoCycle, Proper, mixedPlan}
+use Rattle.order.specs.Order.{isV, values, reaches, NoCycle, Proper}
 use Rattle.order.proofs.Tests.{both-ways, not-so, one-true, one-in}
-use Rattle.order.proofs.Lists.{count-parts, count-here, split, in-append, tally-lt}
-use Rattle.order.proofs.Placing.{Late, late-tail, placed-late, placed-all, not-stuck}
-use Rattle.order.proofs.Tables.{v-kind, kind-v, count-values, value-of, values-once, reaches-exact, reaches-chain}
+use Rattle.order.proofs.Lists.{count-parts, count-here, split, in-append, in-filter, count-filter-le, tally-lt}
+use Rattle.order.proofs.Placing.{Late, late-tail, not-stuck}
+use Rattle.order.proofs.Tables.{v-kind, kind-v, value-of, values-once, reaches-exact, reaches-chain}
 
 -- ---- what a proper order lists
 
@@ -58,16 +58,14 @@ module _ (t : List ℤ) (n : ℕ) (ok : Accepted t n) where
   pub no-cycle : NoCycle t → (v : ℕ) → isV t v ≡ true → reaches t n v v ≡ false
   no-cycle nc v e = not-so (reaches t n v v) (λ r. nc v (v-kind t v e) (reaches-exact t n ok v v .0 r))
 
-  -- with no cycle the mixed list does not get stuck: a value that another reaches reaches fewer
-  mixed-free : NoCycle t → stuck (reaches t n) (values t n) ≡ false
-  mixed-free nc = not-stuck (reaches t n) (values t n) (values-once t n ok) (λ v. length (filter (reaches t n v) (values t n))) lower
+  -- with no cycle the values that pass a test are all placed by what they reach: a value that another reaches reaches fewer
+  pub values-free : NoCycle t → (f : ℕ → Bool) → stuck (reaches t n) (filter f (values t n)) ≡ false
+  values-free nc f =
+      not-stuck (reaches t n) (filter f (values t n)) (λ x. omega (arith, count-filter-le f x (values t n), values-once t n ok x))
+      (λ v. length (filter (reaches t n v) (values t n))) lower
     where
-      lower : (p q : ℕ) → p ∈ values t n → q ∈ values t n → reaches t n p q ≡ true
+      lower : (p q : ℕ) → p ∈ filter f (values t n) → q ∈ filter f (values t n) → reaches t n p q ≡ true
           → length (filter (reaches t n q) (values t n)) < length (filter (reaches t n p) (values t n))
       lower p q mp mq r =
-          tally-lt (reaches t n q) (reaches t n p) (values t n) (λ x m h. reaches-chain t n ok p q x r h) q mq (no-cycle nc q (value-of t n ok q mq)) r
-
-  -- (a) with no cycle the mixed plan is proper
-  pub mixed-proper : NoCycle t → Proper t (mixedPlan t n)
-  mixed-proper nc =
-      late-proper (mixedPlan t n) (λ v. placed-all (reaches t n) (values t n) v (mixed-free nc) ∙ count-values t n ok v) (placed-late (reaches t n) (values t n))
+          let v = in-filter f q (values t n) mq .0 in
+          tally-lt (reaches t n q) (reaches t n p) (values t n) (λ x m h. reaches-chain t n ok p q x r h) q v (no-cycle nc q (value-of t n ok q v)) r

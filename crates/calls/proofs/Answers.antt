@@ -15,9 +15,10 @@ use Rattle.cells.proofs.Clearing.{clear-all}
 use Rattle.refusals.specs.Rows.{cycleRow}
 use Rattle.refusals.specs.declared.Verdict.{Verdict}
 use Rattle.refusals.specs.declared.Verdict.the-variants.{Fine, Refused}
-use Rattle.order.specs.Order.{firstCycle, someStuck, Answer, cycle, whole, mixed, plan}
+use Rattle.order.specs.Order.{Within, firstCycle, someTangled, Answer, cycle, whole, mixed, plan}
 use Rattle.order.specs.PlanMeans as demand
 use Rattle.order.specs.Rows16to18.{cycleBad}
+use Rattle.order.proofs.Joined.{none-consecutive}
 use Rattle.order.proofs.Following.{labels-cells}
 use Rattle.order.proofs.Planned.{cycle-smallest, planned, order-short}
 use Rattle.planning.specs.Plans.{PlanIs}
@@ -69,20 +70,23 @@ means t p (cycle v) (_, h) = record {
   proper = λ e. absurd (omega arith);
   whole = λ o q _. absurd (h o q);
   mixed = λ o q _. absurd (h o q);
+  side-by-side = λ g _ _. none-consecutive (Within t g);
 }
-means t p (whole o) (q, w) = record {
+means t p (whole o) (q, w, c) = record {
   refuses = (λ e. absurd (omega arith), λ h. absurd (h o q));
   answers = λ _ _. refl;
   proper = λ _. record { order = o; same = taken o (p - length o); proper = q };
   whole = λ _ _ _. (refl, rw (taken o, labels-cells o) w);
   mixed = λ _ _ h. absurd (h o q w);
+  side-by-side = rw (taken o, labels-cells o) c;
 }
-means t p (mixed o) (q, h) = record {
+means t p (mixed o) (q, h, c) = record {
   refuses = (λ e. absurd (omega arith), λ g. absurd (g o q));
   answers = λ _ _. refl;
   proper = λ _. record { order = o; same = taken o (p - length o); proper = q };
   whole = λ x y w. absurd (h x y w);
   mixed = λ _ _ _. refl;
+  side-by-side = rw (taken o, labels-cells o) c;
 }
 
 -- ---- what planning made of a plan: the reply, and what is left of a table w and of the plan's cells p′
@@ -111,9 +115,9 @@ made-left w p p′ r (mixed o) i = rw (i .reply, i .cells) (refl, (refl, listed-
 module _ (t : List ℤ) (n : ℕ) (ok : Accepted t n) where
   pub cycle-of : cycleBad t n ≡ cycleOf (plan t n)
   unfolding cycleBad
-  cycle-of = go (firstCycle t n) refl (someStuck t n) refl
+  cycle-of = go (firstCycle t n) refl (someTangled t n) refl
     where
-      go : (c : Option ℕ) → firstCycle t n ≡ c → (b : Bool) → someStuck t n ≡ b → cycleBad t n ≡ cycleOf (plan t n)
+      go : (c : Option ℕ) → firstCycle t n ≡ c → (b : Bool) → someTangled t n ≡ b → cycleBad t n ≡ cycleOf (plan t n)
       go none e true f = rw (e, f)
       go none e false f = rw (e, f)
       go (some zero) e b f = let c = cycle-smallest t n ok 0 e in absurd (omega (arith, c .value))

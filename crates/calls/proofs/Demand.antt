@@ -18,7 +18,7 @@ use Rattle.lines.specs.Lines.{labels}
 use Rattle.order.specs.Order.{NoCycle}
 use Rattle.order.specs.Following.{ProperList}
 use Rattle.order.specs.Evaluating.{labelCells}
-use Rattle.order.proofs.Mixed.{proper-no-cycle}
+use Rattle.order.proofs.Proper.{proper-no-cycle}
 use Rattle.reading.specs.Read.{tableShort, sheetTable, Reads}
 use Rattle.reading.specs.Keeps.{Keeps}
 use Rattle.reading.proofs.Accepted.{read-accepted}

@@ -13,7 +13,7 @@ use Rattle.refusals.proofs.OrElse.{both-fine}
 use Rattle.order.specs.Order.{NoCycle, Proper, plan, orderOf, place16}
 use Rattle.order.specs.Following.{ProperList, place17, place18}
 use Rattle.order.specs.Rows16to18.{cycleBad, orderBad}
-use Rattle.order.proofs.Mixed.{proper-no-cycle}
+use Rattle.order.proofs.Proper.{proper-no-cycle}
 use Rattle.order.proofs.Planned.{place16-exactly, plan-proper}
 use Rattle.order.proofs.Following.{follow-exactly}
 

@@ -12,6 +12,7 @@ use Rattle.cells.specs.Table.{kind}
 use Rattle.refusals.specs.Rows.{cycleRow}
 use Rattle.refusals.specs.Refusal as refusal
 use Rattle.order.specs.Order.{Proper, Whole}
+use Rattle.order.specs.Tangles.{ClearSideBySide}
 use Rattle.order.specs.Following.{ProperList, labelsOf}
 use Rattle.order.specs.Evaluating.{down, labelCells}
 use Rattle.reading.specs.Read.{sheetTable}
@@ -33,6 +34,8 @@ pub record PlanKept (t : List ℤ) (r : PlanReply) (cells : List ℤ) : Type 0 w
   pub whole : (o : List ℕ) → Proper t o → Whole t o → (wholeOrMixed r ≡ 1) × Whole t (labelsOf (take (lengthOf r) cells))
   -- "if none is, one with the answer mixed"
   pub mixed : (o : List ℕ) → Proper t o → ((p : List ℕ) → Proper t p → Whole t p → ⊥) → wholeOrMixed r ≡ 2
+  -- order 2 "adds that the values of a Group are side by side if neither it nor a Group around it is in a block of several"
+  pub side-by-side : ClearSideBySide t (labelsOf (take (lengthOf r) cells))
 
 -- the whole demand, of a text s: Plan and Run are lent a table of m cells, a plan of p and results of q, and Follow, another day, a table
 -- of m′ cells and results of q′

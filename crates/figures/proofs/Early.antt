@@ -13,10 +13,11 @@ use Rattle.cells.specs.Table.{kind, target}
 use Rattle.cells.specs.Accepted.{Accepted}
 use Rattle.cells.specs.Reaches.{Reaches}
 use Rattle.order.specs.LabelLists.{_∈_}
-use Rattle.order.specs.Order.{NoCycle, Proper, mixedPlan}
+use Rattle.order.specs.Order.{NoCycle, Proper, planOrder}
 use Rattle.order.specs.Evaluating.{down}
 use Rattle.order.proofs.Lists.{count-parts, in-here, in-left, in-right, in-append, in-single}
-use Rattle.order.proofs.Mixed.{listed-once, listed-value, mixed-proper}
+use Rattle.order.proofs.Proper.{listed-once, listed-value}
+use Rattle.order.proofs.BlockPlan.{order-proper}
 use Rattle.order.proofs.Evaluating.{run-append, run-fits, run-other}
 use Rattle.evaluation.specs.Results.{stored, Recorded}
 use Rattle.evaluation.specs.Ready.{Ready, Evaluable}
@@ -135,4 +136,4 @@ module _ (t : List ℤ) (n : ℕ) (ok : Accepted t n) (o : List ℕ) (p : Proper
         (recorded-down o [] [] (sym (append-nil o)) (zeros m) (ready-zeros t n m ok fit) (λ y j. absurd (omega arith)) v (omega (arith, listed-once p v k)))
 
 pub figures-recorded : (t : List ℤ) (n : ℕ) → Accepted t n → NoCycle t → (m : ℕ) → 3 * n ≤ m → (v : ℕ) → kind t v ≡ valueCode → Recorded 1 (resultCells t n m) v
-figures-recorded t n ok nc m fit v k = end-recorded t n ok (mixedPlan t n) (mixed-proper t n ok nc) m fit v k
+figures-recorded t n ok nc m fit v k = end-recorded t n ok (planOrder t n) (order-proper t n ok nc) m fit v k

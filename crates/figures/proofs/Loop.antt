@@ -16,7 +16,7 @@ use Rattle.order.specs.Order.{Proper}
 use Rattle.order.specs.Following.{ProperList, labelsOf}
 use Rattle.order.specs.Evaluating.{down}
 use Rattle.order.proofs.Lists.{in-here, in-left, in-right}
-use Rattle.order.proofs.Mixed.{listed-value}
+use Rattle.order.proofs.Proper.{listed-value}
 use Rattle.order.proofs.Following.{proper-list}
 use Rattle.evaluation.specs.Evaluation.{evaluated}
 use Rattle.evaluation.specs.Ready.{Ready, ReachedEvaluated, Evaluable}

@@ -13,11 +13,12 @@ use Rattle.cells.specs.Cells.{zeros}
 use Rattle.cells.specs.Table.{kind}
 use Rattle.cells.specs.Accepted.{Accepted}
 use Rattle.cells.specs.Reaches.{Reaches}
-use Rattle.order.specs.Order.{NoCycle, Proper, mixedPlan}
+use Rattle.order.specs.Order.{NoCycle, Proper, planOrder}
 use Rattle.order.specs.Evaluating.{Evaluation, down, labelCells}
 use Rattle.order.proofs.Lists.{split, in-here, in-right}
 use Rattle.order.proofs.Tables.{kind-v, kind-label}
-use Rattle.order.proofs.Mixed.{listed-once, listed-value, mixed-proper}
+use Rattle.order.proofs.Proper.{listed-once, listed-value}
+use Rattle.order.proofs.BlockPlan.{order-proper}
 use Rattle.order.proofs.Planned.{order-short}
 use Rattle.order.proofs.Evaluating.{run-solves}
 use Rattle.order.proofs.Buffers.{row-own, row-other, only-cells}
@@ -139,7 +140,7 @@ module _ (t : List ℤ) (n : ℕ) (ok : Accepted t n) where
 
     -- the figures satisfy "Working out",
     pub figures-solve : NoCycle t → Evaluated t (resultCells t n m)
-    figures-solve nc = proper-solve (mixedPlan t n) (mixed-proper t n ok nc)
+    figures-solve nc = proper-solve (planOrder t n) (order-proper t n ok nc)
 
     -- and label by label they are: of a value, what it comes to from the figures; of any other line, three zeros
     pub figures-value : NoCycle t → (v : ℕ) → kind t v ≡ valueCode → figures t n v ≡ evaluated t (resultCells t n m) v
@@ -156,5 +157,5 @@ module _ (t : List ℤ) (n : ℕ) (ok : Accepted t n) where
   -- and no other results satisfy "Working out"
   pub figures-only : NoCycle t → (r : List ℤ) → 3 * n ≤ length r → Evaluated t r → r ≡ resultCells t n (length r)
   figures-only nc r fit w =
-      let p = mixed-proper t n ok nc in
-      sym (down-only (length r) fit (mixedPlan t n) p r refl w) ∙ down-figures (length r) fit (mixedPlan t n) p
+      let p = order-proper t n ok nc in
+      sym (down-only (length r) fit (planOrder t n) p r refl w) ∙ down-figures (length r) fit (planOrder t n) p

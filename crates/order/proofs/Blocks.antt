@@ -38,6 +38,10 @@ module _ (R : ℕ → ℕ → Bool) (items : List ℕ) where
   pub onto-member : (p q : ℕ) → onto R items p q ≡ true → q ∈ items
   onto-member p q h = of-mem q items (and-right (R p q) (mem q items) h)
 
+  pub onto-item : {p q : ℕ} → Onto p q → q ∈ items
+  onto-item {p} {q} (step s) = onto-member p q s
+  onto-item {p} {q} (then {c = c} r s) = onto-member c q s
+
   pub onto-trans : (p q r : ℕ) → Onto p q → Onto q r → Onto p r
   onto-trans p q r a b = chain-on (onto R items) a b
 

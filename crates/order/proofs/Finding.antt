@@ -8,7 +8,7 @@ use mathlib.Core.Bool.{Bool, true}
 use Prim.Native.Nat.{ℕ}
 use Rattle.order.specs.LabelLists.{_∈_}
 use Rattle.order.proofs.Closure.{step, then}
-use Rattle.order.proofs.Blocks.{Onto, onto-needs, onto-member, Tog}
+use Rattle.order.proofs.Blocks.{Onto, onto-needs, onto-member, onto-item, Tog}
 
 module _ (R : ℕ → ℕ → Bool) (items : List ℕ) where
   -- a set that holds whoever needs one of it holds whoever needs one of it through others
@@ -16,11 +16,7 @@ module _ (R : ℕ → ℕ → Bool) (items : List ℕ) where
       → {x c : ℕ} → x ∈ items → Onto R items x c → So c → So x
   back-closed So closed {x} {c} m (step s) h = closed x c m (onto-member R items x c s) (onto-needs R items x c s) h
   back-closed So closed {x} {c} m (then {c = b} r s) h =
-      back-closed So closed m r (closed b c (into r) (onto-member R items b c s) (onto-needs R items b c s) h)
-    where
-      into : {y : ℕ} → Onto R items x y → y ∈ items
-      into {y} (step s) = onto-member R items x y s
-      into {y} (then {c = z} r s) = onto-member R items z y s
+      back-closed So closed m r (closed b c (onto-item R items r) (onto-member R items b c s) (onto-needs R items b c s) h)
 
   module _ (A C : ℕ → Type 0)
       (done : (x a : ℕ) → x ∈ items → a ∈ items → R x a ≡ true → A a → A x)

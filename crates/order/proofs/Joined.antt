@@ -51,6 +51,18 @@ module _ (f : ℕ → List ℕ) where
           let i = r (omega (arith, count-there p₀ x l e)) in
           omega (arith, count-append v (f x) (joined f l), h x (in-here x l) (λ (q : x ≡ p₀). e (sym q)))
 
+-- of no labels all that are so are consecutive
+pub none-consecutive : (So : ℕ → Type 0) → Consecutive So []
+none-consecutive So = record {
+  front = [];
+  block = [];
+  back = [];
+  parts = refl;
+  inside = λ v m. absurd (omega arith);
+  before = λ v m. absurd (omega arith);
+  behind = λ v m. absurd (omega arith);
+}
+
 -- what is consecutive in the list of one of them, p, is so in all, if the lists of the others hold none of it
 pub joined-block : (f : ℕ → List ℕ) (So : ℕ → Type 0) (l : List ℕ) (p : ℕ) → count p l ≡ 1
     → ((q v : ℕ) → q ∈ l → (q ≡ p → ⊥) → v ∈ f q → So v → ⊥) → Consecutive So (f p) → Consecutive So (joined f l)

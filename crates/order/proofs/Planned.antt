@@ -1,7 +1,7 @@
 -- Demand 3, as far as it speaks of orders: what Plan's answer means.
 use mathlib.Core.Path.{_≡_, refl, subst}
 use mathlib.Core.Logic.{_⊎_, inl, inr, _↔_}
-use mathlib.Core.List.{List, []}
+use mathlib.Core.List.{List}
 use mathlib.Core.Bool.{Bool, true, false}
 use mathlib.Core.Option.{Option, none, some}
 use Prim.Native.Nat.{ℕ, zero, suc, _≤_, _<_}
@@ -17,6 +17,7 @@ use Rattle.order.specs.Tangles.{SomeTangled, ClearSideBySide}
 use Rattle.order.specs.PlanMeans.{SmallestCycle, Row16, PlanMeans}
 use Rattle.order.proofs.Tests.{both-ways}
 use Rattle.order.proofs.Lists.{zero-or-in, first-some, first-none, first-least, length-mono, length-upFrom}
+use Rattle.order.proofs.Joined.{none-consecutive}
 use Rattle.order.proofs.Tables.{v-kind, kind-v, v-def, kind-label, pos-of, in-labels, in-values, value-of, reaches-exact}
 use Rattle.order.proofs.Proper.{listed-once, listed-value, cycle-improper}
 use Rattle.order.proofs.TangledExact.{tangled-exact}
@@ -98,15 +99,7 @@ module _ (t : List ℤ) (n : ℕ) (ok : Accepted t n) where
   plan-clear g k clear = go (plan t n) planned
     where
       go : (a : Answer) → PlanMeans t a → Consecutive (Within t g) (orderOf a)
-      go (cycle v) p = record {
-        front = [];
-        block = [];
-        back = [];
-        parts = refl;
-        inside = λ v m. absurd (omega arith);
-        before = λ v m. absurd (omega arith);
-        behind = λ v m. absurd (omega arith);
-      }
+      go (cycle v) p = none-consecutive (Within t g)
       go (whole o) p = p .2 g k clear
       go (mixed o) p = p .2 g k clear
 

@@ -20,7 +20,7 @@ use Rattle.order.proofs.Lists.{any-true, any-intro}
 use Rattle.order.proofs.Closure.{step, then}
 use Rattle.order.proofs.Tables.{v-kind, kind-v, g-kind, kind-g, g-def, def-label, pos-of, in-labels, member-of, count-member, reaches-exact}
 use Rattle.order.proofs.Needs.{holds-intro, holds-v, holds-in, needs-intro, needs-elim}
-use Rattle.order.proofs.Blocks.{Onto, onto-step, onto-needs, onto-member, onto-trans, needed-chain, Tog, tog-of, of-tog, in-block, block-in}
+use Rattle.order.proofs.Blocks.{Onto, onto-step, onto-needs, onto-member, onto-item, onto-trans, needed-chain, Tog, tog-of, of-tog, in-block, block-in}
 
 module _ (t : List ℤ) (n : ℕ) (ok : Accepted t n) where
   -- the test of needing is the relation
@@ -68,11 +68,8 @@ module _ (t : List ℤ) (n : ℕ) (ok : Accepted t n) (g : ℕ) where
       directly (member-of t n ok g q m) (needs-exact t n ok p q h (member-pos q m) .0 (onto-needs R items p q s))
   chain-through {p} {q} h (then {c = c} r s) =
       let m = onto-member R items c q s in
-      through (chain-through h r) (member-of t n ok g q m) (needs-exact t n ok c q (last r) (member-pos q m) .0 (onto-needs R items c q s))
-    where
-      last : {c : ℕ} → Onto R items p c → 1 ≤ c
-      last {c} (step s) = member-pos c (onto-member R items p c s)
-      last {c} (then {c = b} r s) = member-pos c (onto-member R items b c s)
+      through (chain-through h r) (member-of t n ok g q m)
+      (needs-exact t n ok c q (member-pos c (onto-item R items r)) (member-pos q m) .0 (onto-needs R items c q s))
 
   pub through-chain : {p q : ℕ} → 1 ≤ p → NeedsThrough t g p q → Onto (needs t n) (members t n g) p q
   through-chain {p} {q} h (directly m k) = onto-step R items p q (member-in q m) (needs-exact t n ok p q h (pos-of t n ok q (m .0)) .1 k)

@@ -18,7 +18,7 @@ use Rattle.order.proofs.Joined.{ahead}
 use Rattle.order.proofs.Tables.{kind-v, g-kind, g-def, kind-g, pos-of, member-of, owner-group}
 use Rattle.order.proofs.Needs.{holds, holds-intro, needs-elim}
 use Rattle.order.proofs.Begins.{side, begins}
-use Rattle.order.proofs.Blocks.{Onto, onto-needs, onto-member, onto-trans, Tog}
+use Rattle.order.proofs.Blocks.{Onto, onto-needs, onto-member, onto-item, onto-trans, Tog}
 use Rattle.order.proofs.TangledExact.{tog-block, block-tog, member-in, member-pos}
 
 module _ (t : List ℤ) (n : ℕ) (ok : Accepted t n) (o : List ℕ) (po : Proper t o) where
@@ -41,7 +41,7 @@ module _ (t : List ℤ) (n : ℕ) (ok : Accepted t n) (o : List ℕ) (po : Prope
     falls : {a b : ℕ} → a ∈ members t n g → Tog R items p a → Onto R items a b → Onto R items b p → ahead (within t b) o < ahead (within t a) o
     falls {a} {b} ma ta (step s) back = fall a b ma (onto-member R items a b s) ta (onto-needs R items a b s)
     falls {a} {b} ma ta (then {c = c} r s) back =
-        omega (arith, falls ma ta r home, fall c b (into r) (onto-member R items c b s) (inr (from ta, home)) (onto-needs R items c b s))
+        omega (arith, falls ma ta r home, fall c b (onto-item R items r) (onto-member R items c b s) (inr (from ta, home)) (onto-needs R items c b s))
       where
         home : Onto R items c p
         home = onto-trans R items c b p (step s) back
@@ -49,10 +49,6 @@ module _ (t : List ℤ) (n : ℕ) (ok : Accepted t n) (o : List ℕ) (po : Prope
         from : Tog R items p a → Onto R items p c
         from (inl e) = subst (λ (z : ℕ). Onto R items z c) (sym e) r
         from (inr w) = onto-trans R items p a c (w .0) r
-
-        into : {x : ℕ} → Onto R items a x → x ∈ members t n g
-        into {x} (step s) = onto-member R items a x s
-        into {x} (then {c = y} r s) = onto-member R items y x s
 
     no-round : (q : ℕ) → p ∈ members t n g → q ∈ members t n g → (q ≡ p → ⊥) → Tog R items p q → ⊥
     no-round q mp mq d (inl e) = d (sym e)

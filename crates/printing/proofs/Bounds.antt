@@ -16,7 +16,7 @@ use Rattle.order.specs.LabelLists.{_∈_}
 use Rattle.order.specs.Order.{NoCycle}
 use Rattle.order.specs.Following.{labelsOf}
 use Rattle.order.proofs.Lists.{in-here, in-there}
-use Rattle.order.proofs.Mixed.{listed-value, proper-no-cycle}
+use Rattle.order.proofs.Proper.{listed-value, proper-no-cycle}
 use Rattle.order.proofs.Planned.{order-short}
 use Rattle.refusals.specs.declared.Verdict.the-variants.{Fine}
 use Rattle.reading.specs.Read.{sheetTable, tableOf}

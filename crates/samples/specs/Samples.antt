@@ -260,6 +260,51 @@ capitalClash = record {
       ∷ [];
 }
 
+-- document 02, order 2: "A circle between frame and left made us list right mixed too". Frame and left form one block; right, which needs it, is
+-- listed behind it, side by side
+abbrev pub frameAndLeft : Sample
+frameAndLeft = record {
+  sheet =
+      "kind name a b c"
+      ∷ "G - 0 - -"
+      ∷ "G frame 1 - -"
+      ∷ "G left 1 - -"
+      ∷ "G right 1 - -"
+      ∷ "V pd 4 11 -"
+      ∷ "V blank 2 12 -"
+      ∷ "V dec 3 13 -"
+      ∷ "V size 2 14 -"
+      ∷ "V dec 4 15 -"
+      ∷ "V pd 3 16 -"
+      ∷ "N - 3150 - -"
+      ∷ "R left.dec - - -"
+      ∷ "R frame.size - - -"
+      ∷ "N - 5200 - -"
+      ∷ "R frame.size - - -"
+      ∷ "N - 3100 - -"
+      ∷ [];
+  read = Answered 16;
+  table =
+      group 2 1 ∷ group 3 1 ∷ group 4 1 ∷ value 5 4 ∷ value 6 2 ∷ value 7 3 ∷ value 8 2 ∷ value 9 4 ∷ value 10 3 ∷ reads 6 7 ∷ reads 7 8 ∷ reads 9 8 ∷ [];
+  outcome = mixed
+      (printLine 8 "size" 1 (pos 5200) 1
+      ∷ printLine 7 "dec" 1 (pos 5200) 1
+      ∷ printLine 6 "blank" 1 (pos 5200) 1
+      ∷ printLine 10 "pd" 1 (pos 3100) 1
+      ∷ printLine 5 "pd" 1 (pos 3150) 1
+      ∷ printLine 9 "dec" 1 (pos 5200) 1
+      ∷ []);
+  print =
+      "label name order state number steps"
+      ∷ "8 size mixed 1 5200 1"
+      ∷ "7 dec mixed 1 5200 1"
+      ∷ "6 blank mixed 1 5200 1"
+      ∷ "10 pd mixed 1 3100 1"
+      ∷ "5 pd mixed 1 3150 1"
+      ∷ "9 dec mixed 1 5200 1"
+      ∷ [];
+}
+
 unfoldable pub samples : List Sample
 samples =
     example
@@ -273,4 +318,5 @@ samples =
     ∷ usedTwice
     ∷ capitalPath
     ∷ capitalClash
+    ∷ frameAndLeft
     ∷ []

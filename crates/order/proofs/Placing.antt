@@ -48,7 +48,7 @@ record Placed (R : ℕ → ℕ → Bool) (items done : List ℕ) : Type 0 where
 
 module _ (R : ℕ → ℕ → Bool) (items : List ℕ) where
   -- what `next` gives is an item, is not placed, and needs only what is placed
-  pub next-some : (done : List ℕ) (p : ℕ) → next R items done ≡ some p
+  next-some : (done : List ℕ) (p : ℕ) → next R items done ≡ some p
       → (p ∈ items) × (count p done ≡ 0) × ((q : ℕ) → q ∈ items → R p q ≡ true → q ∈ done)
   next-some done p e =
       let w = first-some (λ p. not (mem p done) && not (waits R items done p)) items p e in

@@ -5,6 +5,7 @@ use Prim.Native.Nat.{ℕ}
 use lib.IntN.{ℤ, pos, negℤ}
 use Rattle.kinds.specs.Kinds.{groupCode, valueCode, functionCode, numberCode, kinds, kindAt, isDefinition, hasPath}
 use Rattle.order.specs.Order.{plan, whole, mixed, place16}
+use Rattle.order.specs.WholePlan.{wholePlan}
 use Rattle.order.specs.Following.{place17, place18}
 
 -- ---- rows of a table, each before the rows after it; names have no part in planning, and are left out
@@ -60,10 +61,13 @@ inside : plan (group 0 (value 1 5 (function 1 7 (value 1 8 (call 2 3 6 (number 2
 unfolding isDefinition hasPath kindAt kinds
 inside = refl
 
--- Group 3 comes before Group 2, which needs it
-needed-first : plan (group 0 (group 1 (group 1 (value 2 6 (value 3 7 (read 4 5 (number 5 (pos 1) []))))))) 7 ≡ whole (5 ∷ 4 ∷ [])
+-- Group 3 comes before Group 2, which needs it; so it does by document 01's own rule
+abbrev twoGroups : List ℤ
+twoGroups = group 0 (group 1 (group 1 (value 2 6 (value 3 7 (read 4 5 (number 5 (pos 1) []))))))
+
+needed-first : (plan twoGroups 7 ≡ whole (5 ∷ 4 ∷ [])) × (wholePlan twoGroups 7 ≡ 5 ∷ 4 ∷ [])
 unfolding isDefinition hasPath kindAt kinds
-needed-first = refl
+needed-first = (refl, refl)
 
 -- ---- the smallest label: value 3 is free, and so comes before 4, though 2 needs 4 alone
 
@@ -95,6 +99,23 @@ tangled-inside : plan
     ≡ mixed (7 ∷ 8 ∷ 6 ∷ 5 ∷ 9 ∷ 10 ∷ [])
 unfolding isDefinition hasPath kindAt kinds
 tangled-inside = refl
+
+-- three Groups form one block, though no two need each other directly: 2 needs 3, 3 needs 4, and 4 needs 2
+three-in-a-circle : plan
+    (group 0 (group 1 (group 1 (group 1 (value 2 11 (value 2 12 (value 3 13 (value 3 14 (value 4 15 (value 4 16
+    (read 5 8 (number 6 (pos 1) (read 7 10 (number 8 (pos 1) (read 9 6 (number 10 (pos 1) [])))))))))))))))) 16
+    ≡ mixed (6 ∷ 8 ∷ 5 ∷ 9 ∷ 10 ∷ 7 ∷ [])
+unfolding isDefinition hasPath kindAt kinds
+three-in-a-circle = refl
+
+-- Groups 2 and 4 form a block, which comes before Group 3: it holds the smaller label. Group 3 is listed by the same rule: Group 5 in it, with
+-- 10 and 12, comes before 11
+smallest-label-held : plan
+    (group 0 (group 1 (group 1 (group 1 (group 3 (value 2 13 (value 2 14 (value 4 15 (value 4 16 (value 5 17 (value 3 18 (value 5 19
+    (read 6 8 (number 7 (pos 1) (number 8 (pos 1) (read 9 7 (number 10 (pos 1) (number 11 (pos 1) (number 12 (pos 1) []))))))))))))))))))) 19
+    ≡ mixed (7 ∷ 8 ∷ 6 ∷ 9 ∷ 10 ∷ 12 ∷ 11 ∷ [])
+unfolding isDefinition hasPath kindAt kinds
+smallest-label-held = refl
 
 -- ---- row 16's place: the smallest V that reaches itself, not one that only reaches a cycle
 

@@ -2,6 +2,7 @@
 
 use lindypo::{Run, Sheet};
 
+use crate::blocks::{self, Tangle};
 use crate::json::Object;
 use crate::options::{Call, Opt};
 use crate::outline;
@@ -9,6 +10,7 @@ use crate::output::{Output, Paint};
 use crate::picture;
 use crate::sheets::{self, Answer, Asked, Text};
 use crate::status::Status;
+use crate::tangles;
 use crate::tree::Node;
 use crate::values;
 use crate::words::{Example, Word};
@@ -67,7 +69,12 @@ refusal 14: the Group `right` has no member `prism`
 ",
         },
     ],
-    fields: &[&sheets::FIELDS, &values::ORDER_FIELDS, &outline::FIELDS],
+    fields: &[
+        &sheets::FIELDS,
+        &values::ORDER_FIELDS,
+        &outline::FIELDS,
+        &tangles::FIELDS,
+    ],
     call,
 };
 
@@ -88,6 +95,7 @@ fn call(call: &Call, out: &mut Output) -> Result<Status, String> {
 pub fn ask(text: &Text, is_list: bool) -> Asked<'_> {
     let (sheet, run) = sheets::ran(&text.bytes)?;
     Ok(Box::new(Explained {
+        tangles: blocks::of_run(&sheet, &run),
         sheet,
         run,
         is_list,
@@ -97,6 +105,7 @@ pub fn ask(text: &Text, is_list: bool) -> Asked<'_> {
 struct Explained<'a> {
     sheet: Sheet<'a>,
     run: Run,
+    tangles: Vec<Tangle>,
     /// Whether a flat list is wanted.
     is_list: bool,
 }
@@ -108,22 +117,26 @@ impl Answer for Explained<'_> {
 
     fn text(&self, paint: Paint) -> String {
         let values = values::of_run(&self.sheet, &self.run);
+        let outermost = Node::outermost(&self.sheet, &self.run);
         let (headline, meaning) = (
             values::headline_of(&values),
             values::meaning(self.run.plan.order),
         );
         let rows = match self.is_list {
             true => values::table(&self.sheet, &values, paint),
-            false => outline::table(&self.sheet, &Node::outermost(&self.sheet, &self.run), paint),
+            false => outline::table(&self.sheet, &outermost, paint),
         };
-        format!("{headline}; {meaning}\n\n{rows}")
+        let tangles = tangles::text(&self.sheet, &outermost, &self.tangles, paint);
+        format!("{headline}; {meaning}\n\n{rows}{tangles}")
     }
 
     fn fields(&self) -> Object {
         let outermost = Node::outermost(&self.sheet, &self.run);
         let definitions = outline::json(&self.sheet, &outermost);
+        let tangles = tangles::json(&self.sheet, &outermost, &self.tangles);
         Object::new()
             .with("order", self.run.plan.order.to_string())
             .with("definitions", definitions)
+            .with("tangles", tangles)
     }
 }

@@ -7,6 +7,7 @@
 
 #![forbid(unsafe_code)]
 
+pub mod blocks;
 pub mod check;
 mod document;
 mod excerpt;
@@ -19,6 +20,7 @@ pub mod input;
 pub mod json;
 mod labels;
 mod markup;
+pub mod mentions;
 mod numerals;
 pub mod options;
 mod outline;
@@ -33,6 +35,7 @@ pub mod slip;
 pub mod status;
 pub mod svg;
 mod table;
+mod tangles;
 mod tree;
 mod values;
 mod why;

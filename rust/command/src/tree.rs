@@ -46,6 +46,16 @@ impl<'text> Node<'text> {
         self.line.name.unwrap_or("outermost Group")
     }
 
+    /// Where the values of these definitions stand, as far as they are under it.
+    pub fn span_of(&self, labels: &[Label]) -> Option<Span> {
+        if labels.contains(&self.line.label) {
+            return self.span;
+        }
+        let members = self.members.iter();
+        let spans = members.filter_map(|member| member.span_of(labels));
+        spans.reduce(Span::join)
+    }
+
     /// Whether values of others stand between its own in the plan.
     pub fn is_mixed(&self) -> bool {
         let has_gaps = |span: Span| span.count <= span.last - span.first;

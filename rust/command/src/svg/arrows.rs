@@ -42,7 +42,7 @@ impl Pen<'_> {
         let [near, neck] = [lane - out * round, to + out * (HEAD - 1.0)].map(px);
         let [turn, back] = [start + down, end - down].map(px);
         let [from, lane, start, end] = [from, lane, start, end].map(px);
-        let title = titles::arrow(self.drawing.sheet, &tail.mentions, self.wires.side);
+        let title = titles::arrow(self.drawing.sheet, &tail.mentions);
         let title = titles::element(&title);
         format!(
             "<path class=\"arrow\" d=\"M{from} {start}H{near}Q{lane} {start} {lane} {turn}\

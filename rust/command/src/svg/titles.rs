@@ -6,8 +6,8 @@ use lindypo::{formula, Label, Outcome, Sheet, State};
 
 use super::cards::contents;
 use super::view::View;
-use super::wires::{Mention, Side};
 use crate::markup::escaped;
+use crate::mentions::Mention;
 use crate::numerals::counted;
 use crate::outline::positions;
 use crate::tree::Node;
@@ -71,16 +71,13 @@ fn came_to(outcome: Outcome) -> String {
 }
 
 /// An arrow: who mentions whom, and by which lines of the sheet.
-pub fn arrow(sheet: &Sheet, mentions: &[Mention], side: Side) -> Vec<String> {
+pub fn arrow(sheet: &Sheet, mentions: &[Mention]) -> Vec<String> {
     let mut lines: BTreeMap<(Label, Label), Vec<String>> = BTreeMap::new();
     for mention in mentions {
         let lines = lines.entry((mention.from, mention.to)).or_default();
         lines.push((mention.line + 1).to_string());
     }
-    let verb = match side {
-        Side::Left => "calls",
-        Side::Right => "reads",
-    };
+    let verb = mentions.first().map_or("", Mention::verb);
     let name = |label: Label| format!("{} (label {label})", sheet.full_name(label));
     let sentence = |(&(from, to), lines): (&(Label, Label), &Vec<String>)| {
         let by = if lines.len() > 1 { "lines" } else { "line" };

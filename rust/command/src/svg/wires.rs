@@ -3,23 +3,16 @@
 
 use std::collections::BTreeMap;
 
-use lindypo::{Kind, Label, Sheet};
+use lindypo::{Kind, Sheet};
 
 use super::cards::Cards;
+use crate::mentions::{self, Mention};
 
 /// Calls run on the left of the cards, reads on the right.
 #[derive(Clone, Copy, PartialEq, Eq)]
 pub enum Side {
     Left,
     Right,
-}
-
-/// An R or C line: which definition mentions which.
-#[derive(Clone, Copy)]
-pub struct Mention {
-    pub line: Label,
-    pub from: Label,
-    pub to: Label,
 }
 
 /// All mentions from one card to another. Cards are their rows here.
@@ -144,14 +137,7 @@ fn mentions<'a>(side: Side, sheet: &'a Sheet) -> impl Iterator<Item = Mention> +
         Side::Left => Kind::Call,
         Side::Right => Kind::Read,
     };
-    let lines = sheet.lines().filter(move |line| line.kind == kind);
-    lines.filter_map(|line| {
-        Some(Mention {
-            line: line.label,
-            from: line.owner?,
-            to: line.target?,
-        })
-    })
+    mentions::of(sheet).filter(move |mention| mention.kind == kind)
 }
 
 /// Gives each trunk the nearest lane in which it meets no other, the short ones

@@ -1,0 +1,266 @@
+//! Blocks of several: members of a Group that need each other around a cycle, so
+//! that no order keeps the values of each together (document 02, order 2).
+//!
+//! The library makes the plan. This finds once more, from kinds, owners and
+//! targets alone, what tangles it, for whoever is to mend the sheet.
+
+use std::collections::VecDeque;
+use std::mem;
+
+use lindypo::{Kind, Label, Order, Run, Sheet};
+
+use crate::mentions::{self, Mention};
+
+/// A block of several.
+#[derive(Debug, Clone, PartialEq, Eq)]
+pub struct Tangle {
+    /// The Group that they are members of.
+    pub group: Label,
+    /// Upward through the labels, at least two.
+    pub members: Vec<Label>,
+    /// A cycle of as few members as can be that begins with the first of them:
+    /// each needs the next, and the last one the first.
+    pub cycle: Vec<Need>,
+}
+
+/// Why a member needs another.
+#[derive(Debug, Clone, PartialEq, Eq)]
+pub struct Need {
+    pub member: Label,
+    pub needed: Label,
+    /// From a value of the one to a value of the other, by as few mentions as
+    /// can be.
+    pub chain: Vec<Mention>,
+}
+
+/// The blocks of several of a sheet that runs. A whole plan has none.
+pub fn of_run(sheet: &Sheet, run: &Run) -> Vec<Tangle> {
+    match run.plan.order {
+        Order::Whole => vec![],
+        Order::Mixed => tangles(sheet),
+    }
+}
+
+/// The blocks of several, by Group, then by smallest label. Inside of one no
+/// others are formed.
+pub fn tangles(sheet: &Sheet) -> Vec<Tangle> {
+    let table = Table::new(sheet);
+    let mut tangles = table.tangles(1);
+    tangles.sort_by_key(|tangle| (tangle.group, tangle.members[0]));
+    tangles
+}
+
+/// How many values of a cycle are tried out as a mend.
+const TRIED: usize = 8;
+
+/// A value that undoes the tangle where it is moved to the Group of the members,
+/// to stand beside them: those that are read first, then those that read.
+pub fn mend(sheet: &Sheet, tangle: &Tangle) -> Option<Label> {
+    let table = Table::new(sheet);
+    let mut wanted = table.tangles(tangle.group);
+    wanted.retain(|other| other.members != tangle.members);
+    let read = tangle.cycle.iter().filter_map(|need| need.chain.last());
+    let reading = tangle.cycle.iter().filter_map(|need| need.chain.first());
+    let values = read
+        .map(|last| last.to)
+        .chain(reading.map(|first| first.from));
+    let mut values = values.filter(|&value| table.groups[value] != tangle.group);
+    let undoes = |&value: &Label| {
+        let mut moved = table.clone();
+        moved.groups[value] = tangle.group;
+        moved.tangles(tangle.group) == wanted
+    };
+    values.by_ref().take(TRIED).find(undoes)
+}
+
+/// What blocks go by.
+#[derive(Clone)]
+struct Table {
+    /// By label.
+    kinds: Vec<Option<Kind>>,
+    /// The Group of each definition; 0 for label 1, which has none, and for
+    /// expressions. It is smaller than the label.
+    groups: Vec<Label>,
+    /// By definition, upward through the lines.
+    mentions: Vec<Vec<Mention>>,
+}
+
+/// The members of a Group. Elsewhere in it they go by their places in `labels`.
+struct Members {
+    /// Upward.
+    labels: Vec<Label>,
+    /// By definition: the member that it is or is under.
+    places: Vec<Option<usize>>,
+    /// By member: those that it needs, upward.
+    needs: Vec<Vec<usize>>,
+}
+
+impl Table {
+    fn new(sheet: &Sheet) -> Self {
+        let mut table = Table {
+            kinds: vec![None; sheet.labels() + 1],
+            groups: vec![0; sheet.labels() + 1],
+            mentions: vec![vec![]; sheet.labels() + 1],
+        };
+        for line in sheet.lines() {
+            table.kinds[line.label] = Some(line.kind);
+            if line.kind.is_definition() {
+                table.groups[line.label] = line.owner.unwrap_or(0);
+            }
+        }
+        for mention in mentions::of(sheet) {
+            table.mentions[mention.from].push(mention);
+        }
+        table
+    }
+
+    /// The blocks of several in a Group, and in those of its blocks that are one
+    /// Group each.
+    fn tangles(&self, group: Label) -> Vec<Tangle> {
+        let (mut tangles, mut open) = (vec![], vec![group]);
+        while let Some(group) = open.pop() {
+            let members = self.members(group);
+            for block in blocks(&members.needs) {
+                match block[..] {
+                    [single] => open.extend(self.group(members.labels[single])),
+                    _ => tangles.push(self.tangle(group, &members, &block)),
+                }
+            }
+        }
+        tangles
+    }
+
+    /// The label, where it is that of a Group.
+    fn group(&self, label: Label) -> Option<Label> {
+        (self.kinds[label] == Some(Kind::Group)).then_some(label)
+    }
+
+    fn members(&self, group: Label) -> Members {
+        let (mut labels, mut places) = (vec![], vec![None; self.groups.len()]);
+        for (label, &around) in self.groups.iter().enumerate() {
+            places[label] = places[around];
+            if around == group {
+                places[label] = Some(labels.len());
+                labels.push(label);
+            }
+        }
+        let mut members = Members {
+            needs: vec![],
+            labels,
+            places,
+        };
+        let needs = (0..members.labels.len()).map(|member| self.needs(&members, member));
+        members.needs = needs.collect();
+        members
+    }
+
+    fn needs(&self, members: &Members, member: usize) -> Vec<usize> {
+        let reached = self.reached(members, member).into_iter();
+        let needed = reached.filter_map(|mention| self.value_of(members, mention.to));
+        let mut needs: Vec<usize> = needed.filter(|&other| other != member).collect();
+        needs.sort_unstable();
+        needs.dedup();
+        needs
+    }
+
+    /// The member that a value is or is under; none for a function.
+    fn value_of(&self, members: &Members, label: Label) -> Option<usize> {
+        members.places[label].filter(|_| self.kinds[label] == Some(Kind::Value))
+    }
+
+    /// All that the values of a member reach, the nearest first: of each
+    /// definition the mention that leads to it.
+    fn reached(&self, members: &Members, member: usize) -> Vec<Mention> {
+        let is_own = |&label: &Label| self.value_of(members, label) == Some(member);
+        let mut open: VecDeque<Label> = (1..self.kinds.len()).filter(is_own).collect();
+        let mut is_found = vec![false; self.kinds.len()];
+        open.iter().for_each(|&value| is_found[value] = true);
+        let mut reached = vec![];
+        while let Some(at) = open.pop_front() {
+            for &mention in &self.mentions[at] {
+                if !mem::replace(&mut is_found[mention.to], true) {
+                    reached.push(mention);
+                    open.push_back(mention.to);
+                }
+            }
+        }
+        reached
+    }
+
+    fn tangle(&self, group: Label, members: &Members, block: &[usize]) -> Tangle {
+        let cycle = cycle(&members.needs, block[0]);
+        let next = cycle.iter().cycle().skip(1);
+        let need = |(&member, &needed): (&usize, &usize)| Need {
+            member: members.labels[member],
+            needed: members.labels[needed],
+            chain: self.chain(members, member, needed),
+        };
+        Tangle {
+            group,
+            members: block.iter().map(|&member| members.labels[member]).collect(),
+            cycle: cycle.iter().zip(next).map(need).collect(),
+        }
+    }
+
+    /// The shortest chain of mentions by which a member needs another.
+    fn chain(&self, members: &Members, member: usize, needed: usize) -> Vec<Mention> {
+        let reached = self.reached(members, member);
+        let ends = |mention: &&Mention| self.value_of(members, mention.to) == Some(needed);
+        let before = |mention: &&Mention| reached.iter().find(|other| other.to == mention.from);
+        let back = std::iter::successors(reached.iter().find(ends), before);
+        let mut chain: Vec<Mention> = back.copied().collect();
+        chain.reverse();
+        chain
+    }
+}
+
+/// The blocks of a Group whose members need these: two are in one where each
+/// needs the other, directly or through others.
+fn blocks(needs: &[Vec<usize>]) -> Vec<Vec<usize>> {
+    let count = needs.len();
+    let through: Vec<Vec<bool>> = (0..count).map(|member| through(needs, member)).collect();
+    let mut is_placed = vec![false; count];
+    let mut blocks = vec![];
+    for member in 0..count {
+        let is_with =
+            |&other: &usize| other == member || through[member][other] && through[other][member];
+        if !is_placed[member] {
+            let block: Vec<usize> = (member..count).filter(is_with).collect();
+            block.iter().for_each(|&other| is_placed[other] = true);
+            blocks.push(block);
+        }
+    }
+    blocks
+}
+
+/// Whom a member needs, directly or through others.
+fn through(needs: &[Vec<usize>], member: usize) -> Vec<bool> {
+    let mut is_needed = vec![false; needs.len()];
+    let mut open = vec![member];
+    while let Some(at) = open.pop() {
+        for &other in &needs[at] {
+            if !mem::replace(&mut is_needed[other], true) {
+                open.push(other);
+            }
+        }
+    }
+    is_needed
+}
+
+/// The shortest cycle that begins with this member of a block of several.
+fn cycle(needs: &[Vec<usize>], start: usize) -> Vec<usize> {
+    let mut before = vec![None; needs.len()];
+    let mut open = VecDeque::from([start]);
+    while let Some(at) = open.pop_front() {
+        for &other in &needs[at] {
+            if before[other].is_none() {
+                before[other] = Some(at);
+                open.push_back(other);
+            }
+        }
+    }
+    let back = |&at: &usize| before[at].filter(|&at| at != start);
+    let mut cycle: Vec<usize> = std::iter::successors(Some(start), back).collect();
+    cycle[1..].reverse();
+    cycle
+}

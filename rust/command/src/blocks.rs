@@ -33,6 +33,12 @@ pub struct Need {
     pub chain: Vec<Mention>,
 }
 
+impl Tangle {
+    pub fn has(&self, member: Label) -> bool {
+        self.members.binary_search(&member).is_ok()
+    }
+}
+
 /// The blocks of several of a sheet that runs. A whole plan has none.
 pub fn of_run(sheet: &Sheet, run: &Run) -> Vec<Tangle> {
     match run.plan.order {
@@ -263,4 +269,90 @@ fn cycle(needs: &[Vec<usize>], start: usize) -> Vec<usize> {
     let mut cycle: Vec<usize> = std::iter::successors(Some(start), back).collect();
     cycle[1..].reverse();
     cycle
+}
+
+#[cfg(test)]
+mod tests {
+    use super::*;
+
+    fn of(text: &str) -> Vec<(Label, Vec<Label>)> {
+        let sheet = Sheet::read(text.as_bytes()).expect("a sheet");
+        let tangles = tangles(&sheet).into_iter();
+        tangles
+            .map(|tangle| (tangle.group, tangle.members))
+            .collect()
+    }
+
+    /// Groups 2 and 3, values 4 and 5 of the one and 6 and 7 of the other, and
+    /// what these read.
+    fn sheet(bodies: [&str; 4]) -> String {
+        let bodies = bodies.map(|body| format!("{body} - -\n")).concat();
+        format!(
+            "kind name a b c\nG - 0 - -\nG a 1 - -\nG b 1 - -\nV p 2 8 -\nV q 2 9 -\n\
+             V p 3 10 -\nV q 3 11 -\n{bodies}"
+        )
+    }
+
+    #[test]
+    fn needs_round_a_cycle() {
+        let blocks_of = |needs: &[&[usize]]| {
+            let needs: Vec<Vec<usize>> = needs.iter().map(|needs| needs.to_vec()).collect();
+            blocks(&needs)
+        };
+        assert_eq!(blocks_of(&[]), [[]; 0]);
+        assert_eq!(blocks_of(&[&[1], &[2], &[]]), [[0], [1], [2]]);
+        let wanted = [vec![0, 2], vec![1, 3]];
+        assert_eq!(blocks_of(&[&[2, 1], &[3], &[0], &[1]]), wanted);
+        assert_eq!(blocks_of(&[&[1], &[2], &[0]]), [[0, 1, 2]]);
+    }
+
+    #[test]
+    fn the_shortest_cycle_from_a_member() {
+        let needs = [vec![1, 2], vec![2], vec![3], vec![0, 1]];
+        assert_eq!(cycle(&needs, 0), [0, 2, 3]);
+        assert_eq!(cycle(&needs, 1), [1, 2, 3]);
+    }
+
+    #[test]
+    fn each_has_to_need_the_other() {
+        let one_way = sheet(["R b.p -", "N - 1", "N - 1", "R p -"]);
+        assert_eq!(of(&one_way), []);
+        let both_ways = sheet(["R b.p -", "N - 1", "N - 1", "R a.q -"]);
+        assert_eq!(of(&both_ways), [(1, vec![2, 3])]);
+    }
+
+    /// What is read last comes before what reads it as a mend; moved out, it
+    /// stands beside both.
+    #[test]
+    fn a_value_that_undoes_the_tangle() {
+        let text = sheet(["R b.p -", "N - 1", "R a.q -", "N - 1"]);
+        let sheet = Sheet::read(text.as_bytes()).expect("a sheet");
+        let [tangle] = &tangles(&sheet)[..] else {
+            panic!("one block");
+        };
+        let lines = tangle.cycle.iter().flat_map(|need| &need.chain);
+        assert_eq!(
+            lines.map(|mention| mention.line).collect::<Vec<_>>(),
+            [8, 10]
+        );
+        // `b.p` itself would be needed by `a` and need it
+        assert_eq!(mend(&sheet, tangle), Some(5));
+    }
+
+    /// Value 2 is in a block with Group 3, which has a value on either side of
+    /// it; what Groups 4 and 5 in that one would form is no block of its own.
+    #[test]
+    fn inside_a_block_no_others_are_formed() {
+        let text = "kind name a b c\nG - 0 - -\nV v 1 10 -\nG g 1 - -\nG x 3 - -\nG y 3 - -\n\
+            V p 4 11 -\nV q 4 12 -\nV p 5 13 -\nV q 5 14 -\n\
+            R g.x.q - - -\nR y.p - - -\nN - 1 - -\nR v - - -\nR x.q - - -\n";
+        assert_eq!(of(text), [(1, vec![2, 3])]);
+        let apart = text.replace("R v -", "N - 1");
+        assert_eq!(of(&apart), [(3, vec![4, 5])]);
+    }
+
+    #[test]
+    fn a_whole_sheet_has_none() {
+        assert_eq!(of("kind name a b c\nG - 0 - -\n"), []);
+    }
 }

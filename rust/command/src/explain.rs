@@ -25,10 +25,13 @@ marked. One that runs is shown as the tree of its Groups: members stand in the o
 plan evaluates them, functions and Groups without values after them. Long formulas are cut; --json
 has them whole. `lindypo why` says where the failure of a value began.
 
-A picture has a card for each value and function, in boxes for the Groups, and an arrow for each
-mention; where the pointer rests, it says more. With more than 60 cards, Groups are folded into one
-card each, the innermost first, as far as it takes. PICTURE is written over only where it is a
-picture that was drawn so.
+Where the plan is mixed, some members of a Group need each other around a cycle. They are named
+after the tree, with the lines by which each needs the next, and a value whose move undoes it.
+
+A picture has a card for each value and function, in boxes for the Groups, an arrow for each
+mention, and an outline around members that need each other; where the pointer rests, it says
+more. With more than 60 cards, Groups are folded into one card each, the innermost first, as far
+as it takes. PICTURE is written over only where it is a picture that was drawn so.
 ",
     options: &[
         Opt {

@@ -18,7 +18,9 @@ pub const WORD: Word = Word {
     operands: "[FILE...]",
     about: "\
 Settles the order in which the values of each sheet are evaluated, and lists them. The plan is
-whole where the values of every Group stand together, mixed where no order keeps them so.
+whole where the values of every Group stand together, mixed where no order keeps them so: then
+members of a Group that need each other are opened, and the others are not. `lindypo explain` says
+which, and why.
 ",
     options: &[Opt {
         name: NAMES,

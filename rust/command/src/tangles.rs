@@ -23,7 +23,7 @@ const MENTIONS: usize = 6;
 pub const FIELDS: [Field; 21] = [
     (
         "tangles",
-        "of a mixed plan: the blocks of members that need each other around a cycle:",
+        "of a mixed plan: the blocks of members that need each other:",
     ),
     (
         "tangles.group",
@@ -53,7 +53,7 @@ pub const FIELDS: [Field; 21] = [
     ),
     (
         "tangles.cycle.chain",
-        "a shortest chain of mentions from a value of the one to a value of the other:",
+        "a shortest chain of mentions from a value of it to one of that:",
     ),
     ("tangles.cycle.chain.line", "the R or C line, from 1"),
     (

@@ -7,11 +7,16 @@ use super::cards::{Card, Cards};
 use super::elements::{page, rect, together};
 use super::legend::Legend;
 use super::letters::{CAPTION, GROUP, MIXED, NAME, NOTE, PART, POSITION, STATE, SUMMARY};
-use super::measure::{part, Measures, BADGE, CAPTION_LINE, INSET, MARGIN, MIXED_TAG, PAD, TITLE};
+use super::measure::{
+    part, Measures, BADGE, CAPTION_LINE, INSET, MARGIN, MIXED_TAG, PAD, TANGLED_TAG, TITLE,
+};
 use super::plates::{Plate, Plates};
 use super::titles;
 use super::view::View;
 use super::wires::Wires;
+use crate::blocks::Tangle;
+use crate::tangles;
+use crate::tree::Node;
 
 /// How far a card behind another one stands below it, and in.
 const BELOW: f64 = 4.0;
@@ -19,6 +24,8 @@ const WITHIN: f64 = 5.0;
 
 pub struct Drawing<'a> {
     pub sheet: &'a Sheet<'a>,
+    /// All that there is, drawn or not.
+    pub outermost: &'a Node<'a>,
     pub caption: &'a str,
     pub summary: &'a str,
     pub order: Order,
@@ -42,6 +49,9 @@ impl Drawing<'_> {
         svg += &self.heading(outermost);
         for (view, depth, plate) in &self.plates.groups {
             svg += &self.group(view, *depth, *plate);
+        }
+        for (tangle, plate) in &self.plates.blocks {
+            svg += &self.block(tangle, *plate);
         }
         svg += &arrows::svg(self, &self.left);
         svg += &arrows::svg(self, &self.right);
@@ -110,23 +120,35 @@ impl Drawing<'_> {
             GROUP.write(x, y, view.node.title()),
             part(view).map_or(String::new(), |words| PART.write(after, y, &words)),
             match view.node.is_mixed() {
-                true => mixed_tag(plate),
+                true => tag("mixed", plate.right() - PAD - MIXED_TAG, y, MIXED_TAG),
                 false => String::new(),
             },
         ];
         together("box", &titles::group(self.sheet, view), &elements.concat())
     }
+
+    /// The outline of a block of several.
+    fn block(&self, tangle: &Tangle, plate: Plate) -> String {
+        let (x, y) = (plate.x + PAD, plate.y + TITLE / 2.0);
+        let outline = rect("sign block", plate, 9.0);
+        let title = tangles::lines(self.sheet, self.outermost, tangle);
+        together(
+            "tangle",
+            &title,
+            &(outline + &tag("tangled", x, y, TANGLED_TAG)),
+        )
+    }
 }
 
-/// The word beside the title of a Group.
-fn mixed_tag(group: Plate) -> String {
+/// A word in a frame with its left at `x`, and its middle at `y`.
+fn tag(word: &str, x: f64, y: f64, width: f64) -> String {
     let tag = Plate {
-        x: group.right() - PAD - MIXED_TAG,
-        y: group.y + TITLE / 2.0 - 9.0,
-        width: MIXED_TAG,
+        x,
+        y: y - 9.0,
+        width,
         height: 18.0,
     };
-    let word = MIXED.write(tag.x + tag.width / 2.0, tag.middle(), "mixed");
+    let word = MIXED.write(tag.x + tag.width / 2.0, tag.middle(), word);
     rect("mixed-tag", tag, 9.0) + &word
 }
 

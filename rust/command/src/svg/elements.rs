@@ -18,6 +18,7 @@ const STYLE: &str = "\
 .shade1{fill:#e6edf5}
 .shade2{fill:#f8fafc}
 .mixed{stroke:#c2410c;stroke-width:1.6;stroke-dasharray:7 4}
+.block{stroke:#c2410c;stroke-width:2.4}
 .mixed-tag,.mixed-plan .summary{fill:#c2410c}
 .value .card{fill:#ffffff;stroke:#4a6580}
 .value .badge{fill:#4a6580}

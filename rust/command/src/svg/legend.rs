@@ -17,6 +17,7 @@ enum Sign {
     Read,
     Call,
     Mixed,
+    Block,
     Folded,
     Focus,
 }
@@ -28,6 +29,7 @@ impl Sign {
             Sign::Read => "reads",
             Sign::Call => "calls",
             Sign::Mixed => "values of others stand between",
+            Sign::Block => "members that need each other",
             Sign::Folded => "Group, folded",
             Sign::Focus => "in focus",
         }
@@ -50,6 +52,7 @@ impl Sign {
             Sign::Read => arrow(x, x + SIGN, y),
             Sign::Call => arrow(x + SIGN, x, y),
             Sign::Mixed => rect("sign mixed", plate, 4.0),
+            Sign::Block => rect("sign block", plate, 4.0),
             Sign::Folded => together("folded", &[], &stacked("card sign", plate, 4.0)),
             Sign::Focus => rect("ring", plate, 4.0),
         }
@@ -86,6 +89,7 @@ impl Legend {
             (Sign::Read, !drawing.right.trunks.is_empty()),
             (Sign::Call, !drawing.left.trunks.is_empty()),
             (Sign::Mixed, is_mixed),
+            (Sign::Block, !drawing.plates.blocks.is_empty()),
             (Sign::Folded, folded().next().is_some()),
             (Sign::Focus, drawing.focus.is_some()),
         ];

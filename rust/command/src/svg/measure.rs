@@ -25,8 +25,13 @@ pub const INSET: f64 = 9.0;
 pub const HEAD: f64 = 9.0;
 /// The line above the outermost Group.
 pub const CAPTION_LINE: f64 = 32.0;
-/// The word beside the title of a mixed Group, with its frame.
+/// The word beside the title of a mixed Group, with its frame, and that of a
+/// block of several.
 pub const MIXED_TAG: f64 = 52.0;
+pub const TANGLED_TAG: f64 = 62.0;
+/// From the members of a block to its outline, which stands half way to the
+/// border of their Group.
+pub const BLOCK_PAD: f64 = PAD / 2.0;
 
 /// The columns of the cards count from the left of the outermost Group's
 /// members, and are the same for every card.

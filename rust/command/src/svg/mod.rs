@@ -1,5 +1,5 @@
 //! The picture of a sheet: Groups as boxes in boxes, values in the order of the
-//! plan, an arrow for each mention.
+//! plan, an arrow for each mention; an outline around members that are tangled.
 //!
 //! Every value and function has a row of its own, and so has a Group that is
 //! folded. Arrows run in gutters beside the boxes: reads on the right, calls on
@@ -25,6 +25,7 @@ use std::collections::BTreeSet;
 
 use lindypo::{Label, Run, Sheet};
 
+use crate::blocks;
 use crate::files::Sort;
 use crate::numerals::counted;
 use crate::tree::Node;
@@ -100,14 +101,15 @@ fn drawn(
     focus: Option<Label>,
     (caption, summary): (&str, &str),
 ) -> String {
-    let cards = Cards::new(view);
+    let (cards, tangles) = (Cards::new(view), blocks::of_run(sheet, run));
     let left = Wires::new(Side::Left, &cards, sheet);
     let right = Wires::new(Side::Right, &cards, sheet);
     let heading = CAPTION.width(caption) + 30.0 + SUMMARY.width(summary);
     let measures = Measures::new(view, &cards, [&left, &right], heading);
-    let plates = Plates::new(view, &cards, &measures, [&left, &right]);
+    let plates = Plates::new(view, &cards, &tangles, &measures, [&left, &right]);
     let drawing = Drawing {
         sheet,
+        outermost: view.node,
         caption,
         summary,
         order: run.plan.order,

@@ -1,9 +1,10 @@
 //! Where everything stands down the page.
 
 use super::cards::Cards;
-use super::measure::{Measures, CAPTION_LINE, CARD, GAP, MARGIN, PAD, PORT, TITLE};
+use super::measure::{Measures, BLOCK_PAD, CAPTION_LINE, CARD, GAP, MARGIN, PAD, PORT, TITLE};
 use super::view::View;
 use super::wires::Wires;
+use crate::blocks::Tangle;
 
 /// A box on the page.
 #[derive(Clone, Copy)]
@@ -29,16 +30,19 @@ impl Plate {
     }
 }
 
-/// The boxes of the cards by row, and of the Groups, outer ones first.
+/// The boxes of the cards by row, of the Groups, outer ones first, and of the
+/// blocks of several.
 pub struct Plates<'a> {
     pub cards: Vec<Plate>,
     pub groups: Vec<(&'a View<'a>, usize, Plate)>,
+    pub blocks: Vec<(&'a Tangle, Plate)>,
 }
 
 impl<'a> Plates<'a> {
     pub fn new(
         outermost: &'a View<'a>,
         cards: &Cards,
+        tangles: &'a [Tangle],
         measures: &Measures,
         wires: [&Wires; 2],
     ) -> Self {
@@ -52,10 +56,12 @@ impl<'a> Plates<'a> {
         let height = |row: usize| CARD.max(PORT * (ports(row) + 1) as f64);
         let mut stack = Stack {
             heights: (0..cards.list.len()).map(height).collect(),
+            tangles,
             measures,
             plates: Plates {
                 cards: vec![],
                 groups: vec![],
+                blocks: vec![],
             },
         };
         stack.group(outermost, 0, MARGIN + CAPTION_LINE);
@@ -71,6 +77,7 @@ impl<'a> Plates<'a> {
 /// The boxes laid down so far.
 struct Stack<'a, 'm> {
     heights: Vec<f64>,
+    tangles: &'a [Tangle],
     measures: &'m Measures,
     plates: Plates<'a>,
 }
@@ -90,11 +97,19 @@ impl<'a> Stack<'a, '_> {
             height,
         };
         self.plates.groups.push((view, depth, plate(TITLE)));
+        // the plan has the values of a block side by side, so its members are
+        let block = |view: &View| self.tangles.iter().find(|tangle| tangle.has(view.label()));
+        let blocks = view
+            .members
+            .chunk_by(|one, next| block(one).is_some() && block(one) == block(next));
+        let blocks: Vec<_> = blocks
+            .map(|members| (block(&members[0]), members))
+            .collect();
         let mut bottom = y + TITLE - GAP;
-        for member in &view.members {
-            bottom = match member.is_card() {
-                true => self.card(depth + 1, bottom + GAP),
-                false => self.group(member, depth + 1, bottom + GAP),
+        for (tangle, members) in blocks {
+            bottom = match tangle {
+                Some(tangle) => self.block(tangle, members, depth + 1, bottom + GAP),
+                None => self.members(members, depth + 1, bottom),
             };
         }
         let end = if view.members.is_empty() {
@@ -104,6 +119,31 @@ impl<'a> Stack<'a, '_> {
         };
         self.plates.groups[place].2 = plate(end - y);
         end
+    }
+
+    /// Lays down members beneath what ends at `bottom`.
+    fn members(&mut self, members: &'a [View<'a>], depth: usize, mut bottom: f64) -> f64 {
+        for member in members {
+            bottom = match member.is_card() {
+                true => self.card(depth, bottom + GAP),
+                false => self.group(member, depth, bottom + GAP),
+            };
+        }
+        bottom
+    }
+
+    /// Lays down a block of several, as far as it is drawn.
+    fn block(&mut self, tangle: &'a Tangle, members: &'a [View<'a>], depth: usize, y: f64) -> f64 {
+        let (x, width) = self.measures.extent(depth);
+        let bottom = self.members(members, depth, y + TITLE - GAP) + BLOCK_PAD;
+        let plate = Plate {
+            x: x - BLOCK_PAD,
+            y,
+            width: width + 2.0 * BLOCK_PAD,
+            height: bottom - y,
+        };
+        self.plates.blocks.push((tangle, plate));
+        bottom
     }
 
     /// Lays down the next card.

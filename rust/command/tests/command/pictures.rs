@@ -8,6 +8,7 @@ use command::svg::{Wanted, MOST};
 use lindypo::{formula, Kind, Label, Line, Sheet};
 
 use crate::markup::{parts, tags, words_in, Tag};
+use crate::tangles::Rules;
 use crate::{read, read_text};
 
 const CASES: u64 = 1_500;
@@ -141,6 +142,19 @@ impl<'a> Drawn<'a> {
         cards.len()
     }
 
+    /// The cards of each block of several, as far as it is drawn.
+    fn blocks(&self) -> BTreeSet<BTreeSet<Label>> {
+        let rules = Rules::new(self.sheet);
+        let cards = |members: BTreeSet<Label>| {
+            let is_in = |card: &Label| members.iter().any(|&other| rules.is_under(*card, other));
+            let cards = self.cards.iter().copied().flatten();
+            cards.filter(is_in).collect::<BTreeSet<Label>>()
+        };
+        let blocks = rules.tangles(1).into_iter();
+        let blocks = blocks.map(|(_, members)| cards(members));
+        blocks.filter(|cards| !cards.is_empty()).collect()
+    }
+
     /// The arrows: from which card to which, and by which kind of line.
     fn arrows(&self, folded: &BTreeSet<Label>) -> BTreeSet<(Label, Label, i64)> {
         let arrow = |line: Line| {
@@ -150,6 +164,61 @@ impl<'a> Drawn<'a> {
         };
         self.sheet.lines().filter_map(arrow).collect()
     }
+}
+
+/// The label in a title: "value right.dec, label 7, line 8".
+fn label_in(title: &str) -> Option<Label> {
+    let after = title.split(", label ").nth(1)?;
+    after.split(',').next()?.parse().ok()
+}
+
+/// The labels of the cards, as their titles say.
+fn labels(svg: &str) -> Vec<Label> {
+    let (mut labels, mut label) = (vec![], None);
+    for line in svg.lines() {
+        if line.starts_with("<g class=") {
+            label = label_in(line);
+        }
+        if line.starts_with("<rect class=\"card\"") {
+            labels.extend(label);
+        }
+    }
+    labels
+}
+
+/// The cards that each outline of a block has around it.
+fn outlines(svg: &str) -> BTreeSet<BTreeSet<Label>> {
+    let (tags, labels) = (tags(svg), labels(svg));
+    let cards = cards(&tags);
+    assert_eq!(labels.len(), cards.len());
+    // the last one is the legend's
+    let outlines: Vec<&Tag> = tags
+        .iter()
+        .filter(|tag| tag.is("rect", "sign block"))
+        .collect();
+    let outlines = outlines
+        .split_last()
+        .map_or(&[][..], |(_, outlines)| outlines);
+    let within = |outline: &Tag| {
+        let (x, y) = (outline.number("x"), outline.number("y"));
+        let (right, bottom) = (x + outline.number("width"), y + outline.number("height"));
+        let is_within =
+            |card: &Card| x < card[0] && card[1] < right && y < card[2] && card[3] < bottom;
+        let is_beside = |card: &Card| card[3] < y || bottom < card[2];
+        assert!(cards.iter().all(|card| is_within(card) || is_beside(card)));
+        let cards = cards
+            .iter()
+            .zip(&labels)
+            .filter(|(card, _)| is_within(card));
+        cards.map(|(_, &label)| label).collect::<BTreeSet<Label>>()
+    };
+    let outlines = outlines.iter().map(|outline| within(outline));
+    // with a focus, a Group may be drawn without its cards
+    let outlines: Vec<_> = outlines.filter(|cards| !cards.is_empty()).collect();
+    let count = outlines.len();
+    let found: BTreeSet<_> = outlines.into_iter().collect();
+    assert_eq!(found.len(), count, "no block has two outlines");
+    found
 }
 
 /// Draws a text that runs, and looks at all of the picture.
@@ -167,8 +236,10 @@ fn check(text: &[u8], wanted: &Wanted, focus: Option<&BTreeSet<Label>>) -> Optio
         runs_beside_cards(arrow, &cards);
     }
     keep_apart(&arrows);
-    let boxes = tags.iter().filter(|tag| tag.is("g", "box")).count();
+    assert_eq!(outlines(&svg), drawn.blocks());
+    let boxes = ["box", "tangle"].map(|class| tags.iter().filter(|tag| tag.is("g", class)).count());
     let titles = tags.iter().filter(|tag| tag.name == "title").count();
+    let boxes: usize = boxes.iter().sum();
     assert_eq!(titles, 1 + boxes + cards.len() + arrows.len());
     Some(arrows.len())
 }

@@ -1,11 +1,14 @@
 //! Trees of random sheets.
 
-use command::Node;
+use command::{blocks, Node};
 use lindypo::{Kind, Label, Order, Run, Sheet};
 
 use crate::explained;
 
 const CASES: u64 = 3_000;
+
+/// The most blocks that are explained.
+const SHOWN: usize = 8;
 
 /// A sheet with its plan by position.
 struct Planned<'a> {
@@ -75,8 +78,12 @@ fn random_trees() {
         assert_eq!(count, definitions.count(), "seed {seed}");
         assert_eq!(run.plan.order == Order::Mixed, mixed > 0, "seed {seed}");
         orders[usize::from(mixed > 0)] += 1;
-        let tree = explained(&text).expect("a tree");
-        assert_eq!(tree.lines().count(), count + 3, "seed {seed}");
+        let explained = explained(&text).expect("a tree");
+        let parts: Vec<&str> = explained.split("\n\n").collect();
+        assert_eq!(parts[1].lines().count(), count + 1, "seed {seed}");
+        let tangles = blocks::tangles(&sheet).len().min(SHOWN);
+        let tangled = parts.iter().filter(|part| part.starts_with("tangled"));
+        assert_eq!(tangled.count(), tangles, "seed {seed}");
     }
     assert!(orders.iter().all(|&count| count > 100), "{orders:?}");
 }

@@ -51,7 +51,8 @@ pub fn of_run(sheet: &Sheet, run: &Run) -> Vec<Tangle> {
 /// others are formed.
 pub fn tangles(sheet: &Sheet) -> Vec<Tangle> {
     let table = Table::new(sheet);
-    let mut tangles = table.tangles(1);
+    let make = |group, members: &_, block: &_| table.tangle(group, members, block);
+    let mut tangles = table.several(1, make);
     tangles.sort_by_key(|tangle| (tangle.group, tangle.members[0]));
     tangles
 }
@@ -63,20 +64,20 @@ const TRIED: usize = 8;
 /// to stand beside them: those that are read first, then those that read.
 pub fn mend(sheet: &Sheet, tangle: &Tangle) -> Option<Label> {
     let table = Table::new(sheet);
-    let mut wanted = table.tangles(tangle.group);
-    wanted.retain(|other| other.members != tangle.members);
+    let mut wanted = table.labels(tangle.group);
+    wanted.retain(|members| *members != tangle.members);
     let read = tangle.cycle.iter().filter_map(|need| need.chain.last());
     let reading = tangle.cycle.iter().filter_map(|need| need.chain.first());
     let values = read
         .map(|last| last.to)
         .chain(reading.map(|first| first.from));
-    let mut values = values.filter(|&value| table.groups[value] != tangle.group);
+    let values = values.filter(|&value| table.groups[value] != tangle.group);
     let undoes = |&value: &Label| {
         let mut moved = table.clone();
         moved.groups[value] = tangle.group;
-        moved.tangles(tangle.group) == wanted
+        moved.labels(tangle.group) == wanted
     };
-    values.by_ref().take(TRIED).find(undoes)
+    values.take(TRIED).find(undoes)
 }
 
 /// What blocks go by.
@@ -101,6 +102,12 @@ struct Members {
     needs: Vec<Vec<usize>>,
 }
 
+impl Members {
+    fn labels_of(&self, places: &[usize]) -> Vec<Label> {
+        places.iter().map(|&place| self.labels[place]).collect()
+    }
+}
+
 impl Table {
     fn new(sheet: &Sheet) -> Self {
         let mut table = Table {
@@ -120,20 +127,25 @@ impl Table {
         table
     }
 
-    /// The blocks of several in a Group, and in those of its blocks that are one
-    /// Group each.
-    fn tangles(&self, group: Label) -> Vec<Tangle> {
-        let (mut tangles, mut open) = (vec![], vec![group]);
+    /// What `make` makes of the blocks of several in a Group, and in those of
+    /// its blocks that are one Group each.
+    fn several<T>(&self, group: Label, make: impl Fn(Label, &Members, &[usize]) -> T) -> Vec<T> {
+        let (mut made, mut open) = (vec![], vec![group]);
         while let Some(group) = open.pop() {
             let members = self.members(group);
             for block in blocks(&members.needs) {
                 match block[..] {
                     [single] => open.extend(self.group(members.labels[single])),
-                    _ => tangles.push(self.tangle(group, &members, &block)),
+                    _ => made.push(make(group, &members, &block)),
                 }
             }
         }
-        tangles
+        made
+    }
+
+    /// The labels of the blocks of several in a Group and further in.
+    fn labels(&self, group: Label) -> Vec<Vec<Label>> {
+        self.several(group, |_, members, block| members.labels_of(block))
     }
 
     /// The label, where it is that of a Group.
@@ -203,7 +215,7 @@ impl Table {
         };
         Tangle {
             group,
-            members: block.iter().map(|&member| members.labels[member]).collect(),
+            members: members.labels_of(block),
             cycle: cycle.iter().zip(next).map(need).collect(),
         }
     }
@@ -223,8 +235,7 @@ impl Table {
 /// The blocks of a Group whose members need these: two are in one where each
 /// needs the other, directly or through others.
 fn blocks(needs: &[Vec<usize>]) -> Vec<Vec<usize>> {
-    let count = needs.len();
-    let through: Vec<Vec<bool>> = (0..count).map(|member| through(needs, member)).collect();
+    let (count, through) = (needs.len(), through(needs));
     let mut is_placed = vec![false; count];
     let mut blocks = vec![];
     for member in 0..count {
@@ -239,18 +250,21 @@ fn blocks(needs: &[Vec<usize>]) -> Vec<Vec<usize>> {
     blocks
 }
 
-/// Whom a member needs, directly or through others.
-fn through(needs: &[Vec<usize>], member: usize) -> Vec<bool> {
-    let mut is_needed = vec![false; needs.len()];
-    let mut open = vec![member];
-    while let Some(at) = open.pop() {
-        for &other in &needs[at] {
-            if !mem::replace(&mut is_needed[other], true) {
-                open.push(other);
-            }
+/// Whom each member needs, directly or through others.
+fn through(needs: &[Vec<usize>]) -> Vec<Vec<bool>> {
+    let mut rows = vec![vec![false; needs.len()]; needs.len()];
+    for (row, needs) in rows.iter_mut().zip(needs) {
+        needs.iter().for_each(|&other| row[other] = true);
+    }
+    for middle in 0..needs.len() {
+        let beyond = rows[middle].clone();
+        for row in rows.iter_mut().filter(|row| row[middle]) {
+            row.iter_mut()
+                .zip(&beyond)
+                .for_each(|(own, other)| *own |= other);
         }
     }
-    is_needed
+    rows
 }
 
 /// The shortest cycle that begins with this member of a block of several.

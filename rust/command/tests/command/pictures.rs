@@ -3,12 +3,12 @@
 
 use std::collections::BTreeSet;
 
+use command::blocks::{self, Tangle};
 use command::picture;
 use command::svg::{Wanted, MOST};
 use lindypo::{formula, Kind, Label, Line, Sheet};
 
 use crate::markup::{parts, tags, words_in, Tag};
-use crate::tangles::Rules;
 use crate::{read, read_text};
 
 const CASES: u64 = 1_500;
@@ -144,14 +144,12 @@ impl<'a> Drawn<'a> {
 
     /// The cards of each block of several, as far as it is drawn.
     fn blocks(&self) -> BTreeSet<BTreeSet<Label>> {
-        let rules = Rules::new(self.sheet);
-        let cards = |members: BTreeSet<Label>| {
-            let is_in = |card: &Label| members.iter().any(|&other| rules.is_under(*card, other));
+        let cards = |tangle: Tangle| {
+            let is_in = |&card: &Label| self.groups(card).iter().any(|&group| tangle.has(group));
             let cards = self.cards.iter().copied().flatten();
             cards.filter(is_in).collect::<BTreeSet<Label>>()
         };
-        let blocks = rules.tangles(1).into_iter();
-        let blocks = blocks.map(|(_, members)| cards(members));
+        let blocks = blocks::tangles(self.sheet).into_iter().map(cards);
         blocks.filter(|cards| !cards.is_empty()).collect()
     }
 

@@ -13,7 +13,7 @@ const CASES: u64 = 3_000;
 
 /// A sheet's definitions with their Groups, and all that each reaches: the rules
 /// once more, as they are said and not as they are fast.
-pub struct Rules {
+struct Rules {
     groups: BTreeMap<Label, Label>,
     values: BTreeSet<Label>,
     mentions: BTreeSet<(Label, Label)>,
@@ -23,7 +23,7 @@ pub struct Rules {
 type Block = (Label, BTreeSet<Label>);
 
 impl Rules {
-    pub fn new(sheet: &Sheet) -> Self {
+    fn new(sheet: &Sheet) -> Self {
         let definitions = sheet.lines().filter(|line| line.kind.is_definition());
         let values = sheet.lines().filter(|line| line.kind == Kind::Value);
         Rules {
@@ -36,7 +36,7 @@ impl Rules {
     }
 
     /// Whether a definition is another or is under it.
-    pub fn is_under(&self, label: Label, other: Label) -> bool {
+    fn is_under(&self, label: Label, other: Label) -> bool {
         let around = |at: &Label| self.groups.get(at).copied();
         std::iter::successors(Some(label), around).any(|at| at == other)
     }
@@ -79,7 +79,7 @@ impl Rules {
     }
 
     /// The blocks of several, and those in blocks that are one Group.
-    pub fn tangles(&self, group: Label) -> BTreeSet<Block> {
+    fn tangles(&self, group: Label) -> BTreeSet<Block> {
         let needs = self.needs(group);
         let mut found = BTreeSet::new();
         for &member in needs.keys() {

@@ -231,6 +231,24 @@ tangled in one block, positions 1-3: `frame` and `left`
     assert_eq!(said(text), wanted);
 }
 
+/// Each Group reads two values of the other: whichever is moved, the other is
+/// still read.
+#[test]
+fn a_tangle_that_no_move_undoes() {
+    let text = b"kind name a b c\nG - 0 - -\nG right 1 - -\nG left 1 - -\n\
+        V a 2 12 -\nV b 2 13 -\nV c 2 14 -\nV d 2 15 -\n\
+        V a 3 16 -\nV b 3 17 -\nV c 3 18 -\nV d 3 19 -\n\
+        N - 1 - -\nN - 1 - -\nR left.a - - -\nR left.b - - -\n\
+        N - 1 - -\nN - 1 - -\nR right.a - - -\nR right.b - - -\n";
+    let wanted = "\
+tangled in one block, positions 1-8: `right` and `left`
+  `right` needs `left`: `right.c` (line 15) reads `left.a`
+  `left` needs `right`: `left.c` (line 19) reads `right.a`
+  = help: change one of these lines, or move a value to another Group, until there is no such cycle
+";
+    assert_eq!(said(text), wanted);
+}
+
 /// Groups in a ring, each of which reads a value of the next, and one value of
 /// each that reads nothing.
 fn ring(groups: usize) -> Vec<u8> {
@@ -281,7 +299,7 @@ fn as_many_as_there_is_room_for() {
     assert_eq!(said.lines().count(), 10);
 }
 
-/// From `right.a` by eight functions to `left.b`.
+/// From `right.a` by six functions to `left.b`.
 #[test]
 fn a_long_chain_is_cut() {
     let mut lines: Vec<String> = [

@@ -290,5 +290,8 @@ fn links_lead_somewhere() {
 }
 
 fn heading(title: &str) -> String {
-    title.to_lowercase().replace(' ', "-").replace(['\'', '.'], "")
+    title
+        .to_lowercase()
+        .replace(' ', "-")
+        .replace(['\'', '.'], "")
 }

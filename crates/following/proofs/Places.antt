@@ -23,6 +23,7 @@ use Rattle.cells.specs.Lists.{orIfZero}
 use Rattle.order.specs.Following.{labelsOf, firstPosition, notNew, missing, early, place17, place18}
 use Rattle.order.specs.Rows16to18.{cycleBad, orderBad}
 use Rattle.order.proofs.Tests.{both-ways, not-so, and-left, and-right, and-intro}
+use Rattle.order.proofs.Alike.{same-test}
 use Rattle.order.proofs.Lists.{split, any-true, any-intro, any-refute, count-upFrom}
 use Rattle.order.proofs.Tables.{v-kind, kind-label, in-values, value-of, reaches-exact}
 use Rattle.order.proofs.Following.{place17-exactly}
@@ -33,10 +34,6 @@ use Rattle.reach.proofs.Links.{touch-body, touch-around, forth-exact}
 use Rattle.reach.proofs.Reading.{row-room}
 use Rattle.following.specs.Left.{Values, Left, lacks, awaits}
 use Rattle.following.proofs.Steps.{same-position}
-
-same-test : (a b : Bool) → (a ≡ true → b ≡ true) → (b ≡ true → a ≡ true) → a ≡ b
-same-test true b f g = sym (f refl)
-same-test false b f g = sym (not-so b (λ e. both-ways false (g e) refl))
 
 place-first : (a b : ℕ) → (a ≡ 0 → ⊥) → orIfZero a b ≡ a
 place-first zero b h = absurd (h refl)

@@ -1,14 +1,13 @@
 -- Where two tests, two needs or two lists agree on the items in question, what is made of them agrees.
 use mathlib.Core.Path.{_≡_, refl, sym, ap, _∙_}
 use mathlib.Core.List.{List, [], _∷_, _++_}
-use mathlib.Core.Bool.{Bool, true, false, not, _&&_, _||_}
+use mathlib.Core.Bool.{Bool, true, false, not, _&&_}
 use mathlib.Core.Option.{Option, none, some}
 use Prim.Native.Nat.{ℕ, zero, suc}
 use lib.ListN.{length}
 use Rattle.order.specs.LabelLists.{_∈_, mem, filter, any, first}
-use Rattle.order.specs.Closure.{grow, spread, closure}
 use Rattle.order.specs.Placing.{waits, next, placeNext, rounds, placed}
-use Rattle.order.proofs.Lists.{in-here, in-there, mem-of}
+use Rattle.order.proofs.Lists.{in-here, in-there}
 
 pub same-test : (a b : Bool) → (a ≡ true → b ≡ true) → (b ≡ true → a ≡ true) → a ≡ b
 same-test true b f g = sym (f refl)
@@ -53,28 +52,3 @@ module _ (R S : ℕ → ℕ → Bool) (items : List ℕ) (h : (p q : ℕ) → p 
 
   pub placed-same : placed R items ≡ placed S items
   placed-same = rounds-same (length items) []
-
--- ---- the closure looks only at steps that lead to labels of `all`
-
-abbrev pub onto : (ℕ → ℕ → Bool) → List ℕ → ℕ → ℕ → Bool
-onto m all d e = m d e && mem e all
-
-module _ (m : ℕ → ℕ → Bool) (all : List ℕ) where
-  onto-same : (d e : ℕ) → e ∈ all → m d e ≡ onto m all d e
-  onto-same d e i = rw (mem-of e all i) (keep (m d e))
-    where
-      keep : (b : Bool) → b ≡ (b && true)
-      keep true = refl
-      keep false = refl
-
-  spread-onto : (k : ℕ) (S : List ℕ) → spread m all k S ≡ spread (onto m all) all k S
-  spread-onto zero S = refl
-  spread-onto (suc k) S = ap (spread m all k) step ∙ spread-onto k (grow (onto m all) all S)
-    where
-      step : grow m all S ≡ grow (onto m all) all S
-      step = filter-same (λ e. mem e S || any (λ d. m d e) S) (λ e. mem e S || any (λ d. onto m all d e) S) all
-          (λ e i. ap (λ (b : Bool). mem e S || b) (any-same (λ d. m d e) (λ d. onto m all d e) S (λ d _. onto-same d e i)))
-
-  pub closure-onto : (d : ℕ) → closure m all d ≡ closure (onto m all) all d
-  closure-onto d =
-      ap (spread m all (length all)) (filter-same (m d) (onto m all d) all (λ e i. onto-same d e i)) ∙ spread-onto (length all) (filter (onto m all d) all)

@@ -27,7 +27,7 @@ use Rattle.order.proofs.Needs.{holds, holds-intro, holds-v, holds-withi
 use Rattle.order.proofs.Listed.{listed-count, listed-late, listed-group}
 use Rattle.order.proofs.Alike.{same-test}
 use Rattle.order.proofs.Blocks.{Tog, tog-refl, tog-sym, tog-trans, in-block, block-in, alone, Leader, leader-of, leader-once, alone-leads, lead-of}
-use Rattle.order.proofs.Blocks.{leaders-once, block-needs-of, blocks-free}
+use Rattle.order.proofs.Blocks.{leaders-once, blocks-late, block-needs-of, blocks-free}
 use Rattle.order.proofs.TangledExact.{several-exact}
 
 module _ (t : List ℤ) (n : ℕ) (ok : Accepted t n) (g : ℕ) where
@@ -107,6 +107,14 @@ module _ (t : List ℤ) (n : ℕ) (ok : Accepted t n) (g : ℕ) where
   module _ (nc : NoCycle t) where
     -- ---- what a block lists, given what its Groups list
 
+    -- none reaches itself or a later one
+    block-late : (group : ℕ → List ℕ) (b : ℕ) → (isG t b ≡ true → Late (reaches t n) (group b)) → Late (reaches t n) (blockListed t n g group b)
+    block-late group b ih = go (so-or-not (several R items b))
+      where
+        go : (several R items b ≡ true) ⊎ (several R items b ≡ false) → Late (reaches t n) (blockListed t n g group b)
+        go (inl e) = rw e (placed-late (reaches t n) (blockValues t n g b))
+        go (inr e) = rw e (listed-late t n ok group b nc ih)
+
     -- each value that the block holds once, and nothing else
     block-count : (group : ℕ → List ℕ) (b v : ℕ) → b ∈ members t n g → (isG t b ≡ true → count v (group b) ≡ one (holds t b v))
         → count v (blockListed t n g group b) ≡ one (blockHolds b v)
@@ -117,14 +125,6 @@ module _ (t : List ℤ) (n : ℕ) (ok : Accepted t n) (g : ℕ) where
         go (inr e) = rw e (listed-count t n ok group b v (member-of t n ok g b m .0) ih ∙ ap one (same-test (holds t b v) (blockHolds b v)
             (λ h. block-holds-of b b v m (tog-refl R items b) h)
             (λ h. let w = of-block-holds b v h in subst (λ (z : ℕ). holds t z v ≡ true) (alone R items b e (w .0) (w .1) (w .2)) (w .3))))
-
-    -- none reaches itself or a later one
-    block-late : (group : ℕ → List ℕ) (b : ℕ) → (isG t b ≡ true → Late (reaches t n) (group b)) → Late (reaches t n) (blockListed t n g group b)
-    block-late group b ih = go (so-or-not (several R items b))
-      where
-        go : (several R items b ≡ true) ⊎ (several R items b ≡ false) → Late (reaches t n) (blockListed t n g group b)
-        go (inl e) = rw e (placed-late (reaches t n) (blockValues t n g b))
-        go (inr e) = rw e (listed-late t n ok group b nc ih)
 
     -- ---- what the Group lists, given the same
 
@@ -178,7 +178,7 @@ module _ (t : List ℤ) (n : ℕ) (ok : Accepted t n) (g : ℕ) where
 
       pub late-step : ((p : ℕ) → isG t p ≡ true → g < p → Late (reaches t n) (group p)) → Late (reaches t n) (joined (blockListed t n g group) (ordered t n g))
       late-step late =
-          joined-late (reaches t n) (blockNeeds R items) (blockListed t n g group) (ordered t n g) (placed-late (blockNeeds R items) (leaders R items))
+          joined-late (reaches t n) (blockNeeds R items) (blockListed t n g group) (ordered t n g) (blocks-late R items)
           (λ b. omega (arith, ordered-count b, leaders-once R items (members-once t n ok g) b)) (λ b m. block-late group b (λ i. late b i (below b (ordered-lead b m .0)))) cross
         where
           cross : (b c x y : ℕ) → b ∈ ordered t n g → c ∈ ordered t n g → (b ≡ c → ⊥) → x ∈ blockListed t n g group b → y ∈ blockListed t n g group c

@@ -11,12 +11,11 @@ use borrow.Author.Tests.{eqb-true, eqb-false, eq-eqb, ne-eqb, not-true, not-fals
 use Rattle.order.specs.LabelLists.{count, _∈_, mem, filter, any}
 use Rattle.order.specs.Closure.{closure}
 use Rattle.order.specs.Placing.{stuck}
-use Rattle.order.specs.Blocks.{together, blockOf, several, leads, leaders, blockNeeds}
+use Rattle.order.specs.Blocks.{together, blockOf, several, leads, leaders, blockNeeds, placedBlocks}
 use Rattle.order.proofs.Tests.{not-so, and-left, and-right, and-intro, or-cases, or-left, or-right}
 use Rattle.order.proofs.Lists.{mem-of, of-mem, any-true, any-none, any-intro, any-refute, in-filter, in-filter-of, count-filter-le, tally-lt}
-use Rattle.order.proofs.Placing.{not-stuck}
-use Rattle.order.proofs.Closure.{Chain, step, then, closure-exact}
-use Rattle.order.proofs.Alike.{onto, closure-onto}
+use Rattle.order.proofs.Placing.{Late, placed-late, not-stuck}
+use Rattle.order.proofs.Closure.{Chain, step, then, closure-exact, onto, closure-onto}
 
 pub chain-on : (m : ℕ → ℕ → Bool) {a b c : ℕ} → Chain m a b → Chain m b c → Chain m a c
 chain-on m r (step t) = then r t
@@ -53,20 +52,28 @@ module _ (R : ℕ → ℕ → Bool) (items : List ℕ) where
   abbrev pub Tog : ℕ → ℕ → Type 0
   Tog p q = (p ≡ q) ⊎ (Onto p q × Onto q p)
 
-  pub tog-of : (p q : ℕ) → together R items p q ≡ true → Tog p q
-  tog-of p q h = go (or-cases (eqb p q) (mem q (closure R items p) && mem p (closure R items q)) h)
+  -- the test is that relation
+  tog-exact : (p q : ℕ) → (together R items p q ≡ true) ↔ Tog p q
+  tog-exact p q = (λ h. there (or-cases (eqb p q) (mem q (closure R items p) && mem p (closure R items q)) h), back)
     where
-      go : (eqb p q ≡ true) ⊎ ((mem q (closure R items p) && mem p (closure R items q)) ≡ true) → Tog p q
-      go (inl e) = inl (eqb-true p q e)
-      go (inr e) = inr (
+      there : (eqb p q ≡ true) ⊎ ((mem q (closure R items p) && mem p (closure R items q)) ≡ true) → Tog p q
+      there (inl e) = inl (eqb-true p q e)
+      there (inr e) = inr (
         needed-chain p q .0 (of-mem q (closure R items p) (and-left (mem q (closure R items p)) (mem p (closure R items q)) e)),
         needed-chain q p .0 (of-mem p (closure R items q) (and-right (mem q (closure R items p)) (mem p (closure R items q)) e)),
       )
 
+      back : Tog p q → together R items p q ≡ true
+      back (inl e) = or-left (eqb p q) (mem q (closure R items p) && mem p (closure R items q)) (eq-eqb p q e)
+      back (inr r) = or-right (eqb p q) (mem q (closure R items p) && mem p (closure R items q))
+          (and-intro (mem q (closure R items p)) (mem p (closure R items q)) (mem-of q (closure R items p) (needed-chain p q .1 (r .0)))
+          (mem-of p (closure R items q) (needed-chain q p .1 (r .1))))
+
+  pub tog-of : (p q : ℕ) → together R items p q ≡ true → Tog p q
+  tog-of p q = tog-exact p q .0
+
   pub of-tog : (p q : ℕ) → Tog p q → together R items p q ≡ true
-  of-tog p q (inl e) = or-left (eqb p q) (mem q (closure R items p) && mem p (closure R items q)) (eq-eqb p q e)
-  of-tog p q (inr r) = or-right (eqb p q) (mem q (closure R items p) && mem p (closure R items q))
-      (and-intro (mem q (closure R items p)) (mem p (closure R items q)) (mem-of q (closure R items p) (needed-chain p q .1 (r .0))) (mem-of p (closure R items q) (needed-chain q p .1 (r .1))))
+  of-tog p q = tog-exact p q .1
 
   pub tog-refl : (p : ℕ) → Tog p p
   tog-refl p = inl refl
@@ -92,6 +99,11 @@ module _ (R : ℕ → ℕ → Bool) (items : List ℕ) where
 
   -- ---- every block has one smallest label
 
+  -- none of its block is below one that leads it
+  pub lead-smallest : (b p : ℕ) → leads R items b ≡ true → p ∈ items → Tog b p → b ≤ p
+  lead-smallest b p l m r =
+      ltb-false p b (any-none (λ q. ltb q b) (blockOf R items b) (not-true (any (λ q. ltb q b) (blockOf R items b)) l) p (block-in b p m r))
+
   abbrev pub Leader : ℕ → Type 0
   Leader p = (b : ℕ) × (b ∈ items) × (leads R items b ≡ true) × Tog b p
 
@@ -114,10 +126,7 @@ module _ (R : ℕ → ℕ → Bool) (items : List ℕ) where
       go (suc k) p l m = leader-step p m (λ q h. go k q (omega arith))
 
   pub leader-once : (b c : ℕ) → b ∈ items → c ∈ items → leads R items b ≡ true → leads R items c ≡ true → Tog b c → b ≡ c
-  leader-once b c mb mc lb lc r =
-      let h₁ = any-none (λ q. ltb q b) (blockOf R items b) (not-true (any (λ q. ltb q b) (blockOf R items b)) lb) c (block-in b c mc r) in
-      let h₂ = any-none (λ q. ltb q c) (blockOf R items c) (not-true (any (λ q. ltb q c) (blockOf R items c)) lc) b (block-in c b mb (tog-sym b c r)) in
-      omega (arith, ltb-false c b h₁, ltb-false b c h₂)
+  leader-once b c mb mc lb lc r = omega (arith, lead-smallest b c lb mc r, lead-smallest c b lc mb (tog-sym b c r))
 
   -- a member that is alone in its block leads it
   pub alone-leads : (p : ℕ) → several R items p ≡ false → leads R items p ≡ true
@@ -127,6 +136,10 @@ module _ (R : ℕ → ℕ → Bool) (items : List ℕ) where
       not-so (ltb q p) (λ s. omega (arith, ltb-true q p s, e))))
 
   -- ---- placing the blocks
+
+  -- none needs itself or a later one
+  pub blocks-late : Late (blockNeeds R items) (placedBlocks R items)
+  blocks-late = placed-late (blockNeeds R items) (leaders R items)
 
   pub lead-of : (b : ℕ) → b ∈ leaders R items → (b ∈ items) × (leads R items b ≡ true)
   lead-of b m = in-filter (leads R items) b items m

@@ -1,5 +1,5 @@
 -- The closure of a relation holds exactly what a chain of one or more steps leads to.
-use mathlib.Core.Path.{_≡_, refl}
+use mathlib.Core.Path.{_≡_, refl, ap, _∙_}
 use mathlib.Core.Logic.{_⊎_, inl, inr, _↔_}
 use mathlib.Core.List.{List, [], _∷_}
 use mathlib.Core.Bool.{Bool, true, false, not, _&&_, _||_}
@@ -10,6 +10,7 @@ use borrow.Author.Tests.{not-true}
 use Rattle.order.specs.LabelLists.{_∈_, mem, any, filter}
 use Rattle.order.specs.Closure.{grow, spread, closure}
 use Rattle.order.proofs.Tests.{and-left, and-right, or-cases, or-left, or-right, not-and}
+use Rattle.order.proofs.Alike.{filter-same, any-same}
 use Rattle.order.proofs.Lists.{mem-of, of-mem, in-here, any-true, any-none, any-intro, in-filter, in-filter-of, filter-le, filter-in, tally-lt}
 
 pub data Chain (m : ℕ → ℕ → Bool) (d : ℕ) : ℕ → Type 0 where
@@ -104,3 +105,28 @@ module _ (m : ℕ → ℕ → Bool) (all : List ℕ) where
 
         complete : Chain m d e → e ∈ closure m all d
         complete r = chain-in r
+
+-- ---- the closure looks only at steps that lead to labels of `all`
+
+abbrev pub onto : (ℕ → ℕ → Bool) → List ℕ → ℕ → ℕ → Bool
+onto m all d e = m d e && mem e all
+
+module _ (m : ℕ → ℕ → Bool) (all : List ℕ) where
+  onto-same : (d e : ℕ) → e ∈ all → m d e ≡ onto m all d e
+  onto-same d e i = rw (mem-of e all i) (keep (m d e))
+    where
+      keep : (b : Bool) → b ≡ (b && true)
+      keep true = refl
+      keep false = refl
+
+  spread-onto : (k : ℕ) (S : List ℕ) → spread m all k S ≡ spread (onto m all) all k S
+  spread-onto zero S = refl
+  spread-onto (suc k) S = ap (spread m all k) step ∙ spread-onto k (grow (onto m all) all S)
+    where
+      step : grow m all S ≡ grow (onto m all) all S
+      step = filter-same (λ e. mem e S || any (λ d. m d e) S) (λ e. mem e S || any (λ d. onto m all d e) S) all
+          (λ e i. ap (λ (b : Bool). mem e S || b) (any-same (λ d. m d e) (λ d. onto m all d e) S (λ d _. onto-same d e i)))
+
+  pub closure-onto : (d : ℕ) → closure m all d ≡ closure (onto m all) all d
+  closure-onto d =
+      ap (spread m all (length all)) (filter-same (m d) (onto m all d) all (λ e i. onto-same d e i)) ∙ spread-onto (length all) (filter (onto m all d) all)

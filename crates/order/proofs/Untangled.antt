@@ -23,11 +23,11 @@ use Rattle.order.specs.WholePlan.{wholeGroup, wholePlan}
 use Rattle.order.proofs.Tests.{both-ways, so-or-not, not-so, and-intro}
 use Rattle.order.proofs.Lists.{in-cons, any-true, any-none, any-intro, any-refute}
 use Rattle.order.proofs.Placing.{Late, placed-late, placed-sub, placed-with, placed-all}
-use Rattle.order.proofs.Closure.{step, then}
+use Rattle.order.proofs.Closure.{step, then, onto}
 use Rattle.order.proofs.Joined.{joined-same, ahead}
 use Rattle.order.proofs.Tables.{g-def, def-label, in-labels, top-group, members-once}
 use Rattle.order.proofs.Needs.{needs-elim}
-use Rattle.order.proofs.Alike.{same-test, filter-all, placed-same, onto}
+use Rattle.order.proofs.Alike.{same-test, filter-all, placed-same}
 use Rattle.order.proofs.Blocks.{Onto, onto-needs, onto-member, Tog, tog-refl, in-block, alone, alone-leads, block-needs-of, of-block-needs, blocks-free}
 use Rattle.order.proofs.TangledExact.{tangled-exact}
 use Rattle.order.proofs.Unrolled.{listed-same}

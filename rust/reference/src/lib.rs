@@ -1,9 +1,10 @@
-//! The rules of order sheets in Rust: document 01, "the paper", with order 1
-//! of document 02, names compared without regard to the case of letters.
+//! The rules of order sheets in Rust: document 01, "the paper", with the orders
+//! of document 02 so far: 1, names compared without regard to the case of
+//! letters, and 2, only the tangled Groups opened.
 //!
 //! One module for each stage, in the order in which refusals are found:
 //! `text` (rows 1 to 3), `lines` (5 to 7), `tree` (8 to 11), `paths` (12 to
-//! 15), `reach` (16), `order` (the plans, 17 and 18), then `evaluate`. The
+//! 15), `reach` (16), `order` (the plan, 17 and 18), then `evaluate`. The
 //! calls below put the stages together and add row 4. They clear every buffer
 //! first and write only once nothing is left to refuse, so a refusal leaves
 //! zeros everywhere.
@@ -14,6 +15,7 @@ mod adjacency;
 mod bits;
 mod evaluate;
 mod lines;
+mod needs;
 mod order;
 mod paths;
 mod print;
@@ -41,7 +43,8 @@ impl Refusal {
     }
 }
 
-/// Whether a plan keeps the values of every Group together.
+/// Whether a plan keeps the values of every Group together, or some block has
+/// several members.
 #[derive(Debug, Clone, Copy, PartialEq, Eq)]
 pub enum Order {
     Whole,

@@ -1,102 +1,36 @@
-//! The whole plan, the mixed plan, and rows 17 and 18 on a lent order.
-
-use std::cmp::Reverse;
-use std::collections::BinaryHeap;
+//! The plan, and rows 17 and 18 on a lent order.
 
 use crate::adjacency::Adjacency;
-use crate::bits::{ones, BitMatrix};
+use crate::bits::BitMatrix;
+use crate::needs::Needs;
 use crate::reach::Reach;
 use crate::sheet::{Kind, Label, Sheet};
 use crate::{Order, Refusal};
 
-/// The plan: whole if no Group gets stuck, else mixed.
+/// The plan: "'Mixed' is the answer when some block has several members."
 pub fn plan(sheet: &Sheet, mut reach: Reach) -> (Vec<Label>, Order) {
-    match WholePlan::new(sheet, &mut reach).finish() {
-        Some(listed) => (listed, Order::Whole),
-        None => (mixed(&reach), Order::Mixed),
-    }
+    let mut planner = Planner::new(sheet, &mut reach);
+    planner.list_group(0);
+    (planner.listed, planner.order)
 }
 
-/// Which of the items 0, 1, ... need which.
-struct Needs {
-    /// How many items each one needs that are not yet placed.
-    unmet: Vec<u32>,
-    /// Row q: the items that need q.
-    needed_by: BitMatrix,
-}
-
-impl Needs {
-    fn new(count: usize) -> Self {
-        Needs {
-            unmet: vec![0; count],
-            needed_by: BitMatrix::new(count, count),
-        }
-    }
-
-    /// All that an item needs, each once.
-    fn add(&mut self, item: usize, needed: impl Iterator<Item = usize>) {
-        let mut count = 0;
-        for needed in needed {
-            self.needed_by.insert(needed, item);
-            count += 1;
-        }
-        self.unmet[item] = count;
-    }
-
-    /// "Repeatedly place the smallest-labelled member not yet placed whose
-    /// needed members are all placed"; `None` if that gets stuck.
-    fn place(mut self) -> Option<Vec<usize>> {
-        let count = self.unmet.len();
-        let is_ready = |&item: &usize| self.unmet[item] == 0;
-        let mut ready: BinaryHeap<_> = (0..count).filter(is_ready).map(Reverse).collect();
-        let mut placed = Vec::with_capacity(count);
-        while let Some(Reverse(next)) = ready.pop() {
-            placed.push(next);
-            for item in self.needed_by.members(next) {
-                self.unmet[item] -= 1;
-                if self.unmet[item] == 0 {
-                    ready.push(Reverse(item));
-                }
-            }
-        }
-        (placed.len() == count).then_some(placed)
-    }
-}
-
-/// "Repeatedly the smallest V label whose reached values are all listed." No
-/// value reaches itself (row 16), so this never gets stuck.
-fn mixed(reach: &Reach) -> Vec<Label> {
-    let values: Vec<usize> = reach.values().collect();
-    let mut item_of = vec![0; reach.labels.len()];
-    for (item, &value) in values.iter().enumerate() {
-        item_of[value] = item;
-    }
-    let mut needs = Needs::new(values.len());
-    for (item, &value) in values.iter().enumerate() {
-        needs.add(
-            item,
-            reach.reached_values(value).map(|other| item_of[other]),
-        );
-    }
-    let placed = needs.place().expect("no value reaches itself");
-    let label = |item: usize| reach.labels[values[item]];
-    placed.into_iter().map(label).collect()
-}
-
-/// What the whole plan asks; definitions go by their numbers in `Reach`. The
-/// row of a Group there has all that the values under it reach.
-struct WholePlan<'s> {
+/// Lists Group by Group; definitions go by their numbers in `Reach`. The row of
+/// a Group there has all that the values under it reach.
+struct Planner<'s> {
     sheet: &'s Sheet<'s>,
     reach: &'s Reach,
     /// The Groups and values of each Group, as lists and as rows of bits. "F
     /// gives nothing", needs nothing and is not needed.
     members: Adjacency,
     member_rows: BitMatrix,
-    /// Where each one stands in its Group's list.
+    /// Where each one stands in its Group's list; a value of a block of several,
+    /// once that is listed, among the values of the block.
     places: Vec<u32>,
+    listed: Vec<Label>,
+    order: Order,
 }
 
-impl<'s> WholePlan<'s> {
+impl<'s> Planner<'s> {
     fn new(sheet: &'s Sheet<'s>, reach: &'s mut Reach) -> Self {
         let count = reach.labels.len();
         let is_listed = |&member: &usize| sheet.kind(reach.labels[member]) != Kind::Function;
@@ -116,47 +50,102 @@ impl<'s> WholePlan<'s> {
         for &member in listed.iter().rev() {
             reach.reached.merge(reach.groups[member] as usize, member);
         }
-        WholePlan {
+        Planner {
             sheet,
             reach,
             members,
             member_rows,
             places,
+            listed: Vec::new(),
+            order: Order::Whole,
         }
     }
 
-    fn finish(self) -> Option<Vec<Label>> {
-        let mut listed = Vec::new();
-        self.list(0, &mut listed)?;
-        Some(listed)
+    /// A Group's blocks in their order. Blocks are looked for only where placing
+    /// the members one by one gets stuck; else each is a block by itself.
+    fn list_group(&mut self, group: usize) {
+        let mut needs = self.member_needs(group);
+        match needs.place() {
+            Some(placed) => {
+                for at in placed {
+                    self.list_member(self.member(group, at));
+                }
+            }
+            None => self.list_blocks(group, needs),
+        }
     }
 
-    /// "A G is listed by the same rule in its place."
-    fn list(&self, group: usize, listed: &mut Vec<Label>) -> Option<()> {
-        for at in self.needs(group).place()? {
-            let member = self.members.of(group)[at] as usize;
-            let label = self.reach.labels[member];
-            match self.sheet.kind(label) {
-                Kind::Group => self.list(member, listed)?,
-                _ => listed.push(label),
+    fn list_blocks(&mut self, group: usize, stuck: Needs) {
+        self.order = Order::Mixed;
+        let blocks = stuck.blocks();
+        for lead in blocks.place() {
+            let items = blocks.items(lead);
+            let members: Vec<usize> = items.map(|at| self.member(group, at)).collect();
+            match members[..] {
+                [member] => self.list_member(member),
+                _ => self.list_several(members),
             }
         }
-        Some(())
+    }
+
+    /// "A block that is one Group is listed by this same rule inside."
+    fn list_member(&mut self, member: usize) {
+        let label = self.reach.labels[member];
+        match self.sheet.kind(label) {
+            Kind::Group => self.list_group(member),
+            _ => self.listed.push(label),
+        }
+    }
+
+    /// "A block of several lists all values under its members, smallest label
+    /// first, once those it reaches in the block are listed." No value reaches
+    /// itself (row 16), so this never gets stuck.
+    fn list_several(&mut self, members: Vec<usize>) {
+        let inside = self.values_under(members);
+        let values: Vec<usize> = inside.members(0).collect();
+        for (place, &value) in (0..).zip(&values) {
+            self.places[value] = place;
+        }
+        let mut needs = self.needs(values.iter().copied(), inside.row(0));
+        let placed = needs.place().expect("no value reaches itself");
+        let label = |at: usize| self.reach.labels[values[at]];
+        self.listed.extend(placed.into_iter().map(label));
+    }
+
+    /// One row: the values that are one of these members or under one.
+    fn values_under(&self, mut members: Vec<usize>) -> BitMatrix {
+        let mut inside = BitMatrix::new(1, self.reach.labels.len());
+        while let Some(member) = members.pop() {
+            match self.sheet.kind(self.reach.labels[member]) {
+                Kind::Group => members.extend(self.members.of(member).iter().map(|&m| m as usize)),
+                _ => {
+                    inside.insert(0, member);
+                }
+            }
+        }
+        inside
+    }
+
+    fn member(&self, group: usize, place: usize) -> usize {
+        self.members.of(group)[place] as usize
     }
 
     /// "Member p needs another member q of its Group if a V that is p or under
-    /// p reaches one that is q or under q": members by their places in the
-    /// Group's list. A row has the Groups around the values reached, so q is in
-    /// that of p.
-    fn needs(&self, group: usize) -> Needs {
-        let members = self.members.of(group);
-        let mut needs = Needs::new(members.len());
-        for (at, &member) in members.iter().enumerate() {
-            let reached = self.reach.reached.row(member as usize).iter();
-            let words = reached.zip(self.member_rows.row(group));
-            let needed = ones(words.map(|(reached, members)| reached & members));
-            let others = needed.filter(|&other| other != member as usize);
-            needs.add(at, others.map(|other| self.places[other] as usize));
+    /// p reaches one that is q or under q." A row has the Groups around the
+    /// values reached, so q is in that of p.
+    fn member_needs(&self, group: usize) -> Needs {
+        let members = self.members.of(group).iter().map(|&member| member as usize);
+        self.needs(members, self.member_rows.row(group))
+    }
+
+    /// Which of these definitions need which, by their places; the set has them
+    /// all.
+    fn needs(&self, list: impl ExactSizeIterator<Item = usize>, set: &[u64]) -> Needs {
+        let mut needs = Needs::new(list.len());
+        for (place, definition) in list.enumerate() {
+            let reached = self.reach.reached_among(definition, set);
+            let others = reached.filter(|&other| other != definition);
+            needs.add(place, others.map(|other| self.places[other] as usize));
         }
         needs
     }

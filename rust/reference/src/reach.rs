@@ -31,10 +31,14 @@ impl Reach {
         self.values.members(0)
     }
 
-    /// The values that a definition reaches.
-    pub fn reached_values(&self, definition: usize) -> impl Iterator<Item = usize> + '_ {
-        let words = self.reached.row(definition).iter().zip(self.values.row(0));
-        ones(words.map(|(reached, values)| reached & values))
+    /// Those of a set that a definition's row has.
+    pub fn reached_among<'a>(
+        &'a self,
+        definition: usize,
+        set: &'a [u64],
+    ) -> impl Iterator<Item = usize> + 'a {
+        let words = self.reached.row(definition).iter().zip(set);
+        ones(words.map(|(reached, set)| reached & set))
     }
 }
 

@@ -6,6 +6,7 @@ mod letters;
 mod orders;
 mod refusals;
 mod samples;
+mod tangles;
 
 use reference::{Order, Refusal};
 

@@ -82,7 +82,7 @@ pub fn proper_order(rng: &mut Rng, text: &[u8]) -> Vec<i64> {
 }
 
 /// The lines of the values; lines count from 0 here.
-fn values(table: &[i64]) -> Vec<usize> {
+pub fn values(table: &[i64]) -> Vec<usize> {
     let lines = table.len() / 8;
     (0..lines).filter(|&at| table[8 * at] == 2).collect()
 }
@@ -157,7 +157,7 @@ fn proper(rng: &mut Rng, table: &[i64], values: &[usize]) -> Vec<i64> {
 }
 
 /// What each definition mentions; lines count from 0 here, too.
-fn mentions(table: &[i64]) -> Vec<Vec<usize>> {
+pub fn mentions(table: &[i64]) -> Vec<Vec<usize>> {
     let mut mentions = vec![Vec::new(); table.len() / 8];
     for line in table.chunks_exact(8).filter(|line| line[7] != 0) {
         mentions[line[6] as usize - 1].push(line[7] as usize - 1);

@@ -3,8 +3,8 @@
 //!
 //! `random` makes sheets that read, `damage` spoils them, `letters` writes their
 //! names in capitals and small letters, `rows` takes them apart, `lent` chooses
-//! buffer lengths and orders for Follow, `everyday` and `shapes` hold the fixed
-//! sheets.
+//! buffer lengths and orders for Follow, `tangles` says where a sheet is tangled,
+//! `everyday`, `shapes` and `tangled` hold the fixed sheets.
 
 #![forbid(unsafe_code)]
 
@@ -17,6 +17,8 @@ mod random;
 mod rng;
 pub mod rows;
 mod shapes;
+mod tangled;
+mod tangles;
 
 pub use damage::{damage, damaged};
 pub use everyday::everyday;
@@ -26,8 +28,12 @@ pub use random::{sheet, sheet_within};
 pub use rng::Rng;
 pub use shapes::{
     backward, deepest_calls, dense, flat, forward, late_refusal, nested, nested_values, shapes,
-    short_values, spent, tangled, Shape,
+    short_values, spent, Shape,
 };
+pub use tangled::{
+    every_second_in_ring, nested_tangle, ring, ring_among, rings, rings_in_every_second, tangled,
+};
+pub use tangles::{tangled_blocks, Tangles};
 
 /// All that one trial of all the calls needs.
 #[derive(Debug, Clone, PartialEq, Eq)]

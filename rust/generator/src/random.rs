@@ -53,6 +53,8 @@ struct Manner {
     recursion: usize,
     /// Ranks of values without regard to Groups.
     shuffled: bool,
+    /// In how many Groups members are tied into rings.
+    tied_groups: usize,
     /// How many ranks functions have, or all that there are, so that functions
     /// lead on to functions and then to values.
     function_ranks: usize,
@@ -78,6 +80,7 @@ impl Manner {
             calling: 25,
             recursion: 50,
             shuffled: rng.chance(30),
+            tied_groups: 0,
             function_ranks: 3,
             spread: false,
             wild: rng.chance(6),
@@ -86,7 +89,7 @@ impl Manner {
         };
         match rng.below(100) {
             // Values of several Groups that read each other crosswise.
-            0..=39 => Manner {
+            0..=31 => Manner {
                 lines: rng.range(16, 60),
                 first_groups: rng.range(2, 4),
                 groups: rng.range(0, 15),
@@ -96,8 +99,21 @@ impl Manner {
                 shuffled: true,
                 ..manner
             },
+            // Values in many Groups, some of which are tangled.
+            32..=45 => Manner {
+                lines: rng.range(30, 90),
+                first_groups: rng.range(4, 8),
+                groups: rng.range(0, 10),
+                functions: rng.range(0, 10),
+                body: rng.range(1, 2),
+                reading: rng.range(0, 50),
+                shuffled: false,
+                tied_groups: rng.range(1, 3),
+                naming: *rng.pick(&[0, 1, 3, 3, 3]),
+                ..manner
+            },
             // Functions that call each other and take many steps.
-            40..=57 => Manner {
+            46..=60 => Manner {
                 lines: rng.range(12, 30),
                 groups: rng.range(0, 15),
                 functions: rng.range(30, 70),
@@ -108,7 +124,7 @@ impl Manner {
             },
             // Values of several Groups that read each other through functions
             // that call functions.
-            58..=74 => Manner {
+            61..=76 => Manner {
                 lines: rng.range(40, 100),
                 first_groups: rng.range(0, 4),
                 groups: rng.range(0, 15),
@@ -135,6 +151,8 @@ struct Grower<'r> {
     /// Members of each Group, by node.
     members: Vec<Vec<usize>>,
     ranks: Vec<Rank>,
+    /// What a value is to read in any case, by node.
+    ties: Vec<Option<usize>>,
     /// How many lines the sheet may come to, those still to come included.
     limit: usize,
     /// Values and functions still without a body.
@@ -187,6 +205,7 @@ pub fn sheet_of(rng: &mut Rng, lines: usize) -> Vec<u8> {
         functions: Vec::new(),
         members: vec![Vec::new()],
         ranks: Vec::new(),
+        ties: Vec::new(),
         rng,
     };
     grower.add(b'G', OUTERMOST);
@@ -212,7 +231,13 @@ impl Grower<'_> {
     fn grow_definitions(&mut self, lines: usize) {
         let mut left = lines - 1;
         for _ in 0..self.manner.first_groups.min(left) {
-            let group = self.choose_group();
+            // side by side, there are more to tie
+            let is_outermost = self.manner.tied_groups > 0 && self.rng.chance(60);
+            let group = if is_outermost {
+                OUTERMOST
+            } else {
+                self.choose_group()
+            };
             self.define(b'G', group);
             left -= 1;
         }
@@ -304,11 +329,13 @@ impl Grower<'_> {
     /// often none.
     fn deal_ranks(&mut self) {
         self.ranks = vec![0; self.nodes.len()];
+        self.ties = vec![None; self.nodes.len()];
         let mut values = Vec::new();
         self.values_by_group(OUTERMOST, &mut values);
         if self.manner.shuffled {
             self.rng.shuffle(&mut values);
         }
+        self.tie_rings(&mut values);
         for (place, &value) in values.iter().enumerate() {
             self.ranks[value] = 2 * place + 1;
         }
@@ -333,6 +360,66 @@ impl Grower<'_> {
                 _ => {}
             }
         }
+    }
+
+    /// Ties members into rings in some Groups, neighbours in the sequence given:
+    /// often several rings in one Group.
+    fn tie_rings(&mut self, values: &mut Vec<usize>) {
+        for _ in 0..self.manner.tied_groups {
+            let group = match self.rng.chance(40) {
+                true => OUTERMOST,
+                false => *self.rng.pick(&self.groups),
+            };
+            let parts = self.values_by_member(group, values);
+            let mut rest = &parts[..];
+            while let [first, others @ ..] = rest {
+                rest = others;
+                if first.len() > 1 && !others.is_empty() && self.rng.chance(60) {
+                    let (ring, after) = others.split_at(self.rng.range(1, 3).min(others.len()));
+                    self.tie_ring(first, ring, values);
+                    rest = after;
+                }
+            }
+        }
+    }
+
+    /// A value of each of the others is to read one of the member before it, and
+    /// another one of the first, which goes behind them, one of the last. No value
+    /// comes to reach itself by it.
+    fn tie_ring(&mut self, first: &[usize], others: &[Vec<usize>], values: &mut Vec<usize>) {
+        let mut before = first[0];
+        for part in others {
+            let reader = *self.rng.pick(part);
+            self.ties[reader] = Some(before);
+            before = reader;
+        }
+        let last = first[first.len() - 1];
+        self.ties[last] = Some(before);
+        values.retain(|&value| value != last);
+        let behind = values.iter().position(|&value| value == before);
+        values.insert(behind.map_or(0, |at| at + 1), last);
+    }
+
+    /// The values under each member of a Group that has any, all in the sequence
+    /// given.
+    fn values_by_member(&self, group: usize, values: &[usize]) -> Vec<Vec<usize>> {
+        let mut members = Vec::new();
+        let mut parts: Vec<Vec<usize>> = Vec::new();
+        for &value in values {
+            let mut member = value;
+            while member != OUTERMOST && self.nodes[member].group != group {
+                member = self.nodes[member].group;
+            }
+            match members.iter().position(|&other| other == member) {
+                _ if member == OUTERMOST => {}
+                Some(at) => parts[at].push(value),
+                None => {
+                    members.push(member);
+                    parts.push(vec![value]);
+                }
+            }
+        }
+        parts
     }
 
     fn grow_bodies(&mut self, lines: usize) {
@@ -482,12 +569,15 @@ impl Grower<'_> {
     }
 
     fn leaf(&mut self, owner: usize) -> usize {
-        if self.rng.chance(self.manner.reading) {
-            if let Some(path) = self.value_path(owner) {
-                let node = self.add(b'R', 0);
-                self.nodes[node].name = path;
-                return node;
-            }
+        let tied = self.ties[owner].take();
+        let path = match tied.and_then(|target| self.path(owner, target)) {
+            None if self.rng.chance(self.manner.reading) => self.value_path(owner),
+            path => path,
+        };
+        if let Some(path) = path {
+            let node = self.add(b'R', 0);
+            self.nodes[node].name = path;
+            return node;
         }
         if self.nodes[owner].kind == b'F' && self.rng.chance(60) {
             return self.add(b'P', 0);

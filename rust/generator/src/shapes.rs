@@ -2,6 +2,9 @@
 
 use crate::builder::{Builder, MAX_LINES};
 use crate::letters::capital_paths;
+use crate::tangled::{
+    every_second_in_ring, nested_tangle, ring, ring_among, rings, rings_in_every_second, tangled,
+};
 
 /// A sheet with a name to print beside its figures.
 pub struct Shape {
@@ -24,6 +27,12 @@ pub fn shapes() -> Vec<Shape> {
         shape("dense mentions", dense_mentions()),
         shape("many through one function", hub()),
         shape("two tangled Groups", tangled(500)),
+        shape("two tangled among 300 others", ring_among(300)),
+        shape("340 Groups in one ring", ring(340)),
+        shape("127 rings of two", rings(127)),
+        shape("tangle under 300 Groups", nested_tangle(300)),
+        shape("every second Group in a ring", every_second_in_ring(340)),
+        shape("rings in every second Group", rings_in_every_second(170)),
         shape("one value of 20,000 steps", spent(1)),
         shape("339 values of 20,000 steps", spent(339)),
         shape("deepest calls", deepest_calls()),
@@ -38,7 +47,7 @@ pub fn shapes() -> Vec<Shape> {
 }
 
 /// Names of 16 bytes that differ only at their end.
-fn long_name(number: usize) -> String {
+pub fn long_name(number: usize) -> String {
     format!("decentration{number:04}")
 }
 
@@ -164,21 +173,6 @@ fn reads(from: usize, to: usize) -> String {
     }
     let middle = (from + to) / 2;
     format!("A {} {}", reads(from, middle), reads(middle, to))
-}
-
-/// Two Groups of values that read each other crosswise: mixed.
-pub fn tangled(values: usize) -> Vec<u8> {
-    let mut builder = Builder::new();
-    let groups = ["right", "left"].map(|name| builder.group(name, 1));
-    for value in 0..values {
-        let other = ["left", "right"][value % 2];
-        let body = match value + 1 {
-            next if next < values => format!("R:{other}.{}", long_name(next)),
-            _ => "1".to_string(),
-        };
-        builder.value(&long_name(value), groups[value % 2], &body);
-    }
-    builder.text()
 }
 
 /// This many values, 339 at most, that spend all their steps.

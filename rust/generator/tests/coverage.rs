@@ -1,7 +1,10 @@
 //! The random trials meet every refusal, every state, both orders and names in
 //! other letters than their definitions, and a seed always gives the same trial.
 
-use generator::{any_sheet, capital_paths, case, recased, sheet, Case, OtherLetters, Rng};
+use generator::{
+    any_sheet, capital_paths, case, recased, sheet, tangled_blocks, Case, OtherLetters, Rng,
+    Tangles,
+};
 use reference::{Order, Refusal};
 
 const CASES: u64 = 20_000;
@@ -221,7 +224,7 @@ fn shapes_run() {
             shape.name
         );
         assert!(
-            lines > 950 || shape.name.starts_with("one value"),
+            lines > 900 || shape.name.starts_with("one value"),
             "{} {lines}",
             shape.name
         );
@@ -253,7 +256,6 @@ fn shapes_are_what_they_are_called() {
     let (mut plan, _, _) = run(&generator::backward(500));
     plan.reverse();
     assert!(plan.len() == 500 && plan.is_sorted());
-    assert_eq!(run(&generator::tangled(500)).1, Order::Mixed);
     let text = generator::nested_values(341);
     assert_eq!(generator::line_count(&text), 1_024);
     let (mut plan, order, _) = run(&text);
@@ -269,6 +271,79 @@ fn shapes_are_what_they_are_called() {
             assert!(all_in_state(&shape.text, 5), "{}", shape.name);
         }
     }
+}
+
+/// The sizes of the blocks of several in a sheet, by their smallest labels; and
+/// what is so of it by these.
+fn tangles(text: &[u8]) -> (Vec<usize>, Tangles) {
+    let lines = generator::line_count(text);
+    assert!(lines <= 1_024);
+    let mut table = vec![0; 8 * lines];
+    let answer = reference::plan(text, &mut table, &mut vec![0; lines]);
+    assert!(matches!(answer, Ok((_, Order::Mixed))), "{answer:?}");
+    let blocks = tangled_blocks(&table);
+    (blocks.iter().map(Vec::len).collect(), Tangles::of(&table))
+}
+
+#[test]
+fn tangled_shapes_are_what_they_are_called() {
+    let none = Tangles::default();
+    let below = Tangles {
+        below: true,
+        ..none
+    };
+    let beside = Tangles {
+        beside_whole_group: true,
+        ..below
+    };
+    let two = Tangles {
+        two_in_group: true,
+        ..none
+    };
+    assert_eq!(tangles(&generator::tangled(500)), (vec![2], none));
+    assert_eq!(tangles(&generator::ring_among(300)), (vec![2], none));
+    assert_eq!(tangles(&generator::ring(340)), (vec![340], none));
+    assert_eq!(tangles(&generator::rings(127)), (vec![2; 127], two));
+    let text = generator::every_second_in_ring(340);
+    assert_eq!(tangles(&text), (vec![170], none));
+    let text = generator::rings_in_every_second(170);
+    assert_eq!(tangles(&text), (vec![2; 85], beside));
+    assert_eq!(tangles(&generator::nested_tangle(300)), (vec![2], beside));
+}
+
+/// A value between two of a Group; and a tangle in a Group that is opened by one
+/// around it.
+#[test]
+fn tangles_with_a_value_and_inside_an_opened_group() {
+    let with_value = "G - 0 - -
+G g 1 - -
+V a 2 5 -
+V x 1 6 -
+R x - - -
+R g.b - - -
+V b 2 8 -
+N - 1 - -
+";
+    let mut wanted = Tangles {
+        with_value: true,
+        ..Tangles::default()
+    };
+    let head = "kind name a b c\n";
+    let text = [head, with_value].concat();
+    assert_eq!(tangles(text.as_bytes()), (vec![2], wanted));
+    // c and h of the Group in turn
+    let inside = "G h 2 - -
+V c 9 12 -
+V y 2 13 -
+R y - - -
+R h.d - - -
+V d 9 15 -
+N - 1 - -
+";
+    let text = [head, with_value, inside].concat();
+    wanted.below = true;
+    wanted.inside_opened = true;
+    assert_eq!(tangles(text.as_bytes()), (vec![2, 2], wanted));
 }
 
 #[test]

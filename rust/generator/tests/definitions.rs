@@ -1,6 +1,7 @@
-//! The reference against the paper's definitions, taken word for word with no
-//! care for speed: reaching as a table filled until nothing changes, needs and
-//! plans by looking at every pair, evaluation as a function of what is left.
+//! The reference against the papers' definitions, taken word for word with no
+//! care for speed: reaching and needs as tables closed over every label between,
+//! blocks and plans by looking at every pair, evaluation as a function of what is
+//! left.
 
 use generator::{any_sheet, line_count, rows, sheet, Rng};
 use reference::{Order, Refusal};
@@ -71,19 +72,12 @@ impl Facts {
                 self.reaches[owner][target] = true;
             }
         }
-        for middle in 1..=self.count {
-            let onward = self.reaches[middle].clone();
-            for row in self.reaches.iter_mut().filter(|row| row[middle]) {
-                row.iter_mut()
-                    .zip(&onward)
-                    .for_each(|(cell, more)| *cell |= more);
-            }
-        }
+        close(&mut self.reaches);
     }
 
-    /// Whether a value is this member or under it.
-    fn is_under(&self, value: usize, member: usize) -> bool {
-        value == member || value != 0 && self.is_under(self.cell(value, 6), member)
+    /// Whether a definition is this member or under it.
+    fn is_under(&self, definition: usize, member: usize) -> bool {
+        definition == member || definition != 0 && self.is_under(self.cell(definition, 6), member)
     }
 
     fn needs(&self, p: usize, q: usize) -> bool {
@@ -92,24 +86,54 @@ impl Facts {
         p != q && under(p).any(|&v| under(q).any(|&w| self.reaches[v][w]))
     }
 
-    fn whole(&self, group: usize) -> Option<Vec<usize>> {
-        let mut left = self.members(group);
-        let mut listed = Vec::new();
-        while !left.is_empty() {
-            let ready = |&p: &usize| !left.iter().any(|&q| self.needs(p, q));
-            let next = left.iter().copied().find(ready)?;
-            left.retain(|&p| p != next);
-            match self.kind(next) {
-                1 => listed.extend(self.whole(next)?),
-                2 => listed.push(next),
-                _ => {}
+    /// "Members that need each other round a circle now form one block": blocks
+    /// by their smallest labels.
+    fn blocks(&self, group: usize) -> Vec<Vec<usize>> {
+        let mut needs = vec![vec![false; self.count + 1]; self.count + 1];
+        let members = self.members(group);
+        for &p in &members {
+            for &q in &members {
+                needs[p][q] = self.needs(p, q);
             }
         }
-        Some(listed)
+        close(&mut needs);
+        let is_one = |p: usize, q: usize| p == q || needs[p][q] && needs[q][p];
+        let block = |&p: &usize| members.iter().copied().filter(|&q| is_one(p, q)).collect();
+        let mut blocks: Vec<Vec<usize>> = members.iter().map(block).collect();
+        blocks.sort();
+        blocks.dedup();
+        blocks
     }
 
-    fn mixed(&self) -> Vec<usize> {
+    /// "Blocks are placed by the smallest label they hold, as soon as every block
+    /// they need is placed."
+    fn list(&self, group: usize) -> Vec<usize> {
+        let mut left = self.blocks(group);
+        let mut listed = Vec::new();
+        while !left.is_empty() {
+            let needs = |block: &[usize], other: &[usize]| {
+                block != other
+                    && block
+                        .iter()
+                        .any(|&p| other.iter().any(|&q| self.needs(p, q)))
+            };
+            let is_ready = |block: &Vec<usize>| !left.iter().any(|other| needs(block, other));
+            let next = left.iter().position(is_ready).expect("a block to place");
+            match left.remove(next)[..] {
+                [member] if self.kind(member) == 1 => listed.extend(self.list(member)),
+                [member] if self.kind(member) == 2 => listed.push(member),
+                [_] => {}
+                ref block => listed.extend(self.list_opened(block)),
+            }
+        }
+        listed
+    }
+
+    /// "All values under its members, smallest label first, once those it reaches
+    /// in the block are listed."
+    fn list_opened(&self, block: &[usize]) -> Vec<usize> {
         let mut left = self.values();
+        left.retain(|&v| block.iter().any(|&member| self.is_under(v, member)));
         let mut listed = Vec::new();
         while !left.is_empty() {
             let ready = |&v: &usize| !left.iter().any(|&w| self.reaches[v][w]);
@@ -120,23 +144,35 @@ impl Facts {
         listed
     }
 
+    fn groups(&self) -> impl Iterator<Item = usize> + '_ {
+        (1..=self.count).filter(|&label| self.kind(label) == 1)
+    }
+
+    /// The members of blocks of several, of every Group.
+    fn tangled(&self) -> Vec<usize> {
+        let blocks = self.groups().flat_map(|group| self.blocks(group));
+        blocks.filter(|block| block.len() > 1).flatten().collect()
+    }
+
     fn is_proper(&self, order: &[usize]) -> bool {
         let late = |at: usize| order[at..].iter().any(|&w| self.reaches[order[at]][w]);
         !(0..order.len()).any(late)
     }
 
+    /// Whether the values of a Group stand side by side.
+    fn is_together(&self, order: &[usize], group: usize) -> bool {
+        let inside = |&v: &usize| self.is_under(v, group);
+        match (
+            order.iter().position(inside),
+            order.iter().rposition(inside),
+        ) {
+            (Some(first), Some(last)) => order[first..=last].iter().all(inside),
+            _ => true,
+        }
+    }
+
     fn is_whole(&self, order: &[usize]) -> bool {
-        let mut groups = (1..=self.count).filter(|&label| self.kind(label) == 1);
-        groups.all(|group| {
-            let inside = |&v: &usize| self.is_under(v, group);
-            match (
-                order.iter().position(inside),
-                order.iter().rposition(inside),
-            ) {
-                (Some(first), Some(last)) => order[first..=last].iter().all(inside),
-                _ => true,
-            }
-        })
+        self.groups().all(|group| self.is_together(order, group))
     }
 
     /// The target of an R or C by the search of the paper.
@@ -192,6 +228,18 @@ impl Facts {
     }
 }
 
+/// A relation closed: what leads to something leads to all that it leads to.
+fn close(rows: &mut [Vec<bool>]) {
+    for middle in 0..rows.len() {
+        let onward = rows[middle].clone();
+        for row in rows.iter_mut().filter(|row| row[middle]) {
+            row.iter_mut()
+                .zip(&onward)
+                .for_each(|(cell, more)| *cell |= more);
+        }
+    }
+}
+
 /// A number or the state of a failure, and the steps left.
 type Reply = (Result<i64, i64>, u32);
 
@@ -235,7 +283,7 @@ fn run(facts: &Facts) -> Result<(Vec<usize>, Order, Vec<i64>), u64> {
 #[test]
 fn reference_keeps_to_the_definitions() {
     let mut checked = [0; 3];
-    for seed in 0..6_000 {
+    for seed in 0..12_000 {
         let rng = &mut Rng::new(1_000_000 + seed);
         let text = if seed % 3 == 0 {
             any_sheet(rng)
@@ -270,11 +318,15 @@ fn reference_keeps_to_the_definitions() {
 }
 
 fn check_plan(facts: &Facts, plan: &[usize], order: Order) {
-    let wanted = facts.whole(1);
-    assert_eq!(order == Order::Whole, wanted.is_some());
-    assert_eq!(plan, wanted.unwrap_or_else(|| facts.mixed()));
+    let tangled = facts.tangled();
+    assert_eq!(order == Order::Whole, tangled.is_empty());
+    assert_eq!(plan, facts.list(1));
     assert!(facts.is_proper(plan));
-    assert!(order == Order::Mixed || facts.is_whole(plan));
+    // "The values of a Group are side by side if neither it nor a Group around it
+    // is in a block of several."
+    let is_opened = |group| tangled.iter().any(|&member| facts.is_under(group, member));
+    let mut clear = facts.groups().filter(|&group| !is_opened(group));
+    assert!(clear.all(|group| facts.is_together(plan, group)));
     if plan.len() <= 6 && order == Order::Mixed {
         let mut values = facts.values();
         assert!(!some_order(&mut values, 0, &|order| {

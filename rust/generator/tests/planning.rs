@@ -1,10 +1,10 @@
-//! The random sheets have what planning can go wrong on: orders that are mixed,
-//! Groups needed before an earlier label, values that reach others through
-//! chains of functions, and functions in cycles.
+//! The random sheets have what planning can go wrong on: Groups that are tangled
+//! and Groups beside them that are not, Groups needed before an earlier label,
+//! values that reach others through chains of functions, and functions in cycles.
 
 use std::collections::VecDeque;
 
-use generator::{case, line_count};
+use generator::{case, line_count, tangled_blocks, Tangles};
 use reference::Order;
 
 const CASES: u64 = 10_000;
@@ -50,6 +50,33 @@ impl Planned {
 
     fn of_kind(&self, kind: usize) -> impl Iterator<Item = usize> + '_ {
         (1..self.mentions.len()).filter(move |&label| self.kind(label) == kind)
+    }
+
+    /// Whether a plan that opened every Group would be another.
+    fn is_other_than_opened(&self) -> bool {
+        let mut left = self.plan.clone();
+        left.sort_unstable();
+        let reached: Vec<Vec<bool>> = (0..self.mentions.len()).map(|v| self.reached(v)).collect();
+        self.plan.iter().any(|&value| {
+            let is_ready = |&&v: &&usize| !left.iter().any(|&w| reached[v][w]);
+            let next = *left.iter().find(is_ready).expect("no cycle");
+            left.retain(|&v| v != next);
+            next != value
+        })
+    }
+
+    /// What a definition reaches.
+    fn reached(&self, definition: usize) -> Vec<bool> {
+        let mut reached = vec![false; self.mentions.len()];
+        let mut open = vec![definition];
+        while let Some(next) = open.pop() {
+            for &target in &self.mentions[next] {
+                if !std::mem::replace(&mut reached[target], true) {
+                    open.push(target);
+                }
+            }
+        }
+        reached
     }
 
     /// Whether some Group lists two of its Groups the later label first.
@@ -101,6 +128,12 @@ impl Planned {
 #[derive(Debug, Default)]
 struct Counts {
     mixed: usize,
+    /// Mixed plans that differ from one with every Group opened.
+    not_all_opened: usize,
+    /// What `Tangles` tells of mixed plans.
+    tangles: [u64; Tangles::COUNT],
+    /// Blocks of two members, of three, of more.
+    sizes: [usize; 3],
     /// Whole plans that list Groups the later label first.
     later_first: usize,
     /// Values that read another through one function at least, two, three.
@@ -113,7 +146,9 @@ struct Counts {
 impl Counts {
     fn add(&mut self, planned: &Planned) {
         let whole = planned.order == Order::Whole;
-        self.mixed += usize::from(!whole);
+        if !whole {
+            self.add_mixed(planned);
+        }
         self.later_first += usize::from(whole && planned.has_later_group_first());
         for &value in &planned.plan {
             for count in self.through.iter_mut().take(planned.farthest(value)) {
@@ -124,6 +159,18 @@ impl Counts {
         let cycles: Vec<usize> = planned.of_kind(FUNCTION).filter_map(back).collect();
         self.own_cycles += usize::from(cycles.contains(&0));
         self.shared_cycles += usize::from(cycles.iter().any(|&others| others > 0));
+    }
+
+    fn add_mixed(&mut self, planned: &Planned) {
+        self.mixed += 1;
+        self.not_all_opened += usize::from(planned.is_other_than_opened());
+        let tangles = Tangles::of(&planned.table).counts();
+        for (count, more) in self.tangles.iter_mut().zip(tangles) {
+            *count += more;
+        }
+        for block in tangled_blocks(&planned.table) {
+            self.sizes[block.len().min(4) - 2] += 1;
+        }
     }
 }
 
@@ -137,6 +184,9 @@ fn what_planning_can_go_wrong_on() {
     }
     println!("{counts:?}");
     assert!(counts.mixed > 600 && counts.later_first > 400);
+    assert!(counts.not_all_opened > 200);
+    assert!(counts.tangles.iter().all(|&count| count > 50));
+    assert!(counts.sizes.iter().all(|&count| count > 100));
     let [one, two, three] = counts.through;
     assert!(one > 2_000 && two > 500 && three > 100);
     assert!(counts.own_cycles > 1_500 && counts.shared_cycles > 200);

@@ -33,7 +33,11 @@ impl Sheet {
     fn plans_mixed(&self, wanted: &str) {
         let (plan, order) = planned(&self.builder.text()).expect("a plan");
         let name = |label: &i64| self.names.iter().find(|(other, _)| other == label);
-        let names: Vec<&str> = plan.iter().filter_map(name).map(|(_, name)| *name).collect();
+        let names: Vec<&str> = plan
+            .iter()
+            .filter_map(name)
+            .map(|(_, name)| *name)
+            .collect();
         assert_eq!((names.join(" ").as_str(), order), (wanted, Mixed));
     }
 }

@@ -3,6 +3,10 @@
 use lindypo::raw::Reply;
 use reference::{Order, Refusal};
 
+/// The orders of a reply in the C interface.
+pub const WHOLE: u64 = 1;
+pub const MIXED: u64 = 2;
+
 #[derive(Debug, Clone, Copy, PartialEq, Eq)]
 pub enum Call {
     Read,
@@ -75,8 +79,8 @@ fn counted(answer: Result<usize, Refusal>) -> Reply {
 
 fn planned(answer: Result<(usize, Order), Refusal>) -> Reply {
     match answer {
-        Ok((length, Order::Whole)) => answered(length, 1),
-        Ok((length, Order::Mixed)) => answered(length, 2),
+        Ok((length, Order::Whole)) => answered(length, WHOLE),
+        Ok((length, Order::Mixed)) => answered(length, MIXED),
         Err(refusal) => refused(refusal),
     }
 }

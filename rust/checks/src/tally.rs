@@ -2,6 +2,9 @@
 
 use std::fmt;
 
+use generator::Tangles;
+
+use crate::calls::{MIXED, WHOLE};
 use crate::letters::Letters;
 use crate::{Call, Outcome};
 
@@ -13,9 +16,19 @@ const ENOUGH: u64 = 5_000;
 
 const STATES: [&str; 5] = ["number", "range", "zero divisor", "spent", "deep"];
 
+/// What `Tangles` tells, in words.
+const TANGLES: [&str; Tangles::COUNT] = [
+    "beside a Group that stays whole",
+    "below the outermost Group",
+    "with a value",
+    "twice in a Group",
+    "inside an opened Group",
+];
+
 /// How the calls replied, what Plan and Run came to, how many labels Name was
-/// asked for and gave a part to, how many prints there was room for, and how many
-/// sheets had names in other letters than those that they are the same as.
+/// asked for and gave a part to, how many prints there was room for, how many
+/// sheets had names in other letters than those that they are the same as, and
+/// where mixed plans were tangled.
 #[derive(Debug, Default, Clone, PartialEq, Eq)]
 pub struct Tally {
     trials: u64,
@@ -32,6 +45,8 @@ pub struct Tally {
     /// Sheets with names in other letters: heads of paths, later names, names
     /// that clash.
     letters: [u64; 3],
+    /// Mixed plans by what is told in `TANGLES`.
+    tangles: [u64; Tangles::COUNT],
 }
 
 impl Tally {
@@ -40,8 +55,8 @@ impl Tally {
         for (counts, reply) in self.replies.iter_mut().zip(outcome.replies()) {
             counts[reply.refusal as usize] += 1;
         }
-        self.whole += u64::from(outcome.plan.order == 1);
-        self.mixed += u64::from(outcome.plan.order == 2);
+        self.whole += u64::from(outcome.plan.order == WHOLE);
+        self.mixed += u64::from(outcome.plan.order == MIXED);
         add_all(&mut self.states, &outcome.states);
         self.asked += outcome.asked;
         self.named += outcome.named;
@@ -55,6 +70,7 @@ impl Tally {
             &mut self.letters,
             &[heads, later_names, clash].map(u64::from),
         );
+        add_all(&mut self.tangles, &outcome.tangles.counts());
     }
 
     pub fn merge(&mut self, other: &Tally) {
@@ -69,12 +85,14 @@ impl Tally {
         self.named += other.named;
         self.printed += other.printed;
         add_all(&mut self.letters, &other.letters);
+        add_all(&mut self.tangles, &other.tangles);
     }
 
     /// Whether every call answered and refused by each of its rows, plans were
     /// whole and mixed, values came to every state, Name gave parts, empty ones
-    /// too, prints had room and had not, and names were in other letters wherever
-    /// they are compared; a short run need not have met all of them.
+    /// too, prints had room and had not, names were in other letters wherever they
+    /// are compared, and sheets were tangled wherever they can be; a short run need
+    /// not have met all of them.
     pub fn is_complete(&self) -> bool {
         let mut calls = Call::ALL.into_iter().zip(&self.replies);
         let replies = calls.all(|(call, counts)| !counts[..=call.last_row()].contains(&0));
@@ -83,7 +101,9 @@ impl Tally {
         let prints = self.printed > 0 && self.printed < self.trials;
         let states = !self.states.contains(&0);
         let letters = !self.letters.contains(&0);
-        self.trials < ENOUGH || (replies && orders && names && prints && states && letters)
+        let tangles = !self.tangles.contains(&0);
+        let is_all = replies && orders && names && prints && states && letters && tangles;
+        self.trials < ENOUGH || is_all
     }
 
     pub fn total(&self) -> u64 {
@@ -95,6 +115,15 @@ fn add_all(counts: &mut [u64], more: &[u64]) {
     for (count, more) in counts.iter_mut().zip(more) {
         *count += more;
     }
+}
+
+/// Each count with its name.
+fn listed(names: &[&str], counts: &[u64]) -> String {
+    let counts = counts.iter().zip(names);
+    let words: Vec<String> = counts
+        .map(|(count, name)| format!("{count} {name}"))
+        .collect();
+    words.join(", ")
 }
 
 impl fmt::Display for Tally {
@@ -116,9 +145,8 @@ impl fmt::Display for Tally {
             writeln!(f)?;
         }
         writeln!(f, "plans: {} whole, {} mixed", self.whole, self.mixed)?;
-        let count = |(name, count): (&str, u64)| format!("{count} {name}");
-        let states: Vec<String> = STATES.into_iter().zip(self.states).map(count).collect();
-        writeln!(f, "values: {}", states.join(", "))?;
+        writeln!(f, "tangled: {}", listed(&TANGLES, &self.tangles))?;
+        writeln!(f, "values: {}", listed(&STATES, &self.states))?;
         let cut = self.trials - self.printed;
         writeln!(f, "prints: {} whole, {cut} cut short", self.printed)?;
         let [heads, later, clashes] = self.letters;

@@ -1,9 +1,9 @@
 //! One trial of all the calls.
 
-use generator::Case;
+use generator::{Case, Tangles};
 use lindypo::raw::{Part, Printed, Reply};
 
-use crate::calls::{Call, Lent};
+use crate::calls::{Call, Lent, MIXED};
 use crate::lent::{LentCells, LentPart, SURROUNDINGS};
 use crate::letters::Letters;
 
@@ -46,6 +46,7 @@ pub struct Outcome {
     /// Whether there was room for the whole print.
     pub is_print_whole: bool,
     pub letters: Letters,
+    pub tangles: Tangles,
 }
 
 impl Outcome {
@@ -69,6 +70,7 @@ impl Outcome {
             named: names.iter().filter(is_named).count() as u64,
             is_print_whole: print.printed.length <= print.out.len() as u64,
             letters: Letters::of(text, &calls[0]),
+            tangles: tangles(&calls[1]),
         }
     }
 
@@ -375,6 +377,14 @@ fn part_of(text: &[u8], part: &[u8]) -> Part {
     Part {
         start: start as u64,
         length: part.len() as u64,
+    }
+}
+
+/// What is so of the sheet of a mixed plan.
+fn tangles(plan: &Wanted) -> Tangles {
+    match plan.reply.order {
+        MIXED => Tangles::of(&plan.buffers[0]),
+        _ => Tangles::default(),
     }
 }
 

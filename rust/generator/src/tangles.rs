@@ -25,7 +25,7 @@ impl Tangles {
     /// How many of them there are.
     pub const COUNT: usize = 5;
 
-    /// Those of a table that Plan wrote.
+    /// Those of a table that Plan wrote; the zeros after its lines are no lines.
     pub fn of(table: &[i64]) -> Self {
         let tangled = Tangled::of(table);
         let Tangled { tree, blocks } = &tangled;

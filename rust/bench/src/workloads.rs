@@ -76,6 +76,7 @@ pub fn workloads() -> Vec<Workload> {
     list.extend(LINES.map(|lines| Workload::everyday(lines, 1)));
     list.extend(LINES.map(|lines| Workload::everyday(lines, SHEETS)));
     list.extend(shapes());
+    list.extend(tangled());
     list.extend(in_other_letters());
     list.extend([7, 9, 15, 16].map(refused));
     list
@@ -106,11 +107,6 @@ fn shapes() -> Vec<Workload> {
         one("chain of 500, backward", planned, generator::backward(500)),
         one("dense: 171 by functions", planned, generator::dense(171)),
         one(
-            "tangled Groups of 250 each",
-            planned,
-            generator::tangled(500),
-        ),
-        one(
             "341 Groups, a value in each",
             all,
             generator::nested_values(341),
@@ -119,6 +115,29 @@ fn shapes() -> Vec<Workload> {
         one("deepest calls", evaluated, generator::deepest_calls()),
         one("500 short values", evaluated, generator::short_values(500)),
     ]
+}
+
+/// Groups that need each other round a circle: few or all, one ring or many, side
+/// by side or deep down. 340 Groups with a value and 127 rings of two are as many
+/// as 1,024 lines hold.
+fn tangled() -> Vec<Workload> {
+    let shapes = [
+        ("tangled Groups of 250 each", generator::tangled(500)),
+        ("two tangled among 300 others", generator::ring_among(300)),
+        ("340 Groups in one ring", generator::ring(340)),
+        ("127 rings of two", generator::rings(127)),
+        ("tangle under 300 Groups", generator::nested_tangle(300)),
+        (
+            "every second of 340 in a ring",
+            generator::every_second_in_ring(340),
+        ),
+        (
+            "rings in every second Group",
+            generator::rings_in_every_second(170),
+        ),
+    ];
+    let workload = |(name, text)| Workload::one(name, &Call::PLANNED, text);
+    shapes.map(workload).into()
 }
 
 /// Paths in capitals to names in small letters, and names and paths in letters
@@ -182,6 +201,8 @@ pub fn growths() -> Vec<Growth> {
         growth("chain, backward", planned, generator::backward, [127, 511]),
         growth("dense", planned, generator::dense, [43, 171]),
         growth("tangled Groups", planned, generator::tangled, [126, 510]),
+        growth("ring of Groups", planned, generator::ring, [84, 340]),
+        growth("rings of two Groups", planned, generator::rings, [31, 127]),
         growth(
             "Groups, a value in each",
             planned,

@@ -7,7 +7,7 @@
 
 #include "lindypo.h"
 
-#define FAULTS 23
+#define FAULTS 25
 
 static const char *const words[FAULTS + 1] = {
     "",
@@ -34,6 +34,8 @@ static const char *const words[FAULTS + 1] = {
     "Name gives the letters of the definition for those of a path",
     "Run leaves out the target of a path in other letters",
     "The print puts names in small letters",
+    "Plan opens every Group where one is tangled",
+    "Plan says whole where no member of the outermost Group is tangled",
 };
 
 static int fault;
@@ -72,12 +74,21 @@ static int has_other_letters(const uint8_t *text, const int64_t *table, uint64_t
     return 0;
 }
 
-/* The first label whose path is in other letters; 0 where none is. Lines have a
- * kind, cells after them have not. */
+/* The lines of a table: they have a kind, cells after them have not. */
+static uint64_t line_count(const int64_t *table, size_t table_length)
+{
+    uint64_t lines = 0;
+    while (8 * (lines + 1) <= table_length && table[8 * lines] != 0)
+        lines++;
+    return lines;
+}
+
+/* The first label whose path is in other letters; 0 where none is. */
 static uint64_t first_other_letters(const uint8_t *text, const int64_t *table,
                                     size_t table_length)
 {
-    for (uint64_t label = 1; 8 * label <= table_length && table[8 * (label - 1)] != 0; label++)
+    uint64_t lines = line_count(table, table_length);
+    for (uint64_t label = 1; label <= lines; label++)
         if (has_other_letters(text, table, label))
             return label;
     return 0;
@@ -113,6 +124,67 @@ static int clashes_in_same_letters(const uint8_t *text, uint64_t label)
         if (is_same_field(text, label, other, 1) && is_same_field(text, label, other, 2))
             return 1;
     return 0;
+}
+
+/* What each definition reaches, by label. */
+static uint8_t reaches[LINDYPO_LABELS_MOST + 1][LINDYPO_LABELS_MOST + 1];
+
+static void fill_reaches(const int64_t *table, uint64_t lines)
+{
+    memset(reaches, 0, sizeof reaches);
+    for (const int64_t *line = table; line < table + 8 * lines; line += 8)
+        if (line[7] != 0)
+            reaches[line[6]][line[7]] = 1;
+    for (uint64_t middle = 1; middle <= lines; middle++)
+        for (uint64_t from = 1; from <= lines; from++)
+            for (uint64_t to = 1; reaches[from][middle] && to <= lines; to++)
+                reaches[from][to] |= reaches[middle][to];
+}
+
+/* Whether a value is left, and none that it reaches. */
+static int is_ready(const uint8_t *is_left, uint64_t lines, uint64_t value)
+{
+    for (uint64_t other = 1; other <= lines; other++)
+        if (is_left[other] && reaches[value][other])
+            return 0;
+    return is_left[value];
+}
+
+/* The plan as it would be with every Group opened: again and again the smallest
+ * value whose reached values are all listed. */
+static void open_every_group(const int64_t *table, size_t table_length,
+                             int64_t *plan, uint64_t count)
+{
+    uint8_t is_left[LINDYPO_LABELS_MOST + 1] = {0};
+    uint64_t lines = line_count(table, table_length);
+    for (uint64_t at = 0; at < count; at++)
+        is_left[plan[at]] = 1;
+    fill_reaches(table, lines);
+    for (uint64_t at = 0; at < count; at++) {
+        uint64_t next = 1;
+        while (!is_ready(is_left, lines, next))
+            next++;
+        is_left[next] = 0;
+        plan[at] = (int64_t)next;
+    }
+}
+
+/* Whether a plan has the values of each member of the outermost Group side by
+ * side, which it has where no two of them are tangled. */
+static int is_whole_outside(const int64_t *table, const int64_t *plan, uint64_t count)
+{
+    uint8_t is_met[LINDYPO_LABELS_MOST + 1] = {0};
+    int64_t before = 0;
+    for (uint64_t at = 0; at < count; at++) {
+        int64_t member = plan[at];
+        while (table[8 * (member - 1) + 6] != 1)
+            member = table[8 * (member - 1) + 6];
+        if (member != before && is_met[member])
+            return 0;
+        is_met[member] = 1;
+        before = member;
+    }
+    return 1;
 }
 
 lindypo_reply __wrap_lindypo_read(const uint8_t *text, size_t text_length,
@@ -164,7 +236,12 @@ lindypo_reply __wrap_lindypo_plan(const uint8_t *text, size_t text_length,
         (void)*(const volatile uint8_t *)(text - 1);
     lindypo_reply reply = __real_lindypo_plan(text, text_length, table, table_length,
                                               plan, plan_length);
-    if (fault == 8 && reply.order == 2)
+    int is_mixed = reply.order == 2;
+    if (fault == 8 && is_mixed)
+        reply.order = 1;
+    if (fault == 24 && is_mixed)
+        open_every_group(table, table_length, plan, reply.count);
+    if (fault == 25 && is_mixed && is_whole_outside(table, plan, reply.count))
         reply.order = 1;
     return reply;
 }

@@ -40,7 +40,7 @@ fn vary(rng: &mut Rng, text: Vec<u8>) -> Vec<u8> {
     let Some(mut rows) = rows::split(&text) else {
         return generator::damage(rng, text);
     };
-    match rng.below(10) {
+    match rng.below(11) {
         0 | 1 => swap_labels(rng, &mut rows),
         2 => grow(rng, &mut rows),
         3 => change_number(rng, &mut rows),
@@ -49,6 +49,7 @@ fn vary(rng: &mut Rng, text: Vec<u8>) -> Vec<u8> {
         6 => read_another(rng, &mut rows),
         7 => return generator::recased(rng, &text),
         8 => recase_one(rng, &mut rows),
+        9 => tangle(rng, &mut rows),
         _ => define(rng, &mut rows),
     }
     rows::join(&rows)
@@ -187,20 +188,53 @@ fn read_another(rng: &mut Rng, rows: &mut [Row]) {
     rows[at][1] = path;
 }
 
+/// Two Groups side by side come to need each other: a value of the first reads
+/// one of the second, which reads another one of the first.
+fn tangle(rng: &mut Rng, rows: &mut Vec<Row>) {
+    let Some(first) = find(rng, &rows[1..], b"G").map(|at| at + 1) else {
+        return;
+    };
+    let is_beside =
+        |&at: &usize| at != first && rows[at][0] == rows[first][0] && rows[at][2] == rows[first][2];
+    let beside: Vec<usize> = (1..rows.len()).filter(is_beside).collect();
+    if beside.is_empty() {
+        return;
+    }
+    let second = *rng.pick(&beside);
+    let (value, end) = (format!("t{}", rng.below(30)), format!("e{}", rng.below(30)));
+    let read = |group: usize, name: &str| {
+        let mut read = row(["R", "-", "-", "-", "-"]);
+        read[1] = [&rows[group][1][..], name.as_bytes()].join(&b'.');
+        read
+    };
+    let bodies = [read(second, &value), read(first, &end), row(SEVEN)];
+    let places = [(first, &value), (second, &value), (first, &end)];
+    for ((group, name), body) in places.into_iter().zip(bodies) {
+        define_with(rows, "V", name, group, body);
+    }
+}
+
+/// A number's line.
+const SEVEN: [&str; 5] = ["N", "-", "7", "-", "-"];
+
 /// One more definition, with a body that is a leaf.
 fn define(rng: &mut Rng, rows: &mut Vec<Row>) {
     let Some(group) = find(rng, rows, b"G") else {
         return;
     };
-    let label = rows.len() + 1;
     let kind = *rng.pick(&["G", "V", "V", "V", "F"]);
     let name = format!("{}{}", rng.pick(&["n", "N"]), rng.below(30));
-    let body = (label + 1).to_string();
-    let body = if kind == "G" { "-" } else { &body };
-    rows.push(row([kind, &name, &(group + 1).to_string(), body, "-"]));
-    if kind != "G" {
-        rows.push(row(["N", "-", "7", "-", "-"]));
+    match kind {
+        "G" => rows.push(row([kind, &name, &(group + 1).to_string(), "-", "-"])),
+        _ => define_with(rows, kind, &name, group, row(SEVEN)),
     }
+}
+
+/// A definition of the Group that stands at `group`, from 0, and its body.
+fn define_with(rows: &mut Vec<Row>, kind: &str, name: &str, group: usize, body: Row) {
+    let [group, label] = [group + 1, rows.len() + 2].map(|label| label.to_string());
+    rows.push(row([kind, name, &group, &label, "-"]));
+    rows.push(body);
 }
 
 #[cfg(test)]
@@ -242,6 +276,29 @@ mod tests {
             met += usize::from(count.is_ok() && others.heads > 0);
         }
         assert!(met > 50, "{met} of 1,000");
+    }
+
+    /// Sheets that plan and are tangled in every way come of sheets that are not,
+    /// by steps that leave them reading.
+    #[test]
+    fn changed_sheets_are_tangled() {
+        let rng = &mut Rng::new(5);
+        let mut met = [0; generator::Tangles::COUNT];
+        for seed in 0..1_000 {
+            let mut text = generator::everyday(40, seed);
+            for _ in 0..40 {
+                let varied = vary(rng, text.clone());
+                if checks::Trial::new(&varied, &[]).wanted()[1].reply.refusal == 0 {
+                    text = varied;
+                }
+            }
+            let wanted = checks::Trial::new(&text, &[]).wanted();
+            let tangles = generator::Tangles::of(&wanted[1].buffers[0]);
+            for (count, more) in met.iter_mut().zip(tangles.counts()) {
+                *count += more;
+            }
+        }
+        assert!(met.iter().all(|&count| count > 10), "{met:?}");
     }
 
     #[test]

@@ -36,34 +36,41 @@ fn groups(builder: &mut Builder, around: usize, count: usize) -> Vec<Named> {
     names.map(group).collect()
 }
 
-/// Each Group gets a value that reads that of the next, and the last one's reads
-/// a second value of the first: a ring, and no value reaches itself.
-fn tie(builder: &mut Builder, groups: &[Named]) {
-    for (at, (_, group)) in groups.iter().enumerate() {
-        let body = match groups.get(at + 1) {
-            Some((next, _)) => format!("R:{next}.v"),
-            None => format!("R:{}.end", groups[0].0),
-        };
-        builder.value("v", *group, &body);
+/// In each ring every Group gets a value that reads that of the next, and the
+/// last one's reads a second value of the first, so that no value reaches itself.
+/// These second values come first: with every Group opened, a plan would begin
+/// with them.
+fn tie(builder: &mut Builder, rings: &[Vec<Named>]) {
+    for ring in rings {
+        builder.value("end", ring[0].1, "1");
     }
-    builder.value("end", groups[0].1, "1");
+    for ring in rings {
+        for (at, (_, group)) in ring.iter().enumerate() {
+            let body = match ring.get(at + 1) {
+                Some((next, _)) => format!("R:{next}.v"),
+                None => format!("R:{}.end", ring[0].0),
+            };
+            builder.value("v", *group, &body);
+        }
+    }
 }
 
 /// Groups in one ring. 340 fill a sheet.
 pub fn ring(count: usize) -> Vec<u8> {
     let mut builder = Builder::new();
-    let groups = groups(&mut builder, 1, count);
-    tie(&mut builder, &groups);
+    let ring = groups(&mut builder, 1, count);
+    tie(&mut builder, &[ring]);
     builder.text()
 }
 
 /// Rings of two Groups each, whose labels take turns. 127 fill a sheet.
 pub fn rings(count: usize) -> Vec<u8> {
     let mut builder = Builder::new();
-    let groups = groups(&mut builder, 1, 2 * count);
-    for at in 0..count {
-        tie(&mut builder, &[at, at + count].map(|at| groups[at].clone()));
-    }
+    let firsts = groups(&mut builder, 1, 2 * count);
+    let (firsts, seconds) = firsts.split_at(count);
+    let pairs = firsts.iter().zip(seconds);
+    let rings: Vec<Vec<Named>> = pairs.map(|(a, b)| vec![a.clone(), b.clone()]).collect();
+    tie(&mut builder, &rings);
     builder.text()
 }
 
@@ -73,13 +80,13 @@ pub fn ring_among(others: usize) -> Vec<u8> {
     let mut builder = Builder::new();
     let mut others = groups(&mut builder, 1, others + 2);
     let middle = others.len() / 2;
-    let pair: Vec<Named> = others.drain(middle..middle + 2).collect();
-    tie(&mut builder, &pair);
+    let pair = others.drain(middle..middle + 2).collect();
     for (at, (_, group)) in others.iter().enumerate() {
         let next = others.get(at + 1);
         let body = next.map_or("1".to_string(), |(next, _)| format!("R:{next}.v"));
         builder.value("v", *group, &body);
     }
+    tie(&mut builder, &[pair]);
     builder.text()
 }
 
@@ -88,11 +95,11 @@ pub fn ring_among(others: usize) -> Vec<u8> {
 pub fn every_second_in_ring(count: usize) -> Vec<u8> {
     let mut builder = Builder::new();
     let groups = groups(&mut builder, 1, count);
-    let ring: Vec<Named> = groups.iter().step_by(2).cloned().collect();
-    tie(&mut builder, &ring);
     for pair in groups.chunks_exact(2) {
         builder.value("v", pair[1].1, &format!("R:{}.v", pair[0].0));
     }
+    let ring = groups.into_iter().step_by(2).collect();
+    tie(&mut builder, &[ring]);
     builder.text()
 }
 
@@ -101,26 +108,28 @@ pub fn every_second_in_ring(count: usize) -> Vec<u8> {
 pub fn rings_in_every_second(count: usize) -> Vec<u8> {
     let mut builder = Builder::new();
     let outer = groups(&mut builder, 1, count);
+    let tangled = outer.iter().step_by(2);
+    let rings: Vec<Vec<Named>> = tangled
+        .map(|(_, group)| groups(&mut builder, *group, 2))
+        .collect();
+    tie(&mut builder, &rings);
     for pair in outer.chunks_exact(2) {
-        let inner = groups(&mut builder, pair[0].1, 2);
-        tie(&mut builder, &inner);
         builder.value("v", pair[1].1, &format!("R:{}.g1.v", pair[0].0));
     }
     builder.text()
 }
 
-/// Groups in each other, each with a value that reads that of the Group inside
-/// it; in the innermost two tangled Groups, with a fifth as many values.
+/// Groups in each other, each with a value, and in the innermost two tangled
+/// Groups, which have a fifth as many: the values of an inner Group come before
+/// that of the one around it.
 pub fn nested_tangle(groups: usize) -> Vec<u8> {
     let mut builder = Builder::new();
     let mut group = 1;
-    for place in 1..=groups {
+    for _ in 0..groups {
         group = builder.group("inner", group);
-        let body = match place {
-            _ if place < groups => "R:inner.v".to_string(),
-            _ => format!("R:right.{}", long_name(0)),
-        };
-        builder.value("v", group, &body);
+    }
+    for around in 2..=group {
+        builder.value("v", around, "1");
     }
     crosswise(&mut builder, group, groups / 5);
     builder.text()

@@ -174,6 +174,22 @@ impl Counts {
     }
 }
 
+/// Shapes with Groups beside a tangle tell a plan that opens these too.
+#[test]
+fn shapes_that_are_not_all_opened() {
+    let texts = [
+        generator::ring_among(300),
+        generator::rings(127),
+        generator::nested_tangle(300),
+        generator::every_second_in_ring(340),
+        generator::rings_in_every_second(170),
+    ];
+    for text in texts {
+        let planned = Planned::new(&text).expect("a sheet that plans");
+        assert!(planned.is_other_than_opened());
+    }
+}
+
 #[test]
 fn what_planning_can_go_wrong_on() {
     let mut counts = Counts::default();

@@ -1,6 +1,6 @@
-//! Plans of Groups that need each other, and rows 17 and 18 of Follow.
+//! Plans, whole and mixed, and rows 17 and 18 of Follow.
 
-use reference::Order::Whole;
+use reference::Order::{Mixed, Whole};
 
 use crate::{followed, planned, rubbish, Builder};
 
@@ -44,6 +44,32 @@ fn needs_of_groups_and_functions() {
     builder.define("F", "f", left, "P");
     builder.define("F", "f", right, "P");
     assert_eq!(planned(&builder.text()), Ok((vec![v, w], Whole)));
+}
+
+/// A nested Group that is stuck makes the plan mixed.
+#[test]
+fn a_nested_group_gets_stuck() {
+    let mut builder = Builder::new();
+    let g = builder.group("g", 1);
+    let left = builder.group("left", g);
+    let right = builder.group("right", g);
+    let a = builder.define("V", "a", left, "R:right.b") as i64;
+    let c = builder.define("V", "c", left, "1") as i64;
+    let b = builder.define("V", "b", right, "1") as i64;
+    let d = builder.define("V", "d", right, "R:left.c") as i64;
+    let z = builder.define("V", "z", 1, "1") as i64;
+    assert_eq!(planned(&builder.text()), Ok((vec![c, b, a, d, z], Mixed)));
+}
+
+/// A value between two values of another Group: no whole order.
+#[test]
+fn a_group_split_by_an_outer_value() {
+    let mut builder = Builder::new();
+    let g = builder.group("g", 1);
+    let a = builder.define("V", "a", g, "R:x") as i64;
+    let b = builder.define("V", "b", g, "1") as i64;
+    let x = builder.define("V", "x", 1, "R:g.b") as i64;
+    assert_eq!(planned(&builder.text()), Ok((vec![b, x, a], Mixed)));
 }
 
 fn chain() -> (Vec<u8>, [i64; 3]) {

@@ -85,19 +85,6 @@ fn a_block_of_several_before_members_that_were_ready() {
     sheet.plans_mixed("b a d c z y");
 }
 
-#[test]
-fn a_tangle_inside_a_group() {
-    let mut sheet = Sheet::new();
-    let [g] = sheet.groups(1, ["g"]);
-    let [left, right] = sheet.groups(g, ["left", "right"]);
-    sheet.value("a", left, "R:right.b");
-    sheet.value("c", left, "1");
-    sheet.value("b", right, "1");
-    sheet.value("d", right, "R:left.c");
-    sheet.value("z", 1, "1");
-    sheet.plans_mixed("c b a d z");
-}
-
 /// Two Groups down, with a Group beside the tangle and one around it whose
 /// values stay side by side.
 #[test]
@@ -118,19 +105,8 @@ fn a_tangle_two_groups_down() {
     sheet.plans_mixed("q t b a d c o x y");
 }
 
-/// A value between two values of a Group is in the Group's block.
-#[test]
-fn a_value_in_a_block() {
-    let mut sheet = Sheet::new();
-    let [g] = sheet.groups(1, ["g"]);
-    sheet.value("a", g, "R:x");
-    sheet.value("b", g, "1");
-    sheet.value("x", 1, "R:g.b");
-    sheet.plans_mixed("b x a");
-}
-
-/// The same where the value has the smallest label, and with values that are
-/// blocks by themselves on all sides.
+/// A value between two values of a Group is in a block with it, here with the
+/// smallest label, and values that are blocks by themselves are on all sides.
 #[test]
 fn a_value_leads_a_block() {
     let mut sheet = Sheet::new();

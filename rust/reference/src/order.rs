@@ -47,7 +47,9 @@ impl<'s> Planner<'s> {
             sizes[group] += 1;
         }
         // Members lie above their Group: going down, a Group is complete when met.
+        // What values reach in their own Group is no need of that Group.
         for &member in listed.iter().rev() {
+            reach.reached.remove(member, member);
             reach.reached.merge(reach.groups[member] as usize, member);
         }
         Planner {
@@ -143,9 +145,8 @@ impl<'s> Planner<'s> {
     fn needs(&self, list: impl ExactSizeIterator<Item = usize>, set: &[u64]) -> Needs {
         let mut needs = Needs::new(list.len());
         for (place, definition) in list.enumerate() {
-            let reached = self.reach.reached_among(definition, set);
-            let others = reached.filter(|&other| other != definition);
-            needs.add(place, others.map(|other| self.places[other] as usize));
+            let needed = self.reach.reached_among(definition, set);
+            needs.add(place, needed.map(|other| self.places[other] as usize));
         }
         needs
     }

@@ -85,7 +85,7 @@ impl Blocks {
         let leads = (0..count).filter(|&item| self.leads[item] == item);
         let mut needs = Needs::new(count);
         for lead in leads.clone() {
-            for item in self.needers(lead) {
+            for item in ones(self.needers(lead)) {
                 let needer = self.leads[item];
                 needs.unmet[needer] += u32::from(needs.needed_by.insert(lead, needer));
             }
@@ -98,17 +98,17 @@ impl Blocks {
         self.items.members(lead)
     }
 
-    /// The items outside a block that need one of it.
-    fn needers(&self, lead: usize) -> impl Iterator<Item = usize> + '_ {
-        let words = self.needed_by.row(lead).iter().zip(self.items.row(lead));
-        ones(words.map(|(needers, items)| needers & !items))
+    /// The items outside a block that need one of it, as words.
+    fn needers(&self, block: usize) -> impl Iterator<Item = u64> + '_ {
+        let words = self.needed_by.row(block).iter().zip(self.items.row(block));
+        words.map(|(needers, items)| needers & !items)
     }
 }
 
 /// A walk from an item to one that needs it, and on. The path holds blocks as
-/// far as they are known, each needed by the next; one that is needed by an
-/// earlier one too closes a circle. Rows are joined as blocks are, so that a
-/// step looks at words, not at items.
+/// far as they are known, each needed by the next; where one before needs the
+/// last too, that is a circle. Rows are joined as blocks are, so that a step
+/// looks at words, not at items, and there are at most three steps an item.
 struct Search {
     blocks: Blocks,
     /// One row: the items whose blocks are still open.
@@ -169,14 +169,10 @@ impl Search {
         self.path.push(item);
     }
 
-    /// Somebody outside a block that needs one of it.
+    /// Somebody outside a block that needs one of it, if not in a closed block.
     fn open_needer(&self, block: usize) -> Option<usize> {
-        let Blocks {
-            items, needed_by, ..
-        } = &self.blocks;
-        let words = needed_by.row(block).iter().zip(items.row(block));
-        let words = words.zip(self.open.row(0));
-        ones(words.map(|((needers, items), open)| needers & !items & open)).next()
+        let words = self.blocks.needers(block).zip(self.open.row(0));
+        ones(words.map(|(needers, open)| needers & open)).next()
     }
 
     /// The last blocks of the path, back to the one with this item, are one.
@@ -194,7 +190,7 @@ impl Search {
         }
     }
 
-    /// Nobody else needs the last block of the path, closed ones aside: it is
+    /// Nobody outside a closed block needs the last one of the path: it is
     /// complete.
     fn close(&mut self, last: usize) {
         self.path.pop();

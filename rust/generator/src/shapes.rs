@@ -2,7 +2,9 @@
 
 use crate::builder::{Builder, MAX_LINES};
 use crate::letters::capital_paths;
-use crate::tangled::{every_second_in_ring, nested_tangle, ring, ring_among, rings, tangled};
+use crate::tangled::{
+    every_second_in_ring, nested_tangle, ring, ring_among, rings, rings_in_every_second, tangled,
+};
 
 /// A sheet with a name to print beside its figures.
 pub struct Shape {
@@ -30,6 +32,7 @@ pub fn shapes() -> Vec<Shape> {
         shape("127 rings of two", rings(127)),
         shape("tangle under 300 Groups", nested_tangle(300)),
         shape("every second Group in a ring", every_second_in_ring(340)),
+        shape("rings in every second Group", rings_in_every_second(170)),
         shape("one value of 20,000 steps", spent(1)),
         shape("339 values of 20,000 steps", spent(339)),
         shape("deepest calls", deepest_calls()),

@@ -30,8 +30,9 @@ pub fn automatic(view: &View, open: Option<Label>) -> BTreeSet<Label> {
         }
     }
     for label in sequence.into_iter().rev() {
+        let fewest = cards(view, &folded).max(MOST);
         folded.remove(&label);
-        if cards(view, &folded) > MOST {
+        if cards(view, &folded) > fewest {
             folded.insert(label);
         }
     }

@@ -1,0 +1,8 @@
+pub mod Parts
+pub mod Reaching
+pub mod Steps
+pub mod Rooms
+pub mod Narrowed
+mod Rows
+pub mod Merging
+mod Gathering

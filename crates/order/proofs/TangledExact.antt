@@ -6,21 +6,21 @@ use mathlib.Core.List.{List}
 use mathlib.Core.Bool.{Bool, true, not, _&&_}
 use Prim.Native.Nat.{ℕ, _≤_}
 use native.Mathlib.Omega.{arith}
-use lib.Dec.{eqb}
+use lib.Dec.{eqb, ltb}
 use lib.IntN.{ℤ}
-use borrow.Author.Tests.{eqb-false, ne-eqb, not-true}
+use borrow.Author.Tests.{eqb-false, ne-eqb, not-true, ltb-true}
 use Rattle.cells.specs.Accepted.{Accepted}
 use Rattle.order.specs.LabelLists.{_∈_}
 use Rattle.order.specs.Closure.{closure}
-use Rattle.order.specs.Blocks.{together, several}
+use Rattle.order.specs.Blocks.{together, several, leads}
 use Rattle.order.specs.Order.{isG, allLabels, members, needs, memberBlock, groupTangled, someTangled}
 use Rattle.order.specs.Tangles.{Member, Needs, NeedsThrough, directly, through, OneBlock, Tangled, SomeTangled}
-use Rattle.order.proofs.Tests.{and-left, and-right, and-intro}
-use Rattle.order.proofs.Lists.{any-true, any-intro}
+use Rattle.order.proofs.Tests.{not-so, and-left, and-right, and-intro}
+use Rattle.order.proofs.Lists.{any-true, any-intro, any-refute}
 use Rattle.order.proofs.Closure.{step, then}
 use Rattle.order.proofs.Tables.{v-kind, kind-v, g-kind, kind-g, g-def, def-label, pos-of, in-labels, member-of, count-member, reaches-exact}
 use Rattle.order.proofs.Needs.{holds-intro, holds-v, holds-in, needs-intro, needs-elim}
-use Rattle.order.proofs.Blocks.{Onto, onto-step, onto-needs, onto-member, onto-item, onto-trans, needed-chain, Tog, tog-of, of-tog, in-block, block-in}
+use Rattle.order.proofs.Blocks.{Onto, onto-step, onto-needs, onto-member, onto-item, onto-trans, needed-chain, Tog, tog-of, of-tog, in-block, block-in, lead-smallest}
 
 module _ (t : List ℤ) (n : ℕ) (ok : Accepted t n) where
   -- the test of needing is the relation
@@ -109,6 +109,22 @@ module _ (t : List ℤ) (n : ℕ) (ok : Accepted t n) (g : ℕ) where
       back : Tangled t g p → several R items p ≡ true
       back (q, d, m, b) =
           any-intro (λ q. not (eqb q p)) (memberBlock t n g p) q (block-in R items p q (member-in q m) (block-tog p q hp (pos-of t n ok q (m .0)) b)) (ap not (ne-eqb q p d))
+
+  -- the test of leading a block finds the smallest label that it holds
+  pub leader-exact : (p : ℕ) → Member t g p → (leads (needs t n) (members t n g) p ≡ true) ↔ ((q : ℕ) → Member t g q → OneBlock t g p q → p ≤ q)
+  leader-exact p m = (there, back)
+    where
+      hp : 1 ≤ p
+      hp = pos-of t n ok p (m .0)
+
+      there : leads R items p ≡ true → (q : ℕ) → Member t g q → OneBlock t g p q → p ≤ q
+      there l q k b = lead-smallest R items p q l (member-in q k) (block-tog p q hp (pos-of t n ok q (k .0)) b)
+
+      back : ((q : ℕ) → Member t g q → OneBlock t g p q → p ≤ q) → leads R items p ≡ true
+      back h = ap not (any-refute (λ q. ltb q p) (memberBlock t n g p) (λ q i.
+          let w = in-block R items p q i in
+          let l = h q (member-of t n ok g q (w .0)) (tog-block p q hp (member-pos q (w .0)) (w .1)) in
+          not-so (ltb q p) (λ s. omega (arith, ltb-true q p s, l))))
 
 -- some block of some Group has several members: the test is the relation
 pub tangled-exact : (t : List ℤ) (n : ℕ) → Accepted t n → (someTangled t n ≡ true) ↔ SomeTangled t

@@ -9,7 +9,7 @@ use lib.ListN.{length, getD, set, take}
 use lib.Seq.{take-suc, take-suc-set, take-set-le}
 use borrow.Author.Tests.{eqb-true, eq-eqb}
 use Rattle.order.specs.LabelLists.{one, _∈_, filter}
-use Rattle.order.specs.Blocks.{leads, leaders}
+use Rattle.order.specs.Blocks.{isLeader, leaders}
 use Rattle.order.proofs.Alike.{same-test, filter-same}
 use Rattle.order.proofs.Blocks.{tog-refl}
 use Rattle.blocks.specs.Found.{Led}
@@ -18,12 +18,12 @@ use Rattle.blocks.proofs.Merging.{led-is}
 
 -- a leader is its own lead, and nothing else is
 pub heads-leaders : (R : ℕ → ℕ → Bool) (items lead : List ℕ) → Led R items lead → filter (heads lead) items ≡ leaders R items
-heads-leaders R items lead led = filter-same (heads lead) (leads R items) items (λ x m. same-test (heads lead x) (leads R items x) (there x m) (back x m))
+heads-leaders R items lead led = filter-same (heads lead) (isLeader R items) items (λ x m. same-test (heads lead x) (isLeader R items x) (there x m) (back x m))
   where
-    there : (x : ℕ) → x ∈ items → heads lead x ≡ true → leads R items x ≡ true
-    there x m e = subst (λ (v : ℕ). leads R items v ≡ true) (eqb-true (getD lead x 0) x e) (led x m .1)
+    there : (x : ℕ) → x ∈ items → heads lead x ≡ true → isLeader R items x ≡ true
+    there x m e = subst (λ (v : ℕ). isLeader R items v ≡ true) (eqb-true (getD lead x 0) x e) (led x m .1)
 
-    back : (x : ℕ) → x ∈ items → leads R items x ≡ true → heads lead x ≡ true
+    back : (x : ℕ) → x ∈ items → isLeader R items x ≡ true → heads lead x ≡ true
     back x m l = eq-eqb (getD lead x 0) x (led-is R items lead led x x m l m (tog-refl R items x))
 
 filter-more : (f : ℕ → Bool) (l : List ℕ) (x : ℕ) → filter f (l ++ x ∷ []) ≡ filter f l ++ filter f (x ∷ [])

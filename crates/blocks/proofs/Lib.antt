@@ -5,4 +5,4 @@ pub mod Rooms
 pub mod Narrowed
 mod Rows
 pub mod Merging
-mod Gathering
+pub mod Gathering

@@ -8,7 +8,7 @@ use native.Mathlib.Omega.{arith}
 use native.Mathlib.Decide.{ℕ-discrete}
 use lib.ListN.{length, getD}
 use Rattle.order.specs.LabelLists.{_∈_}
-use Rattle.order.specs.Blocks.{leads, leaders, blockNeeds}
+use Rattle.order.specs.Blocks.{isLeader, leaders, blockNeeds}
 use Rattle.order.proofs.Tests.{and-left, and-right, and-intro}
 use Rattle.order.proofs.Alike.{same-test}
 use Rattle.order.proofs.Closure.{Chain, step, then}
@@ -16,7 +16,7 @@ use Rattle.order.proofs.Blocks.{onto-needs, Tog, tog-refl, tog-sym, tog-trans, 
 use Rattle.marks.specs.Marks.{mark}
 use Rattle.placing.specs.UnmetCounts.{AllBelow, needed}
 use Rattle.blocks.specs.Found.{InRows, Led}
-use Rattle.blocks.specs.Merged.{Mergeable, From, Joined, Following, ClosedRows, Merged}
+use Rattle.blocks.specs.Merged.{Mergeable, RowFrom, Joined, Following, ClosedRows, Merged}
 
 -- ---- leads
 
@@ -28,7 +28,7 @@ module _ (R : ℕ → ℕ → Bool) (items lead : List ℕ) (led : Led R items l
   led-tog x m = tog-sym R items x (getD lead x 0) (in-block R items x (getD lead x 0) (led x m .0) .1)
 
   -- the lead is the only leader in the block
-  pub led-is : (b x : ℕ) → b ∈ items → leads R items b ≡ true → x ∈ items → Tog R items b x → getD lead x 0 ≡ b
+  pub led-is : (b x : ℕ) → b ∈ items → isLeader R items b ≡ true → x ∈ items → Tog R items b x → getD lead x 0 ≡ b
   led-is b x mb lb m t =
       leader-once R items (getD lead x 0) b (led-item x m) mb (led x m .1) lb (tog-trans R items (getD lead x 0) x b (led-tog x m) (tog-sym R items b x t))
 
@@ -70,7 +70,7 @@ module _ (items lead s s₁ s₂ followers : List ℕ) (w : ℕ) (ok : Mergeable
   others q p n =
       c .others q p (λ m _. n m) ∙ same-test (mark s₁ w q p) (mark s w q p) (λ e. old (j .row q p .0 e)) (λ e. j .row q p .1 (inl e))
     where
-      old : (mark s w q p ≡ true) ⊎ From items lead s w q p → mark s w q p ≡ true
+      old : (mark s w q p ≡ true) ⊎ RowFrom items lead s w q p → mark s w q p ≡ true
       old (inl e) = e
       old (inr (x, m, e, _)) = absurd (n (subst (λ (v : ℕ). v ∈ items) e (ok .item x m)))
 
@@ -99,15 +99,15 @@ module _ (items lead s s₁ s₂ followers : List ℕ) (w : ℕ) (ok : Mergeable
     row-of : (b p : ℕ) → b ∈ items → mark s₁ w b p ≡ true → (x : ℕ) × (x ∈ items) × Tog R items b x × (mark s w x p ≡ true)
     row-of b p mb e = go (j .row b p .0 e)
       where
-        go : (mark s w b p ≡ true) ⊎ From items lead s w b p → (x : ℕ) × (x ∈ items) × Tog R items b x × (mark s w x p ≡ true)
+        go : (mark s w b p ≡ true) ⊎ RowFrom items lead s w b p → (x : ℕ) × (x ∈ items) × Tog R items b x × (mark s w x p ≡ true)
         go (inl h) = (b, mb, tog-refl R items b, h)
         go (inr (x, m, z, h)) = (x, m, subst (λ (v : ℕ). Tog R items v x) z (led-tog R items lead led x m), h)
 
     module _ (b k : ℕ) (mb : b ∈ leaders R items) (mk : k ∈ leaders R items) where
-      lb : (b ∈ items) × (leads R items b ≡ true)
+      lb : (b ∈ items) × (isLeader R items b ≡ true)
       lb = lead-of R items b mb
 
-      lk : (k ∈ items) × (leads R items k ≡ true)
+      lk : (k ∈ items) × (isLeader R items k ≡ true)
       lk = lead-of R items k mk
 
       own : getD lead b 0 ≡ b

@@ -16,7 +16,7 @@ use Rattle.marks.specs.Marks.{bit, mark, Dropped, Common}
 use Rattle.marks.proofs.Squares.{inside, outside}
 use Rattle.marks.proofs.Bits.{bit-and, bit-none, lowest-is}
 use Rattle.placing.proofs.Lists.{in-more, count-take-le}
-use Rattle.blocks.specs.Search.{Kept, Stored, Shared, Lowest, From, Smallest, Met, Left}
+use Rattle.blocks.specs.Search.{Kept, Stored, CommonMark, Lowest, StandsFrom, Smallest, LowestNeeder, HasLeft}
 
 pub stored : (l : List ℕ) (i v : ℕ) → i < length l → Stored l (set l i v) i v
 stored l i v h = record { own = getD-set-same l i v 0 h; others = λ j d. getD-set-other l i j v 0 d }
@@ -67,7 +67,7 @@ module _ (s mask : List ℕ) (w p j : ℕ) (hj : j < w) where
       inside mask w 0 (64 * j + i) (omega arith) ∙ rw (a, b)
 
   pub common-found : 0 < bitAnd (getD s (p * w + j) 0) (getD mask j 0) → bitAnd (getD s (p * w + j) 0) (getD mask j 0) < 2 ^ 64
-      → Shared s mask w p (64 * j + trailingZeros 64 (bitAnd (getD s (p * w + j) 0) (getD mask j 0)))
+      → CommonMark s mask w p (64 * j + trailingZeros 64 (bitAnd (getD s (p * w + j) 0) (getD mask j 0)))
   common-found pos fit =
       let x = bitAnd (getD s (p * w + j) 0) (getD mask j 0) in
       let t = lowest-is 64 x pos fit in
@@ -139,19 +139,19 @@ smallest-turn stack s i least v r hs g e (a, b, c) = record { least-of = λ k l 
         let y : getD stack k 0 ≡ getD stack i 0 = ap (λ (j : ℕ). getD stack j 0) z in
         omega arith
 
-    is : (r ≡ least) ⊎ (r ≡ v) → From stack s i least → From stack s (i + 1) r
+    is : (r ≡ least) ⊎ (r ≡ v) → StandsFrom stack s i least → StandsFrom stack s (i + 1) r
     is (inl d) (k, l, u, y) = (k, l, omega arith, y ∙ sym d)
     is (inr d) _ = (i, hs, omega arith, sym e ∙ sym d)
 
 -- ---- a block leaves the stack
 
-module _ (stack stacked₀ stacked lead₀ lead : List ℕ) (w s i least x : ℕ) (g : Left stack stacked₀ stacked lead₀ lead w s i least) (hs : s ≤ i) (e : x ≡ getD stack i 0)
+module _ (stack stacked₀ stacked lead₀ lead : List ℕ) (w s i least x : ℕ) (g : HasLeft stack stacked₀ stacked lead₀ lead w s i least) (hs : s ≤ i) (e : x ≡ getD stack i 0)
     (once : (k : ℕ) → k < i → getD stack k 0 ≡ getD stack i 0 → ⊥) where
   -- it is still there
   pub still : (mark stacked w 0 x ≡ mark stacked₀ w 0 x)
   still = g .others x (λ f. once (f .0) (f .2) (f .3 ∙ e)) .0
 
-  pub left-turn : (stacked′ : List ℕ) → x < length lead → Dropped stacked stacked′ w 0 x → Left stack stacked₀ stacked′ lead₀ (set lead x least) w s (i + 1) least
+  pub left-turn : (stacked′ : List ℕ) → x < length lead → Dropped stacked stacked′ w 0 x → HasLeft stack stacked₀ stacked′ lead₀ (set lead x least) w s (i + 1) least
   left-turn stacked′ hl d = record {
     gone = λ y f. gone y f (ℕ-discrete y x);
     led = λ y f. led y f (ℕ-discrete y x);
@@ -159,31 +159,31 @@ module _ (stack stacked₀ stacked lead₀ lead : List ℕ) (w s i least x : ℕ
   }
     where
       -- another of them was there before
-      earlier : (y : ℕ) → From stack s (i + 1) y → (y ≡ x → ⊥) → From stack s i y
+      earlier : (y : ℕ) → StandsFrom stack s (i + 1) y → (y ≡ x → ⊥) → StandsFrom stack s i y
       earlier y (k, l, u, z) n = (k, l, go (decLt k i), z)
         where
           go : Dec (k < i) → k < i
           go (yes t) = t
           go (no t) = let q : k ≡ i = omega arith in absurd (n (sym z ∙ ap (λ (j : ℕ). getD stack j 0) q ∙ sym e))
 
-      gone : (y : ℕ) → From stack s (i + 1) y → Dec (y ≡ x) → mark stacked′ w 0 y ≡ false
+      gone : (y : ℕ) → StandsFrom stack s (i + 1) y → Dec (y ≡ x) → mark stacked′ w 0 y ≡ false
       gone y f (yes z) = ap (mark stacked′ w 0) z ∙ d .gone
       gone y f (no z) = d .others 0 y (λ _ q. z q) ∙ g .gone y (earlier y f z)
 
-      led : (y : ℕ) → From stack s (i + 1) y → Dec (y ≡ x) → getD (set lead x least) y 0 ≡ least
+      led : (y : ℕ) → StandsFrom stack s (i + 1) y → Dec (y ≡ x) → getD (set lead x least) y 0 ≡ least
       led y f (yes z) = ap (λ (j : ℕ). getD (set lead x least) j 0) z ∙ getD-set-same lead x least 0 hl
       led y f (no z) = getD-set-other lead x y least 0 z ∙ g .led y (earlier y f z)
 
-      others : (y : ℕ) → (From stack s (i + 1) y → ⊥) → Dec (y ≡ x) → (mark stacked′ w 0 y ≡ mark stacked₀ w 0 y) × (getD (set lead x least) y 0 ≡ getD lead₀ y 0)
+      others : (y : ℕ) → (StandsFrom stack s (i + 1) y → ⊥) → Dec (y ≡ x) → (mark stacked′ w 0 y ≡ mark stacked₀ w 0 y) × (getD (set lead x least) y 0 ≡ getD lead₀ y 0)
       others y f (yes z) = absurd (f (i, hs, omega arith, sym (z ∙ e)))
       others y f (no z) =
           let o = g .others y (λ (k, l, u, q). f (k, l, omega arith, q)) in
           (d .others 0 y (λ _ q. z q) ∙ o .0, getD-set-other lead x y least 0 z ∙ o .1)
 
-pub left-none : (stack stacked lead : List ℕ) (w s least : ℕ) → Left stack stacked stacked lead lead w s s least
+pub left-none : (stack stacked lead : List ℕ) (w s least : ℕ) → HasLeft stack stacked stacked lead lead w s s least
 left-none stack stacked lead w s least = record { gone = λ x f. absurd (none x f); led = λ x f. absurd (none x f); others = λ x f. (refl, refl) }
   where
-    none : (x : ℕ) → From stack s s x → ⊥
+    none : (x : ℕ) → StandsFrom stack s s x → ⊥
     none x (k, l, u, e) = omega arith
 
 -- one start fewer
@@ -210,7 +210,7 @@ module _ (square stacked list : List ℕ) (w q r : ℕ) (is : Common square stac
       let both = one-in (mark square w q x && mark stacked w 0 x) (omega (arith, is x)) in
       (and-left (mark square w q x) (mark stacked w 0 x) both, and-right (mark square w q x) (mark stacked w 0 x) both)
 
-  pub met-of : (place : List ℕ) (n low : ℕ) → Lowest list place r n low → Met square stacked place w q n low
+  pub met-of : (place : List ℕ) (n low : ℕ) → Lowest list place r n low → LowestNeeder square stacked place w q n low
   met-of place n low g = record {
     least = λ x a b. g .least x (omega (arith, is x, one-true (mark square w q x && mark stacked w 0 x) (and-intro (mark square w q x) (mark stacked w 0 x) a b)));
     is = go (g .is);

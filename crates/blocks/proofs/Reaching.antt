@@ -9,19 +9,19 @@ use native.Mathlib.Decide.{ℕ-discrete, decLt}
 use lib.ListN.{getD}
 use Rattle.order.specs.LabelLists.{_∈_}
 use Rattle.order.proofs.Blocks.{needed-chain, onto-trans, onto-step, Tog}
-use Rattle.blocks.specs.Search.{Stored, Positions, Reaches}
+use Rattle.blocks.specs.Search.{Stored, Positions, NeedsOrIs}
 
 module _ (R : ℕ → ℕ → Bool) (items : List ℕ) where
-  pub reach-trans : (p q r : ℕ) → Reaches R items p q → Reaches R items q r → Reaches R items p r
-  reach-trans p q r (inl e) b = subst (λ (z : ℕ). Reaches R items z r) (sym e) b
-  reach-trans p q r (inr a) (inl e) = subst (λ (z : ℕ). Reaches R items p z) e (inr a)
+  pub reach-trans : (p q r : ℕ) → NeedsOrIs R items p q → NeedsOrIs R items q r → NeedsOrIs R items p r
+  reach-trans p q r (inl e) b = subst (λ (z : ℕ). NeedsOrIs R items z r) (sym e) b
+  reach-trans p q r (inr a) (inl e) = subst (λ (z : ℕ). NeedsOrIs R items p z) e (inr a)
   reach-trans p q r (inr a) (inr b) =
       inr (needed-chain R items p r .1 (onto-trans R items p q r (needed-chain R items p q .0 a) (needed-chain R items q r .0 b)))
 
-  pub reach-step : (p q : ℕ) → q ∈ items → R p q ≡ true → Reaches R items p q
+  pub reach-step : (p q : ℕ) → q ∈ items → R p q ≡ true → NeedsOrIs R items p q
   reach-step p q m h = inr (needed-chain R items p q .1 (onto-step R items p q m h))
 
-  pub reach-tog : (p q : ℕ) → Reaches R items p q → Reaches R items q p → Tog R items p q
+  pub reach-tog : (p q : ℕ) → NeedsOrIs R items p q → NeedsOrIs R items q p → Tog R items p q
   reach-tog p q (inl e) _ = inl e
   reach-tog p q (inr a) (inl e) = inl (sym e)
   reach-tog p q (inr a) (inr b) = inr (needed-chain R items p q .0 a, needed-chain R items q p .0 b)

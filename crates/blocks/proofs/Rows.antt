@@ -14,7 +14,7 @@ use Rattle.order.proofs.Lists.{count-append}
 use Rattle.marks.specs.Marks.{mark, Added, Dropped, Common}
 use Rattle.marks.proofs.Squares.{mark-in}
 use Rattle.placing.proofs.Lists.{in-take, in-more, count-more, count-take-le}
-use Rattle.blocks.specs.Merged.{From, Joined, Following, LeadOf, Closed, ClosedRow, ClosedRows}
+use Rattle.blocks.specs.Merged.{RowFrom, Joined, Following, LeadOf, Closed, ClosedRow, ClosedRows}
 
 in-later : (x : ℕ) (l : List ℕ) (i : ℕ) → x ∈ take i l → x ∈ take (i + 1) l
 in-later x l i m = omega (arith, count-take-le x l i (i + 1) (omega arith))
@@ -41,13 +41,13 @@ joined-none lead s followers w f = record {
   row = λ b p. (λ e. inl e, λ y. row b p y);
 }
   where
-    row : (b p : ℕ) → (mark s w b p ≡ true) ⊎ From [] lead s w b p → mark s w b p ≡ true
+    row : (b p : ℕ) → (mark s w b p ≡ true) ⊎ RowFrom [] lead s w b p → mark s w b p ≡ true
     row b p (inl e) = e
     row b p (inr (x, m, _, _)) = absurd (omega arith)
 
 module _ (items lead s₀ s followers : List ℕ) (w i x : ℕ) (hi : i < length items) (z : x ≡ getD items i 0) where
   module _ (j : Joined (take i items) lead s₀ s followers w) where
-    later : (b p : ℕ) → (mark s₀ w b p ≡ true) ⊎ From (take i items) lead s₀ w b p → (mark s₀ w b p ≡ true) ⊎ From (take (i + 1) items) lead s₀ w b p
+    later : (b p : ℕ) → (mark s₀ w b p ≡ true) ⊎ RowFrom (take i items) lead s₀ w b p → (mark s₀ w b p ≡ true) ⊎ RowFrom (take (i + 1) items) lead s₀ w b p
     later b p (inl e) = inl e
     later b p (inr (y, m, e, h)) = inr (y, in-later y items i m, e, h)
 
@@ -65,7 +65,7 @@ module _ (items lead s₀ s followers : List ℕ) (w i x : ℕ) (hi : i < length
             go (inl k) = j .follow y .1 (k, d)
             go (inr e) = absurd (d (subst (λ (v : ℕ). getD lead v 0 ≡ v) (z ∙ sym e) own))
 
-        row : (b p : ℕ) → (mark s₀ w b p ≡ true) ⊎ From (take (i + 1) items) lead s₀ w b p → mark s w b p ≡ true
+        row : (b p : ℕ) → (mark s₀ w b p ≡ true) ⊎ RowFrom (take (i + 1) items) lead s₀ w b p → mark s w b p ≡ true
         row b p (inl e) = j .row b p .1 (inl e)
         row b p (inr (y, m, e, h)) = go (in-more y items i hi m)
           where
@@ -80,7 +80,7 @@ module _ (items lead s₀ s followers : List ℕ) (w i x : ℕ) (hi : i < length
       unwritten : (p : ℕ) → mark s w x p ≡ true → mark s₀ w x p ≡ true
       unwritten p m = go (j .row x p .0 m)
         where
-          go : (mark s₀ w x p ≡ true) ⊎ From (take i items) lead s₀ w x p → mark s₀ w x p ≡ true
+          go : (mark s₀ w x p ≡ true) ⊎ RowFrom (take i items) lead s₀ w x p → mark s₀ w x p ≡ true
           go (inl e) = e
           go (inr (y, k, e, h)) = absurd (d (subst (λ (v : ℕ). getD lead v 0 ≡ v) e (head y (omega (arith, count-part y items i)))))
 
@@ -99,18 +99,18 @@ module _ (items lead s₀ s followers : List ℕ) (w i x : ℕ) (hi : i < length
           back y n (inl k) = put .kept y (j .follow y .1 (k, n))
           back y n (inr k) = let e : y ≡ x = k ∙ sym z in put .new y (omega arith) e
 
-          gained : (b p : ℕ) → mark s′ w b p ≡ true → Dec (b ≡ getD lead x 0) → (mark s₀ w b p ≡ true) ⊎ From (take (i + 1) items) lead s₀ w b p
+          gained : (b p : ℕ) → mark s′ w b p ≡ true → Dec (b ≡ getD lead x 0) → (mark s₀ w b p ≡ true) ⊎ RowFrom (take (i + 1) items) lead s₀ w b p
           gained b p m (no n) = later b p (j .row b p .0 (sym (add .others b p n) ∙ m))
           gained b p m (yes e) = go (add .only p (subst (λ (v : ℕ). mark s′ w v p ≡ true) e m))
             where
-              go : (mark s w (getD lead x 0) p ≡ true) ⊎ (mark s w x p ≡ true) → (mark s₀ w b p ≡ true) ⊎ From (take (i + 1) items) lead s₀ w b p
+              go : (mark s w (getD lead x 0) p ≡ true) ⊎ (mark s w x p ≡ true) → (mark s₀ w b p ≡ true) ⊎ RowFrom (take (i + 1) items) lead s₀ w b p
               go (inl h) = later b p (j .row b p .0 (subst (λ (v : ℕ). mark s w v p ≡ true) (sym e) h))
               go (inr h) = inr (x, in-last x items i hi z, sym e, unwritten p h)
 
           kept : (b p : ℕ) → mark s w b p ≡ true → mark s′ w b p ≡ true
           kept = added-kept (λ (q : ℕ). mark s w x q ≡ true) s s′ w (getD lead x 0) add
 
-          row : (b p : ℕ) → (mark s₀ w b p ≡ true) ⊎ From (take (i + 1) items) lead s₀ w b p → mark s′ w b p ≡ true
+          row : (b p : ℕ) → (mark s₀ w b p ≡ true) ⊎ RowFrom (take (i + 1) items) lead s₀ w b p → mark s′ w b p ≡ true
           row b p (inl e) = kept b p (j .row b p .1 (inl e))
           row b p (inr (y, m, e, h)) = go (in-more y items i hi m)
             where

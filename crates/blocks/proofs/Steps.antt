@@ -20,7 +20,7 @@ use Rattle.marks.specs.Marks.{mark}
 use Rattle.marks.proofs.Squares.{mark-in}
 use Rattle.placing.specs.UnmetCounts.{needed}
 use Rattle.blocks.specs.Found.{InRows, IsLead, Led}
-use Rattle.blocks.specs.Search.{Positions, Among, OneClass, Reaches, freshCount, Search, Settled, Kept, From, Smallest, Left, Pushed}
+use Rattle.blocks.specs.Search.{Positions, Among, OneClass, NeedsOrIs, freshCount, Search, Settled, Kept, StandsFrom, Smallest, HasLeft, Pushed}
 use Rattle.blocks.proofs.Reaching.{reach-trans, reach-step, reach-tog, positions-top, positions-fewer, positions-cut, positions-push}
 
 -- ---- p needs q
@@ -215,14 +215,14 @@ module _ {items square mask fresh stacked stack place starts path : List ℕ} {w
 
     -- ---- who needs whom
 
-    to-q : (i j : ℕ) → i < n → u .low ≤ j → u .low < n → OneClass starts′ b′ i j → Reaches R items (getD stack i 0) q
+    to-q : (i j : ℕ) → i < n → u .low ≤ j → u .low < n → OneClass starts′ b′ i j → NeedsOrIs R items (getD stack i 0) q
     to-q i j h l a o = reach-trans R items (getD stack i 0) (getD stack (u .low) 0) q (go (decLt i (u .low))) (reach-step R items (getD stack (u .low) 0) q q-item (low-needs a))
       where
-        go : Dec (i < u .low) → Reaches R items (getD stack i 0) (getD stack (u .low) 0)
+        go : Dec (i < u .low) → NeedsOrIs R items (getD stack i 0) (getD stack (u .low) 0)
         go (no c) = g .down (u .low) i (omega arith) h
         go (yes c) = g .up i (u .low) (omega arith) a (was-one i (u .low) (omega arith) (λ k d e. omega (arith, o k d e)))
 
-    of-q : (i : ℕ) → i < n → Reaches R items q (getD stack i 0)
+    of-q : (i : ℕ) → i < n → NeedsOrIs R items q (getD stack i 0)
     of-q i h = go from
       where
         t : ℕ
@@ -231,26 +231,26 @@ module _ {items square mask fresh stacked stack place starts path : List ℕ} {w
         within : 0 < p → t < n
         within a = g .steps .under (p - 1) (omega arith)
 
-        below : 0 < p → Dec (i < t) → Reaches R items (getD stack t 0) (getD stack i 0)
+        below : 0 < p → Dec (i < t) → NeedsOrIs R items (getD stack t 0) (getD stack i 0)
         below a (yes c) = g .down i t (omega arith) (within a)
         below a (no c) = g .up t i (omega arith) h (λ k d e. absurd (omega (arith, start-low k d .0)))
 
-        go : (p ≡ 0) ⊎ (R q (getD stack t 0) ≡ true) → Reaches R items q (getD stack i 0)
+        go : (p ≡ 0) ⊎ (R q (getD stack t 0) ≡ true) → NeedsOrIs R items q (getD stack i 0)
         go (inl e) = absurd (omega (arith, none-left e .0))
         go (inr r) =
             let a = start-low 0 (g .bottom (omega arith) .0) .1 in
             reach-trans R items q (getD stack t 0) (getD stack i 0) (reach-step R items q (getD stack t 0) (stack-item t (within a)) r) (below a (decLt i t))
 
-    down′ : (i j : ℕ) → i ≤ j → j < n + 1 → Reaches R items (getD stack′ j 0) (getD stack′ i 0)
+    down′ : (i j : ℕ) → i ≤ j → j < n + 1 → NeedsOrIs R items (getD stack′ j 0) (getD stack′ i 0)
     down′ i j h l = go (decLt j n) (decLt i n)
       where
-        go : Dec (j < n) → Dec (i < n) → Reaches R items (getD stack′ j 0) (getD stack′ i 0)
+        go : Dec (j < n) → Dec (i < n) → NeedsOrIs R items (getD stack′ j 0) (getD stack′ i 0)
         go (yes c) (yes d) = rw (old i d, old j c) (g .down i j h c)
         go (yes c) (no d) = absurd (omega arith)
         go (no c) (yes d) = rw (old i d, new j c l) (of-q i d)
         go (no c) (no d) = rw (new i d (omega arith), new j c l) (inl refl)
 
-    up′ : (i j : ℕ) → i ≤ j → j < n + 1 → OneClass starts′ b′ i j → Reaches R items (getD stack′ i 0) (getD stack′ j 0)
+    up′ : (i j : ℕ) → i ≤ j → j < n + 1 → OneClass starts′ b′ i j → NeedsOrIs R items (getD stack′ i 0) (getD stack′ j 0)
     up′ i j h l o = go (decLt j n) (decLt i n) (decLt j (u .low))
       where
         -- q does not start a class
@@ -261,7 +261,7 @@ module _ {items square mask fresh stacked stack place starts path : List ℕ} {w
             go (no e) = omega (arith, low-within)
             go (yes e) = let s = own-start e in absurd (omega (arith, o b (s .0) (omega (arith, s .1)), s .1))
 
-        go : Dec (j < n) → Dec (i < n) → Dec (j < u .low) → Reaches R items (getD stack′ i 0) (getD stack′ j 0)
+        go : Dec (j < n) → Dec (i < n) → Dec (j < u .low) → NeedsOrIs R items (getD stack′ i 0) (getD stack′ j 0)
         go (yes c) (no d) _ = absurd (omega arith)
         go (yes c) (yes d) (yes e) = rw (old i d, old j c) (g .up i j h c (was-one i j (omega arith) o))
         go (yes c) (yes d) (no e) =
@@ -427,7 +427,7 @@ module _ {items square mask fresh stacked stack place starts path : List ℕ} {w
     -- ---- it starts its class: a block is found
 
     module _ {stacked′ lead lead′ : List ℕ} {least : ℕ} (same : s ≡ getD starts (b - 1) 0) (small : Smallest stack s n least)
-        (left : Left stack stacked stacked′ lead lead′ w s n least) where
+        (left : HasLeft stack stacked stacked′ lead lead′ w s n least) where
       abbrev N : ℕ → ℕ → Bool
       N = needed square mask w
 
@@ -435,46 +435,46 @@ module _ {items square mask fresh stacked stack place starts path : List ℕ} {w
       starts-some = some-start some
 
       -- whoever needs one of the class is not fresh, and on the stack only in the class
-      needer : (x i : ℕ) → s ≤ i → i < n → N x (getD stack i 0) ≡ true → (mark fresh w 0 x ≡ false) × ((mark stacked w 0 x ≡ false) ⊎ From stack s n x)
+      needer : (x i : ℕ) → s ≤ i → i < n → N x (getD stack i 0) ≡ true → (mark fresh w 0 x ≡ false) × ((mark stacked w 0 x ≡ false) ⊎ StandsFrom stack s n x)
       needer x i l h r = (not-so (mark fresh w 0 x) (λ m. both-ways (N x (getD stack i 0)) r (quiet m (ℕ-discrete i s))), at (so-or-not (mark stacked w 0 x)))
         where
           quiet : mark fresh w 0 x ≡ true → Dec (i ≡ s) → N x (getD stack i 0) ≡ false
           quiet m (yes e) = ap (λ (j : ℕ). N x (getD stack j 0)) e ∙ none x m
           quiet m (no e) = g .searched i h (λ (k, a, f). omega (arith, positions-top path p n (g .steps) k a)) x m
 
-          at : (mark stacked w 0 x ≡ true) ⊎ (mark stacked w 0 x ≡ false) → (mark stacked w 0 x ≡ false) ⊎ From stack s n x
+          at : (mark stacked w 0 x ≡ true) ⊎ (mark stacked w 0 x ≡ false) → (mark stacked w 0 x ≡ false) ⊎ StandsFrom stack s n x
           at (inr e) = inl e
           at (inl m) = go (decLt (getD place x 0) s)
             where
               o : (getD place x 0 < n) × (getD stack (getD place x 0) 0 ≡ x)
               o = g .off x m
 
-              go : Dec (getD place x 0 < s) → (mark stacked w 0 x ≡ false) ⊎ From stack s n x
+              go : Dec (getD place x 0 < s) → (mark stacked w 0 x ≡ false) ⊎ StandsFrom stack s n x
               go (no c) = inr (getD place x 0, omega arith, o .0, o .1)
               go (yes c) =
                   let r₀ : N (getD stack (getD place x 0) 0) (getD stack i 0) ≡ true = rw (o .1) r in
                   absurd (omega (arith, g .joins (getD place x 0) i (omega arith) h r₀ (b - 1) (omega (arith, starts-some)) (omega arith)))
 
-      not-from : (i : ℕ) → i < s → From stack s n (getD stack i 0) → ⊥
+      not-from : (i : ℕ) → i < s → StandsFrom stack s n (getD stack i 0) → ⊥
       not-from i h (k, l, a, e) = once i k (omega arith) a (sym e)
 
-      from-stacked : (x : ℕ) → From stack s n x → mark stacked w 0 x ≡ true
+      from-stacked : (x : ℕ) → StandsFrom stack s n x → mark stacked w 0 x ≡ true
       from-stacked x (k, l, a, e) = subst (λ (y : ℕ). mark stacked w 0 y ≡ true) e (g .on k a .0)
 
       still-off : (x : ℕ) → mark stacked w 0 x ≡ false → mark stacked′ w 0 x ≡ false
       still-off x e = left .others x (λ f. both-ways (mark stacked w 0 x) (from-stacked x f) e) .0 ∙ e
 
       -- who has left the stack is of the class
-      gone-from : (x : ℕ) → mark stacked w 0 x ≡ true → mark stacked′ w 0 x ≡ false → From stack s n x
+      gone-from : (x : ℕ) → mark stacked w 0 x ≡ true → mark stacked′ w 0 x ≡ false → StandsFrom stack s n x
       gone-from x m e = go (decLt (getD place x 0) s)
         where
           o : (getD place x 0 < n) × (getD stack (getD place x 0) 0 ≡ x)
           o = g .off x m
 
-          go : Dec (getD place x 0 < s) → From stack s n x
+          go : Dec (getD place x 0 < s) → StandsFrom stack s n x
           go (no c) = (getD place x 0, omega arith, o .0, o .1)
           go (yes c) =
-              let f : From stack s n x → ⊥ = λ f. not-from (getD place x 0) c (subst (λ (y : ℕ). From stack s n y) (sym (o .1)) f) in
+              let f : StandsFrom stack s n x → ⊥ = λ f. not-from (getD place x 0) c (subst (λ (y : ℕ). StandsFrom stack s n y) (sym (o .1)) f) in
               both-ways (mark stacked′ w 0 x) (left .others x f .0 ∙ m) e
 
       search-found : Search items square mask fresh stacked′ stack place starts path w s (b - 1) (p - 1)
@@ -536,46 +536,46 @@ module _ {items square mask fresh stacked stack place starts path : List ℕ} {w
               let c = needer x k l h (subst (λ (y : ℕ). N x y ≡ true) (sym e) r) in
               (c .0, go (c .1))
             where
-              go : (mark stacked w 0 x ≡ false) ⊎ From stack s n x → mark stacked′ w 0 x ≡ false
+              go : (mark stacked w 0 x ≡ false) ⊎ StandsFrom stack s n x → mark stacked′ w 0 x ≡ false
               go (inl e) = still-off x e
               go (inr e) = left .gone x e
 
       -- ---- the class is a whole block, led by its smallest label
 
-      class-reach : (i j : ℕ) → s ≤ i → i < n → s ≤ j → j < n → Reaches N items (getD stack i 0) (getD stack j 0)
+      class-reach : (i j : ℕ) → s ≤ i → i < n → s ≤ j → j < n → NeedsOrIs N items (getD stack i 0) (getD stack j 0)
       class-reach i j l h k u = go (decLt i j)
         where
-          go : Dec (i < j) → Reaches N items (getD stack i 0) (getD stack j 0)
+          go : Dec (i < j) → NeedsOrIs N items (getD stack i 0) (getD stack j 0)
           go (no c) = g .down j i (omega arith) h
           go (yes c) = g .up i j (omega arith) u (λ m a e. absurd (omega (arith, positions-top starts b n (g .cuts) m a)))
 
-      class-tog : (x y : ℕ) → From stack s n x → From stack s n y → Tog N items x y
+      class-tog : (x y : ℕ) → StandsFrom stack s n x → StandsFrom stack s n y → Tog N items x y
       class-tog x y (i, l, h, e) (j, k, u, f) =
           subst (λ (z : ℕ). Tog N items z y) e (subst (λ (z : ℕ). Tog N items (getD stack i 0) z) f
           (reach-tog N items (getD stack i 0) (getD stack j 0) (class-reach i j l h k u) (class-reach j i k u l h)))
 
-      class-item : (x : ℕ) → From stack s n x → x ∈ items
+      class-item : (x : ℕ) → StandsFrom stack s n x → x ∈ items
       class-item x f = stacked-item x (from-stacked x f)
 
       abbrev A : ℕ → Type 0
       A x = (mark fresh w 0 x ≡ false) × (mark stacked w 0 x ≡ false)
 
-      whole : (c x : ℕ) → x ∈ items → From stack s n c → Tog N items c x → From stack s n x
+      whole : (c x : ℕ) → x ∈ items → StandsFrom stack s n c → Tog N items c x → StandsFrom stack s n x
       whole c x m f t =
-          block-found N items A (From stack s n) (λ y a my ma r (e, h). g .closed y a r e h) closed
+          block-found N items A (StandsFrom stack s n) (λ y a my ma r (e, h). g .closed y a r e h) closed
           (λ y (e, h) f. both-ways (mark stacked w 0 y) (from-stacked y f) h) c x (class-item c f) m f t
         where
-          closed : (y c : ℕ) → y ∈ items → c ∈ items → N y c ≡ true → From stack s n c → A y ⊎ From stack s n y
+          closed : (y c : ℕ) → y ∈ items → c ∈ items → N y c ≡ true → StandsFrom stack s n c → A y ⊎ StandsFrom stack s n y
           closed y c my mc r (k, l, h, e) = go (c₁ .1)
             where
-              c₁ : (mark fresh w 0 y ≡ false) × ((mark stacked w 0 y ≡ false) ⊎ From stack s n y)
+              c₁ : (mark fresh w 0 y ≡ false) × ((mark stacked w 0 y ≡ false) ⊎ StandsFrom stack s n y)
               c₁ = needer y k l h (subst (λ (z : ℕ). N y z ≡ true) (sym e) r)
 
-              go : (mark stacked w 0 y ≡ false) ⊎ From stack s n y → A y ⊎ From stack s n y
+              go : (mark stacked w 0 y ≡ false) ⊎ StandsFrom stack s n y → A y ⊎ StandsFrom stack s n y
               go (inl f) = inl (c₁ .0, f)
               go (inr f) = inr f
 
-      class-lead : (x : ℕ) → From stack s n x → IsLead N items x least
+      class-lead : (x : ℕ) → StandsFrom stack s n x → IsLead N items x least
       class-lead x f = (
         block-in N items x least (class-item least (small .is)) (class-tog x least f (small .is)),
         ap not (any-refute (λ q. ltb q least) (blockOf N items least) (λ y i. not-so (ltb y least) (λ t. lower y (ltb-true y least t) (in-block N items least y i)))),

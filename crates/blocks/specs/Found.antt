@@ -5,7 +5,7 @@ use mathlib.Core.Bool.{Bool, true}
 use Prim.Native.Nat.{ℕ, _+_, _*_, _≤_, _<_}
 use lib.ListN.{length, getD}
 use Rattle.order.specs.LabelLists.{_∈_}
-use Rattle.order.specs.Blocks.{blockOf, leads}
+use Rattle.order.specs.Blocks.{blockOf, isLeader}
 use Rattle.marks.specs.Marks.{mark}
 use Rattle.placing.specs.UnmetCounts.{Rising, AllBelow}
 
@@ -32,7 +32,7 @@ pub record Room (items fresh stacked list stack place starts path lead : List �
 
 -- b is the smallest label of p's block
 abbrev pub IsLead : (ℕ → ℕ → Bool) → List ℕ → ℕ → ℕ → Type 0
-IsLead R items p b = (b ∈ blockOf R items p) × (leads R items b ≡ true)
+IsLead R items p b = (b ∈ blockOf R items p) × (isLeader R items b ≡ true)
 
 -- each item's lead is the smallest label of its block
 abbrev pub Led : (ℕ → ℕ → Bool) → List ℕ → List ℕ → Type 0

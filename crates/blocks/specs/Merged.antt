@@ -27,13 +27,13 @@ pub record Mergeable (items lead square : List ℕ) (w : ℕ) : Type 0 where
   pub head : (p : ℕ) → p ∈ items → getD lead (getD lead p 0) 0 ≡ getD lead p 0
 
 -- one of l has lead b, and its row has mark p
-abbrev pub From : List ℕ → List ℕ → List ℕ → ℕ → ℕ → ℕ → Type 0
-From l lead s w b p = (x : ℕ) × (x ∈ l) × (getD lead x 0 ≡ b) × (mark s w x p ≡ true)
+abbrev pub RowFrom : List ℕ → List ℕ → List ℕ → ℕ → ℕ → ℕ → Type 0
+RowFrom l lead s w b p = (x : ℕ) × (x ∈ l) × (getD lead x 0 ≡ b) × (mark s w x p ≡ true)
 
 -- the rows of those of l are added to those of their leads; those that do not lead are followers
 pub record Joined (l lead s s′ followers : List ℕ) (w : ℕ) : Type 0 where
   pub follow : (x : ℕ) → (mark followers w 0 x ≡ true) ↔ ((x ∈ l) × (getD lead x 0 ≡ x → ⊥))
-  pub row : (b p : ℕ) → (mark s′ w b p ≡ true) ↔ ((mark s w b p ≡ true) ⊎ From l lead s w b p)
+  pub row : (b p : ℕ) → (mark s′ w b p ≡ true) ↔ ((mark s w b p ≡ true) ⊎ RowFrom l lead s w b p)
 
 -- followers have leads, and the leads have marks
 abbrev pub Following : List ℕ → List ℕ → ℕ → Type 0
@@ -66,6 +66,6 @@ pub record Merged (items lead s s′ followers : List ℕ) (w : ℕ) : Type 0 wh
   pub follow : (x : ℕ) → (mark followers w 0 x ≡ true) ↔ ((x ∈ items) × (getD lead x 0 ≡ x → ⊥))
 
 -- the first r of a list are the leaders, by whatever needs the leads were found
-pub record Gathered (items lead out : List ℕ) (r : ℕ) : Type 0 where
+pub record LeadersGathered (items lead out : List ℕ) (r : ℕ) : Type 0 where
   pub cells : (R : ℕ → ℕ → Bool) → Led R items lead → take r out ≡ leaders R items
   pub within : r ≤ length items

@@ -32,8 +32,8 @@ abbrev pub OneClass : List ℕ → ℕ → ℕ → ℕ → Type 0
 OneClass starts b i j = (k : ℕ) → k < b → i < getD starts k 0 → j < getD starts k 0
 
 -- p is q, or needs it directly or through other items
-abbrev pub Reaches : (ℕ → ℕ → Bool) → List ℕ → ℕ → ℕ → Type 0
-Reaches R items p q = (p ≡ q) ⊎ (q ∈ closure R items p)
+abbrev pub NeedsOrIs : (ℕ → ℕ → Bool) → List ℕ → ℕ → ℕ → Type 0
+NeedsOrIs R items p q = (p ≡ q) ⊎ (q ∈ closure R items p)
 
 -- how many items are not met
 abbrev pub freshCount : List ℕ → List ℕ → ℕ → ℕ
@@ -47,8 +47,8 @@ pub record Search (items square mask fresh stacked stack place starts path : Lis
   pub on : (i : ℕ) → i < n → (mark stacked w 0 (getD stack i 0) ≡ true) × (getD place (getD stack i 0) 0 ≡ i)
   pub off : (x : ℕ) → mark stacked w 0 x ≡ true → (getD place x 0 < n) × (getD stack (getD place x 0) 0 ≡ x)
   -- each needs all below it, and all of its class
-  pub down : (i j : ℕ) → i ≤ j → j < n → Reaches (needed square mask w) items (getD stack j 0) (getD stack i 0)
-  pub up : (i j : ℕ) → i ≤ j → j < n → OneClass starts b i j → Reaches (needed square mask w) items (getD stack i 0) (getD stack j 0)
+  pub down : (i j : ℕ) → i ≤ j → j < n → NeedsOrIs (needed square mask w) items (getD stack j 0) (getD stack i 0)
+  pub up : (i j : ℕ) → i ≤ j → j < n → OneClass starts b i j → NeedsOrIs (needed square mask w) items (getD stack i 0) (getD stack j 0)
   -- who needs one above it is of its class
   pub joins : (j i : ℕ) → j < i → i < n → needed square mask w (getD stack j 0) (getD stack i 0) ≡ true → OneClass starts b j i
   pub bottom : 0 < n → (0 < b) × (getD starts 0 0 ≡ 0)
@@ -84,7 +84,7 @@ pub record Nearer (items fresh fresh′ : List ℕ) (w p p′ : ℕ) : Type 0 wh
 -- ---- the parts of a step
 
 -- r is a mark that row p and the first row of a mask have in common, or 64 * w where there is none
-pub record Shared (s mask : List ℕ) (w p r : ℕ) : Type 0 where
+pub record CommonMark (s mask : List ℕ) (w p r : ℕ) : Type 0 where
   pub within : r ≤ 64 * w
   pub here : r < 64 * w → (mark s w p r ≡ true) × (mark mask w 0 r ≡ true)
   pub none : r ≡ 64 * w → (q : ℕ) → mark mask w 0 q ≡ true → mark s w p q ≡ false
@@ -96,22 +96,22 @@ pub record Lowest (list place : List ℕ) (m n r : ℕ) : Type 0 where
   pub is : (r ≡ n) ⊎ ((x : ℕ) × (x ∈ take m list) × (getD place x 0 ≡ r))
 
 -- of b starts the first r are left, those up to `low`
-pub record Cut (starts : List ℕ) (b low r : ℕ) : Type 0 where
+pub record StartsCut (starts : List ℕ) (b low r : ℕ) : Type 0 where
   pub fewer : r ≤ b
   pub left : 0 < r → getD starts (r - 1) 0 ≤ low
   pub gone : (k : ℕ) → r ≤ k → k < b → low < getD starts k 0
 
 -- x stands at a position from s to n
-abbrev pub From : List ℕ → ℕ → ℕ → ℕ → Type 0
-From stack s n x = (k : ℕ) × (s ≤ k) × (k < n) × (getD stack k 0 ≡ x)
+abbrev pub StandsFrom : List ℕ → ℕ → ℕ → ℕ → Type 0
+StandsFrom stack s n x = (k : ℕ) × (s ≤ k) × (k < n) × (getD stack k 0 ≡ x)
 
 -- least is the smallest of those
 pub record Smallest (stack : List ℕ) (s n least : ℕ) : Type 0 where
   pub least-of : (k : ℕ) → s ≤ k → k < n → least ≤ getD stack k 0
-  pub is : From stack s n least
+  pub is : StandsFrom stack s n least
 
 -- low is the lowest place of those on the stack that need q, or n where none does
-pub record Met (square stacked place : List ℕ) (w q n low : ℕ) : Type 0 where
+pub record LowestNeeder (square stacked place : List ℕ) (w q n low : ℕ) : Type 0 where
   pub least : (x : ℕ) → mark square w q x ≡ true → mark stacked w 0 x ≡ true → low ≤ getD place x 0
   pub is : (low ≡ n) ⊎ ((x : ℕ) × (mark square w q x ≡ true) × (mark stacked w 0 x ≡ true) × (getD place x 0 ≡ low))
 
@@ -136,23 +136,23 @@ pub record Pushable (square fresh stacked list stack place starts path : List �
 -- q is met: on the stack at position n, on the path, and the start of a class that is joined with those down to the lowest that needs it
 pub record Pushed (square fresh stacked stack place starts path fresh′ stacked′ stack′ place′ starts′ path′ : List ℕ) (w q n b p b′ : ℕ) : Type 0 where
   pub low : ℕ
-  pub met : Met square stacked place w q n low
+  pub met : LowestNeeder square stacked place w q n low
   pub dropped : Dropped fresh fresh′ w 0 q
   pub added : Added (λ (x : ℕ). x ≡ q) stacked stacked′ w 0
   pub stack-put : Stored stack stack′ n q
   pub place-put : Stored place place′ q n
   pub path-put : Stored path path′ p n
   pub start-put : Stored starts starts′ b n
-  pub cut : Cut starts′ (b + 1) low b′
+  pub cut : StartsCut starts′ (b + 1) low b′
 
 -- those at positions from s to n have left the stack, with their lead
-pub record Left (stack stacked stacked′ lead lead′ : List ℕ) (w s n least : ℕ) : Type 0 where
-  pub gone : (x : ℕ) → From stack s n x → mark stacked′ w 0 x ≡ false
-  pub led : (x : ℕ) → From stack s n x → getD lead′ x 0 ≡ least
-  pub others : (x : ℕ) → (From stack s n x → ⊥) → (mark stacked′ w 0 x ≡ mark stacked w 0 x) × (getD lead′ x 0 ≡ getD lead x 0)
+pub record HasLeft (stack stacked stacked′ lead lead′ : List ℕ) (w s n least : ℕ) : Type 0 where
+  pub gone : (x : ℕ) → StandsFrom stack s n x → mark stacked′ w 0 x ≡ false
+  pub led : (x : ℕ) → StandsFrom stack s n x → getD lead′ x 0 ≡ least
+  pub others : (x : ℕ) → (StandsFrom stack s n x → ⊥) → (mark stacked′ w 0 x ≡ mark stacked w 0 x) × (getD lead′ x 0 ≡ getD lead x 0)
 
 -- the same, with the smallest of them as the lead
 pub record Finished (stack stacked stacked′ lead lead′ : List ℕ) (w s n : ℕ) : Type 0 where
   pub least : ℕ
   pub smallest : Smallest stack s n least
-  pub left : Left stack stacked stacked′ lead lead′ w s n least
+  pub left : HasLeft stack stacked stacked′ lead lead′ w s n least

@@ -10,8 +10,8 @@ ghost use Rattle.order.specs.LabelLists.{_∈_, one};
 ghost use Rattle.marks.specs.Marks.{mark, InSquare, Added, Dropped};
 ghost use Rattle.placing.specs.UnmetCounts.{needed, AllBelow};
 ghost use Rattle.blocks.specs.Found.{InRows, Room, Led};
-ghost use Rattle.blocks.specs.Search.{Going, Kept, Nearer, Shared, Lowest, Cut, Smallest, Met, Pushable, Pushed, Left, Finished};
-ghost use Rattle.blocks.specs.Merged.{heads, Mergeable, Joined, Following, LeadOf, ClosedRow, ClosedRows, Merged, Gathered};
+ghost use Rattle.blocks.specs.Search.{Going, Kept, Nearer, CommonMark, Lowest, StartsCut, Smallest, LowestNeeder, Pushable, Pushed, HasLeft, Finished};
+ghost use Rattle.blocks.specs.Merged.{heads, Mergeable, Joined, Following, LeadOf, ClosedRow, ClosedRows, Merged, LeadersGathered};
 
 // How many the three stacks hold: items on the stack, starts of classes, positions on the path.
 struct Depths(usize, usize, usize);
@@ -45,7 +45,7 @@ fn lead_selves(items: &[u16], lead: &mut [u16])
 // A mark that row p and the mask have in common, or 64 * w where there is none.
 fn first_common(s: &[u64], w: usize, p: usize, mask: &[u64]) -> usize
     requires { ⌜ (p * w + w ≤ length (now s)) × (w ≤ length (now mask)) × (w ≤ 1000) ⌝ }
-    ensures { λ r. ⌜ Shared (now (s .entry)) (now (mask .entry)) w p r ⌝ }
+    ensures { λ r. ⌜ CommonMark (now (s .entry)) (now (mask .entry)) w p r ⌝ }
 {
     let a = p * w;
     let mut j = 0;
@@ -87,7 +87,7 @@ fn lowest_place(list: &[u16], m: usize, place: &[u16], n: usize) -> usize
 // The starts up to `low`.
 fn cut_starts(starts: &[u16], b: usize, low: usize) -> usize
     requires { ⌜ b ≤ length (now starts) ⌝ }
-    ensures { λ r. ⌜ Cut (now (starts .entry)) b low r ⌝ }
+    ensures { λ r. ⌜ StartsCut (now (starts .entry)) b low r ⌝ }
 {
     let mut r = b;
     while 0 < r {
@@ -111,7 +111,7 @@ fn meet(
 ) -> usize
     requires { ⌜ (q * w + w ≤ length (now square)) × (w ≤ length (now stacked)) × (64 * w ≤ length (now list)) × (w ≤ 1000) ⌝ }
     requires { ⌜ ((x : ℕ) → mark (now stacked) w 0 x ≡ true → x < length (now place)) ⌝ }
-    ensures { λ r. ⌜ Met (now (square .entry)) (now (stacked .entry)) (now (place .entry)) w q n r ⌝ }
+    ensures { λ r. ⌜ LowestNeeder (now (square .entry)) (now (stacked .entry)) (now (place .entry)) w q n r ⌝ }
 {
     if n == 0 {
         return 0;
@@ -137,7 +137,8 @@ fn push(
     p: usize,
 ) -> usize
     requires { ⌜ Pushable (now square) (now fresh) (now stacked) (now list) (now stack) (now place) (now starts) (now path) w q n b p ⌝ }
-    ensures { λ r. ⌜ Pushed (now (square .entry)) (now (fresh .entry)) (now (stacked .entry)) (now (stack .entry)) (now (place .entry)) (now (starts .entry)) (now (path .entry)) (now (fresh .exit)) (now (stacked .exit)) (now (stack .exit)) (now (place .exit)) (now (starts .exit)) (now (path .exit)) w q n b p r ⌝ }
+    ensures { λ r. ⌜ Pushed (now (square .entry)) (now (fresh .entry)) (now (stacked .entry)) (now (stack .entry)) (now (place .entry)) (now (starts .entry)) (now (path .entry))
+        (now (fresh .exit)) (now (stacked .exit)) (now (stack .exit)) (now (place .exit)) (now (starts .exit)) (now (path .exit)) w q n b p r ⌝ }
 {
     let low = meet(square, w, q, stacked, list, place, n);
     marks::drop_mark(fresh, w, 0, q);
@@ -176,7 +177,7 @@ fn leave(
     requires { ⌜ (s ≤ n) × (n ≤ length (now stack)) × (w ≤ length (now stacked)) × (least < 65536) ⌝ }
     requires { ⌜ ((k : ℕ) → s ≤ k → k < n → (mark (now stacked) w 0 (getD (now stack) k 0) ≡ true) × (getD (now stack) k 0 < length (now lead))) ⌝ }
     requires { ⌜ ((i k : ℕ) → i < k → k < n → getD (now stack) i 0 ≡ getD (now stack) k 0 → ⊥) ⌝ }
-    ensures { λ _. ⌜ Left (now (stack .entry)) (now (stacked .entry)) (now (stacked .exit)) (now (lead .entry)) (now (lead .exit)) w s n least ⌝ }
+    ensures { λ _. ⌜ HasLeft (now (stack .entry)) (now (stacked .entry)) (now (stacked .exit)) (now (lead .entry)) (now (lead .exit)) w s n least ⌝ }
 {
     let mut i = s;
     while i < n {
@@ -220,7 +221,8 @@ fn step(
     requires { ⌜ Room (now items) (now fresh) (now stacked) (now list) (now stack) (now place) (now starts) (now path) (now lead) w ⌝ }
     requires { ⌜ 0 < p ⌝ }
     requires { ⌜ Going (now items) (now square) (now mask) (now fresh) (now stacked) (now stack) (now place) (now starts) (now path) (now lead) w n b p ⌝ }
-    ensures { λ r. ⌜ Going (now (items .entry)) (now (square .entry)) (now (mask .entry)) (now (fresh .exit)) (now (stacked .exit)) (now (stack .exit)) (now (place .exit)) (now (starts .exit)) (now (path .exit)) (now (lead .exit)) w (r .0) (r .1) (r .2) ⌝ }
+    ensures { λ r. ⌜ Going (now (items .entry)) (now (square .entry)) (now (mask .entry))
+        (now (fresh .exit)) (now (stacked .exit)) (now (stack .exit)) (now (place .exit)) (now (starts .exit)) (now (path .exit)) (now (lead .exit)) w (r .0) (r .1) (r .2) ⌝ }
     ensures { λ r. ⌜ Nearer (now (items .entry)) (now (fresh .entry)) (now (fresh .exit)) w p (r .2) ⌝ }
 {
     let at = marks::widen(path[p - 1]);
@@ -270,7 +272,8 @@ fn search(
     requires { ⌜ Room (now items) (now fresh) (now stacked) (now list) (now stack) (now place) (now starts) (now path) (now lead) w ⌝ }
     requires { ⌜ mark (now fresh) w 0 q ≡ true ⌝ }
     requires { ⌜ Going (now items) (now square) (now mask) (now fresh) (now stacked) (now stack) (now place) (now starts) (now path) (now lead) w 0 0 0 ⌝ }
-    ensures { λ _. ⌜ Going (now (items .entry)) (now (square .entry)) (now (mask .entry)) (now (fresh .exit)) (now (stacked .exit)) (now (stack .exit)) (now (place .exit)) (now (starts .exit)) (now (path .exit)) (now (lead .exit)) w 0 0 0 ⌝ }
+    ensures { λ _. ⌜ Going (now (items .entry)) (now (square .entry)) (now (mask .entry))
+        (now (fresh .exit)) (now (stacked .exit)) (now (stack .exit)) (now (place .exit)) (now (starts .exit)) (now (path .exit)) (now (lead .exit)) w 0 0 0 ⌝ }
     ensures { λ _. ⌜ Kept (now (fresh .entry)) (now (fresh .exit)) w × (mark (now (fresh .exit)) w 0 q ≡ false) ⌝ }
 {
     let mut n = 1;
@@ -334,7 +337,8 @@ fn visit(
     requires { ⌜ Room (now items) (now fresh) (now stacked) (now list) (now stack) (now place) (now starts) (now path) (now lead) w ⌝ }
     requires { ⌜ q ∈ now items ⌝ }
     requires { ⌜ Going (now items) (now square) (now mask) (now fresh) (now stacked) (now stack) (now place) (now starts) (now path) (now lead) w 0 0 0 ⌝ }
-    ensures { λ _. ⌜ Going (now (items .entry)) (now (square .entry)) (now (mask .entry)) (now (fresh .exit)) (now (stacked .exit)) (now (stack .exit)) (now (place .exit)) (now (starts .exit)) (now (path .exit)) (now (lead .exit)) w 0 0 0 ⌝ }
+    ensures { λ _. ⌜ Going (now (items .entry)) (now (square .entry)) (now (mask .entry))
+        (now (fresh .exit)) (now (stacked .exit)) (now (stack .exit)) (now (place .exit)) (now (starts .exit)) (now (path .exit)) (now (lead .exit)) w 0 0 0 ⌝ }
     ensures { λ _. ⌜ Kept (now (fresh .entry)) (now (fresh .exit)) w × (mark (now (fresh .exit)) w 0 q ≡ false) ⌝ }
 {
     if marks::has_mark(fresh, w, 0, q) {
@@ -519,7 +523,7 @@ fn leads_own(lead: &[u16], x: usize) -> usize
 // The leaders, in the sequence of the items. Answers how many.
 pub fn gather_leaders(items: &[u16], lead: &[u16], out: &mut [u16]) -> usize
     requires { ⌜ AllBelow (now items) (length (now lead)) × (length (now items) ≤ length (now out)) ⌝ }
-    ensures { λ r. ⌜ Gathered (now (items .entry)) (now (lead .entry)) (now (out .exit)) r ⌝ }
+    ensures { λ r. ⌜ LeadersGathered (now (items .entry)) (now (lead .entry)) (now (out .exit)) r ⌝ }
 {
     let mut m = 0;
     let mut i = 0;

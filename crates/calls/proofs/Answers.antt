@@ -15,7 +15,7 @@ use Rattle.cells.proofs.Clearing.{clear-all}
 use Rattle.refusals.specs.Rows.{cycleRow}
 use Rattle.refusals.specs.declared.Verdict.{Verdict}
 use Rattle.refusals.specs.declared.Verdict.the-variants.{Fine, Refused}
-use Rattle.order.specs.Order.{Within, firstCycle, someTangled, Answer, cycle, whole, mixed, plan}
+use Rattle.order.specs.Order.{Within, firstCycle, sheetTangled, Answer, cycle, whole, mixed, plan}
 use Rattle.order.specs.PlanMeans as demand
 use Rattle.order.specs.Rows16to18.{cycleBad}
 use Rattle.order.proofs.Joined.{none-consecutive}
@@ -115,9 +115,9 @@ made-left w p p′ r (mixed o) i = rw (i .reply, i .cells) (refl, (refl, listed-
 module _ (t : List ℤ) (n : ℕ) (ok : Accepted t n) where
   pub cycle-of : cycleBad t n ≡ cycleOf (plan t n)
   unfolding cycleBad
-  cycle-of = go (firstCycle t n) refl (someTangled t n) refl
+  cycle-of = go (firstCycle t n) refl (sheetTangled t n) refl
     where
-      go : (c : Option ℕ) → firstCycle t n ≡ c → (b : Bool) → someTangled t n ≡ b → cycleBad t n ≡ cycleOf (plan t n)
+      go : (c : Option ℕ) → firstCycle t n ≡ c → (b : Bool) → sheetTangled t n ≡ b → cycleBad t n ≡ cycleOf (plan t n)
       go none e true f = rw (e, f)
       go none e false f = rw (e, f)
       go (some zero) e b f = let c = cycle-smallest t n ok 0 e in absurd (omega (arith, c .value))

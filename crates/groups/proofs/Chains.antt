@@ -9,44 +9,59 @@ use native.Mathlib.Numerals.{add-one}
 use native.Mathlib.Decide.{ℕ-discrete, decLt}
 use lib.Dec.{eqb}
 use lib.IntN.{ℤ}
-use lib.ListN.{length, getD, set, take, drop, length-set, length-append, drop-of-length-le, take-append-drop}
-use lib.Seq.{getD-set-same, getD-set-other, take-suc-set, length-take-le, drop-cons}
+use lib.ListN.{length, getD, set, take, drop, length-set, drop-of-length-le, take-append-drop}
+use lib.Seq.{getD-set-same, getD-set-other, take-suc-set, drop-cons}
 use borrow.Author.Tests.{eq-eqb, ne-eqb}
 use Rattle.cells.specs.Table.{owner, isDefinition}
-use Rattle.order.specs.LabelLists.{count, _∈_, upFrom, filter}
+use Rattle.order.specs.LabelLists.{one, count, _∈_, upFrom, filter}
 use Rattle.order.specs.Order.{allLabels, isMemberOf}
 use Rattle.order.proofs.Tests.{so-or-not}
-use Rattle.order.proofs.Lists.{in-here, in-there, in-right, in-filter, count-below, count-here, count-append, filter-le, length-upFrom}
+use Rattle.order.proofs.Lists.{in-here, in-there, in-cons, in-filter, count-below, count-here, count-append, filter-le, length-upFrom}
 use Rattle.placing.specs.UnmetCounts.{Rising}
 use Rattle.reach.specs.Chains.{Empty}
-use Rattle.groups.specs.Members.{Chain, Chained, Gathered, Relinked}
+use Rattle.groups.specs.Members.{Chain, Chained, WalkableChain, Gathered, Relinked}
 
 -- ---- labels that pass a test, upward
 
 pub labels-few : (f : ℕ → Bool) (n : ℕ) → length (filter f (allLabels n)) ≤ n
 labels-few f n = omega (arith, filter-le f (allLabels n), length-upFrom 1 n)
 
-above : (f : ℕ → Bool) (m k y : ℕ) → y ∈ filter f (upFrom m k) → m ≤ y
-above f m k y h = go (ℕ-lt y m)
+from-up : (m k y : ℕ) → y ∈ upFrom m k → m ≤ y
+from-up m k y h = go (decLt y m)
   where
-    ℕ-lt : (a b : ℕ) → (a < b) ⊎ (b ≤ a)
-    ℕ-lt a b = pick (decLt a b)
-      where
-        pick : Dec (a < b) → (a < b) ⊎ (b ≤ a)
-        pick (yes l) = inl l
-        pick (no l) = inr (omega arith)
+    go : Dec (y < m) → m ≤ y
+    go (yes l) = absurd (omega (arith, count-below y m k l))
+    go (no l) = omega arith
 
-    go : (y < m) ⊎ (m ≤ y) → m ≤ y
-    go (inr l) = l
-    go (inl l) = absurd (omega (arith, in-filter f y (upFrom m k) h .0, count-below y m k l))
+above : (f : ℕ → Bool) (m k y : ℕ) → y ∈ filter f (upFrom m k) → m ≤ y
+above f m k y h = from-up m k y (in-filter f y (upFrom m k) h .0)
+
+rising-up : (m k : ℕ) → Rising (upFrom m k)
+rising-up m zero = tt
+rising-up m (suc k) = (λ y h. from-up (suc m) k y h, rising-up (suc m) k)
+
+pub rising-part : (f : ℕ → Bool) (l : List ℕ) → Rising l → Rising (filter f l)
+rising-part f [] r = tt
+rising-part f (x ∷ l) r = go (so-or-not (f x)) (rising-part f l (r .1))
+  where
+    go : (f x ≡ true) ⊎ (f x ≡ false) → Rising (filter f l) → Rising (filter f (x ∷ l))
+    go (inl e) i = rw e (λ y h. r .0 y (in-filter f y l h .0), i)
+    go (inr e) i = rw e i
 
 pub rising-filter : (f : ℕ → Bool) (m k : ℕ) → Rising (filter f (upFrom m k))
-rising-filter f m zero = tt
-rising-filter f m (suc k) = go (so-or-not (f m)) (rising-filter f (suc m) k)
+rising-filter f m k = rising-part f (upFrom m k) (rising-up m k)
+
+-- lists that rise and hold the same are the same
+pub rising-same : (a b : List ℕ) → Rising a → Rising b → ((x : ℕ) → count x a ≡ count x b) → a ≡ b
+rising-same [] [] ra rb h = refl
+rising-same [] (y ∷ b) ra rb h = absurd (omega (arith, h y, count-here y b))
+rising-same (x ∷ a) [] ra rb h = absurd (omega (arith, h x, count-here x a))
+rising-same (x ∷ a) (y ∷ b) ra rb h = go (in-cons x y b (omega (arith, h x, count-here x a))) (in-cons y x a (omega (arith, h y, count-here y b))) (rising-same a b (ra .1) (rb .1))
   where
-    go : (f m ≡ true) ⊎ (f m ≡ false) → Rising (filter f (upFrom (suc m) k)) → Rising (filter f (upFrom m (suc k)))
-    go (inl e) r = rw e (λ y h. above f (suc m) k y h, r)
-    go (inr e) r = rw e r
+    go : (x ≡ y) ⊎ (x ∈ b) → (y ≡ x) ⊎ (y ∈ a) → (((z : ℕ) → count z a ≡ count z b) → a ≡ b) → x ∷ a ≡ y ∷ b
+    go (inl e) _ r = ap (λ (z : ℕ). z ∷ a) e ∙ ap (λ (l : List ℕ). y ∷ l) (r (λ z. omega (arith, h z, ap (λ (v : ℕ). one (eqb z v)) e)))
+    go (inr i) (inl e) r = absurd (omega (arith, rb .0 x i))
+    go (inr i) (inr j) r = absurd (omega (arith, rb .0 x i, ra .0 y j))
 
 -- ---- chains
 
@@ -62,6 +77,13 @@ chain-same n next next′ p (y ∷ l) h c = (
 pub chain-empty : (n : ℕ) (next : List ℕ) (p : ℕ) (l : List ℕ) → p ≡ 0 → Chain n next p l → l ≡ []
 chain-empty n next p [] e c = refl
 chain-empty n next p (x ∷ l) e c = absurd (omega (arith, c .0, c .1))
+
+pub chain-once : (n : ℕ) (next : List ℕ) (p : ℕ) (l k : List ℕ) → Chain n next p l → Chain n next p k → l ≡ k
+chain-once n next p [] k c d = sym (chain-empty n next p k c d)
+chain-once n next p (x ∷ l) [] c d = absurd (omega (arith, c .0, c .1))
+chain-once n next p (x ∷ l) (y ∷ k) c d =
+    let e : x ≡ y = sym (c .0) ∙ d .0 in
+    ap (λ (z : ℕ). z ∷ l) e ∙ ap (λ (m : List ℕ). y ∷ m) (chain-once n next (getD next (n + x) 0) l k (c .2) (subst (λ (z : ℕ). Chain n next (getD next (n + z) 0) k) (sym e) (d .2)))
 
 -- how many steps there are to the end, of at most k
 abbrev pub steps : ℕ → List ℕ → ℕ → ℕ → ℕ
@@ -157,48 +179,61 @@ module _ (t : List ℤ) (n : ℕ) where
 take-one : (l : List ℕ) (m p : ℕ) → m < length l → take (m + 1) (set l m p) ≡ take m l ++ p ∷ []
 take-one l m p h = rw add-one (take-suc-set l m p h)
 
-pub record Walk (n : ℕ) (next whole items : List ℕ) (p m : ℕ) : Type 0 where
+-- the rest of the chain goes behind the m items, of which the front stood there before
+pub record Walk (n : ℕ) (next front items : List ℕ) (from p m : ℕ) : Type 0 where
   pub rest : List ℕ
-  pub parts : take m items ++ rest ≡ whole
+  pub parts : (l : List ℕ) → Chain n next from l → take m items ++ rest ≡ front ++ l
   pub chain : Chain n next p rest
-  pub within : m ≤ length items
+  pub below : (x : ℕ) → x ∈ rest → x ≤ n
+  pub fits : m + length rest ≤ length items
 
-module _ (n : ℕ) (next whole items : List ℕ) where
-  pub walk-start : (p : ℕ) → Chain n next p whole → Walk n next whole items p 0
-  walk-start p c = record { rest = whole; parts = refl; chain = c; within = omega arith }
+module _ (n : ℕ) (next items : List ℕ) (from : ℕ) where
+  pub walk-start : (m : ℕ) → m ≤ length items → WalkableChain n next from (length items - m) → Walk n next (take m items) items from from m
+  walk-start m h w = record {
+    rest = w .labels;
+    parts = λ l c. ap (λ (k : List ℕ). take m items ++ k) (chain-once n next from (w .labels) l (w .chain) c);
+    chain = w .chain;
+    below = w .below;
+    fits = omega (arith, w .fits);
+  }
 
-  pub walk-room : (p m : ℕ) → Walk n next whole items p m → (p ≡ 0 → ⊥) → m < length whole
-  walk-room p m w z = go (w .rest) (w .parts) (w .chain)
-    where
-      go : (rest : List ℕ) → take m items ++ rest ≡ whole → Chain n next p rest → m < length whole
-      go [] e c = absurd (z c)
-      go (x ∷ l) e c = omega (arith, ap length e, length-append (take m items) (x ∷ l), length-take-le m items (w .within))
+  module _ (front : List ℕ) (p m : ℕ) (w : Walk n next front items from p m) where
+    pub walk-room : (p ≡ 0 → ⊥) → m < length items
+    walk-room z = go (w .rest) (w .chain) (w .fits)
+      where
+        go : (rest : List ℕ) → Chain n next p rest → m + length rest ≤ length items → m < length items
+        go [] c f = absurd (z c)
+        go (x ∷ l) c f = omega arith
 
-  pub walk-in : (p m : ℕ) → Walk n next whole items p m → (p ≡ 0 → ⊥) → p ∈ whole
-  walk-in p m w z = go (w .rest) (w .parts) (w .chain)
-    where
-      go : (rest : List ℕ) → take m items ++ rest ≡ whole → Chain n next p rest → p ∈ whole
-      go [] e c = absurd (z c)
-      go (x ∷ l) e c = subst (λ (y : List ℕ). p ∈ y) e (in-right p (take m items) (x ∷ l) (subst (λ (y : ℕ). p ∈ y ∷ l) (c .0) (in-here p l)))
+    pub walk-label : (p ≡ 0 → ⊥) → (1 ≤ p) × (p ≤ n)
+    walk-label z = go (w .rest) (w .chain) (w .below)
+      where
+        go : (rest : List ℕ) → Chain n next p rest → ((x : ℕ) → x ∈ rest → x ≤ n) → (1 ≤ p) × (p ≤ n)
+        go [] c b = absurd (z c)
+        go (x ∷ l) c b = (omega (arith, c .0, c .1), omega (arith, c .0, b x (in-here x l)))
 
-  pub walk-step : (p m : ℕ) → Walk n next whole items p m → (p ≡ 0 → ⊥) → m < length items → Walk n next whole (set items m p) (getD next (n + p) 0) (m + 1)
-  walk-step p m w z h = go (w .rest) (w .parts) (w .chain)
-    where
-      go : (rest : List ℕ) → take m items ++ rest ≡ whole → Chain n next p rest → Walk n next whole (set items m p) (getD next (n + p) 0) (m + 1)
-      go [] e c = absurd (z c)
-      go (x ∷ l) e c = record {
-        rest = l;
-        parts = ap (λ (y : List ℕ). y ++ l) (take-one items m p h) ∙ append-assoc (take m items) (p ∷ []) l ∙ ap (λ (y : ℕ). take m items ++ y ∷ l) (c .0) ∙ e;
-        chain = subst (λ (y : ℕ). Chain n next (getD next (n + y) 0) l) (sym (c .0)) (c .2);
-        within = omega (arith, length-set items m p);
-      }
+    pub walk-step : (p ≡ 0 → ⊥) → Walk n next front (set items m p) from (getD next (n + p) 0) (m + 1)
+    walk-step z = go (w .rest) (w .parts) (w .chain) (w .below) (w .fits)
+      where
+        go : (rest : List ℕ) → ((l : List ℕ) → Chain n next from l → take m items ++ rest ≡ front ++ l) → Chain n next p rest → ((x : ℕ) → x ∈ rest → x ≤ n)
+            → m + length rest ≤ length items
+            → Walk n next front (set items m p) from (getD next (n + p) 0) (m + 1)
+        go [] e c b f = absurd (z c)
+        go (x ∷ r) e c b f = record {
+          rest = r;
+          parts = λ l k. ap (λ (y : List ℕ). y ++ r) (take-one items m p (omega arith)) ∙ append-assoc (take m items) (p ∷ []) r
+              ∙ ap (λ (y : ℕ). take m items ++ y ∷ r) (c .0) ∙ e l k;
+          chain = subst (λ (y : ℕ). Chain n next (getD next (n + y) 0) r) (sym (c .0)) (c .2);
+          below = λ y i. b y (in-there y x r i);
+          fits = omega (arith, length-set items m p);
+        }
 
-  pub walk-end : (p m : ℕ) → Walk n next whole items p m → p ≡ 0 → Gathered whole items m
-  walk-end p m w z = go (w .rest) (w .parts) (w .chain)
-    where
-      go : (rest : List ℕ) → take m items ++ rest ≡ whole → Chain n next p rest → Gathered whole items m
-      go [] e c = record { cells = sym (append-nil (take m items)) ∙ e; within = w .within }
-      go (x ∷ l) e c = absurd (omega (arith, c .0, c .1))
+    pub walk-end : p ≡ 0 → (l : List ℕ) → Chain n next from l → Gathered (front ++ l) items m
+    walk-end z l k = go (w .rest) (w .parts l k) (w .chain) (w .fits)
+      where
+        go : (rest : List ℕ) → take m items ++ rest ≡ front ++ l → Chain n next p rest → m + length rest ≤ length items → Gathered (front ++ l) items m
+        go [] e c f = record { cells = sym (append-nil (take m items)) ∙ e; within = omega arith }
+        go (x ∷ r) e c f = absurd (omega (arith, c .0, c .1))
 
 -- ---- filtering the labels upward
 

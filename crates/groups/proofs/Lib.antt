@@ -1,3 +1,3 @@
 pub mod Chains
 pub mod Orders
-mod Going
+pub mod Opening

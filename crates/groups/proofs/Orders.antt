@@ -1,10 +1,9 @@
 -- The rule of placing over a Group's members and over the values: what `place` asks, and what it gives.
 use mathlib.Core.Path.{_≡_, refl, sym, ap, _∙_, subst}
 use mathlib.Core.Logic.{_⊎_, inl, inr, _↔_}
-use mathlib.Core.List.{List, [], _∷_, _++_}
-use mathlib.Core.Bool.{Bool, true, false, not, _&&_, and-true, and-false}
-use mathlib.Core.Option.{Option, none, some}
-use Prim.Native.Nat.{ℕ, zero, suc, _+_, _-_, _*_, _≤_, _<_}
+use mathlib.Core.List.{List}
+use mathlib.Core.Bool.{Bool, true, false, and-true, and-false}
+use Prim.Native.Nat.{ℕ, _+_, _-_, _*_, _≤_, _<_}
 use native.Mathlib.Omega.{arith}
 use lib.IntN.{ℤ}
 use lib.ListN.{length, getD, take}
@@ -13,15 +12,15 @@ use borrow.Author.Tests.{eq-eqb, ne-eqb}
 use Rattle.kinds.specs.Kinds.{groupCode}
 use Rattle.kinds.specs.GivesValues.{givesValues}
 use Rattle.kinds.proofs.Plans.{group-gives, value-gives}
-use Rattle.cells.specs.Table.{kind, isDefinition}
+use Rattle.cells.specs.Table.{kind, isDefinition, owner}
 use Rattle.cells.specs.Accepted.{Accepted}
-use Rattle.order.specs.LabelLists.{one, count, _∈_, mem, any, first}
-use Rattle.order.specs.Placing.{waits, next, rounds, placed}
-use Rattle.order.specs.Order.{isG, isV, allLabels, isMemberOf, members, values, reaches, needs, ordered, groupStuck, mixedPlan, place16, NoCycle}
+use Rattle.order.specs.LabelLists.{one, count, _∈_, filter}
+use Rattle.order.specs.Placing.{placed}
+use Rattle.order.specs.Order.{isG, isV, allLabels, isMemberOf, members, values, reaches, needs, place16, NoCycle}
 use Rattle.order.proofs.Tests.{both-ways, so-or-not, not-so}
-use Rattle.order.proofs.Lists.{in-here, in-there, zero-or-in, length-mono, length-upFrom}
-use Rattle.order.proofs.Placing.{placed-sub, placed-all}
-use Rattle.order.proofs.Tables.{v-kind, v-not-g, v-def, def-label, member-of, members-once, value-of, in-labels, reaches-exact}
+use Rattle.order.proofs.Lists.{zero-or-in, in-filter, length-mono, length-upFrom}
+use Rattle.order.proofs.Tables.{v-kind, v-not-g, v-def, def-label, member-of, value-of, in-labels, reaches-exact}
+use Rattle.order.proofs.Alike.{placed-same}
 use Rattle.order.proofs.Needs.{holds, holds-intro, holds-v, needs-intro, needs-elim, only-itself}
 use Rattle.order.proofs.Planned.{place16-exactly}
 use Rattle.marks.specs.Marks.{mark, Added}
@@ -29,38 +28,9 @@ use Rattle.placing.specs.UnmetCounts.{needed, Fits, Placed}
 use Rattle.placing.proofs.Lists.{count-more, in-more, rising-once}
 use Rattle.reach.specs.MarkRows.{width}
 use Rattle.reach.proofs.Reading.{row-room}
-use Rattle.needs.specs.Needs.{Holder, NeedRows}
-use Rattle.groups.specs.Members.{Gathered, Items, Scratch, Masked}
-use Rattle.groups.proofs.Chains.{rising-filter}
-
--- ---- the rule asks only about the items
-
-any-ext : (f g : ℕ → Bool) (l : List ℕ) → ((x : ℕ) → x ∈ l → f x ≡ g x) → any f l ≡ any g l
-any-ext f g [] h = refl
-any-ext f g (x ∷ l) h = rw (h x (in-here x l), any-ext f g l (λ y m. h y (in-there y x l m)))
-
-first-ext : (f g : ℕ → Bool) (l : List ℕ) → ((x : ℕ) → x ∈ l → f x ≡ g x) → first f l ≡ first g l
-first-ext f g [] h = refl
-first-ext f g (x ∷ l) h = rw (h x (in-here x l), first-ext f g l (λ y m. h y (in-there y x l m)))
-
-module _ (R Q : ℕ → ℕ → Bool) (items : List ℕ) (same : (p q : ℕ) → p ∈ items → q ∈ items → R p q ≡ Q p q) where
-  next-ext : (done : List ℕ) → next R items done ≡ next Q items done
-  next-ext done =
-      first-ext (λ p. not (mem p done) && not (waits R items done p)) (λ p. not (mem p done) && not (waits Q items done p)) items
-      (λ p m. ap (λ (t : Bool). not (mem p done) && not t) (any-ext (λ q. R p q && not (mem q done)) (λ q. Q p q && not (mem q done)) items
-      (λ q i. ap (λ (t : Bool). t && not (mem q done)) (same p q m i))))
-
-  rounds-ext : (k : ℕ) (done : List ℕ) → rounds R items k done ≡ rounds Q items k done
-  rounds-ext zero done = refl
-  rounds-ext (suc k) done = go (next Q items done) refl (λ p. rounds-ext k (done ++ p ∷ []))
-    where
-      go : (o : Option ℕ) → next Q items done ≡ o → ((p : ℕ) → rounds R items k (done ++ p ∷ []) ≡ rounds Q items k (done ++ p ∷ []))
-          → rounds R items (suc k) done ≡ rounds Q items (suc k) done
-      go none e r = rw (next-ext done, e)
-      go (some p) e r = rw (next-ext done, e) (r p)
-
-  pub placed-ext : placed R items ≡ placed Q items
-  placed-ext = rounds-ext (length items) []
+use Rattle.needs.specs.Needs.{Holder}
+use Rattle.groups.specs.Members.{Chain, WalkableChain, Gathered, Items, NeedRowsFrom, NeedRowsOf, Scratch, Masked}
+use Rattle.groups.proofs.Chains.{labels-few, rising-part, rising-filter}
 
 -- ---- the part of a buffer that holds the items
 
@@ -125,19 +95,25 @@ module _ (t : List ℤ) (n : ℕ) (ok : Accepted t n) where
       out-mask : (p : ℕ) → Empty p → mark mask (width n) 0 p ≡ false
       out-mask p e = not-so (mark mask (width n) 0 p) (λ m. both-ways (givesValues (kind t p)) (masked p .0 m .1) e)
 
-      needed-is : NeedRows t n square → (p q : ℕ) → p ∈ items → q ∈ items → needed square mask (width n) p q ≡ needs t n p q
+      pub needed-is : NeedRowsOf t n items square → (p q : ℕ) → p ∈ items → q ∈ items → needed square mask (width n) p q ≡ needs t n p q
       needed-is rows p q mp mq = go (so-or-not (givesValues (kind t p))) (so-or-not (givesValues (kind t q)))
         where
           go : Holder t p ⊎ Empty p → Holder t q ⊎ Empty q → needed square mask (width n) p q ≡ needs t n p q
-          go (inl hp) (inl hq) = rw (in-mask q mq hq, in-mask p mp hp) (and-true (mark square (width n) q p) ∙ rows p q hp hq)
+          go (inl hp) (inl hq) = rw (in-mask q mq hq, in-mask p mp hp) (and-true (mark square (width n) q p) ∙ rows p q mp mq hp hq)
           go (inl hp) (inr fq) = rw (out-mask q fq) (sym (needed-none p q (h .defs q mq) fq))
           go (inr fp) (inl hq) = rw (in-mask q mq hq, out-mask p fp) (and-false (mark square (width n) q p) ∙ sym (needs-none p q (h .defs p mp) fp))
           go (inr fp) (inr fq) = rw (out-mask q fq) (sym (needed-none p q (h .defs q mq) fq))
 
-      pub placed-needs : NeedRows t n square → (order : List ℕ) (r : ℕ) → Placed (needed square mask (width n)) items order r → Placed (needs t n) items order r
-      placed-needs rows order r pl = record { cells = pl .cells ∙ placed-ext (needed square mask (width n)) (needs t n) items (needed-is rows); within = pl .within }
+      pub placed-needs : NeedRowsOf t n items square → (order : List ℕ) (r : ℕ) → Placed (needed square mask (width n)) items order r → Placed (needs t n) items order r
+      placed-needs rows order r pl = record { cells = pl .cells ∙ placed-same (needed square mask (width n)) (needs t n) items (needed-is rows); within = pl .within }
 
   -- ---- the members of a Group
+
+  pub walkable : (l next : List ℕ) (p room : ℕ) → Chain n next p l → ((x : ℕ) → x ∈ l → isDefinition t x ≡ true) → length l ≤ room → WalkableChain n next p room
+  walkable l next p room c d h = record { labels = l; chain = c; below = λ x m. def-label t n ok x (d x m) .1; fits = h }
+
+  pub member-walk : (g : ℕ) (next : List ℕ) (p room : ℕ) → Chain n next p (members t n g) → length (members t n g) ≤ room → WalkableChain n next p room
+  member-walk g next p room c h = walkable (members t n g) next p room c (λ x m. member-of t n ok g x m .0) h
 
   module _ (g : ℕ) (items : List ℕ) (m : ℕ) (ga : Gathered (members t n g) items m) where
     is : take (m - 0) items ≡ members t n g
@@ -146,28 +122,8 @@ module _ (t : List ℤ) (n : ℕ) (ok : Accepted t n) where
     pub member-items : Items t (take (m - 0) items)
     member-items = subst (Items t) (sym is) (record { rising = rising-filter (isMemberOf t g) 1 n; defs = λ p i. member-of t n ok g p i .0 })
 
-    module _ (order : List ℕ) (room : n < length order) (r : ℕ) (pl : Placed (needs t n) (take (m - 0) items) order r) where
-      pub order-is : take r order ≡ ordered t n g
-      order-is = pl .cells ∙ ap (placed (needs t n)) is
-
-      pub order-short : r ≤ n
-      order-short = omega (arith, pl .within, items-few (take (m - 0) items) member-items)
-
-      many : r ≡ length (ordered t n g)
-      many = sym (length-take-le r order (omega (arith, order-short))) ∙ ap length order-is
-
-      pub order-stuck : (r ≡ m → ⊥) → groupStuck t n g ≡ true
-      order-stuck d = ap not (ne-eqb (length (ordered t n g)) (length (members t n g)) (λ z. d (many ∙ z ∙ sym (items-many (members t n g) items m ga))))
-
-      module _ (e : r ≡ m) where
-        pub order-free : groupStuck t n g ≡ false
-        order-free = ap not (eq-eqb (length (ordered t n g)) (length (members t n g)) (sym many ∙ e ∙ items-many (members t n g) items m ga))
-
-        pub order-labels : (x : ℕ) → x ∈ take r order → (1 ≤ x) × (x ≤ n)
-        order-labels x i = def-label t n ok x (member-of t n ok g x (placed-sub (needs t n) (members t n g) x (subst (λ (l : List ℕ). x ∈ l) order-is i)) .0)
-
-        pub order-once : (x : ℕ) → count x (take r order) ≤ 1
-        order-once x = omega (arith, ap (count x) order-is, placed-all (needs t n) (members t n g) x order-free, members-once t n ok g x)
+    pub member-rows : (square : List ℕ) → NeedRowsFrom t n g square → NeedRowsOf t n (take (m - 0) items) square
+    member-rows square rows p q i j hp hq = rows p q hp hq (omega (arith, member-of t n ok g q (subst (λ (l : List ℕ). q ∈ l) is j) .1))
 
   -- ---- the values, where none reaches itself
 
@@ -195,17 +151,26 @@ module _ (t : List ℤ) (n : ℕ) (ok : Accepted t n) where
             other : p ≡ q → ⊥
             other e = nc p (v-kind t p vp) (reaches-exact t n ok p p .0 (subst (λ (z : ℕ). reaches t n p z ≡ true) (sym e) b))
 
-  module _ (items : List ℕ) (m : ℕ) (ga : Gathered (values t n) items m) where
-    values-is : take (m - 0) items ≡ values t n
-    values-is = items-of (values t n) items m ga
+  -- some values, upward
+  module _ (f : ℕ → Bool) (items : List ℕ) (m : ℕ) (ga : Gathered (filter f (values t n)) items m) where
+    some-is : take (m - 0) items ≡ filter f (values t n)
+    some-is = items-of (filter f (values t n)) items m ga
 
-    pub value-items : Items t (take (m - 0) items)
-    value-items = subst (Items t) (sym values-is) (record { rising = rising-filter (isV t) 1 n; defs = λ p i. v-def t p (value-of t n ok p i) })
+    some-value : (p : ℕ) → p ∈ filter f (values t n) → isV t p ≡ true
+    some-value p i = value-of t n ok p (in-filter f p (values t n) i .0)
 
-    pub mixed-is : place16 t n ≡ 0 → (order : List ℕ) (r : ℕ) → Placed (needs t n) (take (m - 0) items) order r → take r order ≡ mixedPlan t n
-    mixed-is z order r pl =
-        pl .cells ∙ ap (placed (needs t n)) values-is
-        ∙ placed-ext (needs t n) (reaches t n) (values t n) (λ p q i j. needs-reaches (place16-exactly t n ok 0 .0 z) p q (value-of t n ok p i) (value-of t n ok q j))
+    pub some-items : Items t (take (m - 0) items)
+    some-items = subst (Items t) (sym some-is) (record { rising = rising-part f (values t n) (rising-filter (isV t) 1 n); defs = λ p i. v-def t p (some-value p i) })
+
+    pub some-rows : (g : ℕ) (square : List ℕ) → ((p : ℕ) → f p ≡ true → g ≤ owner t p) → NeedRowsFrom t n g square → NeedRowsOf t n (take (m - 0) items) square
+    some-rows g square h rows p q i j hp hq = rows p q hp hq (h q (in-filter f q (values t n) (subst (λ (l : List ℕ). q ∈ l) some-is j) .1))
+
+    pub some-placed : place16 t n ≡ 0 → (order : List ℕ) (r : ℕ) → Placed (needs t n) (take (m - 0) items) order r → Placed (reaches t n) (filter f (values t n)) order r
+    some-placed z order r pl = record {
+      cells = pl .cells ∙ ap (placed (needs t n)) some-is
+          ∙ placed-same (needs t n) (reaches t n) (filter f (values t n)) (λ p q i j. needs-reaches (place16-exactly t n ok 0 .0 z) p q (some-value p i) (some-value q j));
+      within = omega (arith, pl .within, ap length some-is);
+    }
 
 -- ---- scratch of the same lengths
 
@@ -220,28 +185,28 @@ scratch-as n a b c d e a′ b′ c′ d′ e′ p q r s u h = record {
   orders = omega (arith, h .orders);
 }
 
--- ---- the mask, item by item
+-- ---- the mask of the items that are so, item by item
 
-module _ (t : List ℤ) (n : ℕ) (items mask : List ℕ) (i p : ℕ) (is : p ≡ getD items i 0) (hi : i < length items)
-    (old : (x : ℕ) → (mark mask (width n) 0 x ≡ true) ↔ ((x ∈ take i items) × Holder t x)) where
+module _ (So : ℕ → Type 0) (n : ℕ) (items mask : List ℕ) (i p : ℕ) (is : p ≡ getD items i 0) (hi : i < length items)
+    (old : (x : ℕ) → (mark mask (width n) 0 x ≡ true) ↔ ((x ∈ take i items) × So x)) where
   more : (x : ℕ) → x ∈ take i items → x ∈ take (i + 1) items
   more x m = omega (arith, count-more x items i hi)
 
-  pub mask-put : p < 64 * width n → Holder t p → (mask′ : List ℕ) → Added (λ (b : ℕ). b ≡ p) mask mask′ (width n) 0
-      → (x : ℕ) → (mark mask′ (width n) 0 x ≡ true) ↔ ((x ∈ take (i + 1) items) × Holder t x)
+  pub mask-put : p < 64 * width n → So p → (mask′ : List ℕ) → Added (λ (b : ℕ). b ≡ p) mask mask′ (width n) 0
+      → (x : ℕ) → (mark mask′ (width n) 0 x ≡ true) ↔ ((x ∈ take (i + 1) items) × So x)
   mask-put low h mask′ add x = (λ m. there (add .only x m), λ y. back y (in-more x items i hi (y .0)))
     where
-      there : (mark mask (width n) 0 x ≡ true) ⊎ (x ≡ p) → (x ∈ take (i + 1) items) × Holder t x
+      there : (mark mask (width n) 0 x ≡ true) ⊎ (x ≡ p) → (x ∈ take (i + 1) items) × So x
       there (inl m) = let o = old x .0 m in (more x (o .0), o .1)
-      there (inr y) = (omega (arith, count-more x items i hi, ap one (eq-eqb x (getD items i 0) (y ∙ is))), subst (Holder t) (sym y) h)
+      there (inr y) = (omega (arith, count-more x items i hi, ap one (eq-eqb x (getD items i 0) (y ∙ is))), subst So (sym y) h)
 
-      back : (x ∈ take (i + 1) items) × Holder t x → (x ∈ take i items) ⊎ (x ≡ getD items i 0) → mark mask′ (width n) 0 x ≡ true
+      back : (x ∈ take (i + 1) items) × So x → (x ∈ take i items) ⊎ (x ≡ getD items i 0) → mark mask′ (width n) 0 x ≡ true
       back y (inl m) = add .kept x (old x .1 (m, y .1))
       back y (inr m) = let q : x ≡ p = m ∙ sym is in add .new x (omega arith) q
 
-  pub mask-skip : givesValues (kind t p) ≡ false → (x : ℕ) → (mark mask (width n) 0 x ≡ true) ↔ ((x ∈ take (i + 1) items) × Holder t x)
+  pub mask-skip : (So p → ⊥) → (x : ℕ) → (mark mask (width n) 0 x ≡ true) ↔ ((x ∈ take (i + 1) items) × So x)
   mask-skip f x = (λ m. let o = old x .0 m in (more x (o .0), o .1), λ y. back y (in-more x items i hi (y .0)))
     where
-      back : (x ∈ take (i + 1) items) × Holder t x → (x ∈ take i items) ⊎ (x ≡ getD items i 0) → mark mask (width n) 0 x ≡ true
+      back : (x ∈ take (i + 1) items) × So x → (x ∈ take i items) ⊎ (x ≡ getD items i 0) → mark mask (width n) 0 x ≡ true
       back y (inl m) = old x .1 (m, y .1)
-      back y (inr m) = both-ways (givesValues (kind t p)) (subst (Holder t) (m ∙ sym is) (y .1)) f
+      back y (inr m) = absurd (f (subst So (m ∙ sym is) (y .1)))

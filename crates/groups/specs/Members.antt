@@ -3,13 +3,13 @@
 use mathlib.Core.Path.{_≡_}
 use mathlib.Core.Logic.{_↔_}
 use mathlib.Core.List.{List, [], _∷_}
-use mathlib.Core.Bool.{Bool, true, false}
+use mathlib.Core.Bool.{true}
 use Prim.Native.Nat.{ℕ, _+_, _*_, _≤_, _<_}
 use lib.IntN.{ℤ}
 use lib.ListN.{length, getD, take}
-use Rattle.cells.specs.Table.{isDefinition}
+use Rattle.cells.specs.Table.{isDefinition, owner}
 use Rattle.order.specs.LabelLists.{_∈_}
-use Rattle.order.specs.Order.{members, ordered, groupStuck, someStuck}
+use Rattle.order.specs.Order.{members, needs}
 use Rattle.marks.specs.Marks.{mark}
 use Rattle.needs.specs.Needs.{Holder}
 use Rattle.placing.specs.UnmetCounts.{Rising}
@@ -24,9 +24,12 @@ Chain n next p (x ∷ l) = (p ≡ x) × (1 ≤ x) × Chain n next (getD next (n 
 abbrev pub Chained : List ℤ → ℕ → List ℕ → Type 0
 Chained t n next = (g : ℕ) → g ≤ n → Chain n next (getD next g 0) (members t n g)
 
--- the chain of each Group is its members in order
-abbrev pub Ordered : List ℤ → ℕ → List ℕ → Type 0
-Ordered t n next = (g : ℕ) → 1 ≤ g → g ≤ n → Chain n next (getD next g 0) (ordered t n g)
+-- a list of labels that is linked from p on, for which there is room
+pub record WalkableChain (n : ℕ) (next : List ℕ) (p room : ℕ) : Type 0 where
+  pub labels : List ℕ
+  pub chain : Chain n next p labels
+  pub below : (x : ℕ) → x ∈ labels → x ≤ n
+  pub fits : length labels ≤ room
 
 -- l stands in front of the items
 pub record Gathered (l items : List ℕ) (r : ℕ) : Type 0 where
@@ -37,6 +40,14 @@ pub record Gathered (l items : List ℕ) (r : ℕ) : Type 0 where
 pub record Items (t : List ℤ) (items : List ℕ) : Type 0 where
   pub rising : Rising items
   pub defs : (p : ℕ) → p ∈ items → isDefinition t p ≡ true
+
+-- the rows of those that have values in them, and lie in Group g or in one of a larger label
+abbrev pub NeedRowsFrom : List ℤ → ℕ → ℕ → List ℕ → Type 0
+NeedRowsFrom t n g square = (p q : ℕ) → Holder t p → Holder t q → g ≤ owner t q → mark square (width n) q p ≡ needs t n p q
+
+-- the rows of items
+abbrev pub NeedRowsOf : List ℤ → ℕ → List ℕ → List ℕ → Type 0
+NeedRowsOf t n items square = (p q : ℕ) → p ∈ items → q ∈ items → Holder t p → Holder t q → mark square (width n) q p ≡ needs t n p q
 
 -- room for placing n labels
 pub record Scratch (n : ℕ) (mask unmet ready list order : List ℕ) : Type 0 where
@@ -54,13 +65,3 @@ Masked t n items mask = (p : ℕ) → (mark mask (width n) 0 p ≡ true) ↔ ((p
 pub record Relinked (n g : ℕ) (l next next′ : List ℕ) : Type 0 where
   pub chain : Chain n next′ (getD next′ g 0) l
   pub others : (y : ℕ) → (y ≡ g → ⊥) → ((x : ℕ) → x ∈ l → y ≡ n + x → ⊥) → getD next′ y 0 ≡ getD next y 0
-
--- Group g is stuck; or it is in order
-abbrev pub GroupOrder : List ℤ → ℕ → ℕ → List ℕ → List ℕ → Bool → Type 0
-GroupOrder t n g next next′ true = groupStuck t n g ≡ true
-GroupOrder t n g next next′ false = Relinked n g (ordered t n g) next next′ × (groupStuck t n g ≡ false)
-
--- some Group is stuck; or all are in order
-abbrev pub GroupOrders : List ℤ → ℕ → List ℕ → Bool → Type 0
-GroupOrders t n next′ true = someStuck t n ≡ true
-GroupOrders t n next′ false = Ordered t n next′ × (someStuck t n ≡ false)

@@ -1,16 +1,20 @@
 // The members of every Group in order, by the one rule of placing, which serves the mixed list too.
 
-ghost use Prim.Native.Nat.{ℕ, _+_, _*_, _≤_, _<_};
+ghost use mathlib.Core.Path.{_≡_};
+ghost use mathlib.Core.Bool.{true};
+ghost use mathlib.Core.List.{List, _++_};
+ghost use Prim.Native.Nat.{ℕ, _+_, _-_, _*_, _≤_, _<_};
 ghost use lib.ListN.{length, getD, take};
 ghost use Rattle.cells.specs.Limits.{labelLimit};
 ghost use Rattle.cells.specs.Accepted.{Accepted};
+ghost use Rattle.cells.specs.Table.{isDefinition};
 ghost use Rattle.order.specs.LabelLists.{count, _∈_};
-ghost use Rattle.order.specs.Order.{members, values, needs};
+ghost use Rattle.order.specs.Order.{reaches, needs, memberBlock, blockValues, place16};
 ghost use Rattle.reach.specs.MarkRows.{width};
 ghost use Rattle.reach.specs.Chains.{Empty};
-ghost use Rattle.needs.specs.Needs.{NeedRows};
 ghost use Rattle.placing.specs.UnmetCounts.{Placed};
-ghost use Rattle.groups.specs.Members.{Chain, Chained, Gathered, Items, Scratch, Masked, Relinked, GroupOrder, GroupOrders};
+ghost use Rattle.groups.specs.Members.{Chain, Chained, WalkableChain, Gathered, Items, NeedRowsFrom, NeedRowsOf, Scratch, Masked, Relinked};
+ghost use Rattle.groups.specs.Opening.{Siblings, MemberChains, ChainsCleared, AllInside, ValuesMasked};
 
 // ---- members
 
@@ -31,15 +35,14 @@ pub fn link_members(table: &[i64], n: usize, next: &mut [u16])
     }
 }
 
-// Puts a Group's members in front of the items, in the order of its chain. Answers how many.
-fn gather_members(table: &[i64], n: usize, next: &[u16], group: usize, items: &mut [u16]) -> usize
-    requires { ⌜ Accepted (now table) n ⌝ }
-    requires { ⌜ (group ≤ n) × (2 * n < length (now next)) × (n < length (now items)) ⌝ }
-    requires { ⌜ Chain n (now next) (getD (now next) group 0) (members (now table) n group) ⌝ }
-    ensures { λ r. ⌜ Gathered (members (now (table .entry)) n group) (now (items .exit)) r ⌝ }
+// Puts the chain that starts at a label behind the first `at` items. Answers where it ends.
+pub fn append_chain(n: usize, next: &[u16], label: usize, items: &mut [u16], at: usize) -> usize
+    requires { ⌜ (n ≤ labelLimit) × (label ≤ n) × (2 * n < length (now next)) × (at ≤ length (now items)) ⌝ }
+    requires { ⌜ WalkableChain n (now next) (getD (now next) label 0) (length (now items) - at) ⌝ }
+    ensures { λ r. ⌜ ((l : List ℕ) → Chain n (now (next .entry)) (getD (now (next .entry)) label 0) l → Gathered (take at (now (items .entry)) ++ l) (now (items .exit)) r) ⌝ }
 {
-    let mut m = 0;
-    let mut p = next[group];
+    let mut m = at;
+    let mut p = next[label];
     while p != 0 {
         items[m] = p;
         m += 1;
@@ -48,28 +51,10 @@ fn gather_members(table: &[i64], n: usize, next: &[u16], group: usize, items: &m
     m
 }
 
-// Puts the values in front of the items, smaller labels first. Answers how many.
-pub fn gather_values(table: &[i64], n: usize, items: &mut [u16]) -> usize
-    requires { ⌜ Accepted (now table) n ⌝ }
-    requires { ⌜ n < length (now items) ⌝ }
-    ensures { λ r. ⌜ Gathered (values (now (table .entry)) n) (now (items .exit)) r ⌝ }
-{
-    let mut m = 0;
-    let mut l = 1;
-    while l <= n {
-        if reach::kind_of(table, n, l) == kinds::VALUE {
-            items[m] = l as u16;
-            m += 1;
-        }
-        l += 1;
-    }
-    m
-}
-
 // ---- orders
 
 // The mask of what has values in it: functions need nothing and are not needed.
-fn mask_items(table: &[i64], n: usize, items: &[u16], mask: &mut [u64])
+pub fn mask_items(table: &[i64], n: usize, items: &[u16], mask: &mut [u64])
     requires { ⌜ Accepted (now table) n ⌝ }
     requires { ⌜ Items (now table) (now items) × (width n ≤ length (now mask)) ⌝ }
     ensures { λ _. ⌜ Masked (now (table .entry)) n (now (items .entry)) (now (mask .exit)) ⌝ }
@@ -100,7 +85,7 @@ pub fn place_items(
 ) -> usize
     requires { ⌜ Accepted (now table) n ⌝ }
     requires { ⌜ Items (now table) (now items) ⌝ }
-    requires { ⌜ ((n + 1) * width n ≤ length (now square)) × NeedRows (now table) n (now square) ⌝ }
+    requires { ⌜ ((n + 1) * width n ≤ length (now square)) × NeedRowsOf (now table) n (now items) (now square) ⌝ }
     requires { ⌜ Scratch n (now mask) (now unmet) (now ready) (now list) (now order) ⌝ }
     ensures { λ r. ⌜ Placed (needs (now (table .entry)) n) (now (items .entry)) (now (order .exit)) r ⌝ }
 {
@@ -109,7 +94,7 @@ pub fn place_items(
 }
 
 // The chain of a Group in the order given.
-fn relink(n: usize, next: &mut [u16], group: usize, order: &[u16], r: usize)
+pub fn relink(n: usize, next: &mut [u16], group: usize, order: &[u16], r: usize)
     requires { ⌜ (n ≤ labelLimit) × (group ≤ n) × (2 * n < length (now next)) × (r ≤ length (now order)) ⌝ }
     requires { ⌜ ((x : ℕ) → x ∈ take r (now order) → (1 ≤ x) × (x ≤ n)) × ((x : ℕ) → count x (take r (now order)) ≤ 1) ⌝ }
     ensures { λ _. ⌜ Relinked n group (take r (now (order .entry))) (now (next .entry)) (now (next .exit)) ⌝ }
@@ -125,28 +110,94 @@ fn relink(n: usize, next: &mut [u16], group: usize, order: &[u16], r: usize)
     next[group] = head;
 }
 
-// Puts the members of a Group in order. Answers whether it gets stuck.
-fn order_group(
+// ---- blocks of several
+
+// The first m items are a block. Puts behind them what lies under them, Group by Group, and clears the chains. Answers how many there are.
+fn open_members(table: &[i64], n: usize, next: &mut [u16], items: &mut [u16], m: usize) -> usize
+    requires { ⌜ Accepted (now table) n ⌝ }
+    requires { ⌜ (2 * n < length (now next)) × (n < length (now items)) × (m ≤ length (now items)) ⌝ }
+    requires { ⌜ Siblings (now table) (take m (now items)) × MemberChains (now table) n (take m (now items)) (now next) ⌝ }
+    ensures { λ r. ⌜ AllInside (now (table .entry)) (take m (now (items .entry))) (now (items .exit)) r ⌝ }
+    ensures { λ _. ⌜ ChainsCleared (now (table .entry)) (take m (now (items .entry))) (now (next .entry)) (now (next .exit)) ⌝ }
+{
+    let mut k = m;
+    let mut i = 0;
+    while i < k {
+        let x = marks::widen(items[i]);
+        k = append_chain(n, next, x, items, k);
+        next[x] = 0;
+        i += 1;
+    }
+    k
+}
+
+// The mask of the values among the items.
+fn mask_values(table: &[i64], n: usize, items: &[u16], mask: &mut [u64])
+    requires { ⌜ Accepted (now table) n ⌝ }
+    requires { ⌜ ((p : ℕ) → p ∈ now items → isDefinition (now table) p ≡ true) × (width n ≤ length (now mask)) ⌝ }
+    ensures { λ _. ⌜ ValuesMasked (now (table .entry)) n (now (items .entry)) (now (mask .exit)) ⌝ }
+{
+    let w = n / 64 + 1;
+    marks::clear_marks(mask, w);
+    let mut i = 0;
+    while i < items.len() {
+        let p = marks::widen(items[i]);
+        if reach::kind_of(table, n, p) == kinds::VALUE {
+            marks::put_mark(mask, w, 0, p);
+        }
+        i += 1;
+    }
+}
+
+// Puts the values in a block or under it in front of the items, smaller labels first, and clears the chains in it. Answers how many.
+fn gather_block(
+    table: &[i64],
+    n: usize,
+    next: &mut [u16],
+    links: &[u16],
+    group: usize,
+    b: usize,
+    items: &mut [u16],
+    mask: &mut [u64],
+) -> usize
+    requires { ⌜ Accepted (now table) n ⌝ }
+    requires { ⌜ (b ≤ n) × (2 * n < length (now next)) × (2 * n < length (now links)) × (64 * width n ≤ length (now items)) × (width n ≤ length (now mask)) ⌝ }
+    requires { ⌜ Chain n (now links) (getD (now links) b 0) (memberBlock (now table) n group b) × MemberChains (now table) n (memberBlock (now table) n group b) (now next) ⌝ }
+    ensures { λ r. ⌜ Gathered (blockValues (now (table .entry)) n group b) (now (items .exit)) r ⌝ }
+    ensures { λ _. ⌜ ChainsCleared (now (table .entry)) (memberBlock (now (table .entry)) n group b) (now (next .entry)) (now (next .exit)) ⌝ }
+{
+    let m = append_chain(n, links, b, items, 0);
+    let k = open_members(table, n, next, items, m);
+    mask_values(table, n, &items[0..k], mask);
+    marks::list_marks(mask, n / 64 + 1, 0, mask, items)
+}
+
+// Puts the values in a block of several or under it in the order, by the rule of placing, and clears the chains in it. Answers how many.
+pub fn open_block(
     table: &[i64],
     n: usize,
     square: &[u64],
     next: &mut [u16],
+    links: &[u16],
     group: usize,
+    b: usize,
     items: &mut [u16],
     mask: &mut [u64],
     unmet: &mut [u16],
     ready: &mut [u64],
     list: &mut [u16],
     order: &mut [u16],
-) -> bool
-    requires { ⌜ Accepted (now table) n ⌝ }
-    requires { ⌜ ((1 ≤ group) × (group ≤ n) × (2 * n < length (now next)) × (n < length (now items))) × Scratch n (now mask) (now unmet) (now ready) (now list) (now order) ⌝ }
-    requires { ⌜ ((n + 1) * width n ≤ length (now square)) × NeedRows (now table) n (now square) ⌝ }
-    requires { ⌜ Chain n (now next) (getD (now next) group 0) (members (now table) n group) ⌝ }
-    ensures { λ r. ⌜ GroupOrder (now (table .entry)) n group (now (next .entry)) (now (next .exit)) r ⌝ }
+) -> usize
+    requires { ⌜ Accepted (now table) n × (place16 (now table) n ≡ 0) ⌝ }
+    requires { ⌜ (b ≤ n) × (2 * n < length (now next)) × (2 * n < length (now links)) × (64 * width n ≤ length (now items)) ⌝ }
+    requires { ⌜ Scratch n (now mask) (now unmet) (now ready) (now list) (now order) ⌝ }
+    requires { ⌜ ((n + 1) * width n ≤ length (now square)) × NeedRowsFrom (now table) n group (now square) ⌝ }
+    requires { ⌜ Chain n (now links) (getD (now links) b 0) (memberBlock (now table) n group b) × MemberChains (now table) n (memberBlock (now table) n group b) (now next) ⌝ }
+    ensures { λ r. ⌜ Placed (reaches (now (table .entry)) n) (blockValues (now (table .entry)) n group b) (now (order .exit)) r ⌝ }
+    ensures { λ _. ⌜ ChainsCleared (now (table .entry)) (memberBlock (now (table .entry)) n group b) (now (next .entry)) (now (next .exit)) ⌝ }
 {
-    let m = gather_members(table, n, next, group, items);
-    let r = place_items(
+    let m = gather_block(table, n, next, links, group, b, items, mask);
+    place_items(
         table,
         n,
         square,
@@ -156,52 +207,5 @@ fn order_group(
         ready,
         list,
         order,
-    );
-    if r != m {
-        return true;
-    }
-    relink(n, next, group, order, r);
-    false
-}
-
-// Puts the members of every Group in order. Answers whether some Group gets stuck.
-pub fn order_groups(
-    table: &[i64],
-    n: usize,
-    square: &[u64],
-    next: &mut [u16],
-    items: &mut [u16],
-    mask: &mut [u64],
-    unmet: &mut [u16],
-    ready: &mut [u64],
-    list: &mut [u16],
-    order: &mut [u16],
-) -> bool
-    requires { ⌜ Accepted (now table) n ⌝ }
-    requires { ⌜ ((2 * n < length (now next)) × (n < length (now items))) × Scratch n (now mask) (now unmet) (now ready) (now list) (now order) ⌝ }
-    requires { ⌜ (((n + 1) * width n ≤ length (now square)) × NeedRows (now table) n (now square)) × Chained (now table) n (now next) ⌝ }
-    ensures { λ r. ⌜ GroupOrders (now (table .entry)) n (now (next .exit)) r ⌝ }
-{
-    let mut g = 1;
-    while g <= n {
-        if next[g] != 0 {
-            if order_group(
-                table,
-                n,
-                square,
-                next,
-                g,
-                items,
-                mask,
-                unmet,
-                ready,
-                list,
-                order,
-            ) {
-                return true;
-            }
-        }
-        g += 1;
-    }
-    false
+    )
 }

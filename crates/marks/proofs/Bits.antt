@@ -6,17 +6,17 @@ use mathlib.Core.Bool.{Bool, true, false, not, _&&_, _||_}
 use Prim.Native.Nat.{ℕ, zero, suc, _+_, _-_, _*_, _/_, _%_, _^_, _≤_, _<_, min, max}
 use native.Mathlib.Omega.{arith}
 use native.Mathlib.Nat.{div-one, div-div-eq-div-mul, pow-suc, pow-succ'}
-use native.Mathlib.Decide.{ℕ-discrete}
+use native.Mathlib.Decide.{ℕ-discrete, decLt}
 use lib.Dec.{eqb}
 use lib.ListN.{length}
 use lib.Bits as Bits
 use lib.Bits.{bitAnd, bitOr, bitXor, and-step, or-step, xor-step, and-self}
 use lib.Count.{trailingZeros}
 use borrow.Author.Tests.{eq-eqb, ne-eqb}
-use Rattle.order.specs.LabelLists.{one, count}
+use Rattle.order.specs.LabelLists.{one, count, _∈_}
 use Rattle.order.proofs.Tests.{one-le}
 use Rattle.order.proofs.Lists.{count-here, count-there}
-use Rattle.marks.specs.Marks.{bit, places}
+use Rattle.marks.specs.Marks.{bit, places, Rising}
 
 one-test : (t : Bool) → eqb (one t) 1 ≡ t
 one-test true = refl
@@ -224,3 +224,19 @@ count-place (suc k) m x (suc j) h =
     go : (x % 2 ≡ 0) ⊎ (x % 2 ≡ 1) → count (suc m + j) (places k (suc m) (x / 2)) ≡ one (bit (x / 2) j) → count (suc m + j) (places (suc k) m x) ≡ one (bit x (suc j))
     go (inl e) r = rw e r
     go (inr e) r = rw e (count-there (suc m + j) m (places k (suc m) (x / 2)) (λ z. omega arith) ∙ r)
+
+pub places-from : (k m x q : ℕ) → q ∈ places k m x → m ≤ q
+places-from k m x q h = go (decLt q m)
+  where
+    go : Dec (q < m) → m ≤ q
+    go (yes l) = absurd (omega (arith, count-low k m x q l))
+    go (no l) = omega arith
+
+pub places-rising : (k m x : ℕ) → Rising (places k m x)
+unfolding places
+places-rising zero m x = tt
+places-rising (suc k) m x = go (digit x) (places-rising k (suc m) (x / 2))
+  where
+    go : (x % 2 ≡ 0) ⊎ (x % 2 ≡ 1) → Rising (places k (suc m) (x / 2)) → Rising (places (suc k) m x)
+    go (inl e) r = rw e r
+    go (inr e) r = rw e (λ y h. places-from k (suc m) (x / 2) y h, r)

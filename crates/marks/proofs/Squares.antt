@@ -1,7 +1,7 @@
 -- Laws of marks in a square: what stores of words do to them.
-use mathlib.Core.Path.{_≡_, refl, sym, ap, _∙_}
+use mathlib.Core.Path.{_≡_, refl, sym, ap, _∙_, subst}
 use mathlib.Core.Logic.{_⊎_, inl, inr}
-use mathlib.Core.List.{List, [], _++_}
+use mathlib.Core.List.{List, [], _∷_, _++_}
 use mathlib.Core.Bool.{true, false, _&&_, _||_}
 use Prim.Native.Nat.{ℕ, suc, _+_, _-_, _*_, _/_, _%_, _^_, _≤_, _<_}
 use native.Mathlib.Omega.{arith}
@@ -14,11 +14,11 @@ use lib.ListN.{length, getD, set}
 use lib.Seq.{getD-set-same, getD-set-other}
 use borrow.Author.Count.{below-more}
 use borrow.Author.Tests.{lt-ltb, le-ltb}
-use Rattle.order.specs.LabelLists.{one, count}
+use Rattle.order.specs.LabelLists.{one, count, _∈_}
 use Rattle.order.proofs.Tests.{both-ways, or-cases, or-left, or-right}
-use Rattle.order.proofs.Lists.{count-append}
-use Rattle.marks.specs.Marks.{bit, mark, InSquare, Added, Dropped, places, First}
-use Rattle.marks.proofs.Bits.{bit-or, bit-and, bit-none, put-own, put-other, drop-own, drop-other, lowest-is, lowest-below, count-low, count-high, count-place}
+use Rattle.order.proofs.Lists.{count-append, in-here, in-there, in-append}
+use Rattle.marks.specs.Marks.{bit, mark, InSquare, Added, Dropped, places, Rising, First}
+use Rattle.marks.proofs.Bits.{bit-or, bit-and, bit-none, put-own, put-other, drop-own, drop-other, lowest-is, lowest-below, count-low, count-high, count-place, places-from, places-rising}
 
 -- the code's `1 << k`
 pub shift-one : (k : ℕ) → k < 64 → 1 * 2 ^ k % 18446744073709551616 ≡ 2 ^ k
@@ -159,6 +159,14 @@ module _ (s₀ s : List ℕ) (w a b j : ℕ) (m : Merging s₀ s w a b j) where
 
 -- ---- marks listed word by word
 
+rising-join : (a b : List ℕ) (k : ℕ) → Rising a → ((x : ℕ) → x ∈ a → x < k) → Rising b → ((y : ℕ) → y ∈ b → k ≤ y) → Rising (a ++ b)
+rising-join [] b k ra low rb high = rb
+rising-join (x ∷ a) b k ra low rb high = (λ y h. go y (in-append y a b h), rising-join a b k (ra .1) (λ z i. low z (in-there z x a i)) rb high)
+  where
+    go : (y : ℕ) → (y ∈ a) ⊎ (y ∈ b) → x < y
+    go y (inl h) = ra .0 y h
+    go y (inr h) = omega (arith, low x (in-here x a), high y h)
+
 mark-at : (s : List ℕ) (w p j i : ℕ) → j < w → i < 64 → mark s w p (64 * j + i) ≡ bit (getD s (p * w + j) 0) i
 mark-at s w p j i g h =
     let a : (64 * j + i) / 64 ≡ j = omega arith in
@@ -197,6 +205,17 @@ module _ (s mask : List ℕ) (w p j : ℕ) (hj : j < w) (l l′ : List ℕ) (old
           ∙ sym (ap (λ (y : ℕ). mark s w p y && mark mask w 0 y) i
           ∙ rw (mark-at s w p j (q - 64 * j) hj (omega arith), mark-at-first mask w j (q - 64 * j) hj (omega arith))) in
           rw (lt-ltb q (64 * (j + 1)) g) (omega (arith, rw (le-ltb q (64 * j) (omega arith)) at c, ap one m))
+
+  pub listing-rising : Rising l → Rising l′
+  listing-rising r =
+      subst Rising (sym e) (rising-join l (places 64 (64 * j) x) (64 * j) r (λ q m. low q m (decLt q (64 * j))) (places-rising 64 (64 * j) x) (places-from 64 (64 * j) x))
+    where
+      x : ℕ
+      x = bitAnd (getD s (p * w + j) 0) (getD mask j 0)
+
+      low : (q : ℕ) → q ∈ l → Dec (q < 64 * j) → q < 64 * j
+      low q m (yes h) = h
+      low q m (no h) = let c = old q in absurd (omega (arith, rw (le-ltb q (64 * j) (omega arith)) at c))
 
 pub listing-none : (s mask : List ℕ) (w p : ℕ) (q : ℕ) → count q [] ≡ one (ltb q (64 * 0) && mark s w p q && mark mask w 0 q)
 listing-none s mask w p q = rw (le-ltb q (64 * 0) (omega arith))

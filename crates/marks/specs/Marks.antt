@@ -7,7 +7,7 @@ use mathlib.Core.Bool.{Bool, true, false, cond, _&&_}
 use Prim.Native.Nat.{ℕ, zero, suc, _+_, _*_, _/_, _%_, _≤_, _<_}
 use lib.Dec.{eqb, ltb}
 use lib.ListN.{length, getD, take}
-use Rattle.order.specs.LabelLists.{one, count}
+use Rattle.order.specs.LabelLists.{one, count, _∈_}
 
 -- bit j of x, from 0
 abbrev pub bit : ℕ → ℕ → Bool
@@ -41,6 +41,11 @@ places (suc k) m x = cond (eqb (x % 2) 1) (m ∷ places k (suc m) (x / 2)) (plac
 -- the first r of the list are the marks that row p and the first row of a mask have in common, each once
 abbrev pub Common : List ℕ → List ℕ → ℕ → ℕ → List ℕ → ℕ → Type 0
 Common s mask w p list r = (q : ℕ) → count q (take r list) ≡ one (mark s w p q && mark mask w 0 q)
+
+-- upward
+abbrev pub Rising : List ℕ → Type 0
+Rising [] = Unit {0}
+Rising (x ∷ l) = ((y : ℕ) → y ∈ l → x < y) × Rising l
 
 -- r is the first mark of the first row, or 64 * w where there is none
 pub record First (s : List ℕ) (w r : ℕ) : Type 0 where

@@ -5,7 +5,7 @@ ghost use mathlib.Core.Bool.{true, false};
 ghost use mathlib.Core.List.{_++_};
 ghost use Prim.Native.Nat.{ℕ, _+_, _*_, _≤_, _<_};
 ghost use lib.ListN.{length, take};
-ghost use Rattle.marks.specs.Marks.{mark, InSquare, Added, Dropped, places, Common, First};
+ghost use Rattle.marks.specs.Marks.{mark, InSquare, Added, Dropped, places, Common, Rising, First};
 
 // A label that stands in a scratch array, as an index.
 pub fn widen(x: u16) -> usize
@@ -73,7 +73,7 @@ fn list_word(word: u64, base: usize, list: &mut [u16], at: usize) -> usize
 // The marks that row p and the mask have in common, upward. Answers how many.
 pub fn list_marks(s: &[u64], w: usize, p: usize, mask: &[u64], list: &mut [u16]) -> usize
     requires { ⌜ (p * w + w ≤ length (now s)) × (w ≤ length (now mask)) × (64 * w ≤ length (now list)) × (w ≤ 1000) ⌝ }
-    ensures { λ r. ⌜ Common (now (s .entry)) (now (mask .entry)) w p (now (list .exit)) r × (r ≤ 64 * w) ⌝ }
+    ensures { λ r. ⌜ Common (now (s .entry)) (now (mask .entry)) w p (now (list .exit)) r × (r ≤ 64 * w) × Rising (take r (now (list .exit))) ⌝ }
 {
     let a = p * w;
     let mut m = 0;

@@ -11,7 +11,7 @@ use lib.IntN.{ℤ}
 use Rattle.cells.specs.Table.{owner, isDefinition}
 use Rattle.cells.specs.Accepted.{Accepted}
 use Rattle.order.specs.LabelLists.{one, count, _∈_, joined}
-use Rattle.order.specs.Blocks.{several, leads, leaders, blockNeeds}
+use Rattle.order.specs.Blocks.{several, isLeader, leaders, blockNeeds}
 use Rattle.order.specs.Order.{isG, isV, values, members, Within, within, reaches, NoCycle, Proper, Consecutive, needs, memberBlock, ordered}
 use Rattle.order.specs.Order.{inBlock, blockValues, blockListed, groupPlan, planOrder}
 use Rattle.order.specs.Tangles.{Clear, ClearSideBySide}
@@ -69,23 +69,23 @@ module _ (t : List ℤ) (n : ℕ) (ok : Accepted t n) (g : ℕ) where
 
   -- ---- the blocks, in order
 
-  ordered-lead : (b : ℕ) → b ∈ ordered t n g → (b ∈ members t n g) × (leads R items b ≡ true)
+  pub ordered-lead : (b : ℕ) → b ∈ ordered t n g → (b ∈ members t n g) × (isLeader R items b ≡ true)
   ordered-lead b m = lead-of R items b (placed-sub (blockNeeds R items) (leaders R items) b m)
 
   ordered-count : (b : ℕ) → count b (ordered t n g) ≡ count b (leaders R items)
   ordered-count b = placed-all (blockNeeds R items) (leaders R items) b (blocks-free R items (members-once t n ok g))
 
-  ordered-once : (b : ℕ) → b ∈ members t n g → leads R items b ≡ true → count b (ordered t n g) ≡ 1
+  pub ordered-once : (b : ℕ) → b ∈ members t n g → isLeader R items b ≡ true → count b (ordered t n g) ≡ 1
   ordered-once b m l =
       let w = member-of t n ok g b m in
-      ordered-count b ∙ count-filter-pass (leads R items) b (members t n g) l ∙ count-member t n ok g b (w .0) (w .1)
+      ordered-count b ∙ count-filter-pass (isLeader R items) b (members t n g) l ∙ count-member t n ok g b (w .0) (w .1)
 
   -- a member's Groups are less deep
   below : (b : ℕ) → b ∈ members t n g → g < b
   below b m = let w = member-of t n ok g b m in omega (arith, owner-below t n ok b (pos-of t n ok b (w .0)), w .1)
 
   -- two blocks hold nothing in common
-  blocks-apart : (b c v : ℕ) → b ∈ members t n g → c ∈ members t n g → leads R items b ≡ true → leads R items c ≡ true → (b ≡ c → ⊥)
+  blocks-apart : (b c v : ℕ) → b ∈ members t n g → c ∈ members t n g → isLeader R items b ≡ true → isLeader R items c ≡ true → (b ≡ c → ⊥)
       → blockHolds b v ≡ true → blockHolds c v ≡ true → ⊥
   blocks-apart b c v mb mc lb lc d hb hc = go (ℕ-discrete (wb .0) (wc .0))
     where
@@ -199,7 +199,7 @@ module _ (t : List ℤ) (n : ℕ) (ok : Accepted t n) (g : ℕ) where
           joined-block (blockListed t n g group) (Within t h) (ordered t n g) p (ordered-once p mp lp) away
           (subst (λ (l : List ℕ). Consecutive (Within t h) l) (sym mine) b)
         where
-          lp : leads R items p ≡ true
+          lp : isLeader R items p ≡ true
           lp = alone-leads R items p single
 
           mine : blockListed t n g group p ≡ group p

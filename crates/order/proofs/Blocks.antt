@@ -11,7 +11,7 @@ use borrow.Author.Tests.{eqb-true, eqb-false, eq-eqb, ne-eqb, not-true, not-fals
 use Rattle.order.specs.LabelLists.{count, _∈_, mem, filter, any}
 use Rattle.order.specs.Closure.{closure}
 use Rattle.order.specs.Placing.{stuck}
-use Rattle.order.specs.Blocks.{together, blockOf, several, leads, leaders, blockNeeds, placedBlocks}
+use Rattle.order.specs.Blocks.{together, blockOf, several, isLeader, leaders, blockNeeds, placedBlocks}
 use Rattle.order.proofs.Tests.{not-so, and-left, and-right, and-intro, or-cases, or-left, or-right}
 use Rattle.order.proofs.Lists.{mem-of, of-mem, any-true, any-none, any-intro, any-refute, in-filter, in-filter-of, count-filter-le, tally-lt}
 use Rattle.order.proofs.Placing.{Late, placed-late, not-stuck}
@@ -100,12 +100,12 @@ module _ (R : ℕ → ℕ → Bool) (items : List ℕ) where
   -- ---- every block has one smallest label
 
   -- none of its block is below one that leads it
-  pub lead-smallest : (b p : ℕ) → leads R items b ≡ true → p ∈ items → Tog b p → b ≤ p
+  pub lead-smallest : (b p : ℕ) → isLeader R items b ≡ true → p ∈ items → Tog b p → b ≤ p
   lead-smallest b p l m r =
       ltb-false p b (any-none (λ q. ltb q b) (blockOf R items b) (not-true (any (λ q. ltb q b) (blockOf R items b)) l) p (block-in b p m r))
 
   abbrev pub Leader : ℕ → Type 0
-  Leader p = (b : ℕ) × (b ∈ items) × (leads R items b ≡ true) × Tog b p
+  Leader p = (b : ℕ) × (b ∈ items) × (isLeader R items b ≡ true) × Tog b p
 
   leader-step : (p : ℕ) → p ∈ items → ((q : ℕ) → q < p → q ∈ items → Leader q) → Leader p
   leader-step p m r = go (any (λ q. ltb q p) (blockOf R items p)) refl
@@ -125,11 +125,11 @@ module _ (R : ℕ → ℕ → Bool) (items : List ℕ) where
       go zero p l m = leader-step p m (λ q h. absurd (omega arith))
       go (suc k) p l m = leader-step p m (λ q h. go k q (omega arith))
 
-  pub leader-once : (b c : ℕ) → b ∈ items → c ∈ items → leads R items b ≡ true → leads R items c ≡ true → Tog b c → b ≡ c
+  pub leader-once : (b c : ℕ) → b ∈ items → c ∈ items → isLeader R items b ≡ true → isLeader R items c ≡ true → Tog b c → b ≡ c
   leader-once b c mb mc lb lc r = omega (arith, lead-smallest b c lb mc r, lead-smallest c b lc mb (tog-sym b c r))
 
   -- a member that is alone in its block leads it
-  pub alone-leads : (p : ℕ) → several R items p ≡ false → leads R items p ≡ true
+  pub alone-leads : (p : ℕ) → several R items p ≡ false → isLeader R items p ≡ true
   alone-leads p h = ap not (any-refute (λ q. ltb q p) (blockOf R items p) (λ q m.
       let i = in-block p q m in
       let e = alone p h q (i .0) (i .1) in
@@ -141,11 +141,11 @@ module _ (R : ℕ → ℕ → Bool) (items : List ℕ) where
   pub blocks-late : Late (blockNeeds R items) (placedBlocks R items)
   blocks-late = placed-late (blockNeeds R items) (leaders R items)
 
-  pub lead-of : (b : ℕ) → b ∈ leaders R items → (b ∈ items) × (leads R items b ≡ true)
-  lead-of b m = in-filter (leads R items) b items m
+  pub lead-of : (b : ℕ) → b ∈ leaders R items → (b ∈ items) × (isLeader R items b ≡ true)
+  lead-of b m = in-filter (isLeader R items) b items m
 
   pub leaders-once : ((b : ℕ) → count b items ≤ 1) → (b : ℕ) → count b (leaders R items) ≤ 1
-  leaders-once once b = omega (arith, count-filter-le (leads R items) b items, once b)
+  leaders-once once b = omega (arith, count-filter-le (isLeader R items) b items, once b)
 
   pub block-needs-of : (b c p q : ℕ) → (b ≡ c → ⊥) → p ∈ items → q ∈ items → Tog b p → Tog c q → R p q ≡ true
       → blockNeeds R items b c ≡ true

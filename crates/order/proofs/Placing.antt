@@ -130,8 +130,12 @@ module _ (R : ℕ → ℕ → Bool) (items : List ℕ) where
   pub placed-late : Late R (placed R items)
   placed-late = placed-placed .late
 
+  -- an item stands in it at most as often as in the items
+  pub placed-le : (x : ℕ) → count x (placed R items) ≤ count x items
+  placed-le = placed-placed .of
+
   pub placed-sub : (x : ℕ) → x ∈ placed R items → x ∈ items
-  placed-sub x h = omega (arith, placed-placed .of x)
+  placed-sub x h = omega (arith, placed-le x)
 
   -- and with each stand the items that it needs
   pub placed-with : (x q : ℕ) → x ∈ placed R items → q ∈ items → R x q ≡ true → q ∈ placed R items

@@ -11,7 +11,7 @@ use lib.IntN.{ℤ}
 use lib.ListN.{length}
 use Rattle.cells.specs.Accepted.{Accepted}
 use Rattle.order.specs.LabelLists.{count, _∈_}
-use Rattle.order.specs.Order.{isV, allLabels, values, Within, reaches, NoCycle, Proper, Consecutive, Whole, firstCycle, someTangled, planOrder}
+use Rattle.order.specs.Order.{isV, allLabels, values, Within, reaches, NoCycle, Proper, Consecutive, Whole, firstCycle, sheetTangled, planOrder}
 use Rattle.order.specs.Order.{Answer, cycle, whole, mixed, plan, orderOf, place16}
 use Rattle.order.specs.Tangles.{SomeTangled, ClearSideBySide}
 use Rattle.order.specs.PlanMeans.{SmallestCycle, Row16, PlanMeans}
@@ -68,15 +68,15 @@ module _ (t : List ℤ) (n : ℕ) (ok : Accepted t n) where
   place16-exactly k = (λ e. subst (Row16 t) e row-16, λ r. row16-one t (place16 t n) k row-16 r)
 
   -- with no cycle some block has several members, or the plan is whole
-  untangled-whole : NoCycle t → someTangled t n ≡ false → Whole t (planOrder t n)
+  untangled-whole : NoCycle t → sheetTangled t n ≡ false → Whole t (planOrder t n)
   untangled-whole nc f =
-      clear-whole t n ok (planOrder t n) (order-clear t n ok nc) (λ s. both-ways (someTangled t n) (tangled-exact t n ok .1 s) f)
+      clear-whole t n ok (planOrder t n) (order-clear t n ok nc) (λ s. both-ways (sheetTangled t n) (tangled-exact t n ok .1 s) f)
 
   -- Plan's answer means what it has to
   pub planned : PlanMeans t (plan t n)
-  planned = go (firstCycle t n) refl (someTangled t n) refl
+  planned = go (firstCycle t n) refl (sheetTangled t n) refl
     where
-      go : (c : Option ℕ) → firstCycle t n ≡ c → (s : Bool) → someTangled t n ≡ s → PlanMeans t (plan t n)
+      go : (c : Option ℕ) → firstCycle t n ≡ c → (s : Bool) → sheetTangled t n ≡ s → PlanMeans t (plan t n)
       go (some v) e s f = let c = cycle-smallest v e in rw e (c, cycle-improper t v (c .value) (c .itself))
       go none e true f =
           let nc = cycle-none e in

@@ -12,9 +12,9 @@ use borrow.Author.Tests.{eqb-false, ne-eqb, not-true, ltb-true}
 use Rattle.cells.specs.Accepted.{Accepted}
 use Rattle.order.specs.LabelLists.{_∈_}
 use Rattle.order.specs.Closure.{closure}
-use Rattle.order.specs.Blocks.{together, several, leads}
-use Rattle.order.specs.Order.{isG, allLabels, members, needs, memberBlock, groupTangled, someTangled}
-use Rattle.order.specs.Tangles.{Member, Needs, NeedsThrough, directly, through, OneBlock, Tangled, SomeTangled}
+use Rattle.order.specs.Blocks.{together, several, isLeader}
+use Rattle.order.specs.Order.{isG, allLabels, members, needs, memberBlock, groupTangled, sheetTangled}
+use Rattle.order.specs.Tangles.{MemberOf, NeedsDirectly, NeedsThrough, directly, through, OneBlock, Tangled, SomeTangled}
 use Rattle.order.proofs.Tests.{not-so, and-left, and-right, and-intro}
 use Rattle.order.proofs.Lists.{any-true, any-intro, any-refute}
 use Rattle.order.proofs.Closure.{step, then}
@@ -24,10 +24,10 @@ use Rattle.order.proofs.Blocks.{Onto, onto-step, onto-needs, onto-membe
 
 module _ (t : List ℤ) (n : ℕ) (ok : Accepted t n) where
   -- the test of needing is the relation
-  pub needs-exact : (p q : ℕ) → 1 ≤ p → 1 ≤ q → (needs t n p q ≡ true) ↔ Needs t p q
+  pub needs-exact : (p q : ℕ) → 1 ≤ p → 1 ≤ q → (needs t n p q ≡ true) ↔ NeedsDirectly t p q
   needs-exact p q hp hq = (there, back)
     where
-      there : needs t n p q ≡ true → Needs t p q
+      there : needs t n p q ≡ true → NeedsDirectly t p q
       there h =
           let k = needs-elim t n ok p q h in
           let x = k .1 .0 in
@@ -43,7 +43,7 @@ module _ (t : List ℤ) (n : ℕ) (ok : Accepted t n) where
             reach = reaches-exact t n ok x y .0 (k .1 .4);
           }
 
-      back : Needs t p q → needs t n p q ≡ true
+      back : NeedsDirectly t p q → needs t n p q ≡ true
       back k = needs-intro t n ok p q (k .mine) (k .yours) (k .other) (holds-intro t n ok p (k .mine) hp (kind-v t (k .mine) (k .mine-value)) (k .mine-within))
           (holds-intro t n ok q (k .yours) hq (kind-v t (k .yours) (k .yours-value)) (k .yours-within)) (reaches-exact t n ok (k .mine) (k .yours) .1 (k .reach))
 
@@ -56,7 +56,7 @@ module _ (t : List ℤ) (n : ℕ) (ok : Accepted t n) (g : ℕ) where
 
   -- ---- members
 
-  pub member-in : (p : ℕ) → Member t g p → p ∈ members t n g
+  pub member-in : (p : ℕ) → MemberOf t g p → p ∈ members t n g
   member-in p (d, e) = omega (arith, count-member t n ok g p d e)
 
   pub member-pos : (p : ℕ) → p ∈ members t n g → 1 ≤ p
@@ -111,26 +111,26 @@ module _ (t : List ℤ) (n : ℕ) (ok : Accepted t n) (g : ℕ) where
           any-intro (λ q. not (eqb q p)) (memberBlock t n g p) q (block-in R items p q (member-in q m) (block-tog p q hp (pos-of t n ok q (m .0)) b)) (ap not (ne-eqb q p d))
 
   -- the test of leading a block finds the smallest label that it holds
-  pub leader-exact : (p : ℕ) → Member t g p → (leads (needs t n) (members t n g) p ≡ true) ↔ ((q : ℕ) → Member t g q → OneBlock t g p q → p ≤ q)
+  pub leader-exact : (p : ℕ) → MemberOf t g p → (isLeader (needs t n) (members t n g) p ≡ true) ↔ ((q : ℕ) → MemberOf t g q → OneBlock t g p q → p ≤ q)
   leader-exact p m = (there, back)
     where
       hp : 1 ≤ p
       hp = pos-of t n ok p (m .0)
 
-      there : leads R items p ≡ true → (q : ℕ) → Member t g q → OneBlock t g p q → p ≤ q
+      there : isLeader R items p ≡ true → (q : ℕ) → MemberOf t g q → OneBlock t g p q → p ≤ q
       there l q k b = lead-smallest R items p q l (member-in q k) (block-tog p q hp (pos-of t n ok q (k .0)) b)
 
-      back : ((q : ℕ) → Member t g q → OneBlock t g p q → p ≤ q) → leads R items p ≡ true
+      back : ((q : ℕ) → MemberOf t g q → OneBlock t g p q → p ≤ q) → isLeader R items p ≡ true
       back h = ap not (any-refute (λ q. ltb q p) (memberBlock t n g p) (λ q i.
           let w = in-block R items p q i in
           let l = h q (member-of t n ok g q (w .0)) (tog-block p q hp (member-pos q (w .0)) (w .1)) in
           not-so (ltb q p) (λ s. omega (arith, ltb-true q p s, l))))
 
 -- some block of some Group has several members: the test is the relation
-pub tangled-exact : (t : List ℤ) (n : ℕ) → Accepted t n → (someTangled t n ≡ true) ↔ SomeTangled t
+pub tangled-exact : (t : List ℤ) (n : ℕ) → Accepted t n → (sheetTangled t n ≡ true) ↔ SomeTangled t
 tangled-exact t n ok = (there, back)
   where
-    there : someTangled t n ≡ true → SomeTangled t
+    there : sheetTangled t n ≡ true → SomeTangled t
     there h =
         let w = any-true (λ g. isG t g && groupTangled t n g) (allLabels n) h in
         let g = w .0 in
@@ -138,7 +138,7 @@ tangled-exact t n ok = (there, back)
         let p = u .0 in
         (g, p, g-kind t g (and-left (isG t g) (groupTangled t n g) (w .2)), member-of t n ok g p (u .1), several-exact t n ok g p (member-pos t n ok g p (u .1)) .0 (u .2))
 
-    back : SomeTangled t → someTangled t n ≡ true
+    back : SomeTangled t → sheetTangled t n ≡ true
     back (g, p, k, m, s) =
         let ig = kind-g t g k in
         let b = def-label t n ok g (g-def t g ig) in

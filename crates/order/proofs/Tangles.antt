@@ -12,7 +12,7 @@ use Rattle.cells.specs.Table.{kind, owner}
 use Rattle.cells.specs.Accepted.{Accepted}
 use Rattle.order.specs.LabelLists.{_∈_}
 use Rattle.order.specs.Order.{isG, members, Within, within, Proper, Consecutive, Whole, needs}
-use Rattle.order.specs.Tangles.{Member, NeedsThrough, directly, through, OneBlock, Tangled, SomeTangled, ClearSideBySide}
+use Rattle.order.specs.Tangles.{MemberOf, NeedsThrough, directly, through, OneBlock, Tangled, SomeTangled, ClearSideBySide}
 use Rattle.order.proofs.Closure.{step, then}
 use Rattle.order.proofs.Joined.{ahead}
 use Rattle.order.proofs.Tables.{kind-v, g-kind, g-def, kind-g, pos-of, member-of, owner-group}
@@ -56,7 +56,7 @@ module _ (t : List ℤ) (n : ℕ) (ok : Accepted t n) (o : List ℕ) (po : Prope
         omega (arith, falls mp (inl refl) (w .0) (w .1), falls mq (inr w) (w .1) (onto-trans R items p q p (w .0) (w .1)))
 
   -- no proper order has the values of every member of a block of several consecutive
-  pub several-apart : (g p : ℕ) → Member t g p → Tangled t g p → ((q : ℕ) → Member t g q → OneBlock t g p q → Consecutive (Within t q) o) → ⊥
+  pub several-apart : (g p : ℕ) → MemberOf t g p → Tangled t g p → ((q : ℕ) → MemberOf t g q → OneBlock t g p q → Consecutive (Within t q) o) → ⊥
   several-apart g p m (q, d, k, b) all =
       no-round g p (λ q mq r. all q (member-of t n ok g q mq) (tog-block t n ok g p q hp (member-pos t n ok g q mq) r)) q (member-in t n ok g p m) (member-in t n ok g q k) d
       (block-tog t n ok g p q hp (pos-of t n ok q (k .0)) b)
@@ -73,14 +73,14 @@ module _ (t : List ℤ) (n : ℕ) (ok : Accepted t n) (o : List ℕ) (po : Prope
   pub whole-untangled : Whole t o → SomeTangled t → ⊥
   whole-untangled w (g, p, k, m, s) = several-apart g p m s each
     where
-      member-side : (q r : ℕ) → Member t g q → NeedsThrough t g q r → Consecutive (Within t q) o
+      member-side : (q r : ℕ) → MemberOf t g q → NeedsThrough t g q r → Consecutive (Within t q) o
       member-side q r mq c = let x = through-holds (pos-of t n ok q (mq .0)) c in side t n ok o po w q (x .0) (mq .0) (x .1)
 
       mine : (q : ℕ) → (q ≡ p → ⊥) → OneBlock t g p q → Consecutive (Within t p) o
       mine q d (inl e) = absurd (d (sym e))
       mine q d (inr c) = member-side p q m (c .0)
 
-      each : (q : ℕ) → Member t g q → OneBlock t g p q → Consecutive (Within t q) o
+      each : (q : ℕ) → MemberOf t g q → OneBlock t g p q → Consecutive (Within t q) o
       each q mq (inl e) = subst (λ (z : ℕ). Consecutive (Within t z) o) e (mine (s .0) (s .1) (s .3))
       each q mq (inr c) = member-side q p mq (c .1)
 

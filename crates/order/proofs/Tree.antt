@@ -24,7 +24,7 @@ module _ (t : List ℤ) (n : ℕ) (ok : Accepted t n) where
   parent-le zero = omega (arith)
   parent-le (suc v) = omega (arith, owner-below t n ok (suc v) (omega arith))
 
-  up-le : (j v : ℕ) → up t j v ≤ v
+  pub up-le : (j v : ℕ) → up t j v ≤ v
   up-le zero v = omega arith
   up-le (suc j) v = omega (arith, up-le j (owner t v), parent-le v)
 
@@ -73,7 +73,7 @@ module _ (t : List ℤ) (n : ℕ) (ok : Accepted t n) where
       go zero e = absurd (h e)
       go (suc j) e = (j, e)
 
-  meet : (p q i j v : ℕ) → up t i v ≡ p → up t j v ≡ q → (Within t p q) ⊎ (Within t q p)
+  pub meet : (p q i j v : ℕ) → up t i v ≡ p → up t j v ≡ q → (Within t p q) ⊎ (Within t q p)
   meet p q zero j v a b = inr (j, rw (← a) b)
   meet p q (suc i) zero v a b = inl (suc i, rw (← b) a)
   meet p q (suc i) (suc j) v a b = meet p q i j (owner t v) a b

@@ -15,8 +15,8 @@ use borrow.Author.Tests.{eqb-false, eq-eqb, ne-eqb, not-true}
 use Rattle.cells.specs.Accepted.{Accepted}
 use Rattle.order.specs.LabelLists.{_∈_, joined}
 use Rattle.order.specs.Placing.{placed, stuck}
-use Rattle.order.specs.Blocks.{several, leads, leaders, blockNeeds}
-use Rattle.order.specs.Order.{isG, allLabels, members, NoCycle, needs, memberBlock, ordered, listed, blockListed, groupPlan, planOrder, groupTangled, someTangled}
+use Rattle.order.specs.Blocks.{several, isLeader, leaders, blockNeeds}
+use Rattle.order.specs.Order.{isG, allLabels, members, NoCycle, needs, memberBlock, ordered, listed, blockListed, groupPlan, planOrder, groupTangled, sheetTangled}
 use Rattle.order.specs.Order.{firstCycle, whole, plan}
 use Rattle.order.specs.Tangles.{SomeTangled}
 use Rattle.order.specs.WholePlan.{wholeGroup, wholePlan}
@@ -60,7 +60,7 @@ module _ (t : List ℤ) (n : ℕ) (ok : Accepted t n) (g : ℕ) where
     one-each p m = any-none (several R items) (members t n g) single p m
 
     leaders-all : leaders R items ≡ members t n g
-    leaders-all = filter-all (leads R items) (members t n g) (λ p m. alone-leads R items p (one-each p m))
+    leaders-all = filter-all (isLeader R items) (members t n g) (λ p m. alone-leads R items p (one-each p m))
 
     needs-same : (p q : ℕ) → p ∈ members t n g → q ∈ members t n g → blockNeeds R items p q ≡ needs t n p q
     needs-same p q mp mq = same-test (blockNeeds R items p q) (needs t n p q) there back
@@ -128,11 +128,11 @@ module _ (t : List ℤ) (n : ℕ) (ok : Accepted t n) (g : ℕ) where
       go (inl e) (inr f) = both-ways (groupTangled t n g) e (free-single f)
 
 module _ (t : List ℤ) (n : ℕ) (ok : Accepted t n) where
-  module _ (single : someTangled t n ≡ false) where
+  module _ (single : sheetTangled t n ≡ false) where
     group-single : (g : ℕ) → isG t g ≡ true → groupTangled t n g ≡ false
     group-single g ig = not-so (groupTangled t n g) (λ h.
         let b = def-label t n ok g (g-def t g ig) in
-        both-ways (someTangled t n)
+        both-ways (sheetTangled t n)
         (any-intro (λ g. isG t g && groupTangled t n g) (allLabels n) g (in-labels t n ok g (b .0) (b .1)) (and-intro (isG t g) (groupTangled t n g) ig h))
         single)
 
@@ -153,7 +153,7 @@ module _ (t : List ℤ) (n : ℕ) (ok : Accepted t n) where
 
   -- where no block has several members the plan is document 01's whole plan, label for label
   pub untangled-order : (SomeTangled t → ⊥) → planOrder t n ≡ wholePlan t n
-  untangled-order untangled = group-same (not-so (someTangled t n) (λ h. untangled (tangled-exact t n ok .0 h))) n 1 (top-group t n ok)
+  untangled-order untangled = group-same (not-so (sheetTangled t n) (λ h. untangled (tangled-exact t n ok .0 h))) n 1 (top-group t n ok)
 
   -- and, with no cycle, the answer is whole
   pub untangled-plan : NoCycle t → (SomeTangled t → ⊥) → plan t n ≡ whole (wholePlan t n)
@@ -161,4 +161,4 @@ module _ (t : List ℤ) (n : ℕ) (ok : Accepted t n) where
     where
       go : (c : Option ℕ) → firstCycle t n ≡ c → plan t n ≡ whole (wholePlan t n)
       go (some v) e = let c = cycle-smallest t n ok v e in absurd (nc v (c .value) (c .itself))
-      go none e = rw (e, not-so (someTangled t n) (λ h. untangled (tangled-exact t n ok .0 h)), untangled-order untangled)
+      go none e = rw (e, not-so (sheetTangled t n) (λ h. untangled (tangled-exact t n ok .0 h)), untangled-order untangled)

@@ -20,15 +20,15 @@ abbrev pub several : (ℕ → ℕ → Bool) → List ℕ → ℕ → Bool
 several needs items p = any (λ q. not (eqb q p)) (blockOf needs items p)
 
 -- some block has several members
-abbrev pub tangled : (ℕ → ℕ → Bool) → List ℕ → Bool
-tangled needs items = any (several needs items) items
+abbrev pub hasSeveral : (ℕ → ℕ → Bool) → List ℕ → Bool
+hasSeveral needs items = any (several needs items) items
 
 -- p is the smallest label that its block holds: by it the block is known and placed
-abbrev pub leads : (ℕ → ℕ → Bool) → List ℕ → ℕ → Bool
-leads needs items p = not (any (λ q. ltb q p) (blockOf needs items p))
+abbrev pub isLeader : (ℕ → ℕ → Bool) → List ℕ → ℕ → Bool
+isLeader needs items p = not (any (λ q. ltb q p) (blockOf needs items p))
 
 abbrev pub leaders : (ℕ → ℕ → Bool) → List ℕ → List ℕ
-leaders needs items = filter (leads needs items) items
+leaders needs items = filter (isLeader needs items) items
 
 -- the block of b needs another, that of c: a member of the one needs a member of the other
 abbrev pub blockNeeds : (ℕ → ℕ → Bool) → List ℕ → ℕ → ℕ → Bool

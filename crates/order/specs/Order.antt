@@ -14,7 +14,7 @@ use Rattle.cells.specs.Reaches.{Reaches}
 use Rattle.order.specs.LabelLists.{one, count, _∈_, mem, upFrom, filter, any, first, joined}
 use Rattle.order.specs.Closure.{closure}
 use Rattle.order.specs.Placing.{placed}
-use Rattle.order.specs.Blocks.{blockOf, several, tangled, placedBlocks}
+use Rattle.order.specs.Blocks.{blockOf, several, hasSeveral, placedBlocks}
 
 -- ---- Groups and values
 
@@ -148,10 +148,10 @@ planOrder t n = groupPlan t n n 1
 -- ---- "'Mixed' is the answer when some block has several members", in any Group
 
 abbrev pub groupTangled : List ℤ → ℕ → ℕ → Bool
-groupTangled t n g = tangled (needs t n) (members t n g)
+groupTangled t n g = hasSeveral (needs t n) (members t n g)
 
-abbrev pub someTangled : List ℤ → ℕ → Bool
-someTangled t n = any (λ g. isG t g && groupTangled t n g) (allLabels n)
+abbrev pub sheetTangled : List ℤ → ℕ → Bool
+sheetTangled t n = any (λ g. isG t g && groupTangled t n g) (allLabels n)
 
 -- ---- the plan; row 16, "V reaches itself", a pass upward through the labels, whose place is the label
 
@@ -169,7 +169,7 @@ answer t n none true = mixed (planOrder t n)
 answer t n none false = whole (planOrder t n)
 
 abbrev pub plan : List ℤ → ℕ → Answer
-plan t n = answer t n (firstCycle t n) (someTangled t n)
+plan t n = answer t n (firstCycle t n) (sheetTangled t n)
 
 -- the list that Plan writes; none where it refuses
 abbrev pub orderOf : Answer → List ℕ

@@ -14,11 +14,11 @@ use Rattle.order.specs.Order.{Within, Consecutive}
 -- ---- "In a Group, members that need each other round a circle now form one block"
 
 -- l is a member of Group g
-abbrev pub Member : List ℤ → ℕ → ℕ → Type 0
-Member t g l = (isDefinition t l ≡ true) × (owner t l ≡ g)
+abbrev pub MemberOf : List ℤ → ℕ → ℕ → Type 0
+MemberOf t g l = (isDefinition t l ≡ true) × (owner t l ≡ g)
 
 -- "Member p needs another member q of its Group if a V that is p or under p reaches one that is q or under q"
-pub record Needs (t : List ℤ) (p q : ℕ) : Type 0 where
+pub record NeedsDirectly (t : List ℤ) (p q : ℕ) : Type 0 where
   pub other : p ≡ q → ⊥
   pub mine : ℕ
   pub yours : ℕ
@@ -30,8 +30,8 @@ pub record Needs (t : List ℤ) (p q : ℕ) : Type 0 where
 
 -- p needs q, directly or through other members of Group g
 pub data NeedsThrough (t : List ℤ) (g p : ℕ) : ℕ → Type 0 where
-  directly : {q : ℕ} → Member t g q → Needs t p q → NeedsThrough t g p q
-  through : {q r : ℕ} → NeedsThrough t g p q → Member t g r → Needs t q r → NeedsThrough t g p r
+  directly : {q : ℕ} → MemberOf t g q → NeedsDirectly t p q → NeedsThrough t g p q
+  through : {q r : ℕ} → NeedsThrough t g p q → MemberOf t g r → NeedsDirectly t q r → NeedsThrough t g p r
 
 -- p and q, members of Group g, are in one block
 abbrev pub OneBlock : List ℤ → ℕ → ℕ → ℕ → Type 0
@@ -39,11 +39,11 @@ OneBlock t g p q = (p ≡ q) ⊎ (NeedsThrough t g p q × NeedsThrough t g q p)
 
 -- p is in a block of several: another member of Group g is in one block with it
 abbrev pub Tangled : List ℤ → ℕ → ℕ → Type 0
-Tangled t g p = (q : ℕ) × (q ≡ p → ⊥) × Member t g q × OneBlock t g p q
+Tangled t g p = (q : ℕ) × (q ≡ p → ⊥) × MemberOf t g q × OneBlock t g p q
 
 -- some block of some Group has several members
 abbrev pub SomeTangled : List ℤ → Type 0
-SomeTangled t = (g : ℕ) × (p : ℕ) × (kind t g ≡ groupCode) × Member t g p × Tangled t g p
+SomeTangled t = (g : ℕ) × (p : ℕ) × (kind t g ≡ groupCode) × MemberOf t g p × Tangled t g p
 
 -- ---- "the values of a Group are side by side if neither it nor a Group around it is in a block of several"
 

@@ -1,22 +1,18 @@
 -- The rule of placing by counts of unmet needs: the state between two placings.
 use mathlib.Core.Path.{_≡_}
 use mathlib.Core.Logic.{_⊎_, _↔_}
-use mathlib.Core.List.{List, [], _∷_}
+use mathlib.Core.List.{List}
 use mathlib.Core.Bool.{Bool, true, false, not, _&&_}
 use Prim.Native.Nat.{ℕ, _+_, _*_, _≤_, _<_}
 use lib.ListN.{length, getD, take}
 use Rattle.order.specs.LabelLists.{count, _∈_, mem, filter}
 use Rattle.order.specs.Placing.{placed}
 use Rattle.marks.specs.Marks.{mark}
+pub use Rattle.marks.specs.Marks.{Rising}
 
 -- p needs q: both stand in the mask, and row q of the square has mark p
 abbrev pub needed : List ℕ → List ℕ → ℕ → ℕ → ℕ → Bool
 needed square mask w p q = mark mask w 0 q && (mark square w q p && mark mask w 0 p)
-
--- upward
-abbrev pub Rising : List ℕ → Type 0
-Rising [] = Unit {0}
-Rising (x ∷ l) = ((y : ℕ) → y ∈ l → x < y) × Rising l
 
 -- all of l are below k
 abbrev pub AllBelow : List ℕ → ℕ → Type 0

@@ -53,7 +53,7 @@ fn lower(list: &[u16], m: usize, w: usize, unmet: &mut [u16], ready: &mut [u64])
 }
 
 // No item has an unmet need.
-fn clear_counts(items: &[u16], unmet: &mut [u16])
+pub fn clear_counts(items: &[u16], unmet: &mut [u16])
     requires { ⌜ AllBelow (now items) (length (now unmet)) ⌝ }
     ensures { λ _. ⌜ ((p : ℕ) → p ∈ now (items .entry) → getD (now (unmet .exit)) p 0 ≡ 0) ⌝ }
 {

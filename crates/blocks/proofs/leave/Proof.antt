@@ -7,14 +7,14 @@ use borrow.Author.Needs.{needs}
 use lib.ListN.{length, getD, length-set}
 use Rattle.marks.specs.Marks.{mark}
 use Rattle.marks.proofs.Squares.{mark-in}
-use Rattle.blocks.specs.Search.{Left}
+use Rattle.blocks.specs.Search.{HasLeft}
 use Rattle.blocks.proofs.Parts.{left-none, still, left-turn}
 use Rattle.blocks.proofs.leave.Statement.{statement}
 use Rattle.blocks.proofs.leave.Tie as tie
 
 abbrev Inv-loop : tie.InvT-loop
 Inv-loop stack s n least w stacked₀ lead₀ i₀ stacked lead i =
-    (length stacked ≡ length stacked₀) × (length lead ≡ length lead₀) × (s ≤ i) × (i ≤ n) × Left stack stacked₀ stacked lead₀ lead w s i least
+    (length stacked ≡ length stacked₀) × (length lead ≡ length lead₀) × (s ≤ i) × (i ≤ n) × HasLeft stack stacked₀ stacked lead₀ lead w s i least
 
 abbrev μ-loop : tie.MeasureT-loop
 μ-loop stack s n least w stacked₀ lead₀ i₀ stacked lead i = n - i
@@ -106,7 +106,7 @@ returns c =
     let loop = c .before in
     let args = c .before .before .before .before .before .args in
     let e : loop .loop .i ≡ args .n = le-antisymm (loop .loop .inv .3) (omega (arith, c .loop-test .left)) in
-    subst (λ (k : ℕ). Left (args .stack .now) (args .stacked .now) (loop .loop .stacked) (args .lead .now) (loop .loop .lead) (args .w) (args .s) k (args .least))
+    subst (λ (k : ℕ). HasLeft (args .stack .now) (args .stacked .now) (loop .loop .stacked) (args .lead .now) (loop .loop .lead) (args .w) (args .s) k (args .least))
     e (loop .loop .inv .4)
 
 pub leave-spec : {M : Type 1} → statement M

@@ -103,14 +103,14 @@ loop-again c =
     ⊎-elim (λ w. rw (w .5) (
       w .2 .kept .0 ∙ loop .loop .inv .0,
       omega arith,
-      mask-put t (entry .args .n) (entry .args .items .now) (loop .loop .mask) (loop .loop .i) _ (at-widen .widen .ensures) taken (loop .loop .inv .2) (omega (arith, b))
+      mask-put (Holder t) (entry .args .n) (entry .args .items .now) (loop .loop .mask) (loop .loop .i) _ (at-widen .widen .ensures) taken (loop .loop .inv .2) (omega (arith, b))
           (sym (c .before .gives-values .ensures) ∙ w .0 .taken) _ (w .2 .ensures),
     ))
     (λ w. rw (w .1) (
       loop .loop .inv .0,
       omega arith,
-      mask-skip t (entry .args .n) (entry .args .items .now) (loop .loop .mask) (loop .loop .i) _ (at-widen .widen .ensures) taken (loop .loop .inv .2)
-          (sym (c .before .gives-values .ensures) ∙ w .0 .left),
+      mask-skip (Holder t) (entry .args .n) (entry .args .items .now) (loop .loop .mask) (loop .loop .i) _ (at-widen .widen .ensures) taken (loop .loop .inv .2)
+          (λ h. both-ways _ h (sym (c .before .gives-values .ensures) ∙ w .0 .left)),
     ))
     (c .if1 .came)
 

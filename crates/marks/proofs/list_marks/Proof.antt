@@ -7,14 +7,14 @@ use borrow.Author.Needs.{needs}
 use lib.Dec.{ltb}
 use lib.ListN.{length, take}
 use Rattle.order.specs.LabelLists.{one, count}
-use Rattle.marks.specs.Marks.{mark}
-use Rattle.marks.proofs.Squares.{listing-none, listing-turn, listing-end}
+use Rattle.marks.specs.Marks.{mark, Rising}
+use Rattle.marks.proofs.Squares.{listing-none, listing-turn, listing-rising, listing-end}
 use Rattle.marks.proofs.list_marks.Statement.{statement}
 use Rattle.marks.proofs.list_marks.Tie as tie
 
 abbrev Inv-loop : tie.InvT-loop
 Inv-loop s w p mask list₀ a m₀ j₀ list m j =
-    (length list ≡ length list₀) × (j ≤ w) × (m ≤ 64 * j) × ((q : ℕ) → count q (take m list) ≡ one (ltb q (64 * j) && mark s w p q && mark mask w 0 q))
+    (length list ≡ length list₀) × (j ≤ w) × (m ≤ 64 * j) × ((q : ℕ) → count q (take m list) ≡ one (ltb q (64 * j) && mark s w p q && mark mask w 0 q)) × Rising (take m list)
 
 abbrev μ-loop : tie.MeasureT-loop
 μ-loop s w p mask list₀ a m₀ j₀ list m j = w - j
@@ -23,7 +23,7 @@ mul-a : tie.Need-mul-a Inv-loop μ-loop
 mul-a c = search needs
 
 loop-holds : tie.Need-loop-holds Inv-loop μ-loop
-loop-holds c = (refl, omega arith, omega arith, listing-none _ _ _ _)
+loop-holds c = (refl, omega arith, omega arith, listing-none _ _ _ _, tt)
 
 add-list-word : tie.Need-add-list-word Inv-loop μ-loop
 add-list-word c = search needs
@@ -61,6 +61,7 @@ loop-again c =
       omega arith,
       omega (arith, list-word .ensures .1, loop .loop .inv .2),
       listing-turn _ _ _ _ _ (loop-test .taken) (take (loop .loop .m) (loop .loop .list)) _ (loop .loop .inv .3) (list-word .ensures .0),
+      listing-rising _ _ _ _ _ (loop-test .taken) (take (loop .loop .m) (loop .loop .list)) _ (loop .loop .inv .3) (list-word .ensures .0) (loop .loop .inv .4),
     )
 
 same-length : tie.Need-same-length Inv-loop μ-loop
@@ -74,6 +75,7 @@ returns c =
       λ q. loop .loop .inv .3 q ∙ ap (λ (j : ℕ). one (ltb q (64 * j) && mark (args .s .now) (args .w) (args .p) q && mark (args .mask .now) (args .w) 0 q)) e
           ∙ listing-end (args .s .now) (args .mask .now) (args .w) (args .p) q,
       omega (arith, loop .loop .inv .2),
+      loop .loop .inv .4,
     )
 
 pub list-marks-spec : {M : Type 1} → statement M

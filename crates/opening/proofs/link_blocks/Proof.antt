@@ -1,0 +1,173 @@
+use mathlib.Core.Path.{_≡_, refl, sym, _∙_, subst}
+use Prim.Native.Nat.{ℕ, _+_, _-_, _*_, _≤_, _<_}
+use native.Mathlib.Omega.{arith}
+use borrow.Author.Needs.{needs}
+use lib.ListN.{length, getD, set, length-set}
+use Rattle.order.specs.LabelLists.{_∈_}
+use Rattle.opening.proofs.Linking.{Linking, linking-none, link-item, link-lead, linking-turn, linking-all}
+use Rattle.opening.proofs.link_blocks.Statement.{statement}
+use Rattle.opening.proofs.link_blocks.Tie as tie
+
+abbrev Inv-loop : tie.InvT-loop
+Inv-loop n items lead links₀ i₀ links i =
+    (length links ≡ length links₀) × (i ≤ length items) × Linking n items lead i links
+
+abbrev μ-loop : tie.MeasureT-loop
+μ-loop n items lead links₀ i₀ links i = i
+
+-- ---- earlier places, by later ones
+
+abbrev at-loop-from-after-widen : tie.After-widen Inv-loop μ-loop → tie.At-loop Inv-loop μ-loop
+at-loop-from-after-widen c = c .before .before .before
+
+abbrev entry-from-after-widen : tie.After-widen Inv-loop μ-loop → tie.Start Inv-loop μ-loop
+entry-from-after-widen c = c .before .before .before .before .before .before .before .before .before .before .before
+
+abbrev at-clear-counts-from-after-widen : tie.After-widen Inv-loop μ-loop → tie.After-clear-counts Inv-loop μ-loop
+at-clear-counts-from-after-widen c = c .before .before .before .before .before .before
+
+abbrev entry-from-after-widen2 : tie.After-widen2 Inv-loop μ-loop → tie.Start Inv-loop μ-loop
+entry-from-after-widen2 c = c .before .before .before .before .before .before .before .before .before .before .before .before .before
+
+abbrev entry-from-after-clear-counts-arg : tie.After-clear-counts-arg Inv-loop μ-loop → tie.Start Inv-loop μ-loop
+entry-from-after-clear-counts-arg c = c .before .before .before .before
+
+abbrev entry-from-after-slice-known2 : tie.After-slice-known2 Inv-loop μ-loop → tie.Start Inv-loop μ-loop
+entry-from-after-slice-known2 c = c .before .before .before .before .before .before .before
+
+abbrev entry-from-after-shared-slice-known4 : tie.After-shared-slice-known4 Inv-loop μ-loop → tie.Start Inv-loop μ-loop
+entry-from-after-shared-slice-known4 c = c .before .before .before .before .before .before .before .before .before .before .before .before
+
+abbrev entry-from-after-slice-known3 : tie.After-slice-known3 Inv-loop μ-loop → tie.Start Inv-loop μ-loop
+entry-from-after-slice-known3 c = c .before .before .before .before .before .before .before .before .before .before .before .before .before .before
+
+abbrev at-loop-from-after-slice-known3 : tie.After-slice-known3 Inv-loop μ-loop → tie.At-loop Inv-loop μ-loop
+at-loop-from-after-slice-known3 c = c .before .before .before .before .before .before
+
+abbrev at-widen-from-after-slice-known3 : tie.After-slice-known3 Inv-loop μ-loop → tie.After-widen Inv-loop μ-loop
+at-widen-from-after-slice-known3 c = c .before .before .before
+
+abbrev at-loop-test-from-after-slice-known3 : tie.After-slice-known3 Inv-loop μ-loop → tie.In-loop Inv-loop μ-loop
+at-loop-test-from-after-slice-known3 c = c .before .before .before .before .before
+
+abbrev at-clear-counts-from-after-loop : tie.After-loop Inv-loop μ-loop → tie.After-clear-counts Inv-loop μ-loop
+at-clear-counts-from-after-loop c = c .before .before .before .before
+
+-- in a turn: the item at hand, and its lead
+module _ (c : tie.After-widen Inv-loop μ-loop) where
+  same : length ((at-loop-from-after-widen c) .loop .links) ≡ length ((entry-from-after-widen c) .args .links .now)
+  same = (at-loop-from-after-widen c) .loop .inv .0 ∙ (at-clear-counts-from-after-widen c) .clear-counts .kept .1 .0
+
+  item : c .widen .result ∈ (entry-from-after-widen c) .args .items .now
+  item =
+      link-item _ _ ((entry-from-after-widen c) .args .lead .now) _ _ _ ((entry-from-after-widen c) .pre .1) same ((at-loop-from-after-widen c) .loop .inv .2) ((c .before .before) .loop-test .taken) ((at-loop-from-after-widen c) .loop .inv .1) _
+      (getD ((entry-from-after-widen c) .args .lead .now) (c .widen .result) 0) (c .widen .ensures) refl
+
+  label : (1 ≤ c .widen .result) × (c .widen .result ≤ (entry-from-after-widen c) .args .n)
+  label = (entry-from-after-widen c) .pre .1 .label (c .widen .result) item
+
+module _ (c : tie.After-widen2 Inv-loop μ-loop) where
+  lead-label : (1 ≤ c .widen2 .result) × (c .widen2 .result ≤ (entry-from-after-widen2 c) .args .n)
+  lead-label = (entry-from-after-widen2 c) .pre .1 .label (c .widen2 .result) (subst (λ (b : ℕ). b ∈ (entry-from-after-widen2 c) .args .items .now) (sym (c .widen2 .ensures)) ((entry-from-after-widen2 c) .pre .1 .item _ (item (c .before .before))))
+
+clear-counts-requires : tie.Need-clear-counts-requires Inv-loop μ-loop
+clear-counts-requires c κs =
+    let ok = (entry-from-after-clear-counts-arg c) .pre .1 in
+    λ p m. let b = ok .label p m in omega (arith, b, ok .room)
+
+loop-holds : tie.Need-loop-holds Inv-loop μ-loop
+loop-holds c =
+    (refl, omega arith, linking-none _ _ _ (length ((entry-from-after-slice-known2 c) .args .items .now)) _ (omega arith) ((c .before .before) .clear-counts .ensures))
+
+sub-i : tie.Need-sub-i Inv-loop μ-loop
+sub-i c = search needs
+
+mul-widen : tie.Need-mul-widen Inv-loop μ-loop
+mul-widen c = search needs
+
+shared-slice-read-widen : tie.Need-shared-slice-read-widen Inv-loop μ-loop
+shared-slice-read-widen c =
+    omega (arith, (c .before .before) .loop .inv .1, (c .before) .loop-test .taken)
+
+widen-requires : tie.Need-widen-requires Inv-loop μ-loop
+widen-requires c κs = search needs
+
+mul-widen-2 : tie.Need-mul-widen-2 Inv-loop μ-loop
+mul-widen-2 c = omega (arith, label c, (entry-from-after-widen c) .pre .0)
+
+shared-slice-read-widen-2 : tie.Need-shared-slice-read-widen-2 Inv-loop μ-loop
+shared-slice-read-widen-2 c = (entry-from-after-shared-slice-known4 c) .pre .1 .leading _ (item (c .before))
+
+widen-requires-2 : tie.Need-widen-requires-2 Inv-loop μ-loop
+widen-requires-2 c κs = search needs
+
+mul-links : tie.Need-mul-links Inv-loop μ-loop
+mul-links c = omega (arith, lead-label (c), label (c .before .before), (entry-from-after-widen2 c) .pre .0)
+
+slice-read-links : tie.Need-slice-read-links Inv-loop μ-loop
+slice-read-links c = omega (arith, lead-label (c .before), (entry-from-after-slice-known3 c) .pre .1 .room, same (c .before .before .before))
+
+add-links : tie.Need-add-links Inv-loop μ-loop
+add-links c = omega (arith, lead-label (c .before), label (c .before .before .before), (entry-from-after-slice-known3 c) .pre .0)
+
+mul-links-2 : tie.Need-mul-links-2 Inv-loop μ-loop
+mul-links-2 c = omega (arith, lead-label (c .before), label (c .before .before .before), (entry-from-after-slice-known3 c) .pre .0)
+
+slice-write-links : tie.Need-slice-write-links Inv-loop μ-loop
+slice-write-links c = omega (arith, label (c .before .before .before), (entry-from-after-slice-known3 c) .pre .1 .room, same (c .before .before .before))
+
+cast-links : tie.Need-cast-links Inv-loop μ-loop
+cast-links c = omega (arith, lead-label (c .before), label (c .before .before .before), (entry-from-after-slice-known3 c) .pre .0)
+
+mul-links-3 : tie.Need-mul-links-3 Inv-loop μ-loop
+mul-links-3 c = omega (arith, lead-label (c .before), label (c .before .before .before), (entry-from-after-slice-known3 c) .pre .0)
+
+slice-write-links-2 : tie.Need-slice-write-links-2 Inv-loop μ-loop
+slice-write-links-2 c =
+    omega (arith, lead-label (c .before), (entry-from-after-slice-known3 c) .pre .1 .room, same (c .before .before .before), length-set ((at-loop-from-after-slice-known3 c) .loop .links) ((entry-from-after-slice-known3 c) .args .n + (at-widen-from-after-slice-known3 c) .widen .result) (getD ((at-loop-from-after-slice-known3 c) .loop .links) ((c .before) .widen2 .result) 0))
+
+loop-less : tie.Need-loop-less Inv-loop μ-loop
+loop-less c = search needs
+
+loop-again : tie.Need-loop-again Inv-loop μ-loop
+loop-again c =
+    let l = (at-loop-from-after-slice-known3 c) .loop in
+    let w = (at-widen-from-after-slice-known3 c) .widen in (
+      length-set (set (l .links) _ _) _ _ ∙ length-set (l .links) _ _ ∙ l .inv .0,
+      omega (arith, l .inv .1),
+      linking-turn _ _ _ _ _ _ ((entry-from-after-slice-known3 c) .pre .1) (same (c .before .before .before)) (l .inv .2) ((at-loop-test-from-after-slice-known3 c) .loop-test .taken) (l .inv .1) _ _ (w .ensures) ((c .before) .widen2 .ensures),
+    )
+
+same-length : tie.Need-same-length Inv-loop μ-loop
+same-length c = (c .before) .loop .inv .0 ∙ (at-clear-counts-from-after-loop c) .clear-counts .kept .1 .0
+
+returns : tie.Need-returns Inv-loop μ-loop
+returns c = linking-all _ _ _ ((c .before) .loop .i) _ (omega (arith, c .loop-test .left)) ((c .before) .loop .inv .2)
+
+pub link-blocks-spec : {M : Type 1} → statement M
+link-blocks-spec =
+    tie.close
+    (tie.spec
+    Inv-loop
+    μ-loop
+    clear-counts-requires
+    loop-holds
+    sub-i
+    mul-widen
+    shared-slice-read-widen
+    widen-requires
+    mul-widen-2
+    shared-slice-read-widen-2
+    widen-requires-2
+    mul-links
+    slice-read-links
+    add-links
+    mul-links-2
+    slice-write-links
+    cast-links
+    mul-links-3
+    slice-write-links-2
+    loop-less
+    loop-again
+    same-length
+    returns)

@@ -1,0 +1,193 @@
+use Prim.Native.Nat.{_+_, _*_, _≤_, _<_}
+use native.Mathlib.Omega.{arith}
+use borrow.Author.Needs.{needs}
+use lib.ListN.{length}
+use Rattle.reach.specs.MarkRows.{width}
+use Rattle.opening.proofs.Ordering.{mergeable, leading, few-items, heads-items, heads-few, heads-fit, heads-placed, rows-after}
+use Rattle.opening.proofs.order_blocks.Statement.{statement}
+use Rattle.opening.proofs.order_blocks.Tie as tie
+
+-- ---- earlier places, by later ones
+
+abbrev entry-from-after-merge-blocks-arg3 : tie.After-merge-blocks-arg3 → tie.Start
+entry-from-after-merge-blocks-arg3 c = c .before .before .before .before .before .before .before .before .before .before .before .before .before
+
+abbrev entry-from-after-gather-leaders-arg : tie.After-gather-leaders-arg → tie.Start
+entry-from-after-gather-leaders-arg c =
+    let back = c .before .before .before .before .before .before .before .before .before .before .before .before .before .before .before .before .before .before in
+    back .before .before .before
+
+abbrev entry-from-after-heads2 : tie.After-heads2 → tie.Start
+entry-from-after-heads2 c =
+    let back = c .before .before .before .before .before .before .before .before .before .before .before .before .before .before .before .before .before .before in
+    back .before .before .before .before .before .before .before
+
+abbrev at-gather-leaders-from-after-heads2 : tie.After-heads2 → tie.After-gather-leaders
+at-gather-leaders-from-after-heads2 c = c .before .before .before
+
+abbrev entry-from-after-mask-items-arg2 : tie.After-mask-items-arg2 → tie.Start
+entry-from-after-mask-items-arg2 c =
+    let back = c .before .before .before .before .before .before .before .before .before .before .before .before .before .before .before .before .before .before in
+    back .before .before .before .before .before .before .before .before .before
+
+abbrev at-gather-leaders-from-after-mask-items-arg2 : tie.After-mask-items-arg2 → tie.After-gather-leaders
+at-gather-leaders-from-after-mask-items-arg2 c = c .before .before .before .before .before
+
+abbrev entry-from-after-heads3 : tie.After-heads3 → tie.Start
+entry-from-after-heads3 c =
+    let back = c .before .before .before .before .before .before .before .before .before .before .before .before .before .before .before .before .before .before in
+    back .before .before .before .before .before .before .before .before .before .before .before .before .before
+
+abbrev at-gather-leaders-from-after-heads3 : tie.After-heads3 → tie.After-gather-leaders
+at-gather-leaders-from-after-heads3 c = c .before .before .before .before .before .before .before .before .before
+
+abbrev entry-from-after-place-arg7 : tie.After-place-arg7 → tie.Start
+entry-from-after-place-arg7 c =
+    let back = c .before .before .before .before .before .before .before .before .before .before .before .before .before .before .before .before .before .before in
+    let back2 = back .before .before .before .before .before .before .before .before .before .before .before .before .before .before .before .before .before .before in
+    back2 .before .before
+
+abbrev at-merge-blocks-from-after-place-arg7 : tie.After-place-arg7 → tie.After-merge-blocks
+at-merge-blocks-from-after-place-arg7 c =
+    let back = c .before .before .before .before .before .before .before .before .before .before .before .before .before .before .before .before .before .before in
+    back .before .before .before .before .before .before
+
+abbrev at-mask-items-from-after-place-arg7 : tie.After-place-arg7 → tie.After-mask-items
+at-mask-items-from-after-place-arg7 c = c .before .before .before .before .before .before .before .before .before .before
+
+abbrev at-gather-leaders-from-after-place-arg7 : tie.After-place-arg7 → tie.After-gather-leaders
+at-gather-leaders-from-after-place-arg7 c = c .before .before .before .before .before .before .before .before .before .before .before .before .before .before .before .before
+
+abbrev entry-from-after-slice-known17 : tie.After-slice-known17 → tie.Start
+entry-from-after-slice-known17 c =
+    let back = c .before .before .before .before .before .before .before .before .before .before .before .before .before .before .before .before .before .before in
+    let back2 = back .before .before .before .before .before .before .before .before .before .before .before .before .before .before .before .before .before .before in
+    back2 .before .before .before .before .before .before .before .before .before .before .before
+
+abbrev at-place-from-after-slice-known17 : tie.After-slice-known17 → tie.After-place
+at-place-from-after-slice-known17 c = c .before .before .before .before .before .before .before .before
+
+abbrev at-merge-blocks-from-after-slice-known17 : tie.After-slice-known17 → tie.After-merge-blocks
+at-merge-blocks-from-after-slice-known17 c =
+    let back = c .before .before .before .before .before .before .before .before .before .before .before .before .before .before .before .before .before .before in
+    back .before .before .before .before .before .before .before .before .before .before .before .before .before .before .before
+
+abbrev at-gather-leaders-from-after-slice-known17 : tie.After-slice-known17 → tie.After-gather-leaders
+at-gather-leaders-from-after-slice-known17 c =
+    let back = c .before .before .before .before .before .before .before .before .before .before .before .before .before .before .before .before .before .before in
+    back .before .before .before .before .before .before .before
+
+abbrev at-mask-items-from-after-slice-known17 : tie.After-slice-known17 → tie.After-mask-items
+at-mask-items-from-after-slice-known17 c =
+    let back = c .before .before .before .before .before .before .before .before .before .before .before .before .before .before .before .before .before .before in
+    back .before
+
+add-w : tie.Need-add-w
+add-w c = search needs
+
+merge-blocks-requires : tie.Need-merge-blocks-requires
+merge-blocks-requires c κs =
+    let p = (entry-from-after-merge-blocks-arg3 c) .pre in
+    (mergeable _ _ (p .0) _ _ _ (p .1 .1 .1 .1) _ (p .1 .0 .0) (p .1 .1 .1 .0 .0), (p .1 .0 .1, p .1 .1 .0 .lists))
+
+gather-leaders-requires : tie.Need-gather-leaders-requires
+gather-leaders-requires c κs =
+    let p = (entry-from-after-gather-leaders-arg c) .pre in
+    (leading _ _ (p .0) _ _ _ (p .1 .1 .1 .1) (p .1 .0 .0), omega (arith, few-items ((entry-from-after-gather-leaders-arg c) .args .table .now) ((entry-from-after-gather-leaders-arg c) .args .n) (p .0) ((entry-from-after-gather-leaders-arg c) .args .group) ((entry-from-after-gather-leaders-arg c) .args .items .now) ((entry-from-after-gather-leaders-arg c) .args .lead .now) (p .1 .1 .1 .1), p .1 .0 .2))
+
+sub-mask-items : tie.Need-sub-mask-items
+sub-mask-items c = search needs
+
+part-mask-items-start : tie.Need-part-mask-items-start
+part-mask-items-start c = search needs
+
+part-mask-items-end : tie.Need-part-mask-items-end
+part-mask-items-end c =
+    let p = (entry-from-after-heads2 c) .pre in
+    let few = few-items ((entry-from-after-heads2 c) .args .table .now) ((entry-from-after-heads2 c) .args .n) (p .0) ((entry-from-after-heads2 c) .args .group) ((entry-from-after-heads2 c) .args .items .now) ((entry-from-after-heads2 c) .args .lead .now) (p .1 .1 .1 .1) in
+    omega (arith, few, p .1 .0 .2, (at-gather-leaders-from-after-heads2 c) .gather-leaders .ensures .within, (at-gather-leaders-from-after-heads2 c) .gather-leaders .kept .1 .1 .0)
+
+mask-items-requires : tie.Need-mask-items-requires
+mask-items-requires c κs =
+    let p = (entry-from-after-mask-items-arg2 c) .pre in
+    (p .0, (heads-items _ _ (p .0) _ _ _ (p .1 .1 .1 .1) _ _ ((at-gather-leaders-from-after-mask-items-arg2 c) .gather-leaders .ensures), p .1 .1 .0 .masks))
+
+sub-place : tie.Need-sub-place
+sub-place c = search needs
+
+part-place-start : tie.Need-part-place-start
+part-place-start c = search needs
+
+part-place-end : tie.Need-part-place-end
+part-place-end c =
+    let p = (entry-from-after-heads3 c) .pre in
+    let few = few-items ((entry-from-after-heads3 c) .args .table .now) ((entry-from-after-heads3 c) .args .n) (p .0) ((entry-from-after-heads3 c) .args .group) ((entry-from-after-heads3 c) .args .items .now) ((entry-from-after-heads3 c) .args .lead .now) (p .1 .1 .1 .1) in
+    omega (arith, few, p .1 .0 .2, (at-gather-leaders-from-after-heads3 c) .gather-leaders .ensures .within, (at-gather-leaders-from-after-heads3 c) .gather-leaders .kept .1 .1 .0)
+
+place-requires : tie.Need-place-requires
+place-requires c κs =
+    let p = (entry-from-after-place-arg7 c) .pre in
+    let s = p .1 .1 .0 in
+    let room : ((entry-from-after-place-arg7 c) .args .n + 1) * width ((entry-from-after-place-arg7 c) .args .n) ≤ length ((at-merge-blocks-from-after-place-arg7 c) .merge-blocks .last .1 .1 .0) = omega (arith, p .1 .1 .1 .0 .0, (at-merge-blocks-from-after-place-arg7 c) .merge-blocks .kept .1 .1 .0) in
+    let wide : width ((entry-from-after-place-arg7 c) .args .n) ≤ length ((at-mask-items-from-after-place-arg7 c) .mask-items .last .1 .1 .1 .0) = omega (arith, s .masks, (at-mask-items-from-after-place-arg7 c) .mask-items .kept .1 .1 .1 .0) in
+    let few = heads-few ((entry-from-after-place-arg7 c) .args .table .now) ((entry-from-after-place-arg7 c) .args .n) (p .0) ((entry-from-after-place-arg7 c) .args .group) ((entry-from-after-place-arg7 c) .args .items .now) ((entry-from-after-place-arg7 c) .args .lead .now) (p .1 .1 .1 .1) _ _ ((at-gather-leaders-from-after-place-arg7 c) .gather-leaders .ensures) in (
+      heads-fit _ _ (p .0) _ _ _ (p .1 .1 .1 .1) _ _ ((at-gather-leaders-from-after-place-arg7 c) .gather-leaders .ensures) _ _ _ ((at-mask-items-from-after-place-arg7 c) .mask-items .ensures) room (s .counts) wide,
+      (omega (arith, s .lists, (at-merge-blocks-from-after-place-arg7 c) .merge-blocks .kept .1 .1 .1 .1 .1 .0), s .readies, omega (arith, few, s .orders)),
+    )
+
+same-length : tie.Need-same-length
+same-length c = search needs
+
+same-length-2 : tie.Need-same-length-2
+same-length-2 c = search needs
+
+same-length-3 : tie.Need-same-length-3
+same-length-3 c = search needs
+
+same-length-4 : tie.Need-same-length-4
+same-length-4 c = search needs
+
+same-length-5 : tie.Need-same-length-5
+same-length-5 c = search needs
+
+same-length-6 : tie.Need-same-length-6
+same-length-6 c = search needs
+
+same-length-7 : tie.Need-same-length-7
+same-length-7 c = search needs
+
+same-length-8 : tie.Need-same-length-8
+same-length-8 c = search needs
+
+returns : tie.Need-returns
+returns c =
+    let p = (entry-from-after-slice-known17 c) .pre in
+    let room : (entry-from-after-slice-known17 c) .args .n < length ((at-place-from-after-slice-known17 c) .place .last .1 .1 .1 .1 .1 .1 .1 .0) = omega (arith, p .1 .1 .0 .orders, (at-place-from-after-slice-known17 c) .place .kept .1 .1 .1 .1 .1 .1 .1 .0) in (
+      heads-placed _ _ (p .0) _ _ _ (p .1 .1 .1 .1) _ _ _ ((at-merge-blocks-from-after-slice-known17 c) .merge-blocks .ensures) (p .1 .1 .1 .0 .1) _ _ _ _ _ ((at-gather-leaders-from-after-slice-known17 c) .gather-leaders .ensures) ((at-mask-items-from-after-slice-known17 c) .mask-items .ensures) room ((at-place-from-after-slice-known17 c) .place .ensures),
+      rows-after _ _ (p .0) _ _ _ (p .1 .1 .1 .1) _ _ _ ((at-merge-blocks-from-after-slice-known17 c) .merge-blocks .ensures) (p .1 .1 .1 .0 .1),
+    )
+
+pub order-blocks-spec : {M : Type 1} → statement M
+order-blocks-spec =
+    tie.close
+    (tie.spec
+    add-w
+    merge-blocks-requires
+    gather-leaders-requires
+    sub-mask-items
+    part-mask-items-start
+    part-mask-items-end
+    mask-items-requires
+    sub-place
+    part-place-start
+    part-place-end
+    place-requires
+    same-length
+    same-length-2
+    same-length-3
+    same-length-4
+    same-length-5
+    same-length-6
+    same-length-7
+    same-length-8
+    returns)

@@ -7,14 +7,19 @@ use Prim.Native.Nat.{ℕ, zero, suc, _-_, _*_, _≤_, _<_}
 use native.Mathlib.Omega.{arith}
 use lib.IntN.{ℤ, pos}
 use lib.ListN.{length, drop, replicate, take-append-drop}
+use Rattle.cells.specs.Table.{owner}
 use Rattle.cells.specs.Accepted.{Accepted}
-use Rattle.order.specs.Order.{firstCycle, someStuck, orZero, place16, wholePlan, mixedPlan, cycle, whole, mixed, plan}
+use Rattle.order.specs.Order.{firstCycle, sheetTangled, orZero, place16, planOrder, cycle, whole, mixed, plan}
 use Rattle.order.proofs.Planned.{cycle-smallest, cycle-none, order-short}
-use Rattle.order.proofs.Whole.{whole-proper}
+use Rattle.order.proofs.Tables.{owner-below}
+use Rattle.order.proofs.BlockPlan.{order-proper}
 use Rattle.reach.specs.Chains.{Empty}
 use Rattle.reach.proofs.Scratch.{long, zero-chain}
 use Rattle.reach.specs.MarkRows.{width}
 use Rattle.groups.specs.Members.{Scratch}
+use Rattle.opening.specs.Opened.{Opened}
+use Rattle.opening.specs.Leaders.{SearchRoom}
+use Rattle.opening.proofs.Progress.{within-le}
 use Rattle.planning.specs.declared.Planned.the-variants.{Cycle, Whole, Mixed}
 use Rattle.planning.specs.Listing.{listOf, PutAt}
 use Rattle.planning.specs.Plans.{PlanIs}
@@ -52,25 +57,35 @@ module _ (t : List ℤ) (n : ℕ) (ok : Accepted t n) where
       let e : plan t n ≡ cycle v = rw (a-cycle v z d) in
       rw e (record { reply = refl; cells = refl })
 
-  -- ---- whole
+  -- ---- whole, or mixed
 
-  pub whole-short : place16 t n ≡ 0 → someStuck t n ≡ false → length (listOf t n 1) ≤ n
-  whole-short z f = omega (arith, ap length (whole-list t n ok), order-short t n ok (wholePlan t n) (whole-proper t n ok f (cycle-none t n ok (no-cycle z))))
+  pub plan-short : place16 t n ≡ 0 → length (listOf t n 1) ≤ n
+  plan-short z = omega (arith, ap length (whole-list t n ok), order-short t n ok (planOrder t n) (order-proper t n ok (cycle-none t n ok (no-cycle z))))
 
-  pub plan-whole : (p p′ : List ℤ) (r : ℕ) → place16 t n ≡ 0 → someStuck t n ≡ false → PutAt (listOf t n 1) 0 p p′ r → PlanIs (plan t n) p p′ (Whole r)
-  plan-whole p p′ r z f put =
-      let e : plan t n ≡ whole (wholePlan t n) = rw (no-cycle z, f) in
-      let q = subst (λ (l : List ℕ). PutAt l 0 p p′ r) (whole-list t n ok) put in
-      let k : r ≡ length (wholePlan t n) = omega (arith, q .end) in
-      rw e (record { reply = ap Whole k; cells = put-cells (wholePlan t n) p p′ r q })
+  module _ (p p′ : List ℤ) (r : ℕ) (z : place16 t n ≡ 0) (put : PutAt (listOf t n 1) 0 p p′ r) where
+    as-plan : PutAt (planOrder t n) 0 p p′ r
+    as-plan = subst (λ (l : List ℕ). PutAt l 0 p p′ r) (whole-list t n ok) put
 
-  -- ---- mixed
+    many : r ≡ length (planOrder t n)
+    many = omega (arith, as-plan .end)
 
-  pub plan-mixed : (p p′ : List ℤ) (r : ℕ) → place16 t n ≡ 0 → someStuck t n ≡ true → PutAt (mixedPlan t n) 0 p p′ r → PlanIs (plan t n) p p′ (Mixed r)
-  plan-mixed p p′ r z f put =
-      let e : plan t n ≡ mixed (mixedPlan t n) = rw (no-cycle z, f) in
-      let k : r ≡ length (mixedPlan t n) = omega (arith, put .end) in
-      rw e (record { reply = ap Mixed k; cells = put-cells (mixedPlan t n) p p′ r put })
+    pub plan-whole : sheetTangled t n ≡ false → PlanIs (plan t n) p p′ (Whole r)
+    plan-whole f =
+        let e : plan t n ≡ whole (planOrder t n) = rw (no-cycle z, f) in
+        rw e (record { reply = ap Whole many; cells = put-cells (planOrder t n) p p′ r as-plan })
+
+    pub plan-mixed : sheetTangled t n ≡ true → PlanIs (plan t n) p p′ (Mixed r)
+    plan-mixed f =
+        let e : plan t n ≡ mixed (planOrder t n) = rw (no-cycle z, f) in
+        rw e (record { reply = ap Mixed many; cells = put-cells (planOrder t n) p p′ r as-plan })
+
+  -- the outermost Group is not opened
+  pub top-free : (g : ℕ) → Opened t n g 1 → ⊥
+  top-free g o = go (o .member) (o .some) (within-le t n ok (o .member) 1 (o .inside))
+    where
+      go : (p : ℕ) → 1 ≤ owner t p → p ≤ 1 → ⊥
+      go zero h l = omega arith
+      go (suc p) h l = omega (arith, owner-below t n ok (suc p) (omega arith))
 
 -- ---- scratch that is all 0
 
@@ -94,4 +109,19 @@ module _ (n k b : ℕ) where
         orders = omega (arith, long k);
       },
     ),
+  )
+
+  -- and what opening Groups asks
+  abbrev pub FreshSearch : Type 0
+  FreshSearch = (2 * n < length (replicate {0} {A = ℕ} (2 * k - 1) 0)) × SearchRoom n (replicate b 0) (replicate (64 * b) 0) (replicate k 0) (replicate k 0)
+
+  pub zero-search : n < k → width n ≤ b → FreshSearch
+  zero-search h g = (
+    omega (arith, long (2 * k - 1)),
+    record {
+      stacked-room = omega (arith, long b);
+      stack-room = omega (arith, long (64 * b));
+      path-room = omega (arith, long k);
+      lead-room = omega (arith, long k);
+    },
   )

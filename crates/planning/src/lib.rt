@@ -1,18 +1,18 @@
-// The plan of an accepted table: the members of every Group in order, listed Group by Group; or the mixed list, if some Group is stuck.
-// Both orders are made by the one rule of placing.
+// The plan of an accepted table: the blocks of every Group in order, listed Group by Group. It is mixed where a Group had to be opened.
 
 ghost use mathlib.Core.Path.{_≡_};
 ghost use Prim.Native.Nat.{ℕ, _+_, _*_, _≤_, _<_};
-ghost use lib.ListN.{length, take};
+ghost use lib.ListN.{length};
 ghost use Rattle.kinds.specs.Kinds.{groupCode};
 ghost use Rattle.cells.specs.Table.{kind};
 ghost use Rattle.cells.specs.Accepted.{Accepted};
-ghost use Rattle.order.specs.Order.{mixedPlan, place16};
+ghost use Rattle.order.specs.Order.{place16};
 ghost use Rattle.order.specs.Order as Order;
 ghost use Rattle.reach.specs.MarkRows.{width, Blank};
 ghost use Rattle.reach.specs.Chains.{Empty};
 ghost use Rattle.needs.specs.Needs.{NeedRows};
-ghost use Rattle.groups.specs.Members.{Ordered, Scratch};
+ghost use Rattle.groups.specs.Members.{Scratch};
+ghost use Rattle.opening.specs.Opened.{Opened, Progress, Stopped};
 ghost use Rattle.planning.specs.Listing.{listOf, PutAt};
 ghost use Rattle.planning.specs.Plans.{PlanIs};
 
@@ -23,7 +23,7 @@ pub enum Planned {
     Mixed(u64),
 }
 
-// Lists a Group: its members in order, each member Group by this same rule in its place.
+// Lists a Group: its chain in order, each Group in it by this same rule in its place. A Group that is opened stands in no chain.
 fn list_group(
     table: &[i64],
     n: usize,
@@ -33,8 +33,8 @@ fn list_group(
     group: usize,
 ) -> usize
     requires { ⌜ Accepted (now table) n ⌝ }
-    requires { ⌜ (2 * n < length (now next)) × Ordered (now table) n (now next) ⌝ }
-    requires { ⌜ (1 ≤ group) × (group ≤ n) × (kind (now table) group ≡ groupCode) ⌝ }
+    requires { ⌜ (2 * n < length (now next)) × Progress (now table) n (n + 1) (now next) ⌝ }
+    requires { ⌜ (1 ≤ group) × (group ≤ n) × (kind (now table) group ≡ groupCode) × (Opened (now table) n (n + 1) group → ⊥) ⌝ }
     requires { ⌜ at + length (listOf (now table) n group) ≤ length (now plan) ⌝ }
     ensures { λ r. ⌜ PutAt (listOf (now (table .entry)) n group) at (now (plan .entry)) (now (plan .exit)) r ⌝ }
 {
@@ -54,61 +54,121 @@ fn list_group(
     to
 }
 
-// Puts the first r labels of the order into the plan.
-fn put_all(order: &[u16], r: usize, plan: &mut [i64])
-    requires { ⌜ (r ≤ length (now order)) × (r ≤ length (now plan)) ⌝ }
-    ensures { λ _. ⌜ PutAt (take r (now (order .entry))) 0 (now (plan .entry)) (now (plan .exit)) r ⌝ }
-{
-    let mut i = 0;
-    while i < r {
-        plan[i] = marks::widen(order[i]) as i64;
-        i += 1;
-    }
-}
+// ---- Groups that are stuck
 
-// The mixed list, with scratch that is lent.
-fn list_mixed(
+// The scratch goes by the size of the sheet, since it is zeroed at each call; a sheet without a Group that is stuck has none of this.
+fn open_small(
     table: &[i64],
     n: usize,
-    plan: &mut [i64],
-    square: &[u64],
+    square: &mut [u64],
+    next: &mut [u16],
+    stuck: usize,
     items: &mut [u16],
     mask: &mut [u64],
     unmet: &mut [u16],
     ready: &mut [u64],
     list: &mut [u16],
     order: &mut [u16],
-) -> usize
-    requires { ⌜ Accepted (now table) n ⌝ }
-    requires { ⌜ (n ≤ length (now plan)) × (place16 (now table) n ≡ 0) ⌝ }
-    requires { ⌜ ((n + 1) * width n ≤ length (now square)) × NeedRows (now table) n (now square) ⌝ }
-    requires { ⌜ (n < length (now items)) × Scratch n (now mask) (now unmet) (now ready) (now list) (now order) ⌝ }
-    ensures { λ r. ⌜ PutAt (mixedPlan (now (table .entry)) n) 0 (now (plan .entry)) (now (plan .exit)) r ⌝ }
+)
+    requires { ⌜ Accepted (now table) n × (place16 (now table) n ≡ 0) ⌝ }
+    requires { ⌜ n ≤ 127 ⌝ }
+    requires { ⌜ ((2 * n < length (now next)) × (n < length (now items))) × Scratch n (now mask) (now unmet) (now ready) (now list) (now order) ⌝ }
+    requires { ⌜ ((n + 1) * width n ≤ length (now square)) × Stopped (now table) n stuck (now next) (now square) ⌝ }
+    ensures { λ _. ⌜ Progress (now (table .entry)) n (n + 1) (now (next .exit)) ⌝ }
 {
-    let m = groups::gather_values(table, n, items);
-    let r = groups::place_items(
+    let mut stacked = [0u64; 2];
+    let mut stack = [0u16; 128];
+    let mut path = [0u16; 128];
+    let mut lead = [0u16; 128];
+    let mut links = [0u16; 255];
+    opening::open_groups(
         table,
         n,
         square,
-        &items[0..m],
+        next,
+        stuck,
+        items,
         mask,
         unmet,
         ready,
         list,
         order,
+        &mut stacked,
+        &mut stack,
+        &mut path,
+        &mut lead,
+        &mut links,
     );
-    put_all(order, r, plan);
-    r
+}
+
+// The same for every size.
+fn open_stuck(
+    table: &[i64],
+    n: usize,
+    square: &mut [u64],
+    next: &mut [u16],
+    stuck: usize,
+    items: &mut [u16],
+    mask: &mut [u64],
+    unmet: &mut [u16],
+    ready: &mut [u64],
+    list: &mut [u16],
+    order: &mut [u16],
+)
+    requires { ⌜ Accepted (now table) n × (place16 (now table) n ≡ 0) ⌝ }
+    requires { ⌜ ((2 * n < length (now next)) × (n < length (now items))) × Scratch n (now mask) (now unmet) (now ready) (now list) (now order) ⌝ }
+    requires { ⌜ ((n + 1) * width n ≤ length (now square)) × Stopped (now table) n stuck (now next) (now square) ⌝ }
+    ensures { λ _. ⌜ Progress (now (table .entry)) n (n + 1) (now (next .exit)) ⌝ }
+{
+    if n <= 127 {
+        open_small(
+            table,
+            n,
+            square,
+            next,
+            stuck,
+            items,
+            mask,
+            unmet,
+            ready,
+            list,
+            order,
+        );
+        return;
+    }
+    let mut stacked = [0u64; 17];
+    let mut stack = [0u16; 1088];
+    let mut path = [0u16; 1025];
+    let mut lead = [0u16; 1025];
+    let mut links = [0u16; 2049];
+    opening::open_groups(
+        table,
+        n,
+        square,
+        next,
+        stuck,
+        items,
+        mask,
+        unmet,
+        ready,
+        list,
+        order,
+        &mut stacked,
+        &mut stack,
+        &mut path,
+        &mut lead,
+        &mut links,
+    );
 }
 
 // ---- the plan
 
-// The plan where there is no cycle: whole, or mixed if some Group is stuck. The scratch serves both orders in turn.
+// The plan where there is no cycle: whole, or mixed if some Group is stuck.
 fn list_in(
     table: &[i64],
     n: usize,
     plan: &mut [i64],
-    square: &[u64],
+    square: &mut [u64],
     next: &mut [u16],
     items: &mut [u16],
     mask: &mut [u64],
@@ -125,37 +185,40 @@ fn list_in(
     ensures { λ r. ⌜ PlanIs (Order.plan (now (table .entry)) n) (now (plan .entry)) (now (plan .exit)) r ⌝ }
 {
     groups::link_members(table, n, next);
-    if groups::order_groups(
+    let stuck = opening::order_groups(
         table,
         n,
         square,
         next,
+        1,
         items,
         mask,
         unmet,
         ready,
         list,
         order,
-    ) {
-        let r = list_mixed(
-            table,
-            n,
-            plan,
-            square,
-            items,
-            mask,
-            unmet,
-            ready,
-            list,
-            order,
-        );
-        return Planned::Mixed(r as u64);
+    );
+    if stuck == 0 {
+        return Planned::Whole(list_group(table, n, next, plan, 0, 1) as u64);
     }
-    Planned::Whole(list_group(table, n, next, plan, 0, 1) as u64)
+    open_stuck(
+        table,
+        n,
+        square,
+        next,
+        stuck,
+        items,
+        mask,
+        unmet,
+        ready,
+        list,
+        order,
+    );
+    Planned::Mixed(list_group(table, n, next, plan, 0, 1) as u64)
 }
 
 // The scratch goes by the size of the sheet, since it is zeroed at each call.
-fn list_small(table: &[i64], n: usize, plan: &mut [i64], square: &[u64]) -> Planned
+fn list_small(table: &[i64], n: usize, plan: &mut [i64], square: &mut [u64]) -> Planned
     requires { ⌜ Accepted (now table) n ⌝ }
     requires { ⌜ n ≤ 127 ⌝ }
     requires { ⌜ (n ≤ length (now plan)) × (place16 (now table) n ≡ 0) ⌝ }
@@ -185,7 +248,7 @@ fn list_small(table: &[i64], n: usize, plan: &mut [i64], square: &[u64]) -> Plan
 }
 
 // The same for every size.
-fn list_plan(table: &[i64], n: usize, plan: &mut [i64], square: &[u64]) -> Planned
+fn list_plan(table: &[i64], n: usize, plan: &mut [i64], square: &mut [u64]) -> Planned
     requires { ⌜ Accepted (now table) n ⌝ }
     requires { ⌜ (n ≤ length (now plan)) × (place16 (now table) n ≡ 0) ⌝ }
     requires { ⌜ ((n + 1) * width n ≤ length (now square)) × NeedRows (now table) n (now square) ⌝ }

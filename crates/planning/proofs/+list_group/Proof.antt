@@ -10,7 +10,7 @@ use Rattle.cells.specs.Table.{kind}
 use Rattle.order.proofs.Tables.{kind-g}
 use Rattle.planning.specs.Listing.{listOf, PutAt}
 use Rattle.groups.proofs.Chains.{steps}
-use Rattle.planning.proofs.Listing.{Turn, turn-start, turn-end, turn-label, turn-less, value-room, value-turn, group-room, group-turn, none-turn}
+use Rattle.planning.proofs.Listing.{Turn, turn-start, turn-end, turn-label, turn-less, value-room, value-turn, group-free, group-room, group-turn, none-turn}
 use borrow.Fn.Kinds.{In}
 use borrow.Fn.PlainCycle.{Measures, is, falls, and}
 use Rattle.planning.proofs.list_group.Reads as list-group
@@ -113,7 +113,7 @@ list-group-loop-holds : (t : ℕ) → list-group-lts.Need-loop-holds (claims t) 
 list-group-loop-holds t c =
     let pre = c .before .before .pre .1 in
     let g = pre .1 .1 .0 in
-    (refl, turn-start _ _ (pre .0) _ _ _ _ _ (pre .1 .0 .1 (c .before .before .args .group) (g .0) (g .1)))
+    (refl, turn-start _ _ (pre .0) _ _ _ _ _ (pre .1 .0 .1 .done (c .before .before .args .group) (g .0) (g .1) (omega (arith, g .1)) (g .3)))
 
 list-group-widen-requires : (t : ℕ) → list-group-lts.Need-widen-requires (claims t) (list-group-at t) list-group.Post list-group-Inv-loop list-group-μ-loop
 list-group-widen-requires t c κs = search needs
@@ -202,7 +202,7 @@ list-group-list-group-requires t c κs =
         (
           p .1 .0,
           (
-            (b .0, b .1, k),
+            (b .0, b .1, k, group-free _ _ (p .0) _ _ _ _ _ _ _ (l .loop .inv .1) (loop-test .taken) k (p .1 .1 .0 .0) (p .1 .1 .0 .3)),
             group-room _ _ (p .0) _ _ _ _ _ _ _ (l .loop .inv .1) (loop-test .taken) k (kind-g (a .args .table .now) (a .args .group) (p .1 .1 .0 .2)) _ (omega (arith, p .1 .1 .1, l .loop .inv .0)),
           ),
         ),

@@ -1,70 +1,140 @@
-use mathlib.Core.Path.{_≡_, _∙_, subst}
-use mathlib.Core.List.{List}
-use mathlib.Core.Bool.{Bool}
-use Prim.Native.Nat.{ℕ}
+use mathlib.Core.Path.{_∙_}
 use native.Mathlib.Omega.{arith}
-use lib.IntN.{ℤ}
-use Rattle.groups.specs.Members.{GroupOrders}
-use Rattle.groups.proofs.Orders.{scratch-as}
-use Rattle.planning.proofs.Plans.{whole-short, plan-whole, plan-mixed}
 use borrow.Author.Needs.{needs}
+use Rattle.groups.proofs.Orders.{scratch-as}
+use Rattle.opening.proofs.Progress.{progress-start, some-tangled, none-tangled}
+use Rattle.opening.proofs.Turns.{stopped}
+use Rattle.planning.proofs.Plans.{plan-short, plan-whole, plan-mixed, top-free}
 use Rattle.planning.proofs.list_in.Statement.{statement}
 use Rattle.planning.proofs.list_in.Tie as tie
 
 -- ---- earlier places, by later ones
 
-abbrev entry-of : tie.After-slice-known5 → tie.Start
-entry-of c = c .before .before .before .before .before .before
+abbrev entry-from-after-order-groups-arg8 : tie.After-order-groups-arg8 → tie.Start
+entry-from-after-order-groups-arg8 c =
+    let back = c .before .before .before .before .before .before .before .before .before .before .before .before .before .before .before .before .before .before in
+    back .before .before
 
-abbrev entry-from-link-members : tie.After-link-members → tie.Start
-entry-from-link-members c = entry-of (c .before .before .before .before)
+abbrev at-link-members-from-after-order-groups-arg8 : tie.After-order-groups-arg8 → tie.After-link-members
+at-link-members-from-after-order-groups-arg8 c = c .before .before .before .before .before .before .before .before .before .before
 
-abbrev after-link-members : tie.After-order-groups-arg7 → tie.After-link-members
-after-link-members c = c .before .before .before .before .before .before .before .before .before
+abbrev entry-from-after-list-group-arg2 : tie.After-list-group-arg2 → tie.Start
+entry-from-after-list-group-arg2 c =
+    let back = c .before .before .before .before .before .before .before .before .before .before .before .before .before .before .before .before .before .before in
+    let back2 = back .before .before .before .before .before .before .before .before .before .before .before .before .before .before .before .before .before .before in
+    back2 .before .before
 
-abbrev after-order-groups : tie.After-list-group-arg2 → tie.After-order-groups
-after-order-groups c = c .before .before .before .before .before .before .before .before .before .before .before .before .before .before .before .before .before
+abbrev at-link-members-from-after-list-group-arg2 : tie.After-list-group-arg2 → tie.After-link-members
+at-link-members-from-after-list-group-arg2 c =
+    let back = c .before .before .before .before .before .before .before .before .before .before .before .before .before .before .before .before .before .before in
+    back .before .before .before .before .before .before .before .before .before .before
 
-abbrev after-order-groups-from-list-mixed-arg7 : tie.After-list-mixed-arg7 → tie.After-order-groups
-after-order-groups-from-list-mixed-arg7 c =
-    let half = c .before .before .before .before .before .before .before .before .before .before .before in
-    half .before .before .before .before .before .before .before .before .before .before .before
+abbrev at-order-groups-from-after-list-group-arg2 : tie.After-list-group-arg2 → tie.After-order-groups
+at-order-groups-from-after-list-group-arg2 c = c .before .before .before .before .before .before .before .before .before .before .before .before .before .before .before .before .before
 
-abbrev after-order-groups-from-slice-known21 : tie.After-slice-known21 → tie.After-order-groups
-after-order-groups-from-slice-known21 c = after-order-groups-from-list-mixed-arg7 (c .before .before .before .before .before .before .before .before .before .before .before .before .before .before)
+abbrev entry-from-after-plan : tie.After-plan → tie.Start
+entry-from-after-plan c =
+    let back = c .before .before .before .before .before .before .before .before .before .before .before .before .before .before .before .before .before .before in
+    let back2 = back .before .before .before .before .before .before .before .before .before .before .before .before .before .before .before .before .before .before in
+    back2 .before .before .before .before
 
--- what `order_groups` answered
-orders : (t : List ℤ) (n : ℕ) (next : List ℕ) (r b : Bool) → GroupOrders t n next r → r ≡ b → GroupOrders t n next b
-orders t n next r b h e = subst (GroupOrders t n next) e h
+abbrev at-order-groups-from-after-plan : tie.After-plan → tie.After-order-groups
+at-order-groups-from-after-plan c =
+    let back = c .before .before .before .before .before .before .before .before .before .before .before .before .before .before .before .before .before .before in
+    back .before
+
+abbrev at-if1-from-after-plan : tie.After-plan → tie.Then1
+at-if1-from-after-plan c = c .before .before .before .before
+
+abbrev entry-from-after-open-stuck-arg8 : tie.After-open-stuck-arg8 → tie.Start
+entry-from-after-open-stuck-arg8 c =
+    let back = c .before .before .before .before .before .before .before .before .before .before .before .before .before .before .before .before .before .before in
+    let back2 = back .before .before .before .before .before .before .before .before .before .before .before .before .before .before .before .before .before .before in
+    back2 .before .before .before .before .before .before .before .before
+
+abbrev at-link-members-from-after-open-stuck-arg8 : tie.After-open-stuck-arg8 → tie.After-link-members
+at-link-members-from-after-open-stuck-arg8 c =
+    let back = c .before .before .before .before .before .before .before .before .before .before .before .before .before .before .before .before .before .before in
+    back .before .before .before .before .before .before .before .before .before .before .before .before .before .before .before .before
+
+abbrev at-order-groups-from-after-open-stuck-arg8 : tie.After-open-stuck-arg8 → tie.After-order-groups
+at-order-groups-from-after-open-stuck-arg8 c =
+    let back = c .before .before .before .before .before .before .before .before .before .before .before .before .before .before .before .before .before .before in
+    back .before .before .before .before .before
+
+abbrev entry-from-after-list-group-arg4 : tie.After-list-group-arg4 → tie.Start
+entry-from-after-list-group-arg4 c =
+    let back = c .before .before .before .before .before .before .before .before .before .before .before .before .before .before .before .before .before .before in
+    let back2 = back .before .before .before .before .before .before .before .before .before .before .before .before .before .before .before .before .before .before in
+    let back3 = back2 .before .before .before .before .before .before .before .before .before .before .before .before .before .before .before .before .before .before in
+    back3 .before .before .before .before .before .before .before .before .before
+
+abbrev at-link-members-from-after-list-group-arg4 : tie.After-list-group-arg4 → tie.After-link-members
+at-link-members-from-after-list-group-arg4 c =
+    let back = c .before .before .before .before .before .before .before .before .before .before .before .before .before .before .before .before .before .before in
+    let back2 = back .before .before .before .before .before .before .before .before .before .before .before .before .before .before .before .before .before .before in
+    back2 .before .before .before .before .before .before .before .before .before .before .before .before .before .before .before .before .before
+
+abbrev at-order-groups-from-after-list-group-arg4 : tie.After-list-group-arg4 → tie.After-order-groups
+at-order-groups-from-after-list-group-arg4 c =
+    let back = c .before .before .before .before .before .before .before .before .before .before .before .before .before .before .before .before .before .before in
+    let back2 = back .before .before .before .before .before .before .before .before .before .before .before .before .before .before .before .before .before .before in
+    back2 .before .before .before .before .before .before
+
+abbrev at-open-stuck-from-after-list-group-arg4 : tie.After-list-group-arg4 → tie.After-open-stuck
+at-open-stuck-from-after-list-group-arg4 c = c .before .before .before .before .before .before .before .before .before .before .before .before .before .before .before .before .before .before
+
+abbrev at-open-stuck-from-after-plan2 : tie.After-plan2 → tie.After-open-stuck
+at-open-stuck-from-after-plan2 c =
+    let back = c .before .before .before .before .before .before .before .before .before .before .before .before .before .before .before .before .before .before in
+    back .before .before
+
+abbrev at-order-groups-from-after-plan2 : tie.After-plan2 → tie.After-order-groups
+at-order-groups-from-after-plan2 c =
+    let back = c .before .before .before .before .before .before .before .before .before .before .before .before .before .before .before .before .before .before in
+    let back2 = back .before .before .before .before .before .before .before .before .before .before .before .before .before .before .before .before .before .before in
+    back2 .before .before .before .before .before .before .before .before
+
+abbrev at-link-members-from-after-plan2 : tie.After-plan2 → tie.After-link-members
+at-link-members-from-after-plan2 c =
+    let back = c .before .before .before .before .before .before .before .before .before .before .before .before .before .before .before .before .before .before in
+    let back2 = back .before .before .before .before .before .before .before .before .before .before .before .before .before .before .before .before .before .before in
+    let back3 = back2 .before .before .before .before .before .before .before .before .before .before .before .before .before .before .before .before .before .before in
+    back3 .before
+
+abbrev entry-from-after-plan2 : tie.After-plan2 → tie.Start
+entry-from-after-plan2 c =
+    let back = c .before .before .before .before .before .before .before .before .before .before .before .before .before .before .before .before .before .before in
+    let back2 = back .before .before .before .before .before .before .before .before .before .before .before .before .before .before .before .before .before .before in
+    let back3 = back2 .before .before .before .before .before .before .before .before .before .before .before .before .before .before .before .before .before .before in
+    back3 .before .before .before .before .before .before .before .before .before .before .before
+
+abbrev at-if1-from-after-plan2 : tie.After-plan2 → tie.Else1
+at-if1-from-after-plan2 c =
+    let back = c .before .before .before .before .before .before .before .before .before .before .before .before .before .before .before .before .before .before in
+    back .before .before .before .before .before .before .before .before .before .before .before
 
 link-members-requires : tie.Need-link-members-requires
 link-members-requires c κs = search needs
 
 order-groups-requires : tie.Need-order-groups-requires
 order-groups-requires c κs =
-    let entry = entry-from-link-members (after-link-members c) in
-    let p = entry .pre in
-    let link-members = after-link-members c .link-members in
-    (p .0, (((omega (arith, p .1 .1 .1 .0 .0, link-members .kept .1 .1 .0), p .1 .1 .1 .1 .0), p .1 .1 .1 .1 .1), (p .1 .1 .0, link-members .ensures)))
-
-list-mixed-requires : tie.Need-list-mixed-requires
-list-mixed-requires c κs =
-    let back-2-2 = after-link-members (after-order-groups-from-list-mixed-arg7 c .before) .before .before .before .before in
-    let entry = entry-of back-2-2 in
-    let order-groups = after-order-groups-from-list-mixed-arg7 c .order-groups in
-    let p = entry .pre in
-    let k = order-groups .kept .1 .1 .1 .1 in (
+    let p = (entry-from-after-order-groups-arg8 c) .pre in
+    let r = p .1 .1 .1 in (
       p .0,
       (
-        p .1 .0,
-        (
-          p .1 .1 .0,
-          (
-            omega (arith, p .1 .1 .1 .1 .0, k .0),
-            scratch-as _ _ _ _ _ _ _ _ _ _ _ (k .1 .0) (k .1 .1 .0) (k .1 .1 .1 .0) (k .1 .1 .1 .1 .0) (k .1 .1 .1 .1 .1 .0)
-                (p .1 .1 .1 .1 .1),
-          ),
-        ),
+        ((omega arith, omega arith, omega (arith, r .0 .0, (at-link-members-from-after-order-groups-arg8 c) .link-members .kept .1 .1 .0), r .1 .0), r .1 .1),
+        ((p .1 .1 .0 .0, λ x y a b l. p .1 .1 .0 .1 x y a b), progress-start _ _ (p .0) _ ((at-link-members-from-after-order-groups-arg8 c) .link-members .ensures)),
+      ),
+    )
+
+list-group-requires : tie.Need-list-group-requires
+list-group-requires c κs =
+    let p = (entry-from-after-list-group-arg2 c) .pre in (
+      p .0,
+      (
+        (omega (arith, p .1 .1 .1 .0 .0, (at-link-members-from-after-list-group-arg2 c) .link-members .kept .1 .1 .0, (at-order-groups-from-after-list-group-arg2 c) .order-groups .kept .1 .1 .1 .0), (at-order-groups-from-after-list-group-arg2 c) .order-groups .ensures .all ((c .before .before) .if1 .taken)),
+        ((omega arith, p .0 .some, p .0 .root, top-free _ _ (p .0) _), omega (arith, p .1 .0 .0, plan-short _ _ (p .0) (p .1 .0 .1))),
       ),
     )
 
@@ -72,11 +142,7 @@ same-length : tie.Need-same-length
 same-length c = search needs
 
 same-length-2 : tie.Need-same-length-2
-same-length-2 c =
-    let back-2-2 = after-order-groups-from-slice-known21 c in
-    let link-members = after-link-members (back-2-2 .before) .link-members in
-    let order-groups = after-order-groups-from-slice-known21 c .order-groups in
-    order-groups .kept .1 .1 .1 .0 ∙ link-members .kept .1 .1 .0
+same-length-2 c = search needs
 
 same-length-3 : tie.Need-same-length-3
 same-length-3 c = search needs
@@ -96,31 +162,38 @@ same-length-7 c = search needs
 same-length-8 : tie.Need-same-length-8
 same-length-8 c = search needs
 
+same-length-9 : tie.Need-same-length-9
+same-length-9 c = search needs
+
 returns : tie.Need-returns
 returns c =
-    let back-2-2 = after-order-groups-from-slice-known21 c in
-    let back-2-2-2 = after-link-members (back-2-2 .before) .before .before in
-    let entry = entry-of (back-2-2-2 .before .before) in
-    let order-groups = after-order-groups-from-slice-known21 c .order-groups in
-    let if1 = c .before .before .before .before .before .before .before .before .before .before .before .before .before .before .before .before .before .before .before .before .before .if1 in
-    let list-mixed = c .before .before .before .before .before .before .before .before .before .before .before .before .before .list-mixed in
-    plan-mixed _ _ (entry .pre .0) _ _ _ (entry .pre .1 .0 .1) (orders (entry .args .table .now) (entry .args .n) _ _ _ (order-groups .ensures) (if1 .taken)) (list-mixed .ensures)
+    let p = (entry-from-after-plan c) .pre in
+    plan-whole _ _ (p .0) _ _ _ (p .1 .0 .1) ((c .before) .list-group .ensures) (none-tangled _ _ (p .0) ((at-order-groups-from-after-plan c) .order-groups .ensures .free ((at-if1-from-after-plan c) .if1 .taken)))
 
-list-group-requires : tie.Need-list-group-requires
-list-group-requires c κs =
-    let entry = entry-from-link-members (after-link-members (after-order-groups c .before)) in
-    let link-members = after-link-members (after-order-groups c .before) .link-members in
-    let order-groups = after-order-groups c .order-groups in
-    let o = orders (entry .args .table .now) (entry .args .n) _ _ _ (order-groups .ensures) (c .before .before .if1 .left) in (
-      entry .pre .0,
+open-stuck-requires : tie.Need-open-stuck-requires
+open-stuck-requires c κs =
+    let p = (entry-from-after-open-stuck-arg8 c) .pre in
+    let r = p .1 .1 .1 in (
+      (p .0, p .1 .0 .1),
       (
-        (omega (arith, order-groups .kept .1 .1 .1 .0, link-members .kept .1 .1 .0, entry .pre .1 .1 .1 .0 .0), o .0),
-        ((omega arith, entry .pre .0 .some, entry .pre .0 .root), omega (arith, entry .pre .1 .0 .0, whole-short _ _ (entry .pre .0) (entry .pre .1 .0 .1) (o .1))),
+        (
+          (omega (arith, r .0 .0, (at-link-members-from-after-open-stuck-arg8 c) .link-members .kept .1 .1 .0, (at-order-groups-from-after-open-stuck-arg8 c) .order-groups .kept .1 .1 .1 .0), omega (arith, r .1 .0, (at-order-groups-from-after-open-stuck-arg8 c) .order-groups .kept .1 .1 .1 .1 .1 .0)),
+          scratch-as _ _ _ _ _ _ _ _ _ _ _ ((at-order-groups-from-after-open-stuck-arg8 c) .order-groups .kept .1 .1 .1 .1 .1 .1 .0) ((at-order-groups-from-after-open-stuck-arg8 c) .order-groups .kept .1 .1 .1 .1 .1 .1 .1 .0) ((at-order-groups-from-after-open-stuck-arg8 c) .order-groups .kept .1 .1 .1 .1 .1 .1 .1 .1 .0)
+              ((at-order-groups-from-after-open-stuck-arg8 c) .order-groups .kept .1 .1 .1 .1 .1 .1 .1 .1 .1 .0) ((at-order-groups-from-after-open-stuck-arg8 c) .order-groups .kept .1 .1 .1 .1 .1 .1 .1 .1 .1 .1 .0) (r .1 .1),
+        ),
+        (p .1 .1 .0 .0, stopped _ _ (p .0) 1 _ _ _ (omega arith) (λ x y a b l. p .1 .1 .0 .1 x y a b) ((at-order-groups-from-after-open-stuck-arg8 c) .order-groups .ensures)),
       ),
     )
 
-same-length-9 : tie.Need-same-length-9
-same-length-9 c = search needs
+list-group-requires-2 : tie.Need-list-group-requires-2
+list-group-requires-2 c κs =
+    let p = (entry-from-after-list-group-arg4 c) .pre in (
+      p .0,
+      (
+        (omega (arith, p .1 .1 .1 .0 .0, (at-link-members-from-after-list-group-arg4 c) .link-members .kept .1 .1 .0, (at-order-groups-from-after-list-group-arg4 c) .order-groups .kept .1 .1 .1 .0, (at-open-stuck-from-after-list-group-arg4 c) .open-stuck .kept .1 .1 .1 .0), (at-open-stuck-from-after-list-group-arg4 c) .open-stuck .ensures),
+        ((omega arith, p .0 .some, p .0 .root, top-free _ _ (p .0) _), omega (arith, p .1 .0 .0, plan-short _ _ (p .0) (p .1 .0 .1))),
+      ),
+    )
 
 same-length-10 : tie.Need-same-length-10
 same-length-10 c = search needs
@@ -129,13 +202,13 @@ same-length-11 : tie.Need-same-length-11
 same-length-11 c = search needs
 
 same-length-12 : tie.Need-same-length-12
-same-length-12 c = search needs
+same-length-12 c = (at-open-stuck-from-after-plan2 c) .open-stuck .kept .1 .1 .1 .0 ∙ (at-order-groups-from-after-plan2 c) .order-groups .kept .1 .1 .1 .0 ∙ (at-link-members-from-after-plan2 c) .link-members .kept .1 .1 .0
 
 same-length-13 : tie.Need-same-length-13
-same-length-13 c = search needs
+same-length-13 c = (at-open-stuck-from-after-plan2 c) .open-stuck .kept .1 .1 .1 .1 .1 .0 ∙ (at-order-groups-from-after-plan2 c) .order-groups .kept .1 .1 .1 .1 .1 .0
 
 same-length-14 : tie.Need-same-length-14
-same-length-14 c = search needs
+same-length-14 c = (at-open-stuck-from-after-plan2 c) .open-stuck .kept .1 .1 .1 .1 .1 .1 .0 ∙ (at-order-groups-from-after-plan2 c) .order-groups .kept .1 .1 .1 .1 .1 .1 .0
 
 same-length-15 : tie.Need-same-length-15
 same-length-15 c = search needs
@@ -143,13 +216,17 @@ same-length-15 c = search needs
 same-length-16 : tie.Need-same-length-16
 same-length-16 c = search needs
 
+same-length-17 : tie.Need-same-length-17
+same-length-17 c = search needs
+
+same-length-18 : tie.Need-same-length-18
+same-length-18 c = search needs
+
 returns-2 : tie.Need-returns-2
 returns-2 c =
-    let entry = entry-from-link-members (after-link-members (after-order-groups (c .before .before) .before)) in
-    let order-groups = after-order-groups (c .before .before) .order-groups in
-    let if1 = c .before .before .before .before .if1 in
-    let o = orders (entry .args .table .now) (entry .args .n) _ _ _ (order-groups .ensures) (if1 .left) in
-    plan-whole _ _ (entry .pre .0) _ _ _ (entry .pre .1 .0 .1) (o .1) (c .before .list-group .ensures)
+    let p = (entry-from-after-plan2 c) .pre in
+    let s = (at-order-groups-from-after-plan2 c) .order-groups .ensures .stuck ((at-if1-from-after-plan2 c) .if1 .left) in
+    plan-mixed _ _ (p .0) _ _ _ (p .1 .0 .1) ((c .before) .list-group2 .ensures) (some-tangled _ _ (p .0) _ (s .0) (s .1) (s .4))
 
 pub list-in-spec : {M : Type 1} → statement M
 list-in-spec =
@@ -157,7 +234,7 @@ list-in-spec =
     (tie.spec
     link-members-requires
     order-groups-requires
-    list-mixed-requires
+    list-group-requires
     same-length
     same-length-2
     same-length-3
@@ -166,9 +243,10 @@ list-in-spec =
     same-length-6
     same-length-7
     same-length-8
-    returns
-    list-group-requires
     same-length-9
+    returns
+    open-stuck-requires
+    list-group-requires-2
     same-length-10
     same-length-11
     same-length-12
@@ -176,4 +254,6 @@ list-in-spec =
     same-length-14
     same-length-15
     same-length-16
+    same-length-17
+    same-length-18
     returns-2)

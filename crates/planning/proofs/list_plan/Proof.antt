@@ -1,16 +1,24 @@
 use Prim.Native.Nat.{_≤_}
 use native.Mathlib.Omega.{arith}
+use borrow.Author.Needs.{needs}
 use Rattle.cells.specs.Limits.{labelLimit}
 use Rattle.planning.proofs.Plans.{zero-lists}
-use borrow.Author.Needs.{needs}
 use Rattle.planning.proofs.list_plan.Statement.{statement}
 use Rattle.planning.proofs.list_plan.Tie as tie
+
+-- ---- earlier places, by later ones
+
+abbrev entry-from-after-order : tie.After-order → tie.Start
+entry-from-after-order c = c .before .before .before .before .before .before .before .before .before .before .before
 
 list-small-requires : tie.Need-list-small-requires
 list-small-requires c κs = search needs
 
 same-length : tie.Need-same-length
 same-length c = search needs
+
+same-length-2 : tie.Need-same-length-2
+same-length-2 c = search needs
 
 returns : tie.Need-returns
 returns c = search needs
@@ -38,12 +46,15 @@ slice-aggregate-list-in-7 c = search needs
 
 list-in-requires : tie.Need-list-in-requires
 list-in-requires c κs =
-    let entry = c .before .before .before .before .before .before .before .before .before .before in
-    let h : entry .args .n ≤ labelLimit = entry .pre .0 .few in
-    (entry .pre .0, (entry .pre .1 .0, (entry .pre .1 .1, zero-lists (entry .args .n) 1025 17 (omega arith) (omega arith))))
+    let p = (entry-from-after-order c) .pre in
+    let h : (entry-from-after-order c) .args .n ≤ labelLimit = p .0 .few in
+    (p .0, (p .1 .0, (p .1 .1, zero-lists ((entry-from-after-order c) .args .n) 1025 17 (omega arith) (omega arith))))
 
-same-length-2 : tie.Need-same-length-2
-same-length-2 c = search needs
+same-length-3 : tie.Need-same-length-3
+same-length-3 c = search needs
+
+same-length-4 : tie.Need-same-length-4
+same-length-4 c = search needs
 
 returns-2 : tie.Need-returns-2
 returns-2 c = search needs
@@ -54,6 +65,7 @@ list-plan-spec =
     (tie.spec
     list-small-requires
     same-length
+    same-length-2
     returns
     slice-aggregate-list-in
     slice-aggregate-list-in-2
@@ -63,5 +75,6 @@ list-plan-spec =
     slice-aggregate-list-in-6
     slice-aggregate-list-in-7
     list-in-requires
-    same-length-2
+    same-length-3
+    same-length-4
     returns-2)

@@ -1,9 +1,14 @@
 use Prim.Native.Nat.{_≤_}
 use native.Mathlib.Omega.{arith}
-use Rattle.planning.proofs.Plans.{zero-lists}
 use borrow.Author.Needs.{needs}
+use Rattle.planning.proofs.Plans.{zero-lists}
 use Rattle.planning.proofs.list_small.Statement.{statement}
 use Rattle.planning.proofs.list_small.Tie as tie
+
+-- ---- earlier places, by later ones
+
+abbrev entry-from-after-order : tie.After-order → tie.Start
+entry-from-after-order c = c .before .before .before .before .before .before .before .before .before .before
 
 slice-aggregate-list-in : tie.Need-slice-aggregate-list-in
 slice-aggregate-list-in c = search needs
@@ -28,12 +33,15 @@ slice-aggregate-list-in-7 c = search needs
 
 list-in-requires : tie.Need-list-in-requires
 list-in-requires c κs =
-    let entry = c .before .before .before .before .before .before .before .before .before in
-    let h : entry .args .n ≤ 127 = entry .pre .1 .0 in
-    (entry .pre .0, (entry .pre .1 .1 .0, (entry .pre .1 .1 .1, zero-lists (entry .args .n) 128 2 (omega arith) (omega arith))))
+    let p = (entry-from-after-order c) .pre in
+    let h : (entry-from-after-order c) .args .n ≤ 127 = p .1 .0 in
+    (p .0, (p .1 .1 .0, (p .1 .1 .1, zero-lists ((entry-from-after-order c) .args .n) 128 2 (omega arith) (omega arith))))
 
 same-length : tie.Need-same-length
 same-length c = search needs
+
+same-length-2 : tie.Need-same-length-2
+same-length-2 c = search needs
 
 returns : tie.Need-returns
 returns c = search needs
@@ -51,4 +59,5 @@ list-small-spec =
     slice-aggregate-list-in-7
     list-in-requires
     same-length
+    same-length-2
     returns)

@@ -1,2 +1,3 @@
 pub mod Members
 pub mod Opening
+pub mod Opened

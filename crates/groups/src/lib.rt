@@ -1,4 +1,4 @@
-// The members of every Group in order, by the one rule of placing, which serves the mixed list too.
+// The members of every Group in order, by the one rule of placing, up to a Group that gets stuck; and a block of several opened.
 
 ghost use mathlib.Core.Path.{_≡_};
 ghost use mathlib.Core.Bool.{true};
@@ -9,11 +9,12 @@ ghost use Rattle.cells.specs.Limits.{labelLimit};
 ghost use Rattle.cells.specs.Accepted.{Accepted};
 ghost use Rattle.cells.specs.Table.{isDefinition};
 ghost use Rattle.order.specs.LabelLists.{count, _∈_};
-ghost use Rattle.order.specs.Order.{reaches, needs, memberBlock, blockValues, place16};
+ghost use Rattle.order.specs.Order.{members, reaches, needs, memberBlock, blockValues, place16};
 ghost use Rattle.reach.specs.MarkRows.{width};
 ghost use Rattle.reach.specs.Chains.{Empty};
 ghost use Rattle.placing.specs.UnmetCounts.{Placed};
 ghost use Rattle.groups.specs.Members.{Chain, Chained, WalkableChain, Gathered, Items, NeedRowsFrom, NeedRowsOf, Scratch, Masked, Relinked};
+ghost use Rattle.groups.specs.Opened.{Progress, GroupOrder, GroupOrders};
 ghost use Rattle.groups.specs.Opening.{Siblings, MemberChains, ChainsCleared, AllInside, ValuesMasked};
 
 // ---- members
@@ -108,6 +109,90 @@ pub fn relink(n: usize, next: &mut [u16], group: usize, order: &[u16], r: usize)
         head = x;
     }
     next[group] = head;
+}
+
+// ---- Groups in order
+
+// Puts the members of a Group in order. Answers whether it gets stuck.
+fn order_group(
+    table: &[i64],
+    n: usize,
+    square: &[u64],
+    next: &mut [u16],
+    group: usize,
+    items: &mut [u16],
+    mask: &mut [u64],
+    unmet: &mut [u16],
+    ready: &mut [u64],
+    list: &mut [u16],
+    order: &mut [u16],
+) -> bool
+    requires { ⌜ Accepted (now table) n ⌝ }
+    requires { ⌜ ((1 ≤ group) × (group ≤ n) × (2 * n < length (now next)) × (n < length (now items))) × Scratch n (now mask) (now unmet) (now ready) (now list) (now order) ⌝ }
+    requires { ⌜ ((n + 1) * width n ≤ length (now square)) × NeedRowsFrom (now table) n group (now square) ⌝ }
+    requires { ⌜ Chain n (now next) (getD (now next) group 0) (members (now table) n group) ⌝ }
+    ensures { λ r. ⌜ GroupOrder (now (table .entry)) n group (now (next .entry)) (now (next .exit)) r ⌝ }
+{
+    let m = append_chain(n, next, group, items, 0);
+    let r = place_items(
+        table,
+        n,
+        square,
+        &items[0..m],
+        mask,
+        unmet,
+        ready,
+        list,
+        order,
+    );
+    if r != m {
+        return true;
+    }
+    relink(n, next, group, order, r);
+    false
+}
+
+// Puts Groups in order, upward from the one given. Answers the first that gets stuck, or 0.
+pub fn order_groups(
+    table: &[i64],
+    n: usize,
+    square: &[u64],
+    next: &mut [u16],
+    from: usize,
+    items: &mut [u16],
+    mask: &mut [u64],
+    unmet: &mut [u16],
+    ready: &mut [u64],
+    list: &mut [u16],
+    order: &mut [u16],
+) -> usize
+    requires { ⌜ Accepted (now table) n ⌝ }
+    requires { ⌜ ((1 ≤ from) × (from ≤ n + 1) × (2 * n < length (now next)) × (n < length (now items))) × Scratch n (now mask) (now unmet) (now ready) (now list) (now order) ⌝ }
+    requires { ⌜ (((n + 1) * width n ≤ length (now square)) × NeedRowsFrom (now table) n from (now square)) × Progress (now table) n from (now next) ⌝ }
+    ensures { λ r. ⌜ GroupOrders (now (table .entry)) n from (now (next .exit)) r ⌝ }
+{
+    let mut g = from;
+    while g <= n {
+        if next[g] != 0 {
+            if order_group(
+                table,
+                n,
+                square,
+                next,
+                g,
+                items,
+                mask,
+                unmet,
+                ready,
+                list,
+                order,
+            ) {
+                return g;
+            }
+        }
+        g += 1;
+    }
+    0
 }
 
 // ---- blocks of several

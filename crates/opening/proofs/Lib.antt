@@ -1,6 +1,4 @@
-pub mod Expanded
-pub mod Progress
-pub mod Turns
 mod Linking
 mod Opening
 mod Ordering
+mod Stuck

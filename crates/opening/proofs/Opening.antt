@@ -30,10 +30,10 @@ use Rattle.blocks.proofs.Merging.{led-item, led-tog, led-is}
 use Rattle.groups.specs.Members.{Chain, Relinked}
 use Rattle.groups.specs.Opening.{InOrUnder, MemberChains, ChainsCleared}
 use Rattle.groups.proofs.Chains.{rising-part, rising-filter, chain-same}
-use Rattle.opening.specs.Opened.{expandedBlock, tangledMembers, Opened, Progress}
+use Rattle.groups.specs.Opened.{expandedBlock, tangledMembers, Opened, Progress}
 use Rattle.opening.specs.Leaders.{LedMembers, BlockChains, leadsSeveral, LeaderChains}
-use Rattle.opening.proofs.Expanded.{many-all, Held, held, plan-held, held-apart}
-use Rattle.opening.proofs.Progress.{under-free, within-le, member-above}
+use Rattle.groups.proofs.Expanded.{many-all, Held, held, plan-held, held-apart}
+use Rattle.groups.proofs.Progress.{under-free, within-le, member-above}
 
 -- ---- chains cleared one after the other
 

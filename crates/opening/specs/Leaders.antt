@@ -14,7 +14,7 @@ use Rattle.placing.specs.UnmetCounts.{Rising, AllBelow}
 use Rattle.blocks.specs.Found.{Led}
 use Rattle.blocks.specs.Merged.{heads}
 use Rattle.groups.specs.Members.{Chain, Gathered, Masked}
-use Rattle.opening.specs.Opened.{expandedBlock}
+use Rattle.groups.specs.Opened.{expandedBlock}
 
 -- the items are g's members, each one's lead is the smallest label of its block, and there is a mask of those that hold values
 pub record LedMembers (t : List ℤ) (n g : ℕ) (items lead : List ℕ) : Type 0 where

@@ -1,5 +1,5 @@
-// The Groups of a table in order, one after the other: a Group whose blocks are single members has its chain put in order; in one with a
-// block of several, the values under that block take its place.
+// Groups that get stuck: their blocks are found and placed, and a block of several is opened, so that the values under it take its place in
+// the chain.
 
 ghost use mathlib.Core.Path.{_≡_};
 ghost use Prim.Native.Nat.{ℕ, _+_, _*_, _≤_, _<_};
@@ -9,93 +9,9 @@ ghost use Rattle.cells.specs.Accepted.{Accepted};
 ghost use Rattle.order.specs.Order.{members, memberBlock, ordered, severalPlan, place16};
 ghost use Rattle.reach.specs.MarkRows.{width};
 ghost use Rattle.groups.specs.Members.{Chain, Gathered, NeedRowsFrom, Scratch, Relinked};
+ghost use Rattle.groups.specs.Opened.{expanded, tangledMembers, Progress, Openable, Stopped};
 ghost use Rattle.groups.specs.Opening.{MemberChains, ChainsCleared};
 ghost use Rattle.opening.specs.Leaders.{LedMembers, SearchRoom, Linkable, BlockChains, leadsSeveral, LeaderChains, Chains, Expanded};
-ghost use Rattle.opening.specs.Opened.{expanded, tangledMembers, Progress, Openable, Stopped, GroupOrder, GroupOrders};
-
-// ---- Groups without a block of several
-
-// Puts the members of a Group in order. Answers whether it gets stuck.
-fn order_group(
-    table: &[i64],
-    n: usize,
-    square: &[u64],
-    next: &mut [u16],
-    group: usize,
-    items: &mut [u16],
-    mask: &mut [u64],
-    unmet: &mut [u16],
-    ready: &mut [u64],
-    list: &mut [u16],
-    order: &mut [u16],
-) -> bool
-    requires { ⌜ Accepted (now table) n ⌝ }
-    requires { ⌜ ((1 ≤ group) × (group ≤ n) × (2 * n < length (now next)) × (n < length (now items))) × Scratch n (now mask) (now unmet) (now ready) (now list) (now order) ⌝ }
-    requires { ⌜ ((n + 1) * width n ≤ length (now square)) × NeedRowsFrom (now table) n group (now square) ⌝ }
-    requires { ⌜ Chain n (now next) (getD (now next) group 0) (members (now table) n group) ⌝ }
-    ensures { λ r. ⌜ GroupOrder (now (table .entry)) n group (now (next .entry)) (now (next .exit)) r ⌝ }
-{
-    let m = groups::append_chain(n, next, group, items, 0);
-    let r = groups::place_items(
-        table,
-        n,
-        square,
-        &items[0..m],
-        mask,
-        unmet,
-        ready,
-        list,
-        order,
-    );
-    if r != m {
-        return true;
-    }
-    groups::relink(n, next, group, order, r);
-    false
-}
-
-// Puts Groups in order, upward from the one given. Answers the first that gets stuck, or 0.
-pub fn order_groups(
-    table: &[i64],
-    n: usize,
-    square: &[u64],
-    next: &mut [u16],
-    from: usize,
-    items: &mut [u16],
-    mask: &mut [u64],
-    unmet: &mut [u16],
-    ready: &mut [u64],
-    list: &mut [u16],
-    order: &mut [u16],
-) -> usize
-    requires { ⌜ Accepted (now table) n ⌝ }
-    requires { ⌜ ((1 ≤ from) × (from ≤ n + 1) × (2 * n < length (now next)) × (n < length (now items))) × Scratch n (now mask) (now unmet) (now ready) (now list) (now order) ⌝ }
-    requires { ⌜ (((n + 1) * width n ≤ length (now square)) × NeedRowsFrom (now table) n from (now square)) × Progress (now table) n from (now next) ⌝ }
-    ensures { λ r. ⌜ GroupOrders (now (table .entry)) n from (now (next .exit)) r ⌝ }
-{
-    let mut g = from;
-    while g <= n {
-        if next[g] != 0 {
-            if order_group(
-                table,
-                n,
-                square,
-                next,
-                g,
-                items,
-                mask,
-                unmet,
-                ready,
-                list,
-                order,
-            ) {
-                return g;
-            }
-        }
-        g += 1;
-    }
-    0
-}
 
 // ---- the blocks of a Group
 
@@ -234,8 +150,7 @@ fn open_blocks(
     requires { ⌜ ((n + 1) * width n ≤ length (now square)) × NeedRowsFrom (now table) n group (now square) ⌝ }
     requires { ⌜ LedMembers (now table) n group (now items) (now lead) × Linkable n (now items) (now lead) (now links) ⌝ }
     requires { ⌜ BlockChains n (now items) (now lead) (now links) × Openable (now table) n group (now next) ⌝ }
-    ensures { λ _. ⌜ ChainsCleared (now (table .entry)) (tangledMembers (now (table .entry)) n group) (now (next .entry)) (now (next .exit))
-        × LeaderChains (now (table .entry)) n group (now (links .exit)) ⌝ }
+    ensures { λ _. ⌜ ChainsCleared (now (table .entry)) (tangledMembers (now (table .entry)) n group) (now (next .entry)) (now (next .exit)) × LeaderChains (now (table .entry)) n group (now (links .exit)) ⌝ }
 {
     let mut i = 0;
     while i < items.len() {
@@ -335,8 +250,7 @@ fn split_group(
     requires { ⌜ ((n + 1) * width n ≤ length (now square)) × NeedRowsFrom (now table) n group (now square) ⌝ }
     requires { ⌜ Openable (now table) n group (now next) ⌝ }
     ensures { λ r. ⌜ (r ≤ length (now (items .exit))) × LedMembers (now (table .entry)) n group (take r (now (items .exit))) (now (lead .exit)) ⌝ }
-    ensures { λ _. ⌜ ChainsCleared (now (table .entry)) (tangledMembers (now (table .entry)) n group) (now (next .entry)) (now (next .exit))
-        × LeaderChains (now (table .entry)) n group (now (links .exit)) ⌝ }
+    ensures { λ _. ⌜ ChainsCleared (now (table .entry)) (tangledMembers (now (table .entry)) n group) (now (next .entry)) (now (next .exit)) × LeaderChains (now (table .entry)) n group (now (links .exit)) ⌝ }
 {
     let m = find_leads(
         table,
@@ -533,7 +447,7 @@ pub fn open_groups(
             lead,
             links,
         );
-        g = order_groups(
+        g = groups::order_groups(
             table,
             n,
             square,

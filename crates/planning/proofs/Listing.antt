@@ -25,9 +25,9 @@ use Rattle.order.proofs.Unrolled.{block-same, member-later, deep}
 use Rattle.groups.specs.Members.{Chain}
 use Rattle.planning.specs.Listing.{listOf, PutAt}
 use Rattle.groups.proofs.Chains.{steps, steps-are}
-use Rattle.opening.specs.Opened.{expanded, Opened}
-use Rattle.opening.proofs.Expanded.{Stands, stands, expanded-label, expanded-few, expanded-lists}
-use Rattle.opening.proofs.Progress.{within-le, member-above, alone-free}
+use Rattle.groups.specs.Opened.{expanded, Opened}
+use Rattle.groups.proofs.Expanded.{Stands, stands, expanded-label, expanded-few, expanded-lists}
+use Rattle.groups.proofs.Progress.{within-le, member-above, alone-free}
 
 -- ---- joined lists
 

@@ -17,9 +17,9 @@ use Rattle.reach.specs.Chains.{Empty}
 use Rattle.reach.proofs.Scratch.{long, zero-chain}
 use Rattle.reach.specs.MarkRows.{width}
 use Rattle.groups.specs.Members.{Scratch}
-use Rattle.opening.specs.Opened.{Opened}
+use Rattle.groups.specs.Opened.{Opened}
 use Rattle.opening.specs.Leaders.{SearchRoom}
-use Rattle.opening.proofs.Progress.{within-le}
+use Rattle.groups.proofs.Progress.{within-le}
 use Rattle.planning.specs.declared.Planned.the-variants.{Cycle, Whole, Mixed}
 use Rattle.planning.specs.Listing.{listOf, PutAt}
 use Rattle.planning.specs.Plans.{PlanIs}

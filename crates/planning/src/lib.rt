@@ -12,7 +12,7 @@ ghost use Rattle.reach.specs.MarkRows.{width, Blank};
 ghost use Rattle.reach.specs.Chains.{Empty};
 ghost use Rattle.needs.specs.Needs.{NeedRows};
 ghost use Rattle.groups.specs.Members.{Scratch};
-ghost use Rattle.opening.specs.Opened.{Opened, Progress, Stopped};
+ghost use Rattle.groups.specs.Opened.{Opened, Progress, Stopped};
 ghost use Rattle.planning.specs.Listing.{listOf, PutAt};
 ghost use Rattle.planning.specs.Plans.{PlanIs};
 
@@ -185,7 +185,7 @@ fn list_in(
     ensures { λ r. ⌜ PlanIs (Order.plan (now (table .entry)) n) (now (plan .entry)) (now (plan .exit)) r ⌝ }
 {
     groups::link_members(table, n, next);
-    let stuck = opening::order_groups(
+    let stuck = groups::order_groups(
         table,
         n,
         square,

@@ -18,14 +18,8 @@ abbrev μ-loop : tie.MeasureT-loop
 
 -- ---- earlier places, by later ones
 
-abbrev at-loop-from-after-widen : tie.After-widen Inv-loop μ-loop → tie.At-loop Inv-loop μ-loop
-at-loop-from-after-widen c = c .before .before .before
-
 abbrev entry-from-after-widen : tie.After-widen Inv-loop μ-loop → tie.Start Inv-loop μ-loop
 entry-from-after-widen c = c .before .before .before .before .before .before .before
-
-abbrev entry-from-after-slice-known : tie.After-slice-known Inv-loop μ-loop → tie.Start Inv-loop μ-loop
-entry-from-after-slice-known c = c .before .before .before
 
 abbrev entry-from-after-shared-slice-known3 : tie.After-shared-slice-known3 Inv-loop μ-loop → tie.Start Inv-loop μ-loop
 entry-from-after-shared-slice-known3 c = c .before .before .before .before .before .before
@@ -33,73 +27,87 @@ entry-from-after-shared-slice-known3 c = c .before .before .before .before .befo
 abbrev entry-from-after-append-chain-arg : tie.After-append-chain-arg Inv-loop μ-loop → tie.Start Inv-loop μ-loop
 entry-from-after-append-chain-arg c = c .before .before .before .before .before .before .before .before
 
-abbrev at-loop-from-after-append-chain-arg : tie.After-append-chain-arg Inv-loop μ-loop → tie.At-loop Inv-loop μ-loop
-at-loop-from-after-append-chain-arg c = c .before .before .before .before
-
 abbrev at-loop-test-from-after-slice-known2 : tie.After-slice-known2 Inv-loop μ-loop → tie.In-loop Inv-loop μ-loop
 at-loop-test-from-after-slice-known2 c = c .before .before .before .before .before .before
 
 abbrev entry-from-after-slice-known2 : tie.After-slice-known2 Inv-loop μ-loop → tie.Start Inv-loop μ-loop
-entry-from-after-slice-known2 c = c .before .before .before .before .before .before .before .before .before .before .before
+entry-from-after-slice-known2 c = at-loop-test-from-after-slice-known2 c .before .before .before .before .before
 
 abbrev at-loop-from-after-slice-known2 : tie.After-slice-known2 Inv-loop μ-loop → tie.At-loop Inv-loop μ-loop
-at-loop-from-after-slice-known2 c = c .before .before .before .before .before .before .before
+at-loop-from-after-slice-known2 c = at-loop-test-from-after-slice-known2 c .before
 
 abbrev entry-from-after-loop : tie.After-loop Inv-loop μ-loop → tie.Start Inv-loop μ-loop
 entry-from-after-loop c = c .before .before .before .before .before
 
 -- in a turn: the one at hand
 module _ (c : tie.After-widen Inv-loop μ-loop) where
-  before : (at-loop-from-after-widen c) .loop .i < length (take ((entry-from-after-widen c) .args .k) ((entry-from-after-widen c) .args .order .now))
-  before = omega (arith, (c .before .before) .loop-test .taken, length-take-le ((entry-from-after-widen c) .args .k) ((entry-from-after-widen c) .args .order .now) ((entry-from-after-widen c) .pre .0 .2))
+  before : c .before .before .before .loop .i < length (take ((entry-from-after-widen c) .args .k) ((entry-from-after-widen c) .args .order .now))
+  before =
+      let entry = (entry-from-after-widen c) in
+      omega (arith, c .before .before .loop-test .taken, length-take-le (entry .args .k) (entry .args .order .now) (entry .pre .0 .2))
 
-  here : c .widen .result ≡ getD (take ((entry-from-after-widen c) .args .k) ((entry-from-after-widen c) .args .order .now)) ((at-loop-from-after-widen c) .loop .i) 0
-  here = c .widen .ensures ∙ sym (getD-take ((entry-from-after-widen c) .args .k) ((entry-from-after-widen c) .args .order .now) ((at-loop-from-after-widen c) .loop .i) 0 ((c .before .before) .loop-test .taken))
+  here : c .widen .result ≡ getD (take ((entry-from-after-widen c) .args .k) ((entry-from-after-widen c) .args .order .now)) (c .before .before .before .loop .i) 0
+  here =
+      let entry = (entry-from-after-widen c) in
+      c .widen .ensures ∙ sym (getD-take (entry .args .k) (entry .args .order .now) (c .before .before .before .loop .i) 0 (c .before .before .loop-test .taken))
 
   item : c .widen .result ∈ take ((entry-from-after-widen c) .args .k) ((entry-from-after-widen c) .args .order .now)
-  item = expand-item _ _ _ _ ((entry-from-after-widen c) .pre .1) _ ((at-loop-from-after-widen c) .loop .inv .0) _ _ ((at-loop-from-after-widen c) .loop .inv .2) before _ here
+  item = expand-item _ _ _ _ ((entry-from-after-widen c) .pre .1) _ (c .before .before .before .loop .inv .0) _ _ (c .before .before .before .loop .inv .2) before _ here
 
 loop-holds : tie.Need-loop-holds Inv-loop μ-loop
-loop-holds c =
-    (refl, omega arith, expanding-none _ _ _ _ ((entry-from-after-slice-known c) .pre .1) _)
+loop-holds c = (refl, omega arith, expanding-none _ _ _ _ (c .before .before .before .pre .1) _)
 
 mul-widen : tie.Need-mul-widen Inv-loop μ-loop
 mul-widen c = search needs
 
 shared-slice-read-widen : tie.Need-shared-slice-read-widen Inv-loop μ-loop
-shared-slice-read-widen c = omega (arith, (c .before) .loop-test .taken, (entry-from-after-shared-slice-known3 c) .pre .0 .2)
+shared-slice-read-widen c =
+    let loop-test = c .before .loop-test in
+    let entry = entry-from-after-shared-slice-known3 c in
+    omega (arith, loop-test .taken, entry .pre .0 .2)
 
 widen-requires : tie.Need-widen-requires Inv-loop μ-loop
 widen-requires c κs = search needs
 
 append-chain-requires : tie.Need-append-chain-requires Inv-loop μ-loop
 append-chain-requires c κs =
-    let p = (entry-from-after-append-chain-arg c) .pre in (
-      (p .0 .0, p .1 .label _ (item (c .before)), p .0 .1, (at-loop-from-after-append-chain-arg c) .loop .inv .2 .short),
-      expand-walk _ _ _ _ (p .1) _ ((at-loop-from-after-append-chain-arg c) .loop .inv .0) _ _ ((at-loop-from-after-append-chain-arg c) .loop .inv .2) (before (c .before)) _ (here (c .before)),
+    let entry = entry-from-after-append-chain-arg c in
+    let loop = c .before .before .before .before .loop in
+    let p = entry .pre in (
+      (p .0 .0, p .1 .label _ (item (c .before)), p .0 .1, loop .inv .2 .short),
+      expand-walk _ _ _ _ (p .1) _ (loop .inv .0) _ _ (loop .inv .2) (before (c .before)) _ (here (c .before)),
     )
 
 add-i : tie.Need-add-i Inv-loop μ-loop
-add-i c = omega (arith, (at-loop-test-from-after-slice-known2 c) .loop-test .taken, (entry-from-after-slice-known2 c) .fits)
+add-i c =
+    let loop-test = at-loop-test-from-after-slice-known2 c .loop-test in
+    let entry = entry-from-after-slice-known2 c in
+    omega (arith, loop-test .taken, entry .fits)
 
 loop-less : tie.Need-loop-less Inv-loop μ-loop
-loop-less c = omega (arith, (at-loop-test-from-after-slice-known2 c) .loop-test .taken)
+loop-less c = omega (arith, (at-loop-test-from-after-slice-known2 c .loop-test) .taken)
 
 loop-again : tie.Need-loop-again Inv-loop μ-loop
 loop-again c =
-    let p = (entry-from-after-slice-known2 c) .pre in (
-      (c .before .before) .append-chain .kept .1 .1 .1 .0 ∙ (at-loop-from-after-slice-known2 c) .loop .inv .0,
-      omega (arith, (at-loop-test-from-after-slice-known2 c) .loop-test .taken),
-      expanding-turn _ _ _ _ (p .1) _ ((at-loop-from-after-slice-known2 c) .loop .inv .0) _ _ ((at-loop-from-after-slice-known2 c) .loop .inv .2) (before (c .before .before .before .before)) _ (here (c .before .before .before .before)) _ _ ((c .before .before) .append-chain .ensures),
+    let entry = entry-from-after-slice-known2 c in
+    let append-chain = c .before .before .append-chain in
+    let loop = at-loop-from-after-slice-known2 c .loop in
+    let loop-test = at-loop-test-from-after-slice-known2 c .loop-test in
+    let p = entry .pre in (
+      append-chain .kept .1 .1 .1 .0 ∙ loop .inv .0,
+      omega (arith, loop-test .taken),
+      expanding-turn _ _ _ _ (p .1) _ (loop .inv .0) _ _ (loop .inv .2) (before (c .before .before .before .before)) _ (here (c .before .before .before .before)) _ _ (append-chain .ensures),
     )
 
 same-length : tie.Need-same-length Inv-loop μ-loop
-same-length c = (c .before) .loop .inv .0
+same-length c = c .before .loop .inv .0
 
 returns : tie.Need-returns Inv-loop μ-loop
 returns c =
-    let p = (entry-from-after-loop c) .pre in
-    expanding-all _ _ _ _ (p .1) _ _ _ ((c .before) .loop .inv .2) (omega (arith, c .loop-test .left, length-take-le ((entry-from-after-loop c) .args .k) ((entry-from-after-loop c) .args .order .now) (p .0 .2)))
+    let entry = entry-from-after-loop c in
+    let loop = c .before .loop in
+    let p = entry .pre in
+    expanding-all _ _ _ _ (p .1) _ _ _ (loop .inv .2) (omega (arith, c .loop-test .left, length-take-le (entry .args .k) (entry .args .order .now) (p .0 .2)))
 
 pub expand-spec : {M : Type 1} → statement M
 expand-spec =

@@ -6,7 +6,7 @@ use borrow.Author.Needs.{needs}
 use lib.ListN.{length}
 use Rattle.order.specs.LabelLists.{count, _∈_}
 use Rattle.groups.specs.Members.{Relinked}
-use Rattle.opening.proofs.Expanded.{expanded-label, expanded-once}
+use Rattle.groups.proofs.Expanded.{expanded-label, expanded-once}
 use Rattle.opening.proofs.Ordering.{order-chains, all-expanded}
 use Rattle.opening.proofs.join_group.Statement.{statement}
 use Rattle.opening.proofs.join_group.Tie as tie
@@ -18,14 +18,20 @@ entry-from-after-order-blocks-arg8 c =
     let back = c .before .before .before .before .before .before .before .before .before .before .before .before .before .before .before .before .before .before in
     back .before .before .before
 
+abbrev at-order-blocks-from-after-expand-arg2 : tie.After-expand-arg2 → tie.After-order-blocks
+at-order-blocks-from-after-expand-arg2 c =
+    c .before .before .before .before .before .before .before .before .before .before .before .before .before .before .before .before .before .before
+
 abbrev entry-from-after-expand-arg2 : tie.After-expand-arg2 → tie.Start
 entry-from-after-expand-arg2 c =
     let back = c .before .before .before .before .before .before .before .before .before .before .before .before .before .before .before .before .before .before in
     let back2 = back .before .before .before .before .before .before .before .before .before .before .before .before .before .before .before .before .before .before in
     back2 .before .before .before .before
 
-abbrev at-order-blocks-from-after-expand-arg2 : tie.After-expand-arg2 → tie.After-order-blocks
-at-order-blocks-from-after-expand-arg2 c = c .before .before .before .before .before .before .before .before .before .before .before .before .before .before .before .before .before .before
+abbrev at-order-blocks-from-after-relink-arg2 : tie.After-relink-arg2 → tie.After-order-blocks
+at-order-blocks-from-after-relink-arg2 c =
+    let back = c .before .before .before .before .before .before .before .before .before .before .before .before .before .before .before .before .before .before in
+    back .before .before .before .before .before
 
 abbrev entry-from-after-relink-arg2 : tie.After-relink-arg2 → tie.Start
 entry-from-after-relink-arg2 c =
@@ -33,13 +39,12 @@ entry-from-after-relink-arg2 c =
     let back2 = back .before .before .before .before .before .before .before .before .before .before .before .before .before .before .before .before .before .before in
     back2 .before .before .before .before .before .before .before .before .before
 
-abbrev at-order-blocks-from-after-relink-arg2 : tie.After-relink-arg2 → tie.After-order-blocks
-at-order-blocks-from-after-relink-arg2 c =
-    let back = c .before .before .before .before .before .before .before .before .before .before .before .before .before .before .before .before .before .before in
-    back .before .before .before .before .before
+abbrev at-expand-from-after-slice-known20 : tie.After-slice-known20 → tie.After-expand
+at-expand-from-after-slice-known20 c = c .before .before .before .before .before .before .before
 
-abbrev at-expand-from-after-relink-arg2 : tie.After-relink-arg2 → tie.After-expand
-at-expand-from-after-relink-arg2 c = c .before .before .before .before
+abbrev at-order-blocks-from-after-slice-known20 : tie.After-slice-known20 → tie.After-order-blocks
+at-order-blocks-from-after-slice-known20 c =
+    at-expand-from-after-slice-known20 c .before .before .before .before .before .before .before .before .before .before .before .before .before .before .before .before .before .before .before
 
 abbrev entry-from-after-slice-known20 : tie.After-slice-known20 → tie.Start
 entry-from-after-slice-known20 c =
@@ -47,35 +52,33 @@ entry-from-after-slice-known20 c =
     let back2 = back .before .before .before .before .before .before .before .before .before .before .before .before .before .before .before .before .before .before in
     back2 .before .before .before .before .before .before .before .before .before .before .before .before
 
-abbrev at-order-blocks-from-after-slice-known20 : tie.After-slice-known20 → tie.After-order-blocks
-at-order-blocks-from-after-slice-known20 c =
-    let back = c .before .before .before .before .before .before .before .before .before .before .before .before .before .before .before .before .before .before in
-    back .before .before .before .before .before .before .before .before
-
-abbrev at-expand-from-after-slice-known20 : tie.After-slice-known20 → tie.After-expand
-at-expand-from-after-slice-known20 c = c .before .before .before .before .before .before .before
-
 order-blocks-requires : tie.Need-order-blocks-requires
 order-blocks-requires c κs =
-    let p = (entry-from-after-order-blocks-arg8 c) .pre in
+    let entry = entry-from-after-order-blocks-arg8 c in
+    let p = entry .pre in
     (p .0, (p .1 .0, (p .1 .1 .0 .1, (p .1 .1 .1 .0, p .1 .1 .1 .1 .0))))
 
 expand-requires : tie.Need-expand-requires
 expand-requires c κs =
-    let p = (entry-from-after-expand-arg2 c) .pre in
-    let fit : (entry-from-after-expand-arg2 c) .args .n ≤ length ((entry-from-after-expand-arg2 c) .args .out .now) = omega (arith, p .1 .1 .0 .0 .3) in (
-      (p .0 .few, p .1 .1 .0 .0 .2, (at-order-blocks-from-after-expand-arg2 c) .order-blocks .ensures .0 .within),
-      order-chains _ _ (p .0) ((entry-from-after-expand-arg2 c) .args .group) _ _ _ _ (p .1 .1 .1 .1 .1) ((at-order-blocks-from-after-expand-arg2 c) .order-blocks .ensures .0) fit,
+    let entry = entry-from-after-expand-arg2 c in
+    let order-blocks = at-order-blocks-from-after-expand-arg2 c .order-blocks in
+    let p = entry .pre in
+    let fit : entry .args .n ≤ length (entry .args .out .now) = omega (arith, p .1 .1 .0 .0 .3) in (
+      (p .0 .few, p .1 .1 .0 .0 .2, order-blocks .ensures .0 .within),
+      order-chains _ _ (p .0) (entry .args .group) _ _ _ _ (p .1 .1 .1 .1 .1) (order-blocks .ensures .0) fit,
     )
 
 relink-requires : tie.Need-relink-requires
 relink-requires c κs =
-    let p = (entry-from-after-relink-arg2 c) .pre in
-    let e = all-expanded _ _ (p .0) ((entry-from-after-relink-arg2 c) .args .group) _ _ _ _ _ (p .1 .1 .1 .1 .1) ((at-order-blocks-from-after-relink-arg2 c) .order-blocks .ensures .0) ((at-expand-from-after-relink-arg2 c) .expand .ensures) in (
+    let entry = entry-from-after-relink-arg2 c in
+    let order-blocks = at-order-blocks-from-after-relink-arg2 c .order-blocks in
+    let expand = c .before .before .before .before .expand in
+    let p = entry .pre in
+    let e = all-expanded _ _ (p .0) (entry .args .group) _ _ _ _ _ (p .1 .1 .1 .1 .1) (order-blocks .ensures .0) (expand .ensures) in (
       (p .0 .few, p .1 .1 .0 .0 .0, p .1 .1 .0 .0 .1, e .within),
       (
-        λ x i. expanded-label _ _ (p .0) ((entry-from-after-relink-arg2 c) .args .group) x (subst (λ (l : List ℕ). x ∈ l) (e .cells) i),
-        λ x. subst (λ (l : List ℕ). count x l ≤ 1) (sym (e .cells)) (expanded-once _ _ (p .0) ((entry-from-after-relink-arg2 c) .args .group) x),
+        λ x i. expanded-label _ _ (p .0) (entry .args .group) x (subst (λ (l : List ℕ). x ∈ l) (e .cells) i),
+        λ x. subst (λ (l : List ℕ). count x l ≤ 1) (sym (e .cells)) (expanded-once _ _ (p .0) (entry .args .group) x),
       ),
     )
 
@@ -111,11 +114,15 @@ same-length-10 c = search needs
 
 returns : tie.Need-returns
 returns c =
-    let p = (entry-from-after-slice-known20 c) .pre in
-    let e = all-expanded _ _ (p .0) ((entry-from-after-slice-known20 c) .args .group) _ _ _ _ _ (p .1 .1 .1 .1 .1) ((at-order-blocks-from-after-slice-known20 c) .order-blocks .ensures .0) ((at-expand-from-after-slice-known20 c) .expand .ensures) in
-    let a = (entry-from-after-slice-known20 c) .args in (
-      subst (λ (l : List ℕ). Relinked (a .n) (a .group) l (a .next .now) ((c .before .before) .relink .last .1 .0)) (e .cells) ((c .before .before) .relink .ensures),
-      (at-order-blocks-from-after-slice-known20 c) .order-blocks .ensures .1,
+    let entry = entry-from-after-slice-known20 c in
+    let order-blocks = at-order-blocks-from-after-slice-known20 c .order-blocks in
+    let expand = at-expand-from-after-slice-known20 c .expand in
+    let relink = c .before .before .relink in
+    let p = entry .pre in
+    let e = all-expanded _ _ (p .0) (entry .args .group) _ _ _ _ _ (p .1 .1 .1 .1 .1) (order-blocks .ensures .0) (expand .ensures) in
+    let a = entry .args in (
+      subst (λ (l : List ℕ). Relinked (a .n) (a .group) l (a .next .now) (relink .last .1 .0)) (e .cells) (relink .ensures),
+      order-blocks .ensures .1,
     )
 
 pub join-group-spec : {M : Type 1} → statement M

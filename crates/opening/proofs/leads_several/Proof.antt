@@ -24,7 +24,9 @@ widen-requires c κs = search needs
 
 returns : tie.Need-returns
 returns c =
-    rw (ne-eqb (getD ((entry-from-then1 c) .args .lead .now) ((entry-from-then1 c) .args .x) 0) ((entry-from-then1 c) .args .x) (λ e. c .if1 .taken ((c .before) .widen .ensures ∙ e)))
+    let entry = entry-from-then1 c in
+    let widen = c .before .widen in
+    rw (ne-eqb (getD (entry .args .lead .now) (entry .args .x) 0) (entry .args .x) (λ e. c .if1 .taken (widen .ensures ∙ e)))
 
 add-result : tie.Need-add-result
 add-result c = search needs
@@ -37,7 +39,10 @@ shared-slice-read-result c = search needs
 
 returns-2 : tie.Need-returns-2
 returns-2 c =
-    rw (eq-eqb (getD ((entry-from-after-shared-slice-known4 c) .args .lead .now) ((entry-from-after-shared-slice-known4 c) .args .x) 0) ((entry-from-after-shared-slice-known4 c) .args .x) (sym ((c .before .before) .widen .ensures) ∙ (c .before) .if1 .left))
+    let entry = entry-from-after-shared-slice-known4 c in
+    let widen = c .before .before .widen in
+    let if1 = c .before .if1 in
+    rw (eq-eqb (getD (entry .args .lead .now) (entry .args .x) 0) (entry .args .x) (sym (widen .ensures) ∙ if1 .left))
 
 pub leads-several-spec : {M : Type 1} → statement M
 leads-several-spec =

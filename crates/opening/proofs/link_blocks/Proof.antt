@@ -17,9 +17,6 @@ abbrev μ-loop : tie.MeasureT-loop
 
 -- ---- earlier places, by later ones
 
-abbrev at-loop-from-after-widen : tie.After-widen Inv-loop μ-loop → tie.At-loop Inv-loop μ-loop
-at-loop-from-after-widen c = c .before .before .before
-
 abbrev entry-from-after-widen : tie.After-widen Inv-loop μ-loop → tie.Start Inv-loop μ-loop
 entry-from-after-widen c = c .before .before .before .before .before .before .before .before .before .before .before
 
@@ -28,9 +25,6 @@ at-clear-counts-from-after-widen c = c .before .before .before .before .before .
 
 abbrev entry-from-after-widen2 : tie.After-widen2 Inv-loop μ-loop → tie.Start Inv-loop μ-loop
 entry-from-after-widen2 c = c .before .before .before .before .before .before .before .before .before .before .before .before .before
-
-abbrev entry-from-after-clear-counts-arg : tie.After-clear-counts-arg Inv-loop μ-loop → tie.Start Inv-loop μ-loop
-entry-from-after-clear-counts-arg c = c .before .before .before .before
 
 abbrev entry-from-after-slice-known2 : tie.After-slice-known2 Inv-loop μ-loop → tie.Start Inv-loop μ-loop
 entry-from-after-slice-known2 c = c .before .before .before .before .before .before .before
@@ -44,40 +38,40 @@ entry-from-after-slice-known3 c = c .before .before .before .before .before .bef
 abbrev at-loop-from-after-slice-known3 : tie.After-slice-known3 Inv-loop μ-loop → tie.At-loop Inv-loop μ-loop
 at-loop-from-after-slice-known3 c = c .before .before .before .before .before .before
 
-abbrev at-widen-from-after-slice-known3 : tie.After-slice-known3 Inv-loop μ-loop → tie.After-widen Inv-loop μ-loop
-at-widen-from-after-slice-known3 c = c .before .before .before
-
 abbrev at-loop-test-from-after-slice-known3 : tie.After-slice-known3 Inv-loop μ-loop → tie.In-loop Inv-loop μ-loop
 at-loop-test-from-after-slice-known3 c = c .before .before .before .before .before
 
-abbrev at-clear-counts-from-after-loop : tie.After-loop Inv-loop μ-loop → tie.After-clear-counts Inv-loop μ-loop
-at-clear-counts-from-after-loop c = c .before .before .before .before
-
 -- in a turn: the item at hand, and its lead
 module _ (c : tie.After-widen Inv-loop μ-loop) where
-  same : length ((at-loop-from-after-widen c) .loop .links) ≡ length ((entry-from-after-widen c) .args .links .now)
-  same = (at-loop-from-after-widen c) .loop .inv .0 ∙ (at-clear-counts-from-after-widen c) .clear-counts .kept .1 .0
+  same : length (c .before .before .before .loop .links) ≡ length ((entry-from-after-widen c) .args .links .now)
+  same = c .before .before .before .loop .inv .0 ∙ (at-clear-counts-from-after-widen c) .clear-counts .kept .1 .0
 
   item : c .widen .result ∈ (entry-from-after-widen c) .args .items .now
   item =
-      link-item _ _ ((entry-from-after-widen c) .args .lead .now) _ _ _ ((entry-from-after-widen c) .pre .1) same ((at-loop-from-after-widen c) .loop .inv .2) ((c .before .before) .loop-test .taken) ((at-loop-from-after-widen c) .loop .inv .1) _
-      (getD ((entry-from-after-widen c) .args .lead .now) (c .widen .result) 0) (c .widen .ensures) refl
+      link-item _ _ ((entry-from-after-widen c) .args .lead .now) _ _ _ ((entry-from-after-widen c) .pre .1) same (c .before .before .before .loop .inv .2)
+      (c .before .before .loop-test .taken) (c .before .before .before .loop .inv .1) _ (getD ((entry-from-after-widen c) .args .lead .now) (c .widen .result) 0) (c .widen .ensures) refl
 
   label : (1 ≤ c .widen .result) × (c .widen .result ≤ (entry-from-after-widen c) .args .n)
   label = (entry-from-after-widen c) .pre .1 .label (c .widen .result) item
 
 module _ (c : tie.After-widen2 Inv-loop μ-loop) where
   lead-label : (1 ≤ c .widen2 .result) × (c .widen2 .result ≤ (entry-from-after-widen2 c) .args .n)
-  lead-label = (entry-from-after-widen2 c) .pre .1 .label (c .widen2 .result) (subst (λ (b : ℕ). b ∈ (entry-from-after-widen2 c) .args .items .now) (sym (c .widen2 .ensures)) ((entry-from-after-widen2 c) .pre .1 .item _ (item (c .before .before))))
+  lead-label =
+      let entry = (entry-from-after-widen2 c) in
+      entry .pre .1 .label (c .widen2 .result)
+      (subst (λ (b : ℕ). b ∈ entry .args .items .now) (sym (c .widen2 .ensures)) (entry .pre .1 .item _ (item (c .before .before))))
 
 clear-counts-requires : tie.Need-clear-counts-requires Inv-loop μ-loop
 clear-counts-requires c κs =
-    let ok = (entry-from-after-clear-counts-arg c) .pre .1 in
+    let entry = c .before .before .before .before in
+    let ok = entry .pre .1 in
     λ p m. let b = ok .label p m in omega (arith, b, ok .room)
 
 loop-holds : tie.Need-loop-holds Inv-loop μ-loop
 loop-holds c =
-    (refl, omega arith, linking-none _ _ _ (length ((entry-from-after-slice-known2 c) .args .items .now)) _ (omega arith) ((c .before .before) .clear-counts .ensures))
+    let entry = entry-from-after-slice-known2 c in
+    let clear-counts = c .before .before .clear-counts in
+    (refl, omega arith, linking-none _ _ _ (length (entry .args .items .now)) _ (omega arith) (clear-counts .ensures))
 
 sub-i : tie.Need-sub-i Inv-loop μ-loop
 sub-i c = search needs
@@ -87,7 +81,9 @@ mul-widen c = search needs
 
 shared-slice-read-widen : tie.Need-shared-slice-read-widen Inv-loop μ-loop
 shared-slice-read-widen c =
-    omega (arith, (c .before .before) .loop .inv .1, (c .before) .loop-test .taken)
+    let loop = c .before .before .loop in
+    let loop-test = c .before .loop-test in
+    omega (arith, loop .inv .1, loop-test .taken)
 
 widen-requires : tie.Need-widen-requires Inv-loop μ-loop
 widen-requires c κs = search needs
@@ -105,7 +101,8 @@ mul-links : tie.Need-mul-links Inv-loop μ-loop
 mul-links c = omega (arith, lead-label (c), label (c .before .before), (entry-from-after-widen2 c) .pre .0)
 
 slice-read-links : tie.Need-slice-read-links Inv-loop μ-loop
-slice-read-links c = omega (arith, lead-label (c .before), (entry-from-after-slice-known3 c) .pre .1 .room, same (c .before .before .before))
+slice-read-links c =
+    omega (arith, lead-label (c .before), (entry-from-after-slice-known3 c) .pre .1 .room, same (c .before .before .before))
 
 add-links : tie.Need-add-links Inv-loop μ-loop
 add-links c = omega (arith, lead-label (c .before), label (c .before .before .before), (entry-from-after-slice-known3 c) .pre .0)
@@ -114,7 +111,8 @@ mul-links-2 : tie.Need-mul-links-2 Inv-loop μ-loop
 mul-links-2 c = omega (arith, lead-label (c .before), label (c .before .before .before), (entry-from-after-slice-known3 c) .pre .0)
 
 slice-write-links : tie.Need-slice-write-links Inv-loop μ-loop
-slice-write-links c = omega (arith, label (c .before .before .before), (entry-from-after-slice-known3 c) .pre .1 .room, same (c .before .before .before))
+slice-write-links c =
+    omega (arith, label (c .before .before .before), (entry-from-after-slice-known3 c) .pre .1 .room, same (c .before .before .before))
 
 cast-links : tie.Need-cast-links Inv-loop μ-loop
 cast-links c = omega (arith, lead-label (c .before), label (c .before .before .before), (entry-from-after-slice-known3 c) .pre .0)
@@ -124,25 +122,38 @@ mul-links-3 c = omega (arith, lead-label (c .before), label (c .before .before .
 
 slice-write-links-2 : tie.Need-slice-write-links-2 Inv-loop μ-loop
 slice-write-links-2 c =
-    omega (arith, lead-label (c .before), (entry-from-after-slice-known3 c) .pre .1 .room, same (c .before .before .before), length-set ((at-loop-from-after-slice-known3 c) .loop .links) ((entry-from-after-slice-known3 c) .args .n + (at-widen-from-after-slice-known3 c) .widen .result) (getD ((at-loop-from-after-slice-known3 c) .loop .links) ((c .before) .widen2 .result) 0))
+    let entry = entry-from-after-slice-known3 c in
+    let loop = at-loop-from-after-slice-known3 c .loop in
+    let widen = c .before .before .before .widen in
+    let widen2 = c .before .widen2 in
+    omega (arith, lead-label (c .before), entry .pre .1 .room, same (c .before .before .before), length-set (loop .links) (entry .args .n + widen .result) (getD (loop .links) (widen2 .result) 0))
 
 loop-less : tie.Need-loop-less Inv-loop μ-loop
 loop-less c = search needs
 
 loop-again : tie.Need-loop-again Inv-loop μ-loop
 loop-again c =
-    let l = (at-loop-from-after-slice-known3 c) .loop in
-    let w = (at-widen-from-after-slice-known3 c) .widen in (
-      length-set (set (l .links) _ _) _ _ ∙ length-set (l .links) _ _ ∙ l .inv .0,
-      omega (arith, l .inv .1),
-      linking-turn _ _ _ _ _ _ ((entry-from-after-slice-known3 c) .pre .1) (same (c .before .before .before)) (l .inv .2) ((at-loop-test-from-after-slice-known3 c) .loop-test .taken) (l .inv .1) _ _ (w .ensures) ((c .before) .widen2 .ensures),
+    let loop = at-loop-from-after-slice-known3 c .loop in
+    let widen = c .before .before .before .widen in
+    let entry = entry-from-after-slice-known3 c in
+    let loop-test = at-loop-test-from-after-slice-known3 c .loop-test in
+    let widen2 = c .before .widen2 in
+    let w = widen in (
+      length-set (set (loop .links) _ _) _ _ ∙ length-set (loop .links) _ _ ∙ loop .inv .0,
+      omega (arith, loop .inv .1),
+      linking-turn _ _ _ _ _ _ (entry .pre .1) (same (c .before .before .before)) (loop .inv .2) (loop-test .taken) (loop .inv .1) _ _ (w .ensures) (widen2 .ensures),
     )
 
 same-length : tie.Need-same-length Inv-loop μ-loop
-same-length c = (c .before) .loop .inv .0 ∙ (at-clear-counts-from-after-loop c) .clear-counts .kept .1 .0
+same-length c =
+    let loop = c .before .loop in
+    let clear-counts = c .before .before .before .before .clear-counts in
+    loop .inv .0 ∙ clear-counts .kept .1 .0
 
 returns : tie.Need-returns Inv-loop μ-loop
-returns c = linking-all _ _ _ ((c .before) .loop .i) _ (omega (arith, c .loop-test .left)) ((c .before) .loop .inv .2)
+returns c =
+    let loop = c .before .loop in
+    linking-all _ _ _ (loop .i) _ (omega (arith, c .loop-test .left)) (loop .inv .2)
 
 pub link-blocks-spec : {M : Type 1} → statement M
 link-blocks-spec =

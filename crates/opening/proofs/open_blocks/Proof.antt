@@ -26,49 +26,38 @@ abbrev μ-loop : tie.MeasureT-loop
 abbrev entry-from-after-widen : tie.After-widen Inv-loop μ-loop → tie.Start Inv-loop μ-loop
 entry-from-after-widen c = c .before .before .before .before .before .before .before .before .before .before .before .before .before .before .before
 
-abbrev at-loop-from-after-widen : tie.After-widen Inv-loop μ-loop → tie.At-loop Inv-loop μ-loop
-at-loop-from-after-widen c = c .before .before .before
-
 abbrev entry-from-after-slice-known8 : tie.After-slice-known8 Inv-loop μ-loop → tie.Start Inv-loop μ-loop
 entry-from-after-slice-known8 c = c .before .before .before .before .before .before .before .before .before .before .before
 
 abbrev entry-from-after-leads-several-arg : tie.After-leads-several-arg Inv-loop μ-loop → tie.Start Inv-loop μ-loop
 entry-from-after-leads-several-arg c = c .before .before .before .before .before .before .before .before .before .before .before .before .before .before .before .before
 
-abbrev at-loop-from-after-leads-several-arg : tie.After-leads-several-arg Inv-loop μ-loop → tie.At-loop Inv-loop μ-loop
-at-loop-from-after-leads-several-arg c = c .before .before .before .before
-
-abbrev entry-from-after-open-lead-arg8 : tie.After-open-lead-arg8 Inv-loop μ-loop → tie.Start Inv-loop μ-loop
-entry-from-after-open-lead-arg8 c =
-    let back = c .before .before .before .before .before .before .before .before .before .before .before .before .before .before .before .before .before .before in
-    back .before .before .before .before .before .before .before .before
-
-abbrev at-loop-from-after-open-lead-arg8 : tie.After-open-lead-arg8 Inv-loop μ-loop → tie.At-loop Inv-loop μ-loop
-at-loop-from-after-open-lead-arg8 c = c .before .before .before .before .before .before .before .before .before .before .before .before .before .before
-
-abbrev at-loop-test-from-after-open-lead-arg8 : tie.After-open-lead-arg8 Inv-loop μ-loop → tie.In-loop Inv-loop μ-loop
-at-loop-test-from-after-open-lead-arg8 c = c .before .before .before .before .before .before .before .before .before .before .before .before .before
-
-abbrev at-widen-from-after-open-lead-arg8 : tie.After-open-lead-arg8 Inv-loop μ-loop → tie.After-widen Inv-loop μ-loop
-at-widen-from-after-open-lead-arg8 c = c .before .before .before .before .before .before .before .before .before .before .before
-
-abbrev at-leads-several-from-after-open-lead-arg8 : tie.After-open-lead-arg8 Inv-loop μ-loop → tie.After-leads-several Inv-loop μ-loop
-at-leads-several-from-after-open-lead-arg8 c = c .before .before .before .before .before .before .before .before .before
-
 abbrev at-if1-from-after-open-lead-arg8 : tie.After-open-lead-arg8 Inv-loop μ-loop → tie.Then1 Inv-loop μ-loop
 at-if1-from-after-open-lead-arg8 c = c .before .before .before .before .before .before .before .before
 
-abbrev entry-from-joined1 : tie.Joined1 Inv-loop μ-loop → tie.Start Inv-loop μ-loop
-entry-from-joined1 c = c .before .before .before .before .before .before .before .before .before .before .before .before .before .before .before .before .before .before
+abbrev at-leads-several-from-after-open-lead-arg8 : tie.After-open-lead-arg8 Inv-loop μ-loop → tie.After-leads-several Inv-loop μ-loop
+at-leads-several-from-after-open-lead-arg8 c = at-if1-from-after-open-lead-arg8 c .before
 
-abbrev at-loop-from-joined1 : tie.Joined1 Inv-loop μ-loop → tie.At-loop Inv-loop μ-loop
-at-loop-from-joined1 c = c .before .before .before .before .before .before
+abbrev at-widen-from-after-open-lead-arg8 : tie.After-open-lead-arg8 Inv-loop μ-loop → tie.After-widen Inv-loop μ-loop
+at-widen-from-after-open-lead-arg8 c = at-leads-several-from-after-open-lead-arg8 c .before .before
+
+abbrev at-loop-test-from-after-open-lead-arg8 : tie.After-open-lead-arg8 Inv-loop μ-loop → tie.In-loop Inv-loop μ-loop
+at-loop-test-from-after-open-lead-arg8 c = at-widen-from-after-open-lead-arg8 c .before .before
+
+abbrev at-loop-from-after-open-lead-arg8 : tie.After-open-lead-arg8 Inv-loop μ-loop → tie.At-loop Inv-loop μ-loop
+at-loop-from-after-open-lead-arg8 c = at-loop-test-from-after-open-lead-arg8 c .before
+
+abbrev entry-from-after-open-lead-arg8 : tie.After-open-lead-arg8 Inv-loop μ-loop → tie.Start Inv-loop μ-loop
+entry-from-after-open-lead-arg8 c = at-loop-from-after-open-lead-arg8 c .before .before .before .before .before .before .before .before .before .before .before .before
 
 abbrev at-loop-test-from-joined1 : tie.Joined1 Inv-loop μ-loop → tie.In-loop Inv-loop μ-loop
 at-loop-test-from-joined1 c = c .before .before .before .before .before
 
-abbrev at-widen-from-joined1 : tie.Joined1 Inv-loop μ-loop → tie.After-widen Inv-loop μ-loop
-at-widen-from-joined1 c = c .before .before .before
+abbrev at-loop-from-joined1 : tie.Joined1 Inv-loop μ-loop → tie.At-loop Inv-loop μ-loop
+at-loop-from-joined1 c = at-loop-test-from-joined1 c .before
+
+abbrev entry-from-joined1 : tie.Joined1 Inv-loop μ-loop → tie.Start Inv-loop μ-loop
+entry-from-joined1 c = at-loop-from-joined1 c .before .before .before .before .before .before .before .before .before .before .before .before
 
 abbrev entry-from-after-loop : tie.After-loop Inv-loop μ-loop → tie.Start Inv-loop μ-loop
 entry-from-after-loop c = c .before .before .before .before .before .before .before .before .before .before .before .before .before
@@ -79,14 +68,16 @@ module _ (c : tie.After-widen Inv-loop μ-loop) where
   item =
       let p = (entry-from-after-widen c) .pre in
       let led = p .1 .1 .1 .0 .0 in
-      subst (λ (l : List ℕ). c .widen .result ∈ l) (sym (led .are)) (here _ _ (p .0 .0) _ _ _ (led .led) _ (led .are) _ _ ((c .before .before) .loop-test .taken) (c .widen .ensures) _ _ ((at-loop-from-after-widen c) .loop .inv .8))
+      subst (λ (l : List ℕ). c .widen .result ∈ l) (sym (led .are))
+      (here _ _ (p .0 .0) _ _ _ (led .led) _ (led .are) _ _ (c .before .before .loop-test .taken) (c .widen .ensures) _ _ (c .before .before .before .loop .inv .8))
 
   label : (1 ≤ c .widen .result) × (c .widen .result ≤ (entry-from-after-widen c) .args .n)
   label = (entry-from-after-widen c) .pre .1 .1 .1 .0 .1 .label (c .widen .result) item
 
 loop-holds : tie.Need-loop-holds Inv-loop μ-loop
 loop-holds c =
-    let p = (entry-from-after-slice-known8 c) .pre in
+    let entry = entry-from-after-slice-known8 c in
+    let p = entry .pre in
     let led = p .1 .1 .1 .0 .0 in (
       refl,
       refl,
@@ -110,27 +101,37 @@ widen-requires c κs = search needs
 
 leads-several-requires : tie.Need-leads-several-requires Inv-loop μ-loop
 leads-several-requires c κs =
-    let p = (entry-from-after-leads-several-arg c) .pre in
-    let b = label ((c .before)) in
-    (p .0 .0 .few, b .1, p .1 .1 .1 .0 .1 .leading _ (item ((c .before))), omega (arith, p .1 .0 .0 .1, (at-loop-from-after-leads-several-arg c) .loop .inv .1))
+    let entry = entry-from-after-leads-several-arg c in
+    let at-widen = c .before in
+    let loop = c .before .before .before .before .loop in
+    let p = entry .pre in
+    let b = label at-widen in
+    (p .0 .0 .few, b .1, p .1 .1 .1 .0 .1 .leading _ (item at-widen), omega (arith, p .1 .0 .0 .1, loop .inv .1))
 
 open-lead-requires : tie.Need-open-lead-requires Inv-loop μ-loop
 open-lead-requires c κs =
-    let p = (entry-from-after-open-lead-arg8 c) .pre in
+    let entry = entry-from-after-open-lead-arg8 c in
+    let loop = at-loop-from-after-open-lead-arg8 c .loop in
+    let loop-test = at-loop-test-from-after-open-lead-arg8 c .loop-test in
+    let widen = at-widen-from-after-open-lead-arg8 c .widen in
+    let leads-several = at-leads-several-from-after-open-lead-arg8 c .leads-several in
+    let if1 = at-if1-from-after-open-lead-arg8 c .if1 in
+    let at-widen = at-widen-from-after-open-lead-arg8 c in
+    let p = entry .pre in
     let led = p .1 .1 .1 .0 .0 in
     let op = p .1 .1 .1 .1 .1 in
-    let inv = (at-loop-from-after-open-lead-arg8 c) .loop .inv in
-    let s = test-opens _ _ (p .0 .0) _ _ _ (led .led) _ (led .are) _ _ ((at-loop-test-from-after-open-lead-arg8 c) .loop-test .taken) ((at-widen-from-after-open-lead-arg8 c) .widen .ensures) _ _ ((at-loop-from-after-open-lead-arg8 c) .loop .inv .8) (sym ((at-leads-several-from-after-open-lead-arg8 c) .leads-several .ensures) ∙ (at-if1-from-after-open-lead-arg8 c) .if1 .taken) in (
+    let inv = loop .inv in
+    let s = test-opens _ _ (p .0 .0) _ _ _ (led .led) _ (led .are) _ _ (loop-test .taken) (widen .ensures) _ _ (loop .inv .8) (sym (leads-several .ensures) ∙ if1 .taken) in (
       p .0,
       (
-        (label ((at-widen-from-after-open-lead-arg8 c)) .1, omega (arith, p .1 .0 .0 .0, inv .0), omega (arith, p .1 .0 .0 .1, inv .1), omega (arith, p .1 .0 .0 .2, inv .2)),
+        (label at-widen .1, omega (arith, p .1 .0 .0 .0, inv .0), omega (arith, p .1 .0 .0 .1, inv .1), omega (arith, p .1 .0 .0 .2, inv .2)),
         (
           scratch-as _ _ _ _ _ _ _ _ _ _ _ (inv .3) (inv .4) (inv .5) (inv .6) (inv .7) (p .1 .0 .1),
           (
             p .1 .1 .0,
             (
-              block-chain _ _ (p .0 .0) _ _ _ (led .led) _ (led .are) _ _ ((at-loop-test-from-after-open-lead-arg8 c) .loop-test .taken) ((at-widen-from-after-open-lead-arg8 c) .widen .ensures) _ _ ((at-loop-from-after-open-lead-arg8 c) .loop .inv .8) (s .0),
-              block-chains _ _ (p .0 .0) _ _ _ (led .led) _ (led .are) _ _ ((at-loop-test-from-after-open-lead-arg8 c) .loop-test .taken) ((at-widen-from-after-open-lead-arg8 c) .widen .ensures) _ _ ((at-loop-from-after-open-lead-arg8 c) .loop .inv .8) (s .0) (s .1) (op .low) (op .free) (op .progress),
+              block-chain _ _ (p .0 .0) _ _ _ (led .led) _ (led .are) _ _ (loop-test .taken) (widen .ensures) _ _ (loop .inv .8) (s .0),
+              block-chains _ _ (p .0 .0) _ _ _ (led .led) _ (led .are) _ _ (loop-test .taken) (widen .ensures) _ _ (loop .inv .8) (s .0) (s .1) (op .low) (op .free) (op .progress),
             ),
           ),
         ),
@@ -145,12 +146,17 @@ loop-less c = search needs
 
 loop-again : tie.Need-loop-again Inv-loop μ-loop
 loop-again c =
-    let p = (entry-from-joined1 c) .pre in
+    let entry = entry-from-joined1 c in
+    let loop = at-loop-from-joined1 c .loop in
+    let loop-test = at-loop-test-from-joined1 c .loop-test in
+    let widen = c .before .before .before .widen in
+    let leads-several = c .before .leads-several in
+    let p = entry .pre in
     let led = p .1 .1 .1 .0 .0 in
-    let inv = (at-loop-from-joined1 c) .loop .inv in
+    let inv = loop .inv in
     ⊎-elim
     (λ w.
-    let s = test-opens _ _ (p .0 .0) _ _ _ (led .led) _ (led .are) _ _ ((at-loop-test-from-joined1 c) .loop-test .taken) ((at-widen-from-joined1 c) .widen .ensures) _ _ ((at-loop-from-joined1 c) .loop .inv .8) (sym ((c .before) .leads-several .ensures) ∙ w .0 .taken) in
+    let s = test-opens _ _ (p .0 .0) _ _ _ (led .led) _ (led .are) _ _ (loop-test .taken) (widen .ensures) _ _ (loop .inv .8) (sym (leads-several .ensures) ∙ w .0 .taken) in
     rw (w .26, w .27, w .28, w .29, w .30, w .31, w .32, w .33) (
       w .9 .kept .1 .1 .1 .0 ∙ inv .0,
       w .9 .kept .1 .1 .1 .1 .1 .1 .0 ∙ inv .1,
@@ -160,7 +166,7 @@ loop-again c =
       w .9 .kept .1 .1 .1 .1 .1 .1 .1 .1 .1 .1 .0 ∙ inv .5,
       w .9 .kept .1 .1 .1 .1 .1 .1 .1 .1 .1 .1 .1 .0 ∙ inv .6,
       w .9 .kept .1 .1 .1 .1 .1 .1 .1 .1 .1 .1 .1 .1 .0 ∙ inv .7,
-      opening-turn _ _ (p .0 .0) _ _ _ (led .led) _ (led .are) _ _ ((at-loop-test-from-joined1 c) .loop-test .taken) ((at-widen-from-joined1 c) .widen .ensures) _ _ ((at-loop-from-joined1 c) .loop .inv .8) (s .0) (s .1) _ _ (w .9 .ensures .0) (w .9 .ensures .1),
+      opening-turn _ _ (p .0 .0) _ _ _ (led .led) _ (led .are) _ _ (loop-test .taken) (widen .ensures) _ _ (loop .inv .8) (s .0) (s .1) _ _ (w .9 .ensures .0) (w .9 .ensures .1),
     ))
     (λ w. rw (w .1, w .2, w .3, w .4, w .5, w .6, w .7, w .8) (
       inv .0,
@@ -171,40 +177,43 @@ loop-again c =
       inv .5,
       inv .6,
       inv .7,
-      opening-skip _ _ (p .0 .0) _ _ _ (led .led) _ (led .are) _ _ ((at-loop-test-from-joined1 c) .loop-test .taken) ((at-widen-from-joined1 c) .widen .ensures) _ _ ((at-loop-from-joined1 c) .loop .inv .8) (test-leaves _ _ (p .0 .0) _ _ _ (led .led) _ (led .are) _ _ ((at-loop-test-from-joined1 c) .loop-test .taken) ((at-widen-from-joined1 c) .widen .ensures) _ _ ((at-loop-from-joined1 c) .loop .inv .8) (sym ((c .before) .leads-several .ensures) ∙ w .0 .left)),
+      opening-skip _ _ (p .0 .0) _ _ _ (led .led) _ (led .are) _ _ (loop-test .taken) (widen .ensures) _ _ (loop .inv .8)
+          (test-leaves _ _ (p .0 .0) _ _ _ (led .led) _ (led .are) _ _ (loop-test .taken) (widen .ensures) _ _ (loop .inv .8) (sym (leads-several .ensures) ∙ w .0 .left)),
     ))
     (c .if1 .came)
 
 same-length : tie.Need-same-length Inv-loop μ-loop
-same-length c = (c .before) .loop .inv .0
+same-length c = c .before .loop .inv .0
 
 same-length-2 : tie.Need-same-length-2 Inv-loop μ-loop
-same-length-2 c = (c .before) .loop .inv .1
+same-length-2 c = c .before .loop .inv .1
 
 same-length-3 : tie.Need-same-length-3 Inv-loop μ-loop
-same-length-3 c = (c .before) .loop .inv .2
+same-length-3 c = c .before .loop .inv .2
 
 same-length-4 : tie.Need-same-length-4 Inv-loop μ-loop
-same-length-4 c = (c .before) .loop .inv .3
+same-length-4 c = c .before .loop .inv .3
 
 same-length-5 : tie.Need-same-length-5 Inv-loop μ-loop
-same-length-5 c = (c .before) .loop .inv .4
+same-length-5 c = c .before .loop .inv .4
 
 same-length-6 : tie.Need-same-length-6 Inv-loop μ-loop
-same-length-6 c = (c .before) .loop .inv .5
+same-length-6 c = c .before .loop .inv .5
 
 same-length-7 : tie.Need-same-length-7 Inv-loop μ-loop
-same-length-7 c = (c .before) .loop .inv .6
+same-length-7 c = c .before .loop .inv .6
 
 same-length-8 : tie.Need-same-length-8 Inv-loop μ-loop
-same-length-8 c = (c .before) .loop .inv .7
+same-length-8 c = c .before .loop .inv .7
 
 returns : tie.Need-returns Inv-loop μ-loop
 returns c =
-    let p = (entry-from-after-loop c) .pre in
+    let entry = entry-from-after-loop c in
+    let loop = c .before .loop in
+    let p = entry .pre in
     let led = p .1 .1 .1 .0 .0 in
-    opening-all _ _ (p .0 .0) _ _ _ (led .led) (take ((c .before) .loop .i) ((entry-from-after-loop c) .args .items .now)) _ _
-    (λ x m. subst (λ (l : List ℕ). x ∈ l) (sym (led .are) ∙ sym (take-all ((c .before) .loop .i) ((entry-from-after-loop c) .args .items .now) (omega (arith, c .loop-test .left)))) m) ((c .before) .loop .inv .8)
+    opening-all _ _ (p .0 .0) _ _ _ (led .led) (take (loop .i) (entry .args .items .now)) _ _
+    (λ x m. subst (λ (l : List ℕ). x ∈ l) (sym (led .are) ∙ sym (take-all (loop .i) (entry .args .items .now) (omega (arith, c .loop-test .left)))) m) (loop .inv .8)
 
 pub open-blocks-spec : {M : Type 1} → statement M
 open-blocks-spec =

@@ -2,12 +2,18 @@ use mathlib.Core.Path.{_∙_}
 use native.Mathlib.Omega.{arith}
 use borrow.Author.Needs.{needs}
 use Rattle.groups.proofs.Orders.{scratch-as}
-use Rattle.opening.proofs.Progress.{progress-turn}
+use Rattle.groups.proofs.Progress.{progress-turn}
 use Rattle.opening.proofs.Ordering.{led-part}
 use Rattle.opening.proofs.open_group.Statement.{statement}
 use Rattle.opening.proofs.open_group.Tie as tie
 
 -- ---- earlier places, by later ones
+
+abbrev at-split-group-from-after-join-group-arg13 : tie.After-join-group-arg13 → tie.After-split-group
+at-split-group-from-after-join-group-arg13 c =
+    let back = c .before .before .before .before .before .before .before .before .before .before .before .before .before .before .before .before .before .before in
+    let back2 = back .before .before .before .before .before .before .before .before .before .before .before .before .before .before .before .before .before .before in
+    back2 .before .before
 
 abbrev entry-from-after-join-group-arg13 : tie.After-join-group-arg13 → tie.Start
 entry-from-after-join-group-arg13 c =
@@ -15,12 +21,6 @@ entry-from-after-join-group-arg13 c =
     let back2 = back .before .before .before .before .before .before .before .before .before .before .before .before .before .before .before .before .before .before in
     let back3 = back2 .before .before .before .before .before .before .before .before .before .before .before .before .before .before .before .before .before .before in
     back3 .before .before .before .before .before .before .before .before .before .before .before
-
-abbrev at-split-group-from-after-join-group-arg13 : tie.After-join-group-arg13 → tie.After-split-group
-at-split-group-from-after-join-group-arg13 c =
-    let back = c .before .before .before .before .before .before .before .before .before .before .before .before .before .before .before .before .before .before in
-    let back2 = back .before .before .before .before .before .before .before .before .before .before .before .before .before .before .before .before .before .before in
-    back2 .before .before
 
 abbrev at-join-group-from-after-slice-known35 : tie.After-slice-known35 → tie.After-join-group
 at-join-group-from-after-slice-known35 c =
@@ -56,19 +56,30 @@ part-join-group-end c = search needs
 
 join-group-requires : tie.Need-join-group-requires
 join-group-requires c κs =
-    let p = (entry-from-after-join-group-arg13 c) .pre in
+    let entry = entry-from-after-join-group-arg13 c in
+    let split-group = at-split-group-from-after-join-group-arg13 c .split-group in
+    let p = entry .pre in
     let op = p .1 .1 .1 .1 in
     let s = p .1 .1 .0 in (
       p .0 .0,
       (
-        (omega (arith, s .lead-room, (at-split-group-from-after-join-group-arg13 c) .split-group .kept .1 .1 .1 .1 .1 .1 .1 .1 .1 .1 .1 .1 .1 .1 .0), omega (arith, s .stacked-room, (at-split-group-from-after-join-group-arg13 c) .split-group .kept .1 .1 .1 .1 .1 .1 .1 .1 .1 .1 .1 .0), omega (arith, s .path-room, (at-split-group-from-after-join-group-arg13 c) .split-group .kept .1 .1 .1 .1 .1 .1 .1 .1 .1 .1 .1 .1 .1 .0)),
+        (
+          omega (arith, s .lead-room, split-group .kept .1 .1 .1 .1 .1 .1 .1 .1 .1 .1 .1 .1 .1 .1 .0),
+          omega (arith, s .stacked-room, split-group .kept .1 .1 .1 .1 .1 .1 .1 .1 .1 .1 .1 .0),
+          omega (arith, s .path-room, split-group .kept .1 .1 .1 .1 .1 .1 .1 .1 .1 .1 .1 .1 .1 .0),
+        ),
         (
           (
-            (op .high, omega (arith, p .1 .0 .0 .0, (at-split-group-from-after-join-group-arg13 c) .split-group .kept .1 .1 .1 .0), omega (arith, p .1 .0 .0 .2, (at-split-group-from-after-join-group-arg13 c) .split-group .kept .1 .1 .1 .1 .1 .1 .1 .1 .1 .1 .1 .1 .1 .1 .1 .0), omega (arith, s .stack-room, (at-split-group-from-after-join-group-arg13 c) .split-group .kept .1 .1 .1 .1 .1 .1 .1 .1 .1 .1 .1 .1 .0)),
-            scratch-as _ _ _ _ _ _ _ _ _ _ _ ((at-split-group-from-after-join-group-arg13 c) .split-group .kept .1 .1 .1 .1 .1 .1 .0) ((at-split-group-from-after-join-group-arg13 c) .split-group .kept .1 .1 .1 .1 .1 .1 .1 .0) ((at-split-group-from-after-join-group-arg13 c) .split-group .kept .1 .1 .1 .1 .1 .1 .1 .1 .0)
-                ((at-split-group-from-after-join-group-arg13 c) .split-group .kept .1 .1 .1 .1 .1 .1 .1 .1 .1 .0) ((at-split-group-from-after-join-group-arg13 c) .split-group .kept .1 .1 .1 .1 .1 .1 .1 .1 .1 .1 .0) (p .1 .0 .1),
+            (
+              op .high,
+              omega (arith, p .1 .0 .0 .0, split-group .kept .1 .1 .1 .0),
+              omega (arith, p .1 .0 .0 .2, split-group .kept .1 .1 .1 .1 .1 .1 .1 .1 .1 .1 .1 .1 .1 .1 .1 .0),
+              omega (arith, s .stack-room, split-group .kept .1 .1 .1 .1 .1 .1 .1 .1 .1 .1 .1 .1 .0),
+            ),
+            scratch-as _ _ _ _ _ _ _ _ _ _ _ (split-group .kept .1 .1 .1 .1 .1 .1 .0) (split-group .kept .1 .1 .1 .1 .1 .1 .1 .0) (split-group .kept .1 .1 .1 .1 .1 .1 .1 .1 .0)
+                (split-group .kept .1 .1 .1 .1 .1 .1 .1 .1 .1 .0) (split-group .kept .1 .1 .1 .1 .1 .1 .1 .1 .1 .1 .0) (p .1 .0 .1),
           ),
-          (p .1 .1 .1 .0, (led-part _ _ (p .0 .0) _ ((at-split-group-from-after-join-group-arg13 c) .split-group .last .1 .1 .1 .1 .1 .0) _ ((at-split-group-from-after-join-group-arg13 c) .split-group .result) ((at-split-group-from-after-join-group-arg13 c) .split-group .ensures .0 .1), (at-split-group-from-after-join-group-arg13 c) .split-group .ensures .1 .1)),
+          (p .1 .1 .1 .0, (led-part _ _ (p .0 .0) _ (split-group .last .1 .1 .1 .1 .1 .0) _ (split-group .result) (split-group .ensures .0 .1), split-group .ensures .1 .1)),
         ),
       ),
     )
@@ -77,47 +88,77 @@ same-length : tie.Need-same-length
 same-length c = search needs
 
 same-length-2 : tie.Need-same-length-2
-same-length-2 c = (at-join-group-from-after-slice-known35 c) .join-group .kept .1 .1 .1 .0 ∙ (at-split-group-from-after-slice-known35 c) .split-group .kept .1 .1 .1 .0
+same-length-2 c =
+    let join-group = at-join-group-from-after-slice-known35 c .join-group in
+    let split-group = at-split-group-from-after-slice-known35 c .split-group in
+    join-group .kept .1 .1 .1 .0 ∙ split-group .kept .1 .1 .1 .0
 
 same-length-3 : tie.Need-same-length-3
-same-length-3 c = (at-split-group-from-after-slice-known35 c) .split-group .kept .1 .1 .1 .1 .1 .0
+same-length-3 c = (at-split-group-from-after-slice-known35 c .split-group) .kept .1 .1 .1 .1 .1 .0
 
 same-length-4 : tie.Need-same-length-4
-same-length-4 c = (at-join-group-from-after-slice-known35 c) .join-group .kept .1 .1 .1 .1 .1 .1 .1 .1 .1 .1 .0 ∙ (at-split-group-from-after-slice-known35 c) .split-group .kept .1 .1 .1 .1 .1 .1 .0
+same-length-4 c =
+    let join-group = at-join-group-from-after-slice-known35 c .join-group in
+    let split-group = at-split-group-from-after-slice-known35 c .split-group in
+    join-group .kept .1 .1 .1 .1 .1 .1 .1 .1 .1 .1 .0 ∙ split-group .kept .1 .1 .1 .1 .1 .1 .0
 
 same-length-5 : tie.Need-same-length-5
-same-length-5 c = (at-join-group-from-after-slice-known35 c) .join-group .kept .1 .1 .1 .1 .1 .1 .1 .1 .1 .1 .1 .0 ∙ (at-split-group-from-after-slice-known35 c) .split-group .kept .1 .1 .1 .1 .1 .1 .1 .0
+same-length-5 c =
+    let join-group = at-join-group-from-after-slice-known35 c .join-group in
+    let split-group = at-split-group-from-after-slice-known35 c .split-group in
+    join-group .kept .1 .1 .1 .1 .1 .1 .1 .1 .1 .1 .1 .0 ∙ split-group .kept .1 .1 .1 .1 .1 .1 .1 .0
 
 same-length-6 : tie.Need-same-length-6
-same-length-6 c = (at-join-group-from-after-slice-known35 c) .join-group .kept .1 .1 .1 .1 .1 .1 .1 .1 .1 .1 .1 .1 .0 ∙ (at-split-group-from-after-slice-known35 c) .split-group .kept .1 .1 .1 .1 .1 .1 .1 .1 .0
+same-length-6 c =
+    let join-group = at-join-group-from-after-slice-known35 c .join-group in
+    let split-group = at-split-group-from-after-slice-known35 c .split-group in
+    join-group .kept .1 .1 .1 .1 .1 .1 .1 .1 .1 .1 .1 .1 .0 ∙ split-group .kept .1 .1 .1 .1 .1 .1 .1 .1 .0
 
 same-length-7 : tie.Need-same-length-7
-same-length-7 c = (at-join-group-from-after-slice-known35 c) .join-group .kept .1 .1 .1 .1 .1 .1 .1 .1 .1 .1 .1 .1 .1 .0 ∙ (at-split-group-from-after-slice-known35 c) .split-group .kept .1 .1 .1 .1 .1 .1 .1 .1 .1 .0
+same-length-7 c =
+    let join-group = at-join-group-from-after-slice-known35 c .join-group in
+    let split-group = at-split-group-from-after-slice-known35 c .split-group in
+    join-group .kept .1 .1 .1 .1 .1 .1 .1 .1 .1 .1 .1 .1 .1 .0 ∙ split-group .kept .1 .1 .1 .1 .1 .1 .1 .1 .1 .0
 
 same-length-8 : tie.Need-same-length-8
-same-length-8 c = (at-join-group-from-after-slice-known35 c) .join-group .kept .1 .1 .1 .1 .1 .1 .1 .1 .1 .1 .1 .1 .1 .1 .0 ∙ (at-split-group-from-after-slice-known35 c) .split-group .kept .1 .1 .1 .1 .1 .1 .1 .1 .1 .1 .0
+same-length-8 c =
+    let join-group = at-join-group-from-after-slice-known35 c .join-group in
+    let split-group = at-split-group-from-after-slice-known35 c .split-group in
+    join-group .kept .1 .1 .1 .1 .1 .1 .1 .1 .1 .1 .1 .1 .1 .1 .0 ∙ split-group .kept .1 .1 .1 .1 .1 .1 .1 .1 .1 .1 .0
 
 same-length-9 : tie.Need-same-length-9
-same-length-9 c = (at-join-group-from-after-slice-known35 c) .join-group .kept .1 .1 .1 .1 .1 .1 .1 .1 .0 ∙ (at-split-group-from-after-slice-known35 c) .split-group .kept .1 .1 .1 .1 .1 .1 .1 .1 .1 .1 .1 .0
+same-length-9 c =
+    let join-group = at-join-group-from-after-slice-known35 c .join-group in
+    let split-group = at-split-group-from-after-slice-known35 c .split-group in
+    join-group .kept .1 .1 .1 .1 .1 .1 .1 .1 .0 ∙ split-group .kept .1 .1 .1 .1 .1 .1 .1 .1 .1 .1 .1 .0
 
 same-length-10 : tie.Need-same-length-10
-same-length-10 c = (at-join-group-from-after-slice-known35 c) .join-group .kept .1 .1 .1 .1 .1 .1 .1 .1 .1 .1 .1 .1 .1 .1 .1 .0 ∙ (at-split-group-from-after-slice-known35 c) .split-group .kept .1 .1 .1 .1 .1 .1 .1 .1 .1 .1 .1 .1 .0
+same-length-10 c =
+    let join-group = at-join-group-from-after-slice-known35 c .join-group in
+    let split-group = at-split-group-from-after-slice-known35 c .split-group in
+    join-group .kept .1 .1 .1 .1 .1 .1 .1 .1 .1 .1 .1 .1 .1 .1 .1 .0 ∙ split-group .kept .1 .1 .1 .1 .1 .1 .1 .1 .1 .1 .1 .1 .0
 
 same-length-11 : tie.Need-same-length-11
-same-length-11 c = (at-join-group-from-after-slice-known35 c) .join-group .kept .1 .1 .1 .1 .1 .1 .1 .1 .1 .0 ∙ (at-split-group-from-after-slice-known35 c) .split-group .kept .1 .1 .1 .1 .1 .1 .1 .1 .1 .1 .1 .1 .1 .0
+same-length-11 c =
+    let join-group = at-join-group-from-after-slice-known35 c .join-group in
+    let split-group = at-split-group-from-after-slice-known35 c .split-group in
+    join-group .kept .1 .1 .1 .1 .1 .1 .1 .1 .1 .0 ∙ split-group .kept .1 .1 .1 .1 .1 .1 .1 .1 .1 .1 .1 .1 .1 .0
 
 same-length-12 : tie.Need-same-length-12
-same-length-12 c = (at-split-group-from-after-slice-known35 c) .split-group .kept .1 .1 .1 .1 .1 .1 .1 .1 .1 .1 .1 .1 .1 .1 .0
+same-length-12 c = (at-split-group-from-after-slice-known35 c .split-group) .kept .1 .1 .1 .1 .1 .1 .1 .1 .1 .1 .1 .1 .1 .1 .0
 
 same-length-13 : tie.Need-same-length-13
-same-length-13 c = (at-split-group-from-after-slice-known35 c) .split-group .kept .1 .1 .1 .1 .1 .1 .1 .1 .1 .1 .1 .1 .1 .1 .1 .0
+same-length-13 c = (at-split-group-from-after-slice-known35 c .split-group) .kept .1 .1 .1 .1 .1 .1 .1 .1 .1 .1 .1 .1 .1 .1 .1 .0
 
 returns : tie.Need-returns
 returns c =
-    let p = (entry-from-after-slice-known35 c) .pre in
+    let entry = entry-from-after-slice-known35 c in
+    let split-group = at-split-group-from-after-slice-known35 c .split-group in
+    let join-group = at-join-group-from-after-slice-known35 c .join-group in
+    let p = entry .pre in
     let op = p .1 .1 .1 .1 in (
-      progress-turn _ _ (p .0 .0) _ _ (op .progress) (op .low) (op .high) (op .free) _ _ ((at-split-group-from-after-slice-known35 c) .split-group .ensures .1 .0) ((at-join-group-from-after-slice-known35 c) .join-group .ensures .0),
-      (at-join-group-from-after-slice-known35 c) .join-group .ensures .1,
+      progress-turn _ _ (p .0 .0) _ _ (op .progress) (op .low) (op .high) (op .free) _ _ (split-group .ensures .1 .0) (join-group .ensures .0),
+      join-group .ensures .1,
     )
 
 pub open-group-spec : {M : Type 1} → statement M

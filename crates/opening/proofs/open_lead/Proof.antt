@@ -6,41 +6,40 @@ use borrow.Author.Needs.{needs}
 use lib.ListN.{take}
 use Rattle.order.specs.LabelLists.{_∈_, count}
 use Rattle.groups.specs.Members.{Relinked}
-use Rattle.opening.proofs.Expanded.{plan-label, plan-once, values-few}
+use Rattle.groups.proofs.Expanded.{plan-label, plan-once, values-few}
 use Rattle.opening.proofs.open_lead.Statement.{statement}
 use Rattle.opening.proofs.open_lead.Tie as tie
 
 -- ---- earlier places, by later ones
 
-abbrev entry-from-after-relink-arg2 : tie.After-relink-arg2 → tie.Start
-entry-from-after-relink-arg2 c =
-    let back = c .before .before .before .before .before .before .before .before .before .before .before .before .before .before .before .before .before .before in
-    back .before .before .before .before .before .before .before .before .before .before .before .before .before .before .before .before
-
 abbrev at-open-block-from-after-relink-arg2 : tie.After-relink-arg2 → tie.After-open-block
 at-open-block-from-after-relink-arg2 c = c .before .before .before .before .before .before .before .before .before .before .before .before .before .before .before .before
 
-abbrev entry-from-after-slice-known16 : tie.After-slice-known16 → tie.Start
-entry-from-after-slice-known16 c =
-    let back = c .before .before .before .before .before .before .before .before .before .before .before .before .before .before .before .before .before .before in
-    let back2 = back .before .before .before .before .before .before .before .before .before .before .before .before .before .before .before .before .before .before in
-    back2 .before
+abbrev entry-from-after-relink-arg2 : tie.After-relink-arg2 → tie.Start
+entry-from-after-relink-arg2 c =
+    at-open-block-from-after-relink-arg2 c .before .before .before .before .before .before .before .before .before .before .before .before .before .before .before .before .before .before
 
 abbrev at-open-block-from-after-slice-known16 : tie.After-slice-known16 → tie.After-open-block
 at-open-block-from-after-slice-known16 c =
     let back = c .before .before .before .before .before .before .before .before .before .before .before .before .before .before .before .before .before .before in
     back .before
 
+abbrev entry-from-after-slice-known16 : tie.After-slice-known16 → tie.Start
+entry-from-after-slice-known16 c =
+    at-open-block-from-after-slice-known16 c .before .before .before .before .before .before .before .before .before .before .before .before .before .before .before .before .before .before
+
 open-block-requires : tie.Need-open-block-requires
 open-block-requires c κs = search needs
 
 relink-requires : tie.Need-relink-requires
 relink-requires c κs =
-    let a = (entry-from-after-relink-arg2 c) .args in
-    let p = (entry-from-after-relink-arg2 c) .pre in
-    let e = (at-open-block-from-after-relink-arg2 c) .open-block .ensures .0 in
+    let entry = entry-from-after-relink-arg2 c in
+    let open-block = at-open-block-from-after-relink-arg2 c .open-block in
+    let a = entry .args in
+    let p = entry .pre in
+    let e = open-block .ensures .0 in
     let v = values-few _ _ (p .0 .0) (a .group) (a .b) in (
-      (p .0 .0 .few, p .1 .0 .0, p .1 .0 .2, omega (arith, v, e .within, p .1 .1 .0 .orders, (at-open-block-from-after-relink-arg2 c) .open-block .kept .1 .1 .1 .1 .1 .1 .1 .1 .1 .1 .1 .1 .0)),
+      (p .0 .0 .few, p .1 .0 .0, p .1 .0 .2, omega (arith, v, e .within, p .1 .1 .0 .orders, open-block .kept .1 .1 .1 .1 .1 .1 .1 .1 .1 .1 .1 .1 .0)),
       (
         λ x i. plan-label _ _ (p .0 .0) (a .group) (a .b) x (subst (λ (l : List ℕ). x ∈ l) (e .cells) i),
         λ x. subst (λ (l : List ℕ). count x l ≤ 1) (sym (e .cells)) (plan-once _ _ (p .0 .0) (a .group) (a .b) x),
@@ -73,9 +72,12 @@ same-length-8 c = search needs
 
 returns : tie.Need-returns
 returns c =
-    let a = (entry-from-after-slice-known16 c) .args in (
-      (at-open-block-from-after-slice-known16 c) .open-block .ensures .1,
-      subst (λ (l : List ℕ). Relinked (a .n) (a .b) l (a .links .now) ((c .before .before) .relink .last .1 .0)) ((at-open-block-from-after-slice-known16 c) .open-block .ensures .0 .cells) ((c .before .before) .relink .ensures),
+    let entry = entry-from-after-slice-known16 c in
+    let open-block = at-open-block-from-after-slice-known16 c .open-block in
+    let relink = c .before .before .relink in
+    let a = entry .args in (
+      open-block .ensures .1,
+      subst (λ (l : List ℕ). Relinked (a .n) (a .b) l (a .links .now) (relink .last .1 .0)) (open-block .ensures .0 .cells) (relink .ensures),
     )
 
 pub open-lead-spec : {M : Type 1} → statement M

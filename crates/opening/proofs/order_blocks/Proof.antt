@@ -22,78 +22,65 @@ entry-from-after-heads2 c =
     let back = c .before .before .before .before .before .before .before .before .before .before .before .before .before .before .before .before .before .before in
     back .before .before .before .before .before .before .before
 
-abbrev at-gather-leaders-from-after-heads2 : tie.After-heads2 → tie.After-gather-leaders
-at-gather-leaders-from-after-heads2 c = c .before .before .before
+abbrev at-gather-leaders-from-after-mask-items-arg2 : tie.After-mask-items-arg2 → tie.After-gather-leaders
+at-gather-leaders-from-after-mask-items-arg2 c = c .before .before .before .before .before
 
 abbrev entry-from-after-mask-items-arg2 : tie.After-mask-items-arg2 → tie.Start
 entry-from-after-mask-items-arg2 c =
     let back = c .before .before .before .before .before .before .before .before .before .before .before .before .before .before .before .before .before .before in
     back .before .before .before .before .before .before .before .before .before
 
-abbrev at-gather-leaders-from-after-mask-items-arg2 : tie.After-mask-items-arg2 → tie.After-gather-leaders
-at-gather-leaders-from-after-mask-items-arg2 c = c .before .before .before .before .before
+abbrev at-gather-leaders-from-after-heads3 : tie.After-heads3 → tie.After-gather-leaders
+at-gather-leaders-from-after-heads3 c = c .before .before .before .before .before .before .before .before .before
 
 abbrev entry-from-after-heads3 : tie.After-heads3 → tie.Start
 entry-from-after-heads3 c =
     let back = c .before .before .before .before .before .before .before .before .before .before .before .before .before .before .before .before .before .before in
     back .before .before .before .before .before .before .before .before .before .before .before .before .before
 
-abbrev at-gather-leaders-from-after-heads3 : tie.After-heads3 → tie.After-gather-leaders
-at-gather-leaders-from-after-heads3 c = c .before .before .before .before .before .before .before .before .before
-
-abbrev entry-from-after-place-arg7 : tie.After-place-arg7 → tie.Start
-entry-from-after-place-arg7 c =
-    let back = c .before .before .before .before .before .before .before .before .before .before .before .before .before .before .before .before .before .before in
-    let back2 = back .before .before .before .before .before .before .before .before .before .before .before .before .before .before .before .before .before .before in
-    back2 .before .before
-
-abbrev at-merge-blocks-from-after-place-arg7 : tie.After-place-arg7 → tie.After-merge-blocks
-at-merge-blocks-from-after-place-arg7 c =
-    let back = c .before .before .before .before .before .before .before .before .before .before .before .before .before .before .before .before .before .before in
-    back .before .before .before .before .before .before
-
 abbrev at-mask-items-from-after-place-arg7 : tie.After-place-arg7 → tie.After-mask-items
 at-mask-items-from-after-place-arg7 c = c .before .before .before .before .before .before .before .before .before .before
 
 abbrev at-gather-leaders-from-after-place-arg7 : tie.After-place-arg7 → tie.After-gather-leaders
-at-gather-leaders-from-after-place-arg7 c = c .before .before .before .before .before .before .before .before .before .before .before .before .before .before .before .before
+at-gather-leaders-from-after-place-arg7 c = at-mask-items-from-after-place-arg7 c .before .before .before .before .before .before
 
-abbrev entry-from-after-slice-known17 : tie.After-slice-known17 → tie.Start
-entry-from-after-slice-known17 c =
-    let back = c .before .before .before .before .before .before .before .before .before .before .before .before .before .before .before .before .before .before in
-    let back2 = back .before .before .before .before .before .before .before .before .before .before .before .before .before .before .before .before .before .before in
-    back2 .before .before .before .before .before .before .before .before .before .before .before
+abbrev at-merge-blocks-from-after-place-arg7 : tie.After-place-arg7 → tie.After-merge-blocks
+at-merge-blocks-from-after-place-arg7 c = at-gather-leaders-from-after-place-arg7 c .before .before .before .before .before .before .before .before
+
+abbrev entry-from-after-place-arg7 : tie.After-place-arg7 → tie.Start
+entry-from-after-place-arg7 c = at-merge-blocks-from-after-place-arg7 c .before .before .before .before .before .before .before .before .before .before .before .before .before .before
 
 abbrev at-place-from-after-slice-known17 : tie.After-slice-known17 → tie.After-place
 at-place-from-after-slice-known17 c = c .before .before .before .before .before .before .before .before
 
-abbrev at-merge-blocks-from-after-slice-known17 : tie.After-slice-known17 → tie.After-merge-blocks
-at-merge-blocks-from-after-slice-known17 c =
-    let back = c .before .before .before .before .before .before .before .before .before .before .before .before .before .before .before .before .before .before in
-    back .before .before .before .before .before .before .before .before .before .before .before .before .before .before .before
+abbrev at-mask-items-from-after-slice-known17 : tie.After-slice-known17 → tie.After-mask-items
+at-mask-items-from-after-slice-known17 c = at-place-from-after-slice-known17 c .before .before .before .before .before .before .before .before .before .before .before
 
 abbrev at-gather-leaders-from-after-slice-known17 : tie.After-slice-known17 → tie.After-gather-leaders
-at-gather-leaders-from-after-slice-known17 c =
-    let back = c .before .before .before .before .before .before .before .before .before .before .before .before .before .before .before .before .before .before in
-    back .before .before .before .before .before .before .before
+at-gather-leaders-from-after-slice-known17 c = at-mask-items-from-after-slice-known17 c .before .before .before .before .before .before
 
-abbrev at-mask-items-from-after-slice-known17 : tie.After-slice-known17 → tie.After-mask-items
-at-mask-items-from-after-slice-known17 c =
-    let back = c .before .before .before .before .before .before .before .before .before .before .before .before .before .before .before .before .before .before in
-    back .before
+abbrev at-merge-blocks-from-after-slice-known17 : tie.After-slice-known17 → tie.After-merge-blocks
+at-merge-blocks-from-after-slice-known17 c = at-gather-leaders-from-after-slice-known17 c .before .before .before .before .before .before .before .before
+
+abbrev entry-from-after-slice-known17 : tie.After-slice-known17 → tie.Start
+entry-from-after-slice-known17 c =
+    at-merge-blocks-from-after-slice-known17 c .before .before .before .before .before .before .before .before .before .before .before .before .before .before
 
 add-w : tie.Need-add-w
 add-w c = search needs
 
 merge-blocks-requires : tie.Need-merge-blocks-requires
 merge-blocks-requires c κs =
-    let p = (entry-from-after-merge-blocks-arg3 c) .pre in
+    let entry = entry-from-after-merge-blocks-arg3 c in
+    let p = entry .pre in
     (mergeable _ _ (p .0) _ _ _ (p .1 .1 .1 .1) _ (p .1 .0 .0) (p .1 .1 .1 .0 .0), (p .1 .0 .1, p .1 .1 .0 .lists))
 
 gather-leaders-requires : tie.Need-gather-leaders-requires
 gather-leaders-requires c κs =
-    let p = (entry-from-after-gather-leaders-arg c) .pre in
-    (leading _ _ (p .0) _ _ _ (p .1 .1 .1 .1) (p .1 .0 .0), omega (arith, few-items ((entry-from-after-gather-leaders-arg c) .args .table .now) ((entry-from-after-gather-leaders-arg c) .args .n) (p .0) ((entry-from-after-gather-leaders-arg c) .args .group) ((entry-from-after-gather-leaders-arg c) .args .items .now) ((entry-from-after-gather-leaders-arg c) .args .lead .now) (p .1 .1 .1 .1), p .1 .0 .2))
+    let entry = entry-from-after-gather-leaders-arg c in
+    let p = entry .pre in
+    let few = few-items (entry .args .table .now) (entry .args .n) (p .0) (entry .args .group) (entry .args .items .now) (entry .args .lead .now) (p .1 .1 .1 .1) in
+    (leading _ _ (p .0) _ _ _ (p .1 .1 .1 .1) (p .1 .0 .0), omega (arith, few, p .1 .0 .2))
 
 sub-mask-items : tie.Need-sub-mask-items
 sub-mask-items c = search needs
@@ -103,14 +90,18 @@ part-mask-items-start c = search needs
 
 part-mask-items-end : tie.Need-part-mask-items-end
 part-mask-items-end c =
-    let p = (entry-from-after-heads2 c) .pre in
-    let few = few-items ((entry-from-after-heads2 c) .args .table .now) ((entry-from-after-heads2 c) .args .n) (p .0) ((entry-from-after-heads2 c) .args .group) ((entry-from-after-heads2 c) .args .items .now) ((entry-from-after-heads2 c) .args .lead .now) (p .1 .1 .1 .1) in
-    omega (arith, few, p .1 .0 .2, (at-gather-leaders-from-after-heads2 c) .gather-leaders .ensures .within, (at-gather-leaders-from-after-heads2 c) .gather-leaders .kept .1 .1 .0)
+    let entry = entry-from-after-heads2 c in
+    let gather-leaders = c .before .before .before .gather-leaders in
+    let p = entry .pre in
+    let few = few-items (entry .args .table .now) (entry .args .n) (p .0) (entry .args .group) (entry .args .items .now) (entry .args .lead .now) (p .1 .1 .1 .1) in
+    omega (arith, few, p .1 .0 .2, gather-leaders .ensures .within, gather-leaders .kept .1 .1 .0)
 
 mask-items-requires : tie.Need-mask-items-requires
 mask-items-requires c κs =
-    let p = (entry-from-after-mask-items-arg2 c) .pre in
-    (p .0, (heads-items _ _ (p .0) _ _ _ (p .1 .1 .1 .1) _ _ ((at-gather-leaders-from-after-mask-items-arg2 c) .gather-leaders .ensures), p .1 .1 .0 .masks))
+    let entry = entry-from-after-mask-items-arg2 c in
+    let gather-leaders = at-gather-leaders-from-after-mask-items-arg2 c .gather-leaders in
+    let p = entry .pre in
+    (p .0, (heads-items _ _ (p .0) _ _ _ (p .1 .1 .1 .1) _ _ (gather-leaders .ensures), p .1 .1 .0 .masks))
 
 sub-place : tie.Need-sub-place
 sub-place c = search needs
@@ -120,19 +111,25 @@ part-place-start c = search needs
 
 part-place-end : tie.Need-part-place-end
 part-place-end c =
-    let p = (entry-from-after-heads3 c) .pre in
-    let few = few-items ((entry-from-after-heads3 c) .args .table .now) ((entry-from-after-heads3 c) .args .n) (p .0) ((entry-from-after-heads3 c) .args .group) ((entry-from-after-heads3 c) .args .items .now) ((entry-from-after-heads3 c) .args .lead .now) (p .1 .1 .1 .1) in
-    omega (arith, few, p .1 .0 .2, (at-gather-leaders-from-after-heads3 c) .gather-leaders .ensures .within, (at-gather-leaders-from-after-heads3 c) .gather-leaders .kept .1 .1 .0)
+    let entry = entry-from-after-heads3 c in
+    let gather-leaders = at-gather-leaders-from-after-heads3 c .gather-leaders in
+    let p = entry .pre in
+    let few = few-items (entry .args .table .now) (entry .args .n) (p .0) (entry .args .group) (entry .args .items .now) (entry .args .lead .now) (p .1 .1 .1 .1) in
+    omega (arith, few, p .1 .0 .2, gather-leaders .ensures .within, gather-leaders .kept .1 .1 .0)
 
 place-requires : tie.Need-place-requires
 place-requires c κs =
-    let p = (entry-from-after-place-arg7 c) .pre in
+    let entry = entry-from-after-place-arg7 c in
+    let merge-blocks = at-merge-blocks-from-after-place-arg7 c .merge-blocks in
+    let mask-items = at-mask-items-from-after-place-arg7 c .mask-items in
+    let gather-leaders = at-gather-leaders-from-after-place-arg7 c .gather-leaders in
+    let p = entry .pre in
     let s = p .1 .1 .0 in
-    let room : ((entry-from-after-place-arg7 c) .args .n + 1) * width ((entry-from-after-place-arg7 c) .args .n) ≤ length ((at-merge-blocks-from-after-place-arg7 c) .merge-blocks .last .1 .1 .0) = omega (arith, p .1 .1 .1 .0 .0, (at-merge-blocks-from-after-place-arg7 c) .merge-blocks .kept .1 .1 .0) in
-    let wide : width ((entry-from-after-place-arg7 c) .args .n) ≤ length ((at-mask-items-from-after-place-arg7 c) .mask-items .last .1 .1 .1 .0) = omega (arith, s .masks, (at-mask-items-from-after-place-arg7 c) .mask-items .kept .1 .1 .1 .0) in
-    let few = heads-few ((entry-from-after-place-arg7 c) .args .table .now) ((entry-from-after-place-arg7 c) .args .n) (p .0) ((entry-from-after-place-arg7 c) .args .group) ((entry-from-after-place-arg7 c) .args .items .now) ((entry-from-after-place-arg7 c) .args .lead .now) (p .1 .1 .1 .1) _ _ ((at-gather-leaders-from-after-place-arg7 c) .gather-leaders .ensures) in (
-      heads-fit _ _ (p .0) _ _ _ (p .1 .1 .1 .1) _ _ ((at-gather-leaders-from-after-place-arg7 c) .gather-leaders .ensures) _ _ _ ((at-mask-items-from-after-place-arg7 c) .mask-items .ensures) room (s .counts) wide,
-      (omega (arith, s .lists, (at-merge-blocks-from-after-place-arg7 c) .merge-blocks .kept .1 .1 .1 .1 .1 .0), s .readies, omega (arith, few, s .orders)),
+    let room : (entry .args .n + 1) * width (entry .args .n) ≤ length (merge-blocks .last .1 .1 .0) = omega (arith, p .1 .1 .1 .0 .0, merge-blocks .kept .1 .1 .0) in
+    let wide : width (entry .args .n) ≤ length (mask-items .last .1 .1 .1 .0) = omega (arith, s .masks, mask-items .kept .1 .1 .1 .0) in
+    let few = heads-few (entry .args .table .now) (entry .args .n) (p .0) (entry .args .group) (entry .args .items .now) (entry .args .lead .now) (p .1 .1 .1 .1) _ _ (gather-leaders .ensures) in (
+      heads-fit _ _ (p .0) _ _ _ (p .1 .1 .1 .1) _ _ (gather-leaders .ensures) _ _ _ (mask-items .ensures) room (s .counts) wide,
+      (omega (arith, s .lists, merge-blocks .kept .1 .1 .1 .1 .1 .0), s .readies, omega (arith, few, s .orders)),
     )
 
 same-length : tie.Need-same-length
@@ -161,10 +158,15 @@ same-length-8 c = search needs
 
 returns : tie.Need-returns
 returns c =
-    let p = (entry-from-after-slice-known17 c) .pre in
-    let room : (entry-from-after-slice-known17 c) .args .n < length ((at-place-from-after-slice-known17 c) .place .last .1 .1 .1 .1 .1 .1 .1 .0) = omega (arith, p .1 .1 .0 .orders, (at-place-from-after-slice-known17 c) .place .kept .1 .1 .1 .1 .1 .1 .1 .0) in (
-      heads-placed _ _ (p .0) _ _ _ (p .1 .1 .1 .1) _ _ _ ((at-merge-blocks-from-after-slice-known17 c) .merge-blocks .ensures) (p .1 .1 .1 .0 .1) _ _ _ _ _ ((at-gather-leaders-from-after-slice-known17 c) .gather-leaders .ensures) ((at-mask-items-from-after-slice-known17 c) .mask-items .ensures) room ((at-place-from-after-slice-known17 c) .place .ensures),
-      rows-after _ _ (p .0) _ _ _ (p .1 .1 .1 .1) _ _ _ ((at-merge-blocks-from-after-slice-known17 c) .merge-blocks .ensures) (p .1 .1 .1 .0 .1),
+    let entry = entry-from-after-slice-known17 c in
+    let place = at-place-from-after-slice-known17 c .place in
+    let merge-blocks = at-merge-blocks-from-after-slice-known17 c .merge-blocks in
+    let gather-leaders = at-gather-leaders-from-after-slice-known17 c .gather-leaders in
+    let mask-items = at-mask-items-from-after-slice-known17 c .mask-items in
+    let p = entry .pre in
+    let room : entry .args .n < length (place .last .1 .1 .1 .1 .1 .1 .1 .0) = omega (arith, p .1 .1 .0 .orders, place .kept .1 .1 .1 .1 .1 .1 .1 .0) in (
+      heads-placed _ _ (p .0) _ _ _ (p .1 .1 .1 .1) _ _ _ (merge-blocks .ensures) (p .1 .1 .1 .0 .1) _ _ _ _ _ (gather-leaders .ensures) (mask-items .ensures) room (place .ensures),
+      rows-after _ _ (p .0) _ _ _ (p .1 .1 .1 .1) _ _ _ (merge-blocks .ensures) (p .1 .1 .1 .0 .1),
     )
 
 pub order-blocks-spec : {M : Type 1} → statement M

@@ -46,9 +46,10 @@ slice-aggregate-list-in-7 c = search needs
 
 list-in-requires : tie.Need-list-in-requires
 list-in-requires c κs =
-    let p = (entry-from-after-order c) .pre in
-    let h : (entry-from-after-order c) .args .n ≤ labelLimit = p .0 .few in
-    (p .0, (p .1 .0, (p .1 .1, zero-lists ((entry-from-after-order c) .args .n) 1025 17 (omega arith) (omega arith))))
+    let entry = entry-from-after-order c in
+    let p = entry .pre in
+    let h : entry .args .n ≤ labelLimit = p .0 .few in
+    (p .0, (p .1 .0, (p .1 .1, zero-lists (entry .args .n) 1025 17 (omega arith) (omega arith))))
 
 same-length-3 : tie.Need-same-length-3
 same-length-3 c = search needs

@@ -33,9 +33,10 @@ slice-aggregate-list-in-7 c = search needs
 
 list-in-requires : tie.Need-list-in-requires
 list-in-requires c κs =
-    let p = (entry-from-after-order c) .pre in
-    let h : (entry-from-after-order c) .args .n ≤ 127 = p .1 .0 in
-    (p .0, (p .1 .1 .0, (p .1 .1 .1, zero-lists ((entry-from-after-order c) .args .n) 128 2 (omega arith) (omega arith))))
+    let entry = entry-from-after-order c in
+    let p = entry .pre in
+    let h : entry .args .n ≤ 127 = p .1 .0 in
+    (p .0, (p .1 .1 .0, (p .1 .1 .1, zero-lists (entry .args .n) 128 2 (omega arith) (omega arith))))
 
 same-length : tie.Need-same-length
 same-length c = search needs

@@ -29,9 +29,10 @@ slice-aggregate-open-groups-5 c = search needs
 
 open-groups-requires : tie.Need-open-groups-requires
 open-groups-requires c κs =
-    let p = (entry-from-after-links c) .pre in
-    let h : (entry-from-after-links c) .args .n ≤ 127 = p .1 .0 in
-    let z = zero-search ((entry-from-after-links c) .args .n) 128 2 (omega arith) (omega arith) in
+    let entry = entry-from-after-links c in
+    let p = entry .pre in
+    let h : entry .args .n ≤ 127 = p .1 .0 in
+    let z = zero-search (entry .args .n) 128 2 (omega arith) (omega arith) in
     (p .0, (((p .1 .1 .0 .0 .0, p .1 .1 .0 .0 .1, z .0), p .1 .1 .0 .1), (z .1, p .1 .1 .1)))
 
 same-length : tie.Need-same-length

@@ -8,11 +8,11 @@ use Rattle.planning.proofs.open_stuck.Tie as tie
 
 -- ---- earlier places, by later ones
 
-abbrev entry-from-after-open-small-arg8 : tie.After-open-small-arg8 → tie.Start
-entry-from-after-open-small-arg8 c = c .before .before .before .before .before .before .before .before .before .before .before .before .before .before .before .before .before
-
 abbrev at-if1-from-after-open-small-arg8 : tie.After-open-small-arg8 → tie.Then1
 at-if1-from-after-open-small-arg8 c = c .before .before .before .before .before .before .before .before
+
+abbrev entry-from-after-open-small-arg8 : tie.After-open-small-arg8 → tie.Start
+entry-from-after-open-small-arg8 c = at-if1-from-after-open-small-arg8 c .before .before .before .before .before .before .before .before .before
 
 abbrev entry-from-after-links : tie.After-links → tie.Start
 entry-from-after-links c =
@@ -21,8 +21,10 @@ entry-from-after-links c =
 
 open-small-requires : tie.Need-open-small-requires
 open-small-requires c κs =
-    let p = (entry-from-after-open-small-arg8 c) .pre in
-    (p .0, ((at-if1-from-after-open-small-arg8 c) .if1 .taken, (p .1 .0, p .1 .1)))
+    let entry = entry-from-after-open-small-arg8 c in
+    let if1 = at-if1-from-after-open-small-arg8 c .if1 in
+    let p = entry .pre in
+    (p .0, (if1 .taken, (p .1 .0, p .1 .1)))
 
 same-length : tie.Need-same-length
 same-length c = search needs
@@ -68,9 +70,10 @@ slice-aggregate-open-groups-5 c = search needs
 
 open-groups-requires : tie.Need-open-groups-requires
 open-groups-requires c κs =
-    let p = (entry-from-after-links c) .pre in
-    let h : (entry-from-after-links c) .args .n ≤ labelLimit = p .0 .0 .few in
-    let z = zero-search ((entry-from-after-links c) .args .n) 1025 17 (omega arith) (omega arith) in
+    let entry = entry-from-after-links c in
+    let p = entry .pre in
+    let h : entry .args .n ≤ labelLimit = p .0 .0 .few in
+    let z = zero-search (entry .args .n) 1025 17 (omega arith) (omega arith) in
     (p .0, (((p .1 .0 .0 .0, p .1 .0 .0 .1, z .0), p .1 .0 .1), (z .1, p .1 .1)))
 
 same-length-9 : tie.Need-same-length-9

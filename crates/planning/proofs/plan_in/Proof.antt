@@ -11,24 +11,19 @@ use Rattle.planning.proofs.plan_in.Tie as tie
 abbrev entry-from-then1 : tie.Then1 → tie.Start
 entry-from-then1 c = c .before .before .before .before .before .before
 
-abbrev at-find-cycle-from-then1 : tie.Then1 → tie.After-find-cycle
-at-find-cycle-from-then1 c = c .before .before .before
-
-abbrev entry-from-after-list-plan-arg2 : tie.After-list-plan-arg2 → tie.Start
-entry-from-after-list-plan-arg2 c = c .before .before .before .before .before .before .before .before .before .before .before .before
-
-abbrev at-find-cycle-from-after-list-plan-arg2 : tie.After-list-plan-arg2 → tie.After-find-cycle
-at-find-cycle-from-after-list-plan-arg2 c = c .before .before .before .before .before .before .before .before .before
-
 abbrev at-if1-from-after-list-plan-arg2 : tie.After-list-plan-arg2 → tie.Else1
 at-if1-from-after-list-plan-arg2 c = c .before .before .before .before .before .before
 
-abbrev at-needs-of-from-after-list-plan-arg2 : tie.After-list-plan-arg2 → tie.After-needs-of
-at-needs-of-from-after-list-plan-arg2 c = c .before .before .before .before
+abbrev at-find-cycle-from-after-list-plan-arg2 : tie.After-list-plan-arg2 → tie.After-find-cycle
+at-find-cycle-from-after-list-plan-arg2 c = at-if1-from-after-list-plan-arg2 c .before .before .before
+
+abbrev entry-from-after-list-plan-arg2 : tie.After-list-plan-arg2 → tie.Start
+entry-from-after-list-plan-arg2 c = at-find-cycle-from-after-list-plan-arg2 c .before .before .before
 
 find-cycle-requires : tie.Need-find-cycle-requires
 find-cycle-requires c κs =
-    let p = (c .before .before) .pre in
+    let entry = c .before .before in
+    let p = entry .pre in
     (p .0, (inl refl, p .1 .1))
 
 same-length : tie.Need-same-length
@@ -36,18 +31,24 @@ same-length c = search needs
 
 returns : tie.Need-returns
 returns c =
-    plan-cycle _ _ ((entry-from-then1 c) .pre .0) _ _ ((at-find-cycle-from-then1 c) .find-cycle .ensures .0) (c .if1 .taken)
+    let entry = entry-from-then1 c in
+    let find-cycle = c .before .before .before .find-cycle in
+    plan-cycle _ _ (entry .pre .0) _ _ (find-cycle .ensures .0) (c .if1 .taken)
 
 needs-of-requires : tie.Need-needs-of-requires
 needs-of-requires c κs = search needs
 
 list-plan-requires : tie.Need-list-plan-requires
 list-plan-requires c κs =
-    let p = (entry-from-after-list-plan-arg2 c) .pre in (
+    let entry = entry-from-after-list-plan-arg2 c in
+    let find-cycle = at-find-cycle-from-after-list-plan-arg2 c .find-cycle in
+    let if1 = at-if1-from-after-list-plan-arg2 c .if1 in
+    let needs-of = c .before .before .before .before .needs-of in
+    let p = entry .pre in (
       p .0,
       (
-        (p .1 .0, sym ((at-find-cycle-from-after-list-plan-arg2 c) .find-cycle .ensures .0) ∙ (at-if1-from-after-list-plan-arg2 c) .if1 .left),
-        (omega (arith, p .1 .1 .0, (at-find-cycle-from-after-list-plan-arg2 c) .find-cycle .kept .1 .1 .1 .0, (at-needs-of-from-after-list-plan-arg2 c) .needs-of .kept .1 .1 .0), (at-needs-of-from-after-list-plan-arg2 c) .needs-of .ensures),
+        (p .1 .0, sym (find-cycle .ensures .0) ∙ if1 .left),
+        (omega (arith, p .1 .1 .0, find-cycle .kept .1 .1 .1 .0, needs-of .kept .1 .1 .0), needs-of .ensures),
       ),
     )
 

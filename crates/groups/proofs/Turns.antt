@@ -1,11 +1,10 @@
 -- One Group put in order, and the turns of `order_groups`.
 use mathlib.Core.Path.{_≡_, refl, sym, ap, _∙_, subst}
 use mathlib.Core.List.{List}
-use mathlib.Core.Bool.{true, false, cond, not}
+use mathlib.Core.Bool.{true, false, not}
 use Prim.Native.Nat.{ℕ, _+_, _-_, _≤_, _<_}
 use native.Mathlib.Omega.{arith}
 use native.Mathlib.Decide.{ℕ-discrete}
-use lib.Dec.{eqb}
 use lib.IntN.{ℤ}
 use lib.ListN.{length, getD, take}
 use lib.Seq.{length-take-le}
@@ -16,12 +15,11 @@ use Rattle.order.specs.Placing.{placed}
 use Rattle.order.specs.Order.{members, needs, groupTangled}
 use Rattle.order.proofs.Untangled.{stuck-tangled, blocks-ordered}
 use Rattle.placing.specs.UnmetCounts.{Placed}
 use Rattle.groups.specs.Members.{Gathered, NeedRowsFrom}
 use Rattle.groups.proofs.Orders.{items-of, items-many, items-few, member-items}
-use Rattle.opening.specs.Leaders.{SearchRoom}
-use Rattle.opening.specs.Opened.{expanded, Opened, Progress, Stopped, GroupOrder, GroupOrders}
-use Rattle.opening.proofs.Expanded.{expanded-plain, expanded-label, expanded-once}
-use Rattle.opening.proofs.Progress.{progress-open, skip-plain, progress-skip, progress-turn, plain-cleared}
+use Rattle.groups.specs.Opened.{expanded, Opened, Progress, Stopped, GroupOrder, GroupOrders}
+use Rattle.groups.proofs.Expanded.{expanded-plain, expanded-label, expanded-once}
+use Rattle.groups.proofs.Progress.{progress-open, skip-plain, progress-skip, progress-turn, plain-cleared}
 
 -- ---- the members of a Group
 
@@ -111,7 +109,7 @@ module _ (t : List ℤ) (n : ℕ) (ok : Accepted t n) (from : ℕ) (some : 1 ≤
       let e : g ≡ n + 1 = omega (arith, k .high) in
       record { all = λ z. subst (λ (j : ℕ). Progress t n j next) e (k .progress); free = λ z h a b. k .free h a (omega arith); stuck = λ d. absurd (d refl) }
 
--- ---- the turns of `open_groups`
+-- ---- what it answers
 
 -- what `order_groups` answers, with rows from `from` on
 pub stopped : (t : List ℤ) (n : ℕ) → Accepted t n → (from r : ℕ) (next square : List ℕ) → 1 ≤ from → NeedRowsFrom t n from square → GroupOrders t n from next r
@@ -122,24 +120,4 @@ stopped t n ok from r next square lo rows o = record {
       let s = o .stuck d in
       record { low = omega (arith, s .0); high = s .1; progress = s .2; free = progress-open t n ok r next (s .2) (omega (arith, s .0)) (s .1) (s .3) };
   rows = λ d p q hp hq l. rows p q hp hq (omega (arith, o .stuck d .0));
-}
-
--- how many Groups may be left
-abbrev pub left : ℕ → ℕ → ℕ
-left n g = cond (eqb g 0) 0 (n + 1 - g)
-
-pub left-less : (t : List ℤ) (n from g r : ℕ) (next : List ℕ) → (g ≡ 0 → ⊥) → g ≤ n → g < from → GroupOrders t n from next r → left n r < left n g
-left-less t n from g r next z h l o = rw (ne-eqb g 0 z) (go (ℕ-discrete r 0))
-  where
-    go : Dec (r ≡ 0) → left n r < n + 1 - g
-    go (yes e) = rw (eq-eqb r 0 e) (omega arith)
-    go (no e) = rw (ne-eqb r 0 e) (omega (arith, o .stuck e .0, o .stuck e .1))
-
-pub searchable-as : (n : ℕ) (a b c d a′ b′ c′ d′ : List ℕ) → length a′ ≡ length a → length b′ ≡ length b → length c′ ≡ length c → length d′ ≡ length d → SearchRoom n a b c d
-    → SearchRoom n a′ b′ c′ d′
-searchable-as n a b c d a′ b′ c′ d′ p q r s h = record {
-  stacked-room = omega (arith, h .stacked-room);
-  stack-room = omega (arith, h .stack-room);
-  path-room = omega (arith, h .path-room);
-  lead-room = omega (arith, h .lead-room);
 }

@@ -26,7 +26,7 @@ use Rattle.order.proofs.Tree.{within-sound, apart}
 use Rattle.order.proofs.Blocks.{Onto, onto-member, Tog, tog-refl, tog-sym, tog-trans, in-block, block-in, leader-once}
 use Rattle.order.proofs.BlockPlan.{ordered-lead, ordered-once}
 use Rattle.order.proofs.Untangled.{one-each}
-use Rattle.opening.specs.Opened.{expandedBlock, expanded}
+use Rattle.groups.specs.Opened.{expandedBlock, expanded}
 
 -- ---- joined lists
 

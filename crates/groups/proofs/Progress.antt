@@ -19,11 +19,11 @@ use Rattle.order.proofs.Lists.{in-filter, in-filter-of, any-true, any-intro, an
 use Rattle.order.proofs.Tables.{g-def, in-labels, def-label, pos-of, member-of, owner-group, owner-below}
 use Rattle.order.proofs.Tree.{up-le, meet, within-sound, within-complete, within-trans, within-up}
 use Rattle.order.proofs.Untangled.{one-each}
 use Rattle.groups.specs.Members.{Chain, Chained, Relinked}
 use Rattle.groups.specs.Opening.{InOrUnder, ChainsCleared}
-use Rattle.opening.specs.Opened.{expandedBlock, expanded, tangledMembers, Opened, Progress}
+use Rattle.groups.specs.Opened.{expandedBlock, expanded, tangledMembers, Opened, Progress}
 use Rattle.groups.proofs.Chains.{chain-same, chain-empty}
-use Rattle.opening.proofs.Expanded.{many-item, Stands, stands, stands-def}
+use Rattle.groups.proofs.Expanded.{many-item, Stands, stands, stands-def}
 
 module _ (t : List ℤ) (n : ℕ) (ok : Accepted t n) where
   -- ---- the tree
@@ -164,7 +164,9 @@ module _ (t : List ℤ) (n : ℕ) (ok : Accepted t n) where
 
       go : ((b .member ≡ x) × (several (needs t n) (members t n g) x ≡ false)) ⊎ ((several (needs t n) (members t n g) (b .member) ≡ true) × (isV t x ≡ true)) → ⊥
       go (inl e) = other (sym (e .0))
-      go (inr e) = free (opened-by g k lo (group-def k x (omega arith) ik, (b .member, b .of, e .0, subst (λ (z : ℕ). Within t (b .member) z) (w .1) (within-up t n ok (b .member) x (b .inside) other))))
+      go (inr e) =
+          let u = subst (λ (z : ℕ). Within t (b .member) z) (w .1) (within-up t n ok (b .member) x (b .inside) other) in
+          free (opened-by g k lo (group-def k x (omega arith) ik, (b .member, b .of, e .0, u)))
 
   -- ---- the start
 

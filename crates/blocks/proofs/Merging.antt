@@ -14,8 +14,8 @@ use Rattle.order.proofs.Alike.{same-test}
 use Rattle.order.proofs.Closure.{Chain, step, then}
 use Rattle.order.proofs.Blocks.{onto-needs, Tog, tog-refl, tog-sym, tog-trans, in-block, leader-once, lead-of, block-needs-of, of-block-needs}
 use Rattle.marks.specs.Marks.{mark}
-use Rattle.placing.specs.UnmetCounts.{AllBelow, needed}
-use Rattle.blocks.specs.Found.{InRows, Led}
+use Rattle.placing.specs.UnmetCounts.{needed}
+use Rattle.blocks.specs.Found.{Led}
 use Rattle.blocks.specs.Merged.{Mergeable, RowFrom, Joined, Following, ClosedRows, Merged}
 
 -- ---- leads
@@ -34,18 +34,6 @@ module _ (R : ℕ → ℕ → Bool) (items lead : List ℕ) (led : Led R items l
 
   pub led-head : (x : ℕ) → x ∈ items → getD lead (getD lead x 0) 0 ≡ getD lead x 0
   led-head x m = led-is (getD lead x 0) (getD lead x 0) (led-item x m) (led x m .1) (led-item x m) (tog-refl R items (getD lead x 0))
-
-  -- what is asked before rows are merged
-  pub led-mergeable : (square mask : List ℕ) (w : ℕ) → InRows items square mask w → AllBelow items (length lead) → Mergeable items lead square w
-  led-mergeable square mask w r l = record {
-    rising = r .rising;
-    narrow = r .narrow;
-    below = r .below;
-    leading = l;
-    rows = r .rows;
-    item = led-item;
-    head = led-head;
-  }
 
 pub mergeable-as : (items lead s s′ : List ℕ) (w : ℕ) → length s′ ≡ length s → Mergeable items lead s w → Mergeable items lead s′ w
 mergeable-as items lead s s′ w e ok = record {

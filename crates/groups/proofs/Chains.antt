@@ -235,34 +235,6 @@ module _ (n : ℕ) (next items : List ℕ) (from : ℕ) where
         go [] e c f = record { cells = sym (append-nil (take m items)) ∙ e; within = omega arith }
         go (x ∷ r) e c f = absurd (omega (arith, c .0, c .1))
 
--- ---- filtering the labels upward
-
-module _ (f : ℕ → Bool) (n : ℕ) (items : List ℕ) (l m : ℕ) (lo : l ≤ n) (e : take m items ++ filter f (upFrom l (n + 1 - l)) ≡ filter f (allLabels n)) where
-  next-label : filter f (upFrom l (n + 1 - l)) ≡ cond (f l) (l ∷ filter f (upFrom (l + 1) (n + 1 - (l + 1)))) (filter f (upFrom (l + 1) (n + 1 - (l + 1))))
-  next-label =
-      let a : n + 1 - l ≡ suc (n + 1 - (l + 1)) = omega arith in
-      let b : suc l ≡ l + 1 = omega arith in
-      ap (λ (j : ℕ). filter f (upFrom l j)) a ∙ ap (λ (j : ℕ). cond (f l) (l ∷ filter f (upFrom j (n + 1 - (l + 1)))) (filter f (upFrom j (n + 1 - (l + 1))))) b
-
-  pub take-label : f l ≡ true → m < length items → take (m + 1) (set items m l) ++ filter f (upFrom (l + 1) (n + 1 - (l + 1))) ≡ filter f (allLabels n)
-  take-label h g =
-      ap (λ (y : List ℕ). y ++ filter f (upFrom (l + 1) (n + 1 - (l + 1)))) (take-one items m l g)
-      ∙ append-assoc (take m items) (l ∷ []) (filter f (upFrom (l + 1) (n + 1 - (l + 1)))) ∙ ap (λ (y : List ℕ). take m items ++ y) (sym (next-label ∙ rw h)) ∙ e
-
-  pub skip-label : f l ≡ false → take m items ++ filter f (upFrom (l + 1) (n + 1 - (l + 1))) ≡ filter f (allLabels n)
-  skip-label h = ap (λ (y : List ℕ). take m items ++ y) (sym (next-label ∙ rw h)) ∙ e
-
-pub first-label : (f : ℕ → Bool) (n : ℕ) → filter f (upFrom 1 (n + 1 - 1)) ≡ filter f (allLabels n)
-first-label f n =
-    let z : n + 1 - 1 ≡ n = omega arith in
-    ap (λ (j : ℕ). filter f (upFrom 1 j)) z
-
-pub no-more : (f : ℕ → Bool) (n : ℕ) (items : List ℕ) (l m : ℕ) → n < l → m ≤ length items → take m items ++ filter f (upFrom l (n + 1 - l)) ≡ filter f (allLabels n)
-    → Gathered (filter f (allLabels n)) items m
-no-more f n items l m h g e =
-    let z : 0 ≡ n + 1 - l = omega arith in
-    record { cells = sym (append-nil (take m items)) ∙ ap (λ (j : ℕ). take m items ++ filter f (upFrom l j)) z ∙ e; within = g }
-
 -- ---- a chain put in order, from its end
 
 -- the labels of L from i on are linked, and nothing else changed

@@ -3,20 +3,20 @@ use mathlib.Core.Path.{_≡_, refl, sym, ap, _∙_, subst}
 use mathlib.Core.Logic.{_⊎_, inl, inr}
 use mathlib.Core.List.{List, [], _∷_, _++_, append-nil}
 use mathlib.Core.Bool.{Bool, true, false, not}
-use Prim.Native.Nat.{ℕ, _≤_, _<_}
+use Prim.Native.Nat.{ℕ, _≤_}
 use native.Mathlib.Omega.{arith}
 use native.Mathlib.Decide.{ℕ-discrete}
 use lib.Dec.{eqb}
 use lib.IntN.{ℤ}
 use lib.ListN.{length}
 use borrow.Author.Tests.{eqb-false, ne-eqb, not-true}
-use Rattle.cells.specs.Table.{isDefinition, owner}
+use Rattle.cells.specs.Table.{isDefinition}
 use Rattle.cells.specs.Accepted.{Accepted}
 use Rattle.order.specs.LabelLists.{count, _∈_, joined}
 use Rattle.order.specs.Blocks.{blockOf, several, isLeader}
-use Rattle.order.specs.Order.{isV, isG, allLabels, values, members, Within, within, reaches, needs, memberBlock, ordered, inBlock, blockValues, severalPlan}
+use Rattle.order.specs.Order.{isV, allLabels, values, members, Within, within, reaches, needs, memberBlock, ordered, inBlock, blockValues, severalPlan}
 use Rattle.order.specs.Order.{listed, blockListed, groupTangled}
-use Rattle.order.proofs.Tests.{so-or-not, both-ways}
+use Rattle.order.proofs.Tests.{so-or-not}
 use Rattle.order.proofs.Lists.{count-here, count-there, in-here, in-there, in-single, in-filter, any-true, any-intro, zero-or-in, length-mono, length-upFrom, filter-le, count-filter-le}
 use Rattle.order.proofs.Placing.{placed-sub, placed-le}
 use Rattle.order.proofs.Closure.{step, then}

@@ -30,7 +30,7 @@ use Rattle.reach.specs.MarkRows.{width}
 use Rattle.reach.proofs.Reading.{row-room}
 use Rattle.needs.specs.Needs.{Holder}
 use Rattle.groups.specs.Members.{Chain, WalkableChain, Gathered, Items, NeedRowsFrom, NeedRowsOf, Scratch, Masked}
-use Rattle.groups.proofs.Chains.{labels-few, rising-part, rising-filter}
+use Rattle.groups.proofs.Chains.{rising-part, rising-filter}
 
 -- ---- the part of a buffer that holds the items
 

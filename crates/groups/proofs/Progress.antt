@@ -1,8 +1,8 @@
 -- Groups worked on one after the other: what a Group's turn leaves of the chains of the others.
 use mathlib.Core.Path.{_≡_, refl, sym, ap, _∙_, subst}
 use mathlib.Core.Logic.{_⊎_, inl, inr}
-use mathlib.Core.List.{List, [], _∷_}
-use mathlib.Core.Bool.{Bool, true, false, _&&_}
+use mathlib.Core.List.{List, []}
+use mathlib.Core.Bool.{true, false, _&&_}
 use Prim.Native.Nat.{ℕ, zero, suc, _+_, _≤_, _<_}
 use native.Mathlib.Omega.{arith}
 use native.Mathlib.Decide.{ℕ-discrete, decLt}
@@ -11,11 +11,10 @@ use lib.ListN.{getD}
 use Rattle.cells.specs.Table.{isDefinition, owner}
 use Rattle.cells.specs.Accepted.{Accepted}
 use Rattle.order.specs.LabelLists.{_∈_, joined}
-use Rattle.order.specs.Placing.{placed}
-use Rattle.order.specs.Blocks.{several, hasSeveral, leaders, placedBlocks}
+use Rattle.order.specs.Blocks.{several, hasSeveral, placedBlocks}
 use Rattle.order.specs.Order.{isG, isV, allLabels, members, Within, within, needs, groupTangled, sheetTangled}
-use Rattle.order.proofs.Tests.{both-ways, so-or-not, not-so, and-left, and-right, and-intro}
-use Rattle.order.proofs.Lists.{in-filter, in-filter-of, any-true, any-intro, any-none, count-below, count-above}
+use Rattle.order.proofs.Tests.{both-ways, not-so, and-right, and-intro}
+use Rattle.order.proofs.Lists.{in-filter, in-filter-of, any-true, any-intro, count-below, count-above}
 use Rattle.order.proofs.Tables.{g-def, in-labels, def-label, pos-of, member-of, owner-group, owner-below}
 use Rattle.order.proofs.Tree.{up-le, meet, within-sound, within-complete, within-trans, within-up}
 use Rattle.order.proofs.Untangled.{one-each}
@@ -237,7 +236,8 @@ module _ (t : List ℤ) (n : ℕ) (ok : Accepted t n) where
           re .others (n + x) (λ e. omega arith) (λ y i e. let z : x ≡ y = omega arith in f (subst (λ (v : ℕ). v ∈ expanded t n g) (sym z) i))
           ∙ cl .others (n + x) (λ i. omega (arith, def-label t n ok (n + x) (i .0)))
 
-      moved : (k : ℕ) (l : List ℕ) → k ≤ n → (k ≡ g → ⊥) → (OpenedBy g k → ⊥) → ((x : ℕ) → x ∈ l → (1 ≤ x) × (x ∈ expanded t n g → ⊥)) → Chain n next (getD next k 0) l
+      moved : (k : ℕ) (l : List ℕ) → k ≤ n → (k ≡ g → ⊥) → (OpenedBy g k → ⊥) → ((x : ℕ) → x ∈ l → (1 ≤ x) × (x ∈ expanded t n g → ⊥))
+          → Chain n next (getD next k 0) l
           → Chain n next₂ (getD next₂ k 0) l
       moved k l b d f of c =
           subst (λ (q : ℕ). Chain n next₂ q l) (sym (head-same k b d f))

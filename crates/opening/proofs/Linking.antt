@@ -1,9 +1,8 @@
 -- The chains of blocks: made from the last item down, and put one after the other.
 use mathlib.Core.Path.{_≡_, refl, sym, ap, _∙_, subst}
-use mathlib.Core.Logic.{_⊎_, inl, inr}
 use mathlib.Core.List.{List, [], _∷_, _++_, append-nil}
-use mathlib.Core.Bool.{Bool, true, false, cond}
-use Prim.Native.Nat.{ℕ, suc, _+_, _-_, _*_, _≤_, _<_}
+use mathlib.Core.Bool.{Bool, true, false}
+use Prim.Native.Nat.{ℕ, suc, _+_, _-_, _≤_, _<_}
 use native.Mathlib.Omega.{arith}
 use native.Mathlib.Decide.{ℕ-discrete}
 use native.Mathlib.Numerals.{add-one}
@@ -13,8 +12,7 @@ use lib.Seq.{getD-set-same, getD-set-other, drop-cons, take-suc, take-all, lengt
 use borrow.Author.Tests.{eqb-true, eq-eqb, ne-eqb}
 use Rattle.order.specs.LabelLists.{count, _∈_, filter, joined}
 use Rattle.order.specs.Blocks.{together, blockOf, leaders}
-use Rattle.order.proofs.Tests.{so-or-not}
-use Rattle.order.proofs.Lists.{in-here, in-there, in-left, in-right, in-filter, in-filter-of, count-here, count-append}
+use Rattle.order.proofs.Lists.{in-here, in-there, in-right, in-filter, in-filter-of, count-here, count-append}
 use Rattle.order.proofs.Joined.{joined-append}
 use Rattle.order.proofs.Alike.{same-test, filter-same}
 use Rattle.order.proofs.Blocks.{Tog, in-block, block-in, lead-of}
@@ -22,7 +20,7 @@ use Rattle.placing.proofs.Lists.{rising-once}
 use Rattle.blocks.specs.Found.{Led}
 use Rattle.blocks.proofs.Merging.{led-tog, led-is}
 use Rattle.groups.specs.Members.{Chain, WalkableChain, Gathered}
-use Rattle.groups.proofs.Chains.{chain-same, chain-once}
+use Rattle.groups.proofs.Chains.{chain-same}
 use Rattle.opening.specs.Leaders.{Linkable, BlockChains, Chains, Expanded}
 
 -- x has lead b
@@ -47,7 +45,8 @@ module _ (n : ℕ) (items lead : List ℕ) where
       let e : drop i items ≡ [] = drop-of-length-le items h in
       record { chain = λ b m. subst (λ (l : List ℕ). Chain n links (getD links b 0) (filter (headed lead b) l)) (sym e) (z b m) }
 
-  module _ (i : ℕ) (links₀ links : List ℕ) (ok : Linkable n items lead links₀) (same : length links ≡ length links₀) (k : Linking n items lead i links) (some : 0 < i) (low : i ≤ length items)
+  module _ (i : ℕ) (links₀ links : List ℕ) (ok : Linkable n items lead links₀) (same : length links ≡ length links₀) (k : Linking n items lead i links)
+      (some : 0 < i) (low : i ≤ length items)
       (x b : ℕ) (isx : x ≡ getD items (i - 1) 0) (isb : b ≡ getD lead x 0) where
     parts : drop (i - 1) items ≡ x ∷ drop i items
     parts =

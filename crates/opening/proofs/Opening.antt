@@ -3,15 +3,14 @@ use mathlib.Core.Path.{_≡_, refl, sym, ap, _∙_, subst}
 use mathlib.Core.Logic.{_⊎_, inl, inr}
 use mathlib.Core.List.{List, [], _∷_}
 use mathlib.Core.Bool.{Bool, true, false, cond, not, _&&_}
-use Prim.Native.Nat.{ℕ, zero, suc, _+_, _*_, _≤_, _<_}
+use Prim.Native.Nat.{ℕ, _+_, _≤_, _<_}
 use native.Mathlib.Omega.{arith}
 use native.Mathlib.Decide.{ℕ-discrete}
 use lib.Dec.{eqb, ltb}
 use lib.IntN.{ℤ}
 use lib.ListN.{length, getD, take, drop, take-append-drop}
-use lib.Seq.{take-all}
-use borrow.Author.Tests.{eqb-true, eqb-false, eq-eqb, ne-eqb, not-true, not-false, ltb-false}
-use Rattle.cells.specs.Table.{isDefinition, owner}
+use borrow.Author.Tests.{eqb-true, eqb-false, eq-eqb, ne-eqb, not-true, ltb-false}
+use Rattle.cells.specs.Table.{isDefinition}
 use Rattle.cells.specs.Accepted.{Accepted}
 use Rattle.order.specs.LabelLists.{one, count, _∈_, mem, filter, any}
 use Rattle.order.specs.Blocks.{together, blockOf, several, isLeader, leaders}
@@ -19,7 +18,7 @@ use Rattle.order.specs.Order.{isMemberOf, members, Within, within, needs, membe
 use Rattle.order.proofs.Tests.{both-ways, so-or-not, not-so, and-left, and-right, and-intro}
 use Rattle.order.proofs.Lists.{count-append, in-here, in-there, in-cons, in-filter, in-filter-of, any-true, any-none, any-intro, mem-of, of-mem}
 use Rattle.order.proofs.Tables.{def-label, pos-of, member-of}
-use Rattle.order.proofs.Tree.{within-sound, within-complete}
+use Rattle.order.proofs.Tree.{within-sound}
 use Rattle.order.proofs.Alike.{same-test, filter-same}
 use Rattle.order.proofs.Blocks.{Tog, tog-refl, tog-sym, in-block, block-in, lead-of}
 use Rattle.placing.specs.UnmetCounts.{Rising}
@@ -88,7 +87,8 @@ pub record Opening (t : List ℤ) (n g : ℕ) (lead done next₀ next links : Li
 pub block-chains-of : (t : List ℤ) (n g : ℕ) (items lead links : List ℕ) → LedMembers t n g items lead → BlockChains n items lead links
     → (b : ℕ) → b ∈ leaders (needs t n) (members t n g) → Chain n links (getD links b 0) (memberBlock t n g b)
 block-chains-of t n g items lead links m c =
-    subst (λ (l : List ℕ). Led (needs t n) l lead → (b : ℕ) → b ∈ leaders (needs t n) l → Chain n links (getD links b 0) (blockOf (needs t n) l b)) (m .are) (c .chain (needs t n)) (m .led)
+    subst (λ (l : List ℕ). Led (needs t n) l lead → (b : ℕ) → b ∈ leaders (needs t n) l → Chain n links (getD links b 0) (blockOf (needs t n) l b))
+    (m .are) (c .chain (needs t n)) (m .led)
 
 module _ (t : List ℤ) (n : ℕ) (ok : Accepted t n) (g : ℕ) (lead next₀ : List ℕ) (led : Led (needs t n) (members t n g) lead) where
   abbrev R : ℕ → ℕ → Bool

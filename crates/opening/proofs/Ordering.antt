@@ -1,22 +1,18 @@
 -- The blocks of a Group found by rows of needs, and placed.
 use mathlib.Core.Path.{_≡_, refl, sym, ap, _∙_, subst}
-use mathlib.Core.Logic.{_↔_}
 use mathlib.Core.List.{List}
-use mathlib.Core.Bool.{Bool, true, false, not, _&&_}
+use mathlib.Core.Bool.{Bool, true, not, _&&_}
 use Prim.Native.Nat.{ℕ, _+_, _-_, _*_, _≤_, _<_}
 use native.Mathlib.Omega.{arith}
 use lib.Dec.{eqb}
 use lib.IntN.{ℤ}
 use lib.ListN.{length, getD, take}
-use lib.Seq.{length-take-le}
-use Rattle.cells.specs.Table.{isDefinition, owner}
 use Rattle.cells.specs.Accepted.{Accepted}
 use Rattle.order.specs.LabelLists.{_∈_, any, joined}
-use Rattle.order.specs.Placing.{placed}
 use Rattle.order.specs.Blocks.{blockOf, isLeader, leaders, blockNeeds}
 use Rattle.order.specs.Order.{isMemberOf, members, needs, ordered}
 use Rattle.order.proofs.Tests.{both-ways}
-use Rattle.order.proofs.Lists.{in-filter, filter-le}
+use Rattle.order.proofs.Lists.{filter-le}
 use Rattle.order.proofs.Placing.{placed-sub}
 use Rattle.order.proofs.Tables.{def-label, member-of}
 use Rattle.order.proofs.Alike.{same-test, any-same, placed-same}
@@ -31,14 +27,14 @@ use Rattle.blocks.specs.Merged as merged
 use Rattle.blocks.proofs.Narrowed.{led-narrowed}
 use Rattle.blocks.proofs.Merging.{led-item, led-head}
 use Rattle.blocks.proofs.Gathering.{heads-leaders}
-use Rattle.groups.specs.Members.{Chain, Gathered, Items, NeedRowsFrom, NeedRowsOf, Scratch, Masked}
+use Rattle.groups.specs.Members.{Gathered, Items, NeedRowsFrom, NeedRowsOf, Scratch, Masked}
 use Rattle.groups.proofs.Chains.{labels-few, rising-part, rising-filter}
 use Rattle.reach.proofs.Reading.{row-room}
 use Rattle.groups.proofs.Orders.{items-of, fits, needed-is}
 use Rattle.groups.specs.Opened.{expandedBlock, expanded}
 use Rattle.opening.specs.Leaders.{LedMembers, SearchRoom, Linkable, LeaderChains, Chains, Expanded}
 use Rattle.groups.proofs.Expanded.{expanded-few, block-label}
-use Rattle.opening.proofs.Linking.{headed, block-headed}
+use Rattle.opening.proofs.Linking.{block-headed}
 
 -- ---- two tests that say the same of the items
 

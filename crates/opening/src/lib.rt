@@ -2,7 +2,7 @@
 // the chain.
 
 ghost use mathlib.Core.Path.{_≡_};
-ghost use Prim.Native.Nat.{ℕ, _+_, _*_, _≤_, _<_};
+ghost use Prim.Native.Nat.{_+_, _*_, _≤_, _<_};
 ghost use lib.ListN.{length, getD, take};
 ghost use Rattle.cells.specs.Limits.{labelLimit};
 ghost use Rattle.cells.specs.Accepted.{Accepted};
@@ -150,7 +150,8 @@ fn open_blocks(
     requires { ⌜ ((n + 1) * width n ≤ length (now square)) × NeedRowsFrom (now table) n group (now square) ⌝ }
     requires { ⌜ LedMembers (now table) n group (now items) (now lead) × Linkable n (now items) (now lead) (now links) ⌝ }
     requires { ⌜ BlockChains n (now items) (now lead) (now links) × Openable (now table) n group (now next) ⌝ }
-    ensures { λ _. ⌜ ChainsCleared (now (table .entry)) (tangledMembers (now (table .entry)) n group) (now (next .entry)) (now (next .exit)) × LeaderChains (now (table .entry)) n group (now (links .exit)) ⌝ }
+    ensures { λ _. ⌜ ChainsCleared (now (table .entry)) (tangledMembers (now (table .entry)) n group) (now (next .entry)) (now (next .exit))
+        × LeaderChains (now (table .entry)) n group (now (links .exit)) ⌝ }
 {
     let mut i = 0;
     while i < items.len() {
@@ -250,7 +251,8 @@ fn split_group(
     requires { ⌜ ((n + 1) * width n ≤ length (now square)) × NeedRowsFrom (now table) n group (now square) ⌝ }
     requires { ⌜ Openable (now table) n group (now next) ⌝ }
     ensures { λ r. ⌜ (r ≤ length (now (items .exit))) × LedMembers (now (table .entry)) n group (take r (now (items .exit))) (now (lead .exit)) ⌝ }
-    ensures { λ _. ⌜ ChainsCleared (now (table .entry)) (tangledMembers (now (table .entry)) n group) (now (next .entry)) (now (next .exit)) × LeaderChains (now (table .entry)) n group (now (links .exit)) ⌝ }
+    ensures { λ _. ⌜ ChainsCleared (now (table .entry)) (tangledMembers (now (table .entry)) n group) (now (next .entry)) (now (next .exit))
+        × LeaderChains (now (table .entry)) n group (now (links .exit)) ⌝ }
 {
     let m = find_leads(
         table,

@@ -1,10 +1,10 @@
 use mathlib.Core.Path.{_≡_, refl, sym, _∙_, subst}
-use Prim.Native.Nat.{ℕ, _+_, _-_, _*_, _≤_, _<_}
+use Prim.Native.Nat.{ℕ, _+_, _≤_}
 use native.Mathlib.Omega.{arith}
 use borrow.Author.Needs.{needs}
 use lib.ListN.{length, getD, set, length-set}
 use Rattle.order.specs.LabelLists.{_∈_}
-use Rattle.opening.proofs.Linking.{Linking, linking-none, link-item, link-lead, linking-turn, linking-all}
+use Rattle.opening.proofs.Linking.{Linking, linking-none, link-item, linking-turn, linking-all}
 use Rattle.opening.proofs.link_blocks.Statement.{statement}
 use Rattle.opening.proofs.link_blocks.Tie as tie
 

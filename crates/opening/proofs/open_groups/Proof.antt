@@ -1,9 +1,6 @@
 use mathlib.Core.Path.{_≡_, refl, _∙_}
-use Prim.Native.Nat.{_+_, _*_, _≤_, _<_}
 use native.Mathlib.Omega.{arith}
-use borrow.Author.Needs.{needs}
 use lib.ListN.{length}
-use Rattle.reach.specs.MarkRows.{width}
 use Rattle.groups.proofs.Orders.{scratch-as}
 use Rattle.groups.specs.Opened.{Stopped}
 use Rattle.groups.proofs.Turns.{stopped}
@@ -12,14 +9,16 @@ use Rattle.opening.proofs.open_groups.Statement.{statement}
 use Rattle.opening.proofs.open_groups.Tie as tie
 
 abbrev Inv-loop : tie.InvT-loop
-Inv-loop table n square₀ next₀ stuck items₀ mask₀ unmet₀ ready₀ list₀ order₀ stacked₀ stack₀ path₀ lead₀ links₀ g₀ square next items mask unmet ready list order stacked stack path lead links g =
+Inv-loop table n square₀ next₀ stuck items₀ mask₀ unmet₀ ready₀ list₀ order₀ stacked₀ stack₀ path₀ lead₀ links₀ g₀
+    square next items mask unmet ready list order stacked stack path lead links g =
     (length square ≡ length square₀) × (length next ≡ length next₀) × (length items ≡ length items₀) × (length mask ≡ length mask₀)
     × (length unmet ≡ length unmet₀) × (length ready ≡ length ready₀) × (length list ≡ length list₀) × (length order ≡ length order₀)
     × (length stacked ≡ length stacked₀) × (length stack ≡ length stack₀) × (length path ≡ length path₀) × (length lead ≡ length lead₀)
     × (length links ≡ length links₀) × Stopped table n g next square
 
 abbrev μ-loop : tie.MeasureT-loop
-μ-loop table n square₀ next₀ stuck items₀ mask₀ unmet₀ ready₀ list₀ order₀ stacked₀ stack₀ path₀ lead₀ links₀ g₀ square next items mask unmet ready list order stacked stack path lead links g =
+μ-loop table n square₀ next₀ stuck items₀ mask₀ unmet₀ ready₀ list₀ order₀ stacked₀ stack₀ path₀ lead₀ links₀ g₀
+    square next items mask unmet ready list order stacked stack path lead links g =
     left n g
 
 -- ---- earlier places, by later ones
@@ -134,7 +133,8 @@ order-groups-requires c κs =
       (
         (
           (omega arith, omega (arith, op .high), omega (arith, p .1 .0 .0 .0, inv .1, open-group .kept .1 .1 .1 .0), omega (arith, p .1 .0 .0 .1, inv .2, open-group .kept .1 .1 .1 .1 .1 .0)),
-          scratch-as _ _ _ _ _ _ _ _ _ _ _ (open-group .kept .1 .1 .1 .1 .1 .1 .0 ∙ inv .3) (open-group .kept .1 .1 .1 .1 .1 .1 .1 .0 ∙ inv .4) (open-group .kept .1 .1 .1 .1 .1 .1 .1 .1 .0 ∙ inv .5)
+          scratch-as _ _ _ _ _ _ _ _ _ _ _ (open-group .kept .1 .1 .1 .1 .1 .1 .0 ∙ inv .3) (open-group .kept .1 .1 .1 .1 .1 .1 .1 .0 ∙ inv .4)
+              (open-group .kept .1 .1 .1 .1 .1 .1 .1 .1 .0 ∙ inv .5)
               (open-group .kept .1 .1 .1 .1 .1 .1 .1 .1 .1 .0 ∙ inv .6) (open-group .kept .1 .1 .1 .1 .1 .1 .1 .1 .1 .1 .0 ∙ inv .7) (p .1 .0 .1),
         ),
         ((omega (arith, p .1 .1 .1 .0, inv .0, open-group .kept .1 .1 .0), open-group .ensures .1), open-group .ensures .0),

@@ -3,7 +3,6 @@ use mathlib.Core.List.{List}
 use Prim.Native.Nat.{ℕ, _≤_}
 use native.Mathlib.Omega.{arith}
 use borrow.Author.Needs.{needs}
-use lib.ListN.{take}
 use Rattle.order.specs.LabelLists.{_∈_, count}
 use Rattle.groups.specs.Members.{Relinked}
 use Rattle.groups.proofs.Expanded.{plan-label, plan-once, values-few}

@@ -32,7 +32,7 @@ fn shapes_at_the_edges() {
             generator::ring((lines - 3) / 3),
             generator::rings((lines - 1) / 8),
             generator::every_second_in_ring((lines - 3) / 3),
-            generator::rings_in_every_second((lines - 1) / 6),
+            generator::rings_in_every_second((lines - 1) / 12 * 2),
             generator::nested_tangle((lines - 3) * 5 / 17),
             generator::nested_values((lines - 1) / 3),
             generator::dense((lines + 4) / 6),

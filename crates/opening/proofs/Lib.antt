@@ -1,4 +1,1 @@
-mod Linking
-mod Opening
-mod Ordering
 mod Stuck

@@ -10,7 +10,7 @@ use lib.IntN.{ℤ}
 use lib.ListN.{length}
 use borrow.Author.Tests.{eq-eqb, ne-eqb}
 use Rattle.groups.specs.Opened.{GroupOrders}
-use Rattle.opening.specs.Leaders.{SearchRoom}
+use Rattle.splitting.specs.Leaders.{SearchRoom}
 
 -- how many Groups may be left
 abbrev pub left : ℕ → ℕ → ℕ

@@ -18,7 +18,7 @@ use Rattle.reach.proofs.Scratch.{long, zero-chain}
 use Rattle.reach.specs.MarkRows.{width}
 use Rattle.groups.specs.Members.{Scratch}
 use Rattle.groups.specs.Opened.{Opened}
-use Rattle.opening.specs.Leaders.{SearchRoom}
+use Rattle.splitting.specs.Leaders.{SearchRoom}
 use Rattle.groups.proofs.Progress.{within-le}
 use Rattle.planning.specs.declared.Planned.the-variants.{Cycle, Whole, Mixed}
 use Rattle.planning.specs.Listing.{listOf, PutAt}

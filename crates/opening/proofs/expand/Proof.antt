@@ -5,7 +5,7 @@ use borrow.Author.Needs.{needs}
 use lib.ListN.{length, getD, take}
 use lib.Seq.{length-take-le, getD-take}
 use Rattle.order.specs.LabelLists.{_∈_}
-use Rattle.opening.proofs.Linking.{Expanding, expanding-none, expand-item, expand-walk, expanding-turn, expanding-all}
+use Rattle.splitting.proofs.Linking.{Expanding, expanding-none, expand-item, expand-walk, expanding-turn, expanding-all}
 use Rattle.opening.proofs.expand.Statement.{statement}
 use Rattle.opening.proofs.expand.Tie as tie
 

@@ -7,7 +7,7 @@ use lib.ListN.{length}
 use Rattle.order.specs.LabelLists.{count, _∈_}
 use Rattle.groups.specs.Members.{Relinked}
 use Rattle.groups.proofs.Expanded.{expanded-label, expanded-once}
-use Rattle.opening.proofs.Ordering.{order-chains, all-expanded}
+use Rattle.splitting.proofs.Ordering.{order-chains, all-expanded}
 use Rattle.opening.proofs.join_group.Statement.{statement}
 use Rattle.opening.proofs.join_group.Tie as tie
 

@@ -3,7 +3,7 @@ use native.Mathlib.Omega.{arith}
 use borrow.Author.Needs.{needs}
 use Rattle.groups.proofs.Orders.{scratch-as}
 use Rattle.groups.proofs.Progress.{progress-turn}
-use Rattle.opening.proofs.Ordering.{led-part}
+use Rattle.splitting.proofs.Ordering.{led-part}
 use Rattle.opening.proofs.open_group.Statement.{statement}
 use Rattle.opening.proofs.open_group.Tie as tie
 

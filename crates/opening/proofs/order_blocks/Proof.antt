@@ -3,7 +3,7 @@ use native.Mathlib.Omega.{arith}
 use borrow.Author.Needs.{needs}
 use lib.ListN.{length}
 use Rattle.reach.specs.MarkRows.{width}
-use Rattle.opening.proofs.Ordering.{mergeable, leading, few-items, heads-items, heads-few, heads-fit, heads-placed, rows-after}
+use Rattle.splitting.proofs.Ordering.{mergeable, leading, few-items, heads-items, heads-few, heads-fit, heads-placed, rows-after}
 use Rattle.opening.proofs.order_blocks.Statement.{statement}
 use Rattle.opening.proofs.order_blocks.Tie as tie
 

@@ -4,9 +4,9 @@ use native.Mathlib.Omega.{arith}
 use borrow.Author.Needs.{needs}
 use lib.ListN.{length, getD, set, length-set}
 use Rattle.order.specs.LabelLists.{_∈_}
-use Rattle.opening.proofs.Linking.{Linking, linking-none, link-item, linking-turn, linking-all}
-use Rattle.opening.proofs.link_blocks.Statement.{statement}
-use Rattle.opening.proofs.link_blocks.Tie as tie
+use Rattle.splitting.proofs.Linking.{Linking, linking-none, link-item, linking-turn, linking-all}
+use Rattle.splitting.proofs.link_blocks.Statement.{statement}
+use Rattle.splitting.proofs.link_blocks.Tie as tie
 
 abbrev Inv-loop : tie.InvT-loop
 Inv-loop n items lead links₀ i₀ links i =

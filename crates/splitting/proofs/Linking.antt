@@ -21,7 +21,7 @@ use Rattle.blocks.specs.Found.{Led}
 use Rattle.blocks.proofs.Merging.{led-tog, led-is}
 use Rattle.groups.specs.Members.{Chain, WalkableChain, Gathered}
 use Rattle.groups.proofs.Chains.{chain-same}
-use Rattle.opening.specs.Leaders.{Linkable, BlockChains, Chains, Expanded}
+use Rattle.splitting.specs.Leaders.{Linkable, BlockChains, Chains, Expanded}
 
 -- x has lead b
 abbrev pub headed : List ℕ → ℕ → ℕ → Bool

@@ -6,8 +6,8 @@ use borrow.Author.Needs.{needs}
 use Rattle.order.specs.LabelLists.{_∈_, count}
 use Rattle.groups.specs.Members.{Relinked}
 use Rattle.groups.proofs.Expanded.{plan-label, plan-once, values-few}
-use Rattle.opening.proofs.open_lead.Statement.{statement}
-use Rattle.opening.proofs.open_lead.Tie as tie
+use Rattle.splitting.proofs.open_lead.Statement.{statement}
+use Rattle.splitting.proofs.open_lead.Tie as tie
 
 -- ---- earlier places, by later ones
 

@@ -4,9 +4,9 @@ use borrow.Author.Needs.{needs}
 use lib.ListN.{length}
 use Prim.Native.Nat.{_*_, _<_}
 use Rattle.groups.proofs.Orders.{scratch-as}
-use Rattle.opening.proofs.Ordering.{led-part, linkable}
-use Rattle.opening.proofs.split_group.Statement.{statement}
-use Rattle.opening.proofs.split_group.Tie as tie
+use Rattle.splitting.proofs.Ordering.{led-part, linkable}
+use Rattle.splitting.proofs.split_group.Statement.{statement}
+use Rattle.splitting.proofs.split_group.Tie as tie
 
 -- ---- earlier places, by later ones
 

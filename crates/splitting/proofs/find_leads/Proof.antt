@@ -6,9 +6,9 @@ use Rattle.reach.specs.MarkRows.{width}
 use Rattle.order.specs.Order.{isMemberOf, members}
 use Rattle.groups.proofs.Chains.{labels-few}
 use Rattle.groups.proofs.Orders.{member-walk, member-items}
-use Rattle.opening.proofs.Ordering.{find-asks, find-room, find-gives}
-use Rattle.opening.proofs.find_leads.Statement.{statement}
-use Rattle.opening.proofs.find_leads.Tie as tie
+use Rattle.splitting.proofs.Ordering.{find-asks, find-room, find-gives}
+use Rattle.splitting.proofs.find_leads.Statement.{statement}
+use Rattle.splitting.proofs.find_leads.Tie as tie
 
 -- ---- earlier places, by later ones
 

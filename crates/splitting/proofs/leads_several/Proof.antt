@@ -2,8 +2,8 @@ use mathlib.Core.Path.{sym, _∙_}
 use lib.ListN.{getD}
 use borrow.Author.Tests.{eq-eqb, ne-eqb}
 use borrow.Author.Needs.{needs}
-use Rattle.opening.proofs.leads_several.Statement.{statement}
-use Rattle.opening.proofs.leads_several.Tie as tie
+use Rattle.splitting.proofs.leads_several.Statement.{statement}
+use Rattle.splitting.proofs.leads_several.Tie as tie
 
 -- ---- earlier places, by later ones
 

@@ -30,7 +30,7 @@ use Rattle.groups.specs.Members.{Chain, Relinked}
 use Rattle.groups.specs.Opening.{InOrUnder, MemberChains, ChainsCleared}
 use Rattle.groups.proofs.Chains.{rising-part, rising-filter, chain-same}
 use Rattle.groups.specs.Opened.{expandedBlock, tangledMembers, Opened, Progress}
-use Rattle.opening.specs.Leaders.{LedMembers, BlockChains, leadsSeveral, LeaderChains}
+use Rattle.splitting.specs.Leaders.{LedMembers, BlockChains, leadsSeveral, LeaderChains}
 use Rattle.groups.proofs.Expanded.{many-all, Held, held, plan-held, held-apart}
 use Rattle.groups.proofs.Progress.{under-free, within-le, member-above}
 

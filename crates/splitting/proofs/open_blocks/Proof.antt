@@ -8,9 +8,9 @@ use lib.ListN.{length, take}
 use lib.Seq.{take-all}
 use Rattle.order.specs.LabelLists.{_∈_}
 use Rattle.groups.proofs.Orders.{scratch-as}
-use Rattle.opening.proofs.Opening.{Opening, block-chains-of, opening-none, opening-all, here, block-chain, block-chains, test-opens, test-leaves, opening-skip, opening-turn}
-use Rattle.opening.proofs.open_blocks.Statement.{statement}
-use Rattle.opening.proofs.open_blocks.Tie as tie
+use Rattle.splitting.proofs.Opening.{Opening, block-chains-of, opening-none, opening-all, here, block-chain, block-chains, test-opens, test-leaves, opening-skip, opening-turn}
+use Rattle.splitting.proofs.open_blocks.Statement.{statement}
+use Rattle.splitting.proofs.open_blocks.Tie as tie
 
 abbrev Inv-loop : tie.InvT-loop
 Inv-loop table n square next₀ group items lead links₀ pile₀ mask₀ unmet₀ ready₀ list₀ order₀ i₀ next links pile mask unmet ready list order i =

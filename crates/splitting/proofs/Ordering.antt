@@ -32,9 +32,9 @@ use Rattle.groups.proofs.Chains.{labels-few, rising-part, rising-filter}
 use Rattle.reach.proofs.Reading.{row-room}
 use Rattle.groups.proofs.Orders.{items-of, fits, needed-is}
 use Rattle.groups.specs.Opened.{expandedBlock, expanded}
-use Rattle.opening.specs.Leaders.{LedMembers, SearchRoom, Linkable, LeaderChains, Chains, Expanded}
+use Rattle.splitting.specs.Leaders.{LedMembers, SearchRoom, Linkable, LeaderChains, Chains, Expanded}
 use Rattle.groups.proofs.Expanded.{expanded-few, block-label}
-use Rattle.opening.proofs.Linking.{block-headed}
+use Rattle.splitting.proofs.Linking.{block-headed}
 
 -- ---- two tests that say the same of the items
 

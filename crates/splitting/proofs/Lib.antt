@@ -1,0 +1,3 @@
+pub mod Linking
+mod Opening
+pub mod Ordering

@@ -169,7 +169,7 @@ fn a_word_for_two_things_is_found() {
 #[test]
 fn what_is_believed_has_a_word_of_its_own_wherever_it_stands() {
     let copy = Copy::new("believed");
-    for (file, name) in [("Lists", "planted"), ("Mixed", "Planted")] {
+    for (file, name) in [("Lists", "planted"), ("Proper", "Planted")] {
         let path = format!("crates/order/proofs/{file}.antt");
         let law = format!("{name}-law");
         copy.plant(&path, &(definition(name) + &theorem(&law, name)));

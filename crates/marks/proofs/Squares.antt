@@ -178,33 +178,35 @@ mark-at-first s w j i g h =
     let e : 0 * w + j ≡ j = omega arith in
     mark-at s w 0 j i g h ∙ ap (λ (x : ℕ). bit (getD s x 0) i) e
 
+-- the marks that row p and the mask have in common, one word more of them
+pub common-turn : (s mask : List ℕ) (w p j : ℕ) → j < w → (q : ℕ)
+    → one (ltb q (64 * j) && mark s w p q && mark mask w 0 q) + count q (places 64 (64 * j) (bitAnd (getD s (p * w + j) 0) (getD mask j 0)))
+    ≡ one (ltb q (64 * (j + 1)) && mark s w p q && mark mask w 0 q)
+common-turn s mask w p j hj q = go (decLt q (64 * j)) (decLt q (64 * (j + 1)))
+  where
+    x : ℕ
+    x = bitAnd (getD s (p * w + j) 0) (getD mask j 0)
+
+    go : Dec (q < 64 * j) → Dec (q < 64 * (j + 1))
+        → one (ltb q (64 * j) && mark s w p q && mark mask w 0 q) + count q (places 64 (64 * j) x) ≡ one (ltb q (64 * (j + 1)) && mark s w p q && mark mask w 0 q)
+    go (yes h) _ = rw (lt-ltb q (64 * j) h, lt-ltb q (64 * (j + 1)) (omega arith)) (omega (arith, count-low 64 (64 * j) x q h))
+    go (no h) (no g) = rw (le-ltb q (64 * j) (omega arith), le-ltb q (64 * (j + 1)) (omega arith)) (omega (arith, count-high 64 (64 * j) x q (omega arith)))
+    go (no h) (yes g) =
+        let i : q ≡ 64 * j + (q - 64 * j) = omega arith in
+        let z : count q (places 64 (64 * j) x) ≡ one (bit x (q - 64 * j)) =
+        ap (λ (y : ℕ). count y (places 64 (64 * j) x)) i ∙ count-place 64 (64 * j) x (q - 64 * j) (omega arith) in
+        let m : bit x (q - 64 * j) ≡ (mark s w p q && mark mask w 0 q) =
+        bit-and (getD s (p * w + j) 0) (getD mask j 0) (q - 64 * j)
+        ∙ sym (ap (λ (y : ℕ). mark s w p y && mark mask w 0 y) i
+        ∙ rw (mark-at s w p j (q - 64 * j) hj (omega arith), mark-at-first mask w j (q - 64 * j) hj (omega arith))) in
+        rw (le-ltb q (64 * j) (omega arith), lt-ltb q (64 * (j + 1)) g) (omega (arith, z, ap one m))
+
 module _ (s mask : List ℕ) (w p j : ℕ) (hj : j < w) (l l′ : List ℕ) (old : (q : ℕ) → count q l ≡ one (ltb q (64 * j) && mark s w p q && mark mask w 0 q))
     (e : l′ ≡ l ++ places 64 (64 * j) (bitAnd (getD s (p * w + j) 0) (getD mask j 0))) where
   pub listing-turn : (q : ℕ) → count q l′ ≡ one (ltb q (64 * (j + 1)) && mark s w p q && mark mask w 0 q)
-  listing-turn q = ap (count q) e ∙ count-append q l (places 64 (64 * j) x) ∙ go (decLt q (64 * j)) (decLt q (64 * (j + 1)))
-    where
-      x : ℕ
-      x = bitAnd (getD s (p * w + j) 0) (getD mask j 0)
-
-      go : Dec (q < 64 * j) → Dec (q < 64 * (j + 1)) → count q l + count q (places 64 (64 * j) x) ≡ one (ltb q (64 * (j + 1)) && mark s w p q && mark mask w 0 q)
-      go (yes h) _ =
-          let c = old q in
-          let z = count-low 64 (64 * j) x q h in
-          rw (lt-ltb q (64 * (j + 1)) (omega arith)) (omega (arith, rw (lt-ltb q (64 * j) h) at c))
-      go (no h) (no g) =
-          let c = old q in
-          let z = count-high 64 (64 * j) x q (omega arith) in
-          rw (le-ltb q (64 * (j + 1)) (omega arith)) (omega (arith, rw (le-ltb q (64 * j) (omega arith)) at c))
-      go (no h) (yes g) =
-          let c = old q in
-          let i : q ≡ 64 * j + (q - 64 * j) = omega arith in
-          let z : count q (places 64 (64 * j) x) ≡ one (bit x (q - 64 * j)) =
-          ap (λ (y : ℕ). count y (places 64 (64 * j) x)) i ∙ count-place 64 (64 * j) x (q - 64 * j) (omega arith) in
-          let m : bit x (q - 64 * j) ≡ (mark s w p q && mark mask w 0 q) =
-          bit-and (getD s (p * w + j) 0) (getD mask j 0) (q - 64 * j)
-          ∙ sym (ap (λ (y : ℕ). mark s w p y && mark mask w 0 y) i
-          ∙ rw (mark-at s w p j (q - 64 * j) hj (omega arith), mark-at-first mask w j (q - 64 * j) hj (omega arith))) in
-          rw (lt-ltb q (64 * (j + 1)) g) (omega (arith, rw (le-ltb q (64 * j) (omega arith)) at c, ap one m))
+  listing-turn q =
+      let x = places 64 (64 * j) (bitAnd (getD s (p * w + j) 0) (getD mask j 0)) in
+      ap (count q) e ∙ count-append q l x ∙ ap (λ (c : ℕ). c + count q x) (old q) ∙ common-turn s mask w p j hj q
 
   pub listing-rising : Rising l → Rising l′
   listing-rising r =

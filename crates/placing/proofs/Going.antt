@@ -12,7 +12,7 @@ use lib.ListN.{length, getD, set, take}
 use lib.Seq.{take-suc-set}
 use Rattle.order.specs.LabelLists.{one, count, _∈_, mem, filter}
 use Rattle.order.specs.Placing.{waits, next, rounds, placed}
-use Rattle.order.proofs.Tests.{both-ways, so-or-not}
+use Rattle.order.proofs.Tests.{both-ways, so-or-not, one-in}
 use Rattle.order.proofs.Lists.{in-append, in-single, of-mem, zero-or-in, first-refute}
 use Rattle.marks.specs.Marks.{mark, Dropped, First}
 use Rattle.marks.proofs.Squares.{mark-in}
@@ -88,30 +88,32 @@ module _ (R : ℕ → ℕ → Bool) (items : List ℕ) (rising : Rising items) (
       item-is h = g .state .free r .0 (f .here h)
 
       -- those that need it have it unmet
-      module _ (h : r < 64 * w) (list : List ℕ) (m : ℕ) (is : (p : ℕ) → count p (take m list) ≡ one (R p r)) where
+      module _ (h : r < 64 * w) (of : (p : ℕ) → R p r ≡ true → p ∈ items) where
         single : count r items ≡ 1
         single = omega (arith, rising-once items rising r, item-is h .0)
 
         less : (p : ℕ) → length (filter (blocks R (take k order ++ r ∷ []) p) items) + one (R p r) ≡ length (filter (blocks R (take k order) p) items)
         less p = one-less R (take k order) r (item-is h .1) p items single
 
-        pub unmet-of : ((p : ℕ) → p ∈ take m list → p ∈ items) → (p : ℕ) → count p (take m list) ≤ getD unmet p 0
-        unmet-of of p = go (zero-or-in (count p (take m list)))
-          where
-            go : (count p (take m list) ≡ 0) ⊎ (p ∈ take m list) → count p (take m list) ≤ getD unmet p 0
-            go (inl e) = omega arith
-            go (inr i) = omega (arith, is p, less p, g .state .counts p (of p i))
+        item : (p : ℕ) → 0 < one (R p r) → p ∈ items
+        item p i = of p (one-in (R p r) i)
 
-        pub going-step : ((p : ℕ) → p ∈ take m list → p ∈ items) → k < length items → k < length order
-            → (ready₁ unmet′ ready′ : List ℕ) → Dropped ready ready₁ w 0 r → Lowered list unmet ready₁ unmet′ ready′ m w
-            → Going R items unmet′ ready′ (set order k r) w (k + 1)
-        going-step of hk ho ready₁ unmet′ ready′ drop low = record { state = record { counts = counts; met = met; free = λ p. (there p, back p) }; rest = rest; within = omega arith }
+        pub unmet-of : (p : ℕ) → one (R p r) ≤ getD unmet p 0
+        unmet-of p = go (zero-or-in (one (R p r)))
+          where
+            go : (one (R p r) ≡ 0) ⊎ (0 < one (R p r)) → one (R p r) ≤ getD unmet p 0
+            go (inl e) = omega arith
+            go (inr i) = omega (arith, less p, g .state .counts p (item p i))
+
+        pub going-step : k < length items → k < length order → (ready₁ unmet′ ready′ : List ℕ) → Dropped ready ready₁ w 0 r
+            → Lowered (λ (p : ℕ). one (R p r)) unmet ready₁ unmet′ ready′ w → Going R items unmet′ ready′ (set order k r) w (k + 1)
+        going-step hk ho ready₁ unmet′ ready′ drop low = record { state = record { counts = counts; met = met; free = λ p. (there p, back p) }; rest = rest; within = omega arith }
           where
             done : take (k + 1) (set order k r) ≡ take k order ++ r ∷ []
             done = rw add-one (take-suc-set order k r ho)
 
             counts : (p : ℕ) → p ∈ items → getD unmet′ p 0 ≡ length (filter (blocks R (take (k + 1) (set order k r)) p) items)
-            counts p i = rw done (omega (arith, low .counts p, is p, less p, g .state .counts p i))
+            counts p i = rw done (omega (arith, low .counts p, less p, g .state .counts p i))
 
             met-case : (p : ℕ) → (p ∈ take k order) ⊎ (p ∈ r ∷ []) → getD unmet′ p 0 ≡ 0
             met-case p (inl i) = omega (arith, low .counts p, g .state .met p i)
@@ -133,19 +135,19 @@ module _ (R : ℕ → ℕ → Bool) (items : List ℕ) (rising : Rising items) (
             there : (p : ℕ) → mark ready′ w 0 p ≡ true → (p ∈ items) × (mem p (take (k + 1) (set order k r)) ≡ false) × (getD unmet′ p 0 ≡ 0)
             there p e₀ = go (low .only p e₀) (ℕ-discrete p r)
               where
-                go : (mark ready₁ w 0 p ≡ true) ⊎ ((p ∈ take m list) × (getD unmet′ p 0 ≡ 0)) → Dec (p ≡ r)
+                go : (mark ready₁ w 0 p ≡ true) ⊎ ((0 < one (R p r)) × (getD unmet′ p 0 ≡ 0)) → Dec (p ≡ r)
                     → (p ∈ items) × (mem p (take (k + 1) (set order k r)) ≡ false) × (getD unmet′ p 0 ≡ 0)
                 go (inl e) (yes y) = both-ways (mark ready₁ w 0 p) e (ap (mark ready₁ w 0) y ∙ drop .gone)
                 go (inl e) (no y) =
                     let o = g .state .free p .0 (sym (drop .others 0 p (λ _ z. y z)) ∙ e) in
                     (o .0, ap (mem p) done ∙ mem-other p r (take k order) y ∙ o .1, omega (arith, low .counts p, o .2))
-                go (inr (i, e)) (yes y) = absurd (omega (arith, item-is h .2, low .counts r, subst (λ (v : ℕ). v ∈ take m list) y i))
-                go (inr (i, e)) (no y) = (of p i, ap (mem p) done ∙ mem-other p r (take k order) y ∙ unplaced p (omega (arith, low .counts p)), e)
+                go (inr (i, e)) (yes y) = absurd (omega (arith, item-is h .2, low .counts r, subst (λ (v : ℕ). 0 < one (R v r)) y i))
+                go (inr (i, e)) (no y) = (item p i, ap (mem p) done ∙ mem-other p r (take k order) y ∙ unplaced p (omega (arith, low .counts p)), e)
 
             back : (p : ℕ) → (p ∈ items) × (mem p (take (k + 1) (set order k r)) ≡ false) × (getD unmet′ p 0 ≡ 0) → mark ready′ w 0 p ≡ true
-            back p (i, e, z) = go (zero-or-in (count p (take m list))) (ℕ-discrete p r)
+            back p (i, e, z) = go (zero-or-in (one (R p r))) (ℕ-discrete p r)
               where
-                go : (count p (take m list) ≡ 0) ⊎ (p ∈ take m list) → Dec (p ≡ r) → mark ready′ w 0 p ≡ true
+                go : (one (R p r) ≡ 0) ⊎ (0 < one (R p r)) → Dec (p ≡ r) → mark ready′ w 0 p ≡ true
                 go (inr l) _ = low .new p l z
                 go (inl l) (yes y) = both-ways (mem p (take (k + 1) (set order k r))) (ap (mem p) done ∙ ap (λ (v : ℕ). mem v (take k order ++ r ∷ [])) y ∙ mem-same r (take k order)) e
                 go (inl l) (no y) =

@@ -5,7 +5,7 @@ use mathlib.Core.List.{List}
 use mathlib.Core.Bool.{Bool, true, false, not, _&&_}
 use Prim.Native.Nat.{ℕ, _+_, _*_, _≤_, _<_}
 use lib.ListN.{length, getD, take}
-use Rattle.order.specs.LabelLists.{count, _∈_, mem, filter}
+use Rattle.order.specs.LabelLists.{_∈_, mem, filter}
 use Rattle.order.specs.Placing.{placed}
 use Rattle.marks.specs.Marks.{mark}
 pub use Rattle.marks.specs.Marks.{Rising}
@@ -18,9 +18,28 @@ needed square mask w p q = mark mask w 0 q && (mark square w q p && mark mask w 
 abbrev pub AllBelow : List ℕ → ℕ → Type 0
 AllBelow l k = (p : ℕ) → p ∈ l → p < k
 
--- the counts of those in l stay in 16 bits where each is raised as often as it stands there
-abbrev pub Raisable : List ℕ → List ℕ → Type 0
-Raisable l unmet = (p : ℕ) → p ∈ l → getD unmet p 0 + count p l < 65536
+-- row q of the square, with a count for each that the mask has
+pub record Row (square mask unmet : List ℕ) (w q : ℕ) : Type 0 where
+  pub narrow : w ≤ 1000
+  pub below : q < 64 * w
+  pub row : q * w + w ≤ length square
+  pub mask-room : w ≤ length mask
+  pub counted : (p : ℕ) → mark mask w 0 p ≡ true → p < length unmet
+
+-- the counts stay in 16 bits where each is raised by `more p`
+abbrev pub Raisable : (ℕ → ℕ) → List ℕ → Type 0
+Raisable more unmet = (p : ℕ) → 0 < more p → getD unmet p 0 + more p < 65536
+
+-- the count of each p rises by `more p`
+abbrev pub Raised : (ℕ → ℕ) → List ℕ → List ℕ → Type 0
+Raised more unmet unmet′ = (p : ℕ) → getD unmet′ p 0 ≡ getD unmet p 0 + more p
+
+-- the count of each p falls by `less p`, and what so comes to 0 is ready
+pub record Lowered (less : ℕ → ℕ) (unmet ready unmet′ ready′ : List ℕ) (w : ℕ) : Type 0 where
+  pub counts : (p : ℕ) → getD unmet′ p 0 + less p ≡ getD unmet p 0
+  pub kept : (p : ℕ) → mark ready w 0 p ≡ true → mark ready′ w 0 p ≡ true
+  pub new : (p : ℕ) → 0 < less p → getD unmet′ p 0 ≡ 0 → mark ready′ w 0 p ≡ true
+  pub only : (p : ℕ) → mark ready′ w 0 p ≡ true → (mark ready w 0 p ≡ true) ⊎ ((0 < less p) × (getD unmet′ p 0 ≡ 0))
 
 -- the items go upward and have counts, rows and marks; the mask has items alone
 pub record Fits (items square mask unmet : List ℕ) (w : ℕ) : Type 0 where
@@ -42,13 +61,6 @@ pub record State (R : ℕ → ℕ → Bool) (items done unmet ready : List ℕ) 
   pub counts : (p : ℕ) → p ∈ items → getD unmet p 0 ≡ length (filter (blocks R done p) items)
   pub met : (p : ℕ) → p ∈ done → getD unmet p 0 ≡ 0
   pub free : (p : ℕ) → (mark ready w 0 p ≡ true) ↔ ((p ∈ items) × (mem p done ≡ false) × (getD unmet p 0 ≡ 0))
-
--- the counts of those in the first m of a list fall by one, and what comes to 0 is ready
-pub record Lowered (list unmet ready unmet′ ready′ : List ℕ) (m w : ℕ) : Type 0 where
-  pub counts : (p : ℕ) → getD unmet′ p 0 + count p (take m list) ≡ getD unmet p 0
-  pub kept : (p : ℕ) → mark ready w 0 p ≡ true → mark ready′ w 0 p ≡ true
-  pub new : (p : ℕ) → p ∈ take m list → getD unmet′ p 0 ≡ 0 → mark ready′ w 0 p ≡ true
-  pub only : (p : ℕ) → mark ready′ w 0 p ≡ true → (mark ready w 0 p ≡ true) ⊎ ((p ∈ take m list) × (getD unmet′ p 0 ≡ 0))
 
 -- the first r of the order are what the rule places
 pub record Placed (R : ℕ → ℕ → Bool) (items order : List ℕ) (r : ℕ) : Type 0 where

@@ -6,83 +6,99 @@ ghost use mathlib.Core.Bool.{true, false};
 ghost use mathlib.Core.List.{[]};
 ghost use mathlib.Core.Logic.{_↔_};
 ghost use Prim.Native.Nat.{ℕ, _+_, _*_, _≤_, _<_};
-ghost use lib.ListN.{length, getD, take};
+ghost use lib.ListN.{length, getD};
 ghost use Rattle.order.specs.LabelLists.{one, count, _∈_, filter};
-ghost use Rattle.marks.specs.Marks.{mark};
-ghost use Rattle.placing.specs.UnmetCounts.{needed, AllBelow, Raisable, Fits, State, Lowered, Placed};
+ghost use Rattle.marks.specs.Marks.{mark, places};
+ghost use Rattle.placing.specs.UnmetCounts.{needed, AllBelow, Row, Raisable, Raised, Lowered, Fits, State, Placed};
 
-// Those that need q.
-fn needed_by(square: &[u64], w: usize, mask: &[u64], q: usize, list: &mut [u16]) -> usize
-    requires { ⌜ (q < 64 * w) × (q * w + w ≤ length (now square)) × (w ≤ length (now mask)) × (64 * w ≤ length (now list)) × (w ≤ 1000) ⌝ }
-    ensures { λ r. ⌜ ((p : ℕ) → count p (take r (now (list .exit))) ≡ one (needed (now (square .entry)) (now (mask .entry)) w p q)) × (r ≤ 64 * w) ⌝ }
+// One unmet need more for each mark of a word, counted on from `base`.
+fn raise_word(word: u64, base: usize, unmet: &mut [u16])
+    requires { ⌜ (base + 64 < 65536) × AllBelow (places 64 base word) (length (now unmet)) × Raisable (λ (p : ℕ). count p (places 64 base word)) (now unmet) ⌝ }
+    ensures { λ _. ⌜ Raised (λ (p : ℕ). count p (places 64 base word)) (now (unmet .entry)) (now (unmet .exit)) ⌝ }
 {
-    if marks::has_mark(mask, w, 0, q) {
-        return marks::list_marks(square, w, q, mask, list);
-    }
-    0
-}
-
-// One unmet need more for each of the first m of the list.
-fn raise(list: &[u16], m: usize, unmet: &mut [u16])
-    requires { ⌜ (m ≤ length (now list)) × AllBelow (take m (now list)) (length (now unmet)) × Raisable (take m (now list)) (now unmet) ⌝ }
-    ensures { λ _. ⌜ ((p : ℕ) → getD (now (unmet .exit)) p 0 ≡ getD (now (unmet .entry)) p 0 + count p (take m (now (list .entry)))) ⌝ }
-{
-    let mut i = 0;
-    while i < m {
-        let p = marks::widen(list[i]);
+    let mut x = word;
+    while x != 0 {
+        let p = base + u64::trailing_zeros(x) as usize;
         unmet[p] = unmet[p] + 1;
-        i += 1;
+        x = x & (x - 1);
     }
 }
 
-// One unmet need less.
-fn lower(list: &[u16], m: usize, w: usize, unmet: &mut [u16], ready: &mut [u64])
-    requires { ⌜ (m ≤ length (now list)) × AllBelow (take m (now list)) (length (now unmet)) × AllBelow (take m (now list)) (64 * w) ⌝ }
-    requires { ⌜ ((p : ℕ) → count p (take m (now list)) ≤ 1) × ((p : ℕ) → count p (take m (now list)) ≤ getD (now unmet) p 0) × (w ≤ length (now ready)) ⌝ }
-    ensures { λ _. ⌜ Lowered (now (list .entry)) (now (unmet .entry)) (now (ready .entry)) (now (unmet .exit)) (now (ready .exit)) m w ⌝ }
+// One unmet need more for each item that needs q.
+fn raise(square: &[u64], w: usize, mask: &[u64], q: usize, unmet: &mut [u16])
+    requires { ⌜ Row (now square) (now mask) (now unmet) w q ⌝ }
+    requires { ⌜ Raisable (λ (p : ℕ). one (needed (now square) (now mask) w p q)) (now unmet) ⌝ }
+    ensures { λ _. ⌜ Raised (λ (p : ℕ). one (needed (now (square .entry)) (now (mask .entry)) w p q)) (now (unmet .entry)) (now (unmet .exit)) ⌝ }
 {
-    let mut i = 0;
-    while i < m {
-        let p = marks::widen(list[i]);
+    if !marks::has_mark(mask, w, 0, q) {
+        return;
+    }
+    let a = q * w;
+    let mut j = 0;
+    while j < w {
+        raise_word(square[a + j] & mask[j], 64 * j, unmet);
+        j += 1;
+    }
+}
+
+// One unmet need less for each mark of a word.
+fn lower_word(word: u64, base: usize, w: usize, unmet: &mut [u16], ready: &mut [u64])
+    requires { ⌜ (base + 64 < 65536) × AllBelow (places 64 base word) (length (now unmet)) × AllBelow (places 64 base word) (64 * w) ⌝ }
+    requires { ⌜ ((p : ℕ) → count p (places 64 base word) ≤ getD (now unmet) p 0) × (w ≤ length (now ready)) ⌝ }
+    ensures { λ _. ⌜ Lowered (λ (p : ℕ). count p (places 64 base word)) (now (unmet .entry)) (now (ready .entry)) (now (unmet .exit)) (now (ready .exit)) w ⌝ }
+{
+    let mut x = word;
+    while x != 0 {
+        let p = base + u64::trailing_zeros(x) as usize;
         unmet[p] = unmet[p] - 1;
         if unmet[p] == 0 {
             marks::put_mark(ready, w, 0, p);
         }
-        i += 1;
+        x = x & (x - 1);
     }
 }
 
-// No item has an unmet need.
-pub fn clear_counts(items: &[u16], unmet: &mut [u16])
-    requires { ⌜ AllBelow (now items) (length (now unmet)) ⌝ }
-    ensures { λ _. ⌜ ((p : ℕ) → p ∈ now (items .entry) → getD (now (unmet .exit)) p 0 ≡ 0) ⌝ }
+// One unmet need less for each item that needs q.
+fn lower(square: &[u64], w: usize, mask: &[u64], q: usize, unmet: &mut [u16], ready: &mut [u64])
+    requires { ⌜ Row (now square) (now mask) (now unmet) w q ⌝ }
+    requires { ⌜ ((p : ℕ) → one (needed (now square) (now mask) w p q) ≤ getD (now unmet) p 0) × (w ≤ length (now ready)) ⌝ }
+    ensures { λ _. ⌜ Lowered (λ (p : ℕ). one (needed (now (square .entry)) (now (mask .entry)) w p q))
+        (now (unmet .entry)) (now (ready .entry)) (now (unmet .exit)) (now (ready .exit)) w ⌝ }
+{
+    if !marks::has_mark(mask, w, 0, q) {
+        return;
+    }
+    let a = q * w;
+    let mut j = 0;
+    while j < w {
+        lower_word(square[a + j] & mask[j], 64 * j, w, unmet, ready);
+        j += 1;
+    }
+}
+
+// The cells of the items become 0.
+pub fn clear_cells(items: &[u16], cells: &mut [u16])
+    requires { ⌜ AllBelow (now items) (length (now cells)) ⌝ }
+    ensures { λ _. ⌜ ((p : ℕ) → p ∈ now (items .entry) → getD (now (cells .exit)) p 0 ≡ 0) ⌝ }
 {
     let mut i = 0;
     while i < items.len() {
         let p = marks::widen(items[i]);
-        unmet[p] = 0;
+        cells[p] = 0;
         i += 1;
     }
 }
 
 // How many of the items each of them needs.
-fn count_needs(
-    items: &[u16],
-    square: &[u64],
-    w: usize,
-    mask: &[u64],
-    unmet: &mut [u16],
-    list: &mut [u16],
-)
+fn count_needs(items: &[u16], square: &[u64], w: usize, mask: &[u64], unmet: &mut [u16])
     requires { ⌜ Fits (now items) (now square) (now mask) (now unmet) w ⌝ }
-    requires { ⌜ (64 * w ≤ length (now list)) × ((p : ℕ) → p ∈ now items → getD (now unmet) p 0 ≡ 0) ⌝ }
+    requires { ⌜ ((p : ℕ) → p ∈ now items → getD (now unmet) p 0 ≡ 0) ⌝ }
     ensures { λ _. ⌜ ((p : ℕ) → p ∈ now (items .entry) → getD (now (unmet .exit)) p 0 ≡ length (filter (needed (now (square .entry)) (now (mask .entry)) w p) (now (items .entry)))) ⌝ }
 {
     let mut i = 0;
     while i < items.len() {
         let q = marks::widen(items[i]);
-        let m = needed_by(square, w, mask, q, list);
-        raise(list, m, unmet);
+        raise(square, w, mask, q, unmet);
         i += 1;
     }
 }
@@ -111,14 +127,13 @@ fn start(
     mask: &[u64],
     unmet: &mut [u16],
     ready: &mut [u64],
-    list: &mut [u16],
 )
     requires { ⌜ Fits (now items) (now square) (now mask) (now unmet) w ⌝ }
-    requires { ⌜ (64 * w ≤ length (now list)) × (w ≤ length (now ready)) ⌝ }
+    requires { ⌜ w ≤ length (now ready) ⌝ }
     ensures { λ _. ⌜ State (needed (now (square .entry)) (now (mask .entry)) w) (now (items .entry)) [] (now (unmet .exit)) (now (ready .exit)) w ⌝ }
 {
-    clear_counts(items, unmet);
-    count_needs(items, square, w, mask, unmet, list);
+    clear_cells(items, unmet);
+    count_needs(items, square, w, mask, unmet);
     marks::clear_marks(ready, w);
     mark_ready(items, w, unmet, ready);
 }
@@ -131,14 +146,13 @@ pub fn place(
     mask: &[u64],
     unmet: &mut [u16],
     ready: &mut [u64],
-    list: &mut [u16],
     order: &mut [u16],
 ) -> usize
     requires { ⌜ Fits (now items) (now square) (now mask) (now unmet) w ⌝ }
-    requires { ⌜ (64 * w ≤ length (now list)) × (w ≤ length (now ready)) × (length (now items) ≤ length (now order)) ⌝ }
+    requires { ⌜ (w ≤ length (now ready)) × (length (now items) ≤ length (now order)) ⌝ }
     ensures { λ r. ⌜ Placed (needed (now (square .entry)) (now (mask .entry)) w) (now (items .entry)) (now (order .exit)) r ⌝ }
 {
-    start(items, square, w, mask, unmet, ready, list);
+    start(items, square, w, mask, unmet, ready);
     let mut k = 0;
     while k < items.len() {
         let q = marks::first_mark(ready, w);
@@ -148,8 +162,7 @@ pub fn place(
         marks::drop_mark(ready, w, 0, q);
         order[k] = q as u16;
         k += 1;
-        let m = needed_by(square, w, mask, q, list);
-        lower(list, m, w, unmet, ready);
+        lower(square, w, mask, q, unmet, ready);
     }
     k
 }

@@ -1,124 +1,123 @@
-use mathlib.Core.Path.{_≡_, refl, sym, ap, _∙_, subst}
-use Prim.Native.Nat.{ℕ, _+_, _-_, _≤_, _<_}
+use mathlib.Core.Path.{_≡_, refl, sym, ap, _∙_}
+use mathlib.Core.Bool.{true}
+use Prim.Native.Nat.{ℕ, _+_, _-_, _*_, _≤_}
 use native.Mathlib.Omega.{arith}
 use native.Mathlib.Nat.{le-antisymm}
 use borrow.Author.Needs.{needs}
-use lib.ListN.{length, getD, take, length-set}
-use Rattle.order.specs.LabelLists.{count, _∈_}
-use Rattle.placing.proofs.Lists.{in-take, count-more, count-take-le}
-use Rattle.placing.proofs.Counts.{eq-one, raise-turn}
+use borrow.Author.Tests.{not-true, not-false}
+use lib.ListN.{length, getD}
+use Rattle.marks.specs.Marks.{mark}
+use Rattle.placing.specs.UnmetCounts.{Row}
+use Rattle.placing.proofs.Counts.{below, below-start, below-end, below-le, below-turn, in-word, needed-none}
 use Rattle.placing.proofs.raise.Statement.{statement}
 use Rattle.placing.proofs.raise.Tie as tie
 
 abbrev Inv-loop : tie.InvT-loop
-Inv-loop list m unmet₀ i₀ unmet i = (length unmet ≡ length unmet₀) × (i ≤ m) × ((p : ℕ) → getD unmet p 0 ≡ getD unmet₀ p 0 + count p (take i list))
+Inv-loop square w mask q unmet₀ a j₀ unmet j = (length unmet ≡ length unmet₀) × (j ≤ w) × ((p : ℕ) → getD unmet p 0 ≡ getD unmet₀ p 0 + below square mask w q (64 * j) p)
 
 abbrev μ-loop : tie.MeasureT-loop
-μ-loop list m unmet₀ i₀ unmet i = m - i
+μ-loop square w mask q unmet₀ a j₀ unmet j = w - j
 
--- ---- earlier places, by later ones
+abbrev entry-of : tie.Else1 Inv-loop μ-loop → tie.Start Inv-loop μ-loop
+entry-of c = c .before .before .before .before .before
 
-abbrev entry-of : tie.At-loop Inv-loop μ-loop → tie.Start Inv-loop μ-loop
-entry-of c = c .before .before .before
-
-abbrev loop-of : tie.After-widen Inv-loop μ-loop → tie.At-loop Inv-loop μ-loop
-loop-of c = c .before .before .before
-
-abbrev turn-of : tie.After-slice-known2 Inv-loop μ-loop → tie.In-loop Inv-loop μ-loop
+abbrev turn-of : tie.After-raise-word-arg Inv-loop μ-loop → tie.In-loop Inv-loop μ-loop
 turn-of c = c .before .before .before
 
--- in a turn: the label at hand is in the list
-module _ (c : tie.After-widen Inv-loop μ-loop) where
-  here :
-      let entry = entry-of (loop-of c) in
-      c .widen .result ∈ take (entry .args .m) (entry .args .list .now)
-  here =
-      let entry = entry-of (loop-of c) in
-      let loop = loop-of c .loop in
-      subst (λ (x : ℕ). x ∈ take (entry .args .m) (entry .args .list .now)) (sym (c .widen .ensures))
-      (in-take (entry .args .list .now) _ (loop .i) (c .before .before .loop-test .taken) (entry .pre .0))
+abbrev turn-from-slice-known2 : tie.After-slice-known2 Inv-loop μ-loop → tie.In-loop Inv-loop μ-loop
+turn-from-slice-known2 c = turn-of (c .before .before .before)
 
-  inside :
-      let loop = loop-of c .loop in
-      c .widen .result < length (loop .unmet)
-  inside =
-      let entry = entry-of (loop-of c) in
-      let inv = loop-of c .loop .inv in
-      omega (arith, entry .pre .1 (c .widen .result) here, inv .0)
+-- the row and the word at hand are there
+row-of : (c : tie.In-loop Inv-loop μ-loop) → Row (entry-of (c .before .before) .args .square .now) (entry-of (c .before .before) .args .mask .now)
+    (entry-of (c .before .before) .args .unmet .now) (entry-of (c .before .before) .args .w) (entry-of (c .before .before) .args .q)
+row-of c = entry-of (c .before .before) .pre .0
+
+-- q is in the mask
+masked : (c : tie.Else1 Inv-loop μ-loop) → mark (entry-of c .args .mask .now) (entry-of c .args .w) 0 (entry-of c .args .q) ≡ true
+masked c = sym (c .before .has-mark .ensures) ∙ not-false _ (c .if1 .left)
+
+has-mark-requires : tie.Need-has-mark-requires Inv-loop μ-loop
+has-mark-requires c κs =
+    let row = c .before .before .before .pre .0 in
+    (row .below, omega (arith, row .mask-room))
+
+returns : tie.Need-returns Inv-loop μ-loop
+returns c =
+    let args = c .before .before .before .before .before .args in
+    λ p. omega (arith, needed-none (args .square .now) (args .mask .now) (args .w) (args .q) (sym (c .before .has-mark .ensures) ∙ not-true _ (c .if1 .taken)) p)
+
+mul-a : tie.Need-mul-a Inv-loop μ-loop
+mul-a c =
+    let room = entry-of c .pre .0 .row in
+    search needs
 
 loop-holds : tie.Need-loop-holds Inv-loop μ-loop
-loop-holds c = (refl, omega arith, λ p. omega arith)
+loop-holds c = (refl, omega arith, λ p. omega (arith, below-start (entry-of c .args .square .now) (entry-of c .args .mask .now) (entry-of c .args .w) (entry-of c .args .q) p))
 
-mul-widen : tie.Need-mul-widen Inv-loop μ-loop
-mul-widen c = search needs
+add-raise-word : tie.Need-add-raise-word Inv-loop μ-loop
+add-raise-word c = omega (arith, row-of c .row, c .loop-test .taken)
 
-shared-slice-read-widen : tie.Need-shared-slice-read-widen Inv-loop μ-loop
-shared-slice-read-widen c =
-    let entry = entry-of (c .before .before) in
-    omega (arith, c .before .loop-test .taken, entry .pre .0)
+mul-raise-word : tie.Need-mul-raise-word Inv-loop μ-loop
+mul-raise-word c = omega (arith, row-of c .row, c .loop-test .taken)
 
-widen-requires : tie.Need-widen-requires Inv-loop μ-loop
-widen-requires c κs = search needs
+shared-slice-read-raise-word : tie.Need-shared-slice-read-raise-word Inv-loop μ-loop
+shared-slice-read-raise-word c = omega (arith, row-of (c .before) .row, c .before .loop-test .taken)
 
-mul-unmet : tie.Need-mul-unmet Inv-loop μ-loop
-mul-unmet c =
-    let loop = loop-of c .loop in
-    omega (arith, c .widen .ensures, c .before .shared-slice-known2 .given (loop .i))
+mul-raise-word-2 : tie.Need-mul-raise-word-2 Inv-loop μ-loop
+mul-raise-word-2 c = omega (arith, row-of (c .before) .narrow, c .before .loop-test .taken)
 
-slice-read-unmet : tie.Need-slice-read-unmet Inv-loop μ-loop
-slice-read-unmet c = inside (c .before)
+shared-slice-read-raise-word-2 : tie.Need-shared-slice-read-raise-word-2 Inv-loop μ-loop
+shared-slice-read-raise-word-2 c = omega (arith, row-of (c .before .before) .mask-room, c .before .before .loop-test .taken)
 
-add-unmet : tie.Need-add-unmet Inv-loop μ-loop
-add-unmet c =
-    let loop-test = turn-of c .loop-test in
-    let loop = turn-of c .before in
-    let entry = entry-of (turn-of c .before) in
-    let widen-result = c .before .widen .result in
-    let k : loop .loop .i + 1 ≤ entry .args .m = omega (arith, loop-test .taken) in
-    let h : loop .loop .i < length (entry .args .list .now) = omega (arith, entry .pre .0) in
-    omega (
-      arith,
-      loop .loop .inv .2 widen-result,
-      entry .pre .2 widen-result (here (c .before)),
-      count-more widen-result (entry .args .list .now) (loop .loop .i) h,
-      eq-one widen-result (getD (entry .args .list .now) (loop .loop .i) 0) (c .before .widen .ensures),
-      count-take-le widen-result (entry .args .list .now) (loop .loop .i + 1) (entry .args .m) k,
+mul-raise-word-3 : tie.Need-mul-raise-word-3 Inv-loop μ-loop
+mul-raise-word-3 c = omega (arith, row-of (c .before .before) .narrow, c .before .before .loop-test .taken)
+
+raise-word-requires : tie.Need-raise-word-requires Inv-loop μ-loop
+raise-word-requires c κs =
+    let turn = turn-of c in
+    let entry = entry-of (turn .before .before) in
+    let loop = turn .before .loop in
+    let row = row-of turn in (
+      omega (arith, row .narrow, turn .loop-test .taken),
+      λ p i. omega (arith, row .counted p (in-word (entry .args .square .now) (entry .args .mask .now) (entry .args .w) (entry .args .q) (loop .j) (turn .loop-test .taken) p i), loop .inv .0),
+      λ p i.
+          let n = below-turn (entry .args .square .now) (entry .args .mask .now) (entry .args .w) (entry .args .q) (loop .j) (turn .loop-test .taken) p in
+          let l = below-le (entry .args .square .now) (entry .args .mask .now) (entry .args .w) (entry .args .q) (masked (turn .before .before)) (64 * (loop .j + 1)) p in
+          omega (arith, n, l, loop .inv .2 p, entry .pre .1 p (omega (arith, n, l))),
     )
 
-mul-unmet-2 : tie.Need-mul-unmet-2 Inv-loop μ-loop
-mul-unmet-2 c =
-    let loop = turn-of c .before .loop in
-    omega (arith, c .before .widen .ensures, c .before .before .shared-slice-known2 .given (loop .i))
-
-slice-write-unmet : tie.Need-slice-write-unmet Inv-loop μ-loop
-slice-write-unmet c = inside (c .before)
-
-add-i : tie.Need-add-i Inv-loop μ-loop
-add-i c = search needs
+add-j : tie.Need-add-j Inv-loop μ-loop
+add-j c = omega (arith, row-of (turn-from-slice-known2 c) .narrow, turn-from-slice-known2 c .loop-test .taken)
 
 loop-less : tie.Need-loop-less Inv-loop μ-loop
-loop-less c = search needs
+loop-less c = omega (arith, turn-from-slice-known2 c .loop-test .taken)
 
 loop-again : tie.Need-loop-again Inv-loop μ-loop
 loop-again c =
-    let entry = entry-of (turn-of c .before) in
-    let loop-test = turn-of c .loop-test in
-    let l = turn-of c .before in (
-      length-set (l .loop .unmet) _ _ ∙ l .loop .inv .0,
-      omega (arith, loop-test .taken),
-      raise-turn (entry .args .list .now) (entry .args .unmet .now) (l .loop .unmet) (l .loop .i) _ _ (omega (arith, loop-test .taken, entry .pre .0)) (c .before .widen .ensures)
-          (inside (c .before)) refl (l .loop .inv .2),
+    let turn = turn-from-slice-known2 c in
+    let entry = entry-of (turn .before .before) in
+    let loop = turn .before .loop in
+    let raised = c .before .before .raise-word in (
+      raised .kept .1 .1 .0 ∙ loop .inv .0,
+      omega (arith, turn .loop-test .taken),
+      λ p. omega (
+        arith,
+        raised .ensures p,
+        loop .inv .2 p,
+        below-turn (entry .args .square .now) (entry .args .mask .now) (entry .args .w) (entry .args .q) (loop .j) (turn .loop-test .taken) p,
+      ),
     )
 
 same-length : tie.Need-same-length Inv-loop μ-loop
 same-length c = c .before .loop .inv .0
 
-returns : tie.Need-returns Inv-loop μ-loop
-returns c =
-    let entry = entry-of (c .before) in
-    let loop = c .before in
-    let e : loop .loop .i ≡ entry .args .m = le-antisymm (loop .loop .inv .1) (omega (arith, c .loop-test .left)) in
-    λ p. loop .loop .inv .2 p ∙ ap (λ (k : ℕ). getD (entry .args .unmet .now) p 0 + count p (take k (entry .args .list .now))) e
+returns-2 : tie.Need-returns-2 Inv-loop μ-loop
+returns-2 c =
+    let entry = entry-of (c .before .before) in
+    let loop = c .before .loop in
+    let e : loop .j ≡ entry .args .w = le-antisymm (loop .inv .1) (omega (arith, c .loop-test .left)) in
+    λ p. loop .inv .2 p ∙ ap (λ (k : ℕ). getD (entry .args .unmet .now) p 0 + k)
+    (ap (λ (j : ℕ). below (entry .args .square .now) (entry .args .mask .now) (entry .args .w) (entry .args .q) (64 * j) p) e ∙ below-end _ _ _ _ (masked (c .before .before)) p)
 
 pub raise-spec : {M : Type 1} → statement M
 raise-spec =
@@ -126,17 +125,19 @@ raise-spec =
     (tie.spec
     Inv-loop
     μ-loop
+    has-mark-requires
+    returns
+    mul-a
     loop-holds
-    mul-widen
-    shared-slice-read-widen
-    widen-requires
-    mul-unmet
-    slice-read-unmet
-    add-unmet
-    mul-unmet-2
-    slice-write-unmet
-    add-i
+    add-raise-word
+    mul-raise-word
+    shared-slice-read-raise-word
+    mul-raise-word-2
+    shared-slice-read-raise-word-2
+    mul-raise-word-3
+    raise-word-requires
+    add-j
     loop-less
     loop-again
     same-length
-    returns)
+    returns-2)

@@ -8,14 +8,14 @@ use Rattle.order.specs.LabelLists.{_∈_}
 use lib.Seq.{take-all}
 use Rattle.placing.proofs.Lists.{in-at}
 use Rattle.placing.proofs.Counts.{clear-turn}
-use Rattle.placing.proofs.clear_counts.Statement.{statement}
-use Rattle.placing.proofs.clear_counts.Tie as tie
+use Rattle.placing.proofs.clear_cells.Statement.{statement}
+use Rattle.placing.proofs.clear_cells.Tie as tie
 
 abbrev Inv-loop : tie.InvT-loop
-Inv-loop items unmet₀ i₀ unmet i = (length unmet ≡ length unmet₀) × (i ≤ length items) × ((p : ℕ) → p ∈ take i items → getD unmet p 0 ≡ 0)
+Inv-loop items cells₀ i₀ cells i = (length cells ≡ length cells₀) × (i ≤ length items) × ((p : ℕ) → p ∈ take i items → getD cells p 0 ≡ 0)
 
 abbrev μ-loop : tie.MeasureT-loop
-μ-loop items unmet₀ i₀ unmet i = length items - i
+μ-loop items cells₀ i₀ cells i = length items - i
 
 -- ---- earlier places, by later ones
 
@@ -27,7 +27,7 @@ loop-of c = c .before .before .before
 
 inside : (c : tie.After-widen Inv-loop μ-loop) →
     let loop = loop-of c .loop in
-    c .widen .result < length (loop .unmet)
+    c .widen .result < length (loop .cells)
 inside c =
     let entry = entry-of (loop-of c) in
     let loop = loop-of c .loop in
@@ -46,13 +46,13 @@ shared-slice-read-widen c = search needs
 widen-requires : tie.Need-widen-requires Inv-loop μ-loop
 widen-requires c κs = search needs
 
-mul-unmet : tie.Need-mul-unmet Inv-loop μ-loop
-mul-unmet c =
+mul-cells : tie.Need-mul-cells Inv-loop μ-loop
+mul-cells c =
     let loop = loop-of c .loop in
     omega (arith, c .widen .ensures, c .before .shared-slice-known2 .given (loop .i))
 
-slice-write-unmet : tie.Need-slice-write-unmet Inv-loop μ-loop
-slice-write-unmet c = inside c
+slice-write-cells : tie.Need-slice-write-cells Inv-loop μ-loop
+slice-write-cells c = inside c
 
 add-i : tie.Need-add-i Inv-loop μ-loop
 add-i c = search needs
@@ -64,9 +64,9 @@ loop-again : tie.Need-loop-again Inv-loop μ-loop
 loop-again c =
     let entry = entry-of (loop-of c) in
     let l = loop-of c in (
-      length-set (l .loop .unmet) _ _ ∙ l .loop .inv .0,
+      length-set (l .loop .cells) _ _ ∙ l .loop .inv .0,
       omega (arith, c .before .before .loop-test .taken),
-      clear-turn (entry .args .items .now) (l .loop .unmet) (l .loop .i) _ (c .before .before .loop-test .taken) (c .widen .ensures) (inside c) (l .loop .inv .2),
+      clear-turn (entry .args .items .now) (l .loop .cells) (l .loop .i) _ (c .before .before .loop-test .taken) (c .widen .ensures) (inside c) (l .loop .inv .2),
     )
 
 same-length : tie.Need-same-length Inv-loop μ-loop
@@ -78,8 +78,8 @@ returns c =
     let loop = c .before in
     λ p m. loop .loop .inv .2 p (subst (λ (k : List ℕ). p ∈ k) (sym (take-all (loop .loop .i) (entry .args .items .now) (omega (arith, c .loop-test .left)))) m)
 
-pub clear-counts-spec : {M : Type 1} → statement M
-clear-counts-spec =
+pub clear-cells-spec : {M : Type 1} → statement M
+clear-cells-spec =
     tie.close
     (tie.spec
     Inv-loop
@@ -88,8 +88,8 @@ clear-counts-spec =
     mul-widen
     shared-slice-read-widen
     widen-requires
-    mul-unmet
-    slice-write-unmet
+    mul-cells
+    slice-write-cells
     add-i
     loop-less
     loop-again

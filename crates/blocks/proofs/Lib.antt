@@ -2,7 +2,6 @@ pub mod Parts
 pub mod Reaching
 pub mod Steps
 pub mod Rooms
-pub mod Narrowed
 mod Rows
 pub mod Merging
 pub mod Gathering

@@ -12,7 +12,7 @@ use Rattle.order.specs.Blocks.{isLeader, leaders, blockNeeds}
 use Rattle.order.proofs.Tests.{and-left, and-right, and-intro}
 use Rattle.order.proofs.Alike.{same-test}
 use Rattle.order.proofs.Closure.{Chain, step, then}
-use Rattle.order.proofs.Blocks.{onto-needs, Tog, tog-refl, tog-sym, tog-trans, in-block, leader-once, lead-of, block-needs-of, of-block-needs}
+use Rattle.order.proofs.Blocks.{onto-needs, Tog, tog-refl, tog-sym, tog-trans, in-block, leader-once, lead-of, block-needs-of, of-block-needs, block-same, leader-same}
 use Rattle.marks.specs.Marks.{mark}
 use Rattle.placing.specs.UnmetCounts.{needed}
 use Rattle.blocks.specs.Found.{Led}
@@ -34,6 +34,12 @@ module _ (R : ℕ → ℕ → Bool) (items lead : List ℕ) (led : Led R items l
 
   pub led-head : (x : ℕ) → x ∈ items → getD lead (getD lead x 0) 0 ≡ getD lead x 0
   led-head x m = led-is (getD lead x 0) (getD lead x 0) (led-item x m) (led x m .1) (led-item x m) (tog-refl R items (getD lead x 0))
+
+-- needs that agree on the items have the same leads
+pub led-same : (R S : ℕ → ℕ → Bool) (items lead : List ℕ) → ((p q : ℕ) → p ∈ items → q ∈ items → R p q ≡ S p q) → Led R items lead → Led S items lead
+led-same R S items lead same led p m =
+    let b = getD lead p 0 in
+    (subst (λ (l : List ℕ). b ∈ l) (block-same R S items same p m) (led p m .0), sym (leader-same R S items same b (led-item R items lead led p m)) ∙ led p m .1)
 
 pub mergeable-as : (items lead s s′ : List ℕ) (w : ℕ) → length s′ ≡ length s → Mergeable items lead s w → Mergeable items lead s′ w
 mergeable-as items lead s s′ w e ok = record {

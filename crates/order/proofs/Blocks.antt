@@ -14,8 +14,9 @@ use Rattle.order.specs.Placing.{stuck}
 use Rattle.order.specs.Blocks.{together, blockOf, several, isLeader, leaders, blockNeeds, placedBlocks}
 use Rattle.order.proofs.Tests.{not-so, and-left, and-right, and-intro, or-cases, or-left, or-right}
 use Rattle.order.proofs.Lists.{mem-of, of-mem, any-true, any-none, any-intro, any-refute, in-filter, in-filter-of, count-filter-le, tally-lt}
+use Rattle.order.proofs.Alike.{filter-same, any-same}
 use Rattle.order.proofs.Placing.{Late, placed-late, not-stuck}
-use Rattle.order.proofs.Closure.{Chain, step, then, closure-exact, onto, closure-onto}
+use Rattle.order.proofs.Closure.{Chain, step, then, closure-exact, closure-same, onto, closure-onto}
 
 pub chain-on : (m : ℕ → ℕ → Bool) {a b c : ℕ} → Chain m a b → Chain m b c → Chain m a c
 chain-on m r (step t) = then r t
@@ -215,3 +216,23 @@ module _ (R : ℕ → ℕ → Bool) (items : List ℕ) where
               let lb = lead-of b mb in
               let lc = lead-of c mc in
               differ (leader-once b c (lb .0) (lc .0) (lb .1) (lc .1) (inr (r, needed-chain c b .0 (of-mem b (closure R items c) e))))
+
+-- ---- needs that agree on the items make the same blocks
+
+module _ (R S : ℕ → ℕ → Bool) (items : List ℕ) (same : (p q : ℕ) → p ∈ items → q ∈ items → R p q ≡ S p q) where
+  needed-same : (p : ℕ) → p ∈ items → closure R items p ≡ closure S items p
+  needed-same p m = closure-same R S items same p (λ q. same p q m)
+
+  pub block-same : (p : ℕ) → p ∈ items → blockOf R items p ≡ blockOf S items p
+  block-same p m = filter-same (together R items p) (together S items p) items (λ q i. rw (needed-same p m, needed-same q i))
+
+  pub leader-same : (p : ℕ) → p ∈ items → isLeader R items p ≡ isLeader S items p
+  leader-same p m = rw (block-same p m)
+
+  pub leaders-same : leaders R items ≡ leaders S items
+  leaders-same = filter-same (isLeader R items) (isLeader S items) items leader-same
+
+  pub block-needs-same : (b c : ℕ) → b ∈ items → c ∈ items → blockNeeds R items b c ≡ blockNeeds S items b c
+  block-needs-same b c mb mc = rw (block-same b mb, block-same c mc) (ap (λ (z : Bool). not (eqb b c) && z)
+      (any-same (λ p. any (R p) (blockOf S items c)) (λ p. any (S p) (blockOf S items c)) (blockOf S items b)
+      (λ p i. any-same (R p) (S p) (blockOf S items c) (λ q j. same p q (in-block S items b p i .0) (in-block S items c q j .0)))))

@@ -106,7 +106,20 @@ module _ (m : ℕ → ℕ → Bool) (all : List ℕ) where
         complete : Chain m d e → e ∈ closure m all d
         complete r = chain-in r
 
--- ---- the closure looks only at steps that lead to labels of `all`
+-- ---- the closure looks only at the first steps and at those from labels of `all`, and only where they lead to labels of `all`
+
+module _ (m w : ℕ → ℕ → Bool) (all : List ℕ) (same : (d e : ℕ) → d ∈ all → e ∈ all → m d e ≡ w d e) where
+  spread-same : (k : ℕ) (S : List ℕ) → Of m all S → spread m all k S ≡ spread w all k S
+  spread-same zero S of = refl
+  spread-same (suc k) S of = spread-same k (grow m all S) (grow-of m all S) ∙ ap (spread w all k) step
+    where
+      step : grow m all S ≡ grow w all S
+      step = filter-same (λ e. mem e S || any (λ d. m d e) S) (λ e. mem e S || any (λ d. w d e) S) all
+          (λ e i. ap (λ (b : Bool). mem e S || b) (any-same (λ d. m d e) (λ d. w d e) S (λ d j. same d e (of d j) i)))
+
+  pub closure-same : (d : ℕ) → ((e : ℕ) → e ∈ all → m d e ≡ w d e) → closure m all d ≡ closure w all d
+  closure-same d first =
+      spread-same (length all) (filter (m d) all) (λ x i. in-filter (m d) x all i .0) ∙ ap (spread w all (length all)) (filter-same (m d) (w d) all first)
 
 abbrev pub onto : (ℕ → ℕ → Bool) → List ℕ → ℕ → ℕ → Bool
 onto m all d e = m d e && mem e all
@@ -119,14 +132,5 @@ module _ (m : ℕ → ℕ → Bool) (all : List ℕ) where
       keep true = refl
       keep false = refl
 
-  spread-onto : (k : ℕ) (S : List ℕ) → spread m all k S ≡ spread (onto m all) all k S
-  spread-onto zero S = refl
-  spread-onto (suc k) S = ap (spread m all k) step ∙ spread-onto k (grow (onto m all) all S)
-    where
-      step : grow m all S ≡ grow (onto m all) all S
-      step = filter-same (λ e. mem e S || any (λ d. m d e) S) (λ e. mem e S || any (λ d. onto m all d e) S) all
-          (λ e i. ap (λ (b : Bool). mem e S || b) (any-same (λ d. m d e) (λ d. onto m all d e) S (λ d _. onto-same d e i)))
-
   pub closure-onto : (d : ℕ) → closure m all d ≡ closure (onto m all) all d
-  closure-onto d =
-      ap (spread m all (length all)) (filter-same (m d) (onto m all d) all (λ e i. onto-same d e i)) ∙ spread-onto (length all) (filter (onto m all d) all)
+  closure-onto d = closure-same m (onto m all) all (λ c e _. onto-same c e) d (onto-same d)

@@ -28,7 +28,7 @@ abbrev pub headed : List ℕ → ℕ → ℕ → Bool
 headed lead b x = eqb (getD lead x 0) b
 
 -- the block of a leader is those that it leads
-pub block-headed : (R : ℕ → ℕ → Bool) (items lead : List ℕ) → Led R items lead → (b : ℕ) → b ∈ leaders R items → filter (headed lead b) items ≡ blockOf R items b
+block-headed : (R : ℕ → ℕ → Bool) (items lead : List ℕ) → Led R items lead → (b : ℕ) → b ∈ leaders R items → filter (headed lead b) items ≡ blockOf R items b
 block-headed R items lead led b m =
     let w = lead-of R items b m in
     filter-same (headed lead b) (together R items b) items (λ x mx. same-test (headed lead b x) (together R items b x)

@@ -1,22 +1,20 @@
 -- The blocks of a Group found by rows of needs, and placed.
-use mathlib.Core.Path.{_≡_, refl, sym, ap, _∙_, subst}
+use mathlib.Core.Path.{_≡_, sym, ap, _∙_, subst}
 use mathlib.Core.List.{List}
-use mathlib.Core.Bool.{Bool, true, not, _&&_}
+use mathlib.Core.Bool.{Bool, _&&_}
 use Prim.Native.Nat.{ℕ, _+_, _-_, _*_, _≤_, _<_}
 use native.Mathlib.Omega.{arith}
-use lib.Dec.{eqb}
 use lib.IntN.{ℤ}
 use lib.ListN.{length, getD, take}
 use Rattle.cells.specs.Accepted.{Accepted}
-use Rattle.order.specs.LabelLists.{_∈_, any, joined}
-use Rattle.order.specs.Blocks.{blockOf, isLeader, leaders, blockNeeds}
+use Rattle.order.specs.LabelLists.{_∈_, joined}
+use Rattle.order.specs.Blocks.{isLeader, leaders, blockNeeds}
 use Rattle.order.specs.Order.{isMemberOf, members, needs, ordered}
-use Rattle.order.proofs.Tests.{both-ways}
 use Rattle.order.proofs.Lists.{filter-le}
 use Rattle.order.proofs.Placing.{placed-sub}
 use Rattle.order.proofs.Tables.{def-label, member-of}
-use Rattle.order.proofs.Alike.{same-test, any-same, placed-same}
-use Rattle.order.proofs.Blocks.{in-block, lead-of}
+use Rattle.order.proofs.Alike.{same-test, placed-same}
+use Rattle.order.proofs.Blocks.{lead-of, leaders-same, block-needs-same}
 use Rattle.order.proofs.BlockPlan.{ordered-lead}
 use Rattle.marks.specs.Marks.{mark}
 use Rattle.placing.specs.UnmetCounts.{Rising, AllBelow, needed, Fits, Placed}
@@ -24,9 +22,7 @@ use Rattle.reach.specs.MarkRows.{width}
 use Rattle.blocks.specs.Found.{InRows, Room, Led}
 use Rattle.blocks.specs.Merged.{Merged, Mergeable}
 use Rattle.blocks.specs.Merged as merged
-use Rattle.blocks.proofs.Narrowed.{led-narrowed}
-use Rattle.blocks.proofs.Merging.{led-item, led-head}
-use Rattle.blocks.proofs.Gathering.{heads-leaders}
+use Rattle.blocks.proofs.Merging.{led-item, led-head, led-same}
 use Rattle.groups.specs.Members.{Gathered, Items, NeedRowsFrom, NeedRowsOf, Scratch, Masked}
 use Rattle.groups.proofs.Chains.{labels-few, rising-part, rising-filter}
 use Rattle.reach.proofs.Reading.{row-room}
@@ -34,24 +30,6 @@ use Rattle.groups.proofs.Orders.{items-of, fits, needed-is}
 use Rattle.groups.specs.Opened.{expandedBlock, expanded}
 use Rattle.splitting.specs.Leaders.{LedMembers, SearchRoom, Linkable, LeaderChains, Chains, Expanded}
 use Rattle.groups.proofs.Expanded.{expanded-few, block-label}
-use Rattle.splitting.proofs.Linking.{block-headed}
-
--- ---- two tests that say the same of the items
-
-module _ (R S : ℕ → ℕ → Bool) (items lead : List ℕ) (same : (p q : ℕ) → p ∈ items → q ∈ items → R p q ≡ S p q) where
-  pub led-same : Led R items lead → Led S items lead
-  led-same = led-narrowed S R items (λ x. true) (λ x c mx mc h u. (refl, same x c mx mc ∙ h)) (λ x c mx mc h. sym (same x c mx mc) ∙ h) (λ p m u. both-ways true refl u) lead
-
-  needs-same : Led R items lead → Led S items lead → (b c : ℕ) → b ∈ leaders R items → c ∈ leaders R items → b ∈ leaders S items → c ∈ leaders S items
-      → blockNeeds R items b c ≡ blockNeeds S items b c
-  needs-same lr ls b c br cr bs cs =
-      ap (λ (l : List ℕ). not (eqb b c) && any (λ p. any (R p) (blockOf R items c)) l) (block b br bs)
-      ∙ ap (λ (l : List ℕ). not (eqb b c) && any (λ p. any (R p) l) (blockOf S items b)) (block c cr cs)
-      ∙ ap (λ (z : Bool). not (eqb b c) && z) (any-same (λ p. any (R p) (blockOf S items c)) (λ p. any (S p) (blockOf S items c)) (blockOf S items b)
-      (λ p mp. any-same (R p) (S p) (blockOf S items c) (λ q mq. same p q (in-block S items b p mp .0) (in-block S items c q mq .0))))
-    where
-      block : (b : ℕ) → b ∈ leaders R items → b ∈ leaders S items → blockOf R items b ≡ blockOf S items b
-      block b br bs = sym (block-headed R items lead lr b br) ∙ block-headed S items lead ls b bs
 
 -- ---- the members of a Group
 
@@ -206,15 +184,12 @@ module _ (t : List ℤ) (n : ℕ) (ok : Accepted t n) (g : ℕ) where
       led-q : Led Q (members t n g) lead
       led-q = led-same R Q (members t n g) lead (λ p q mp mq. sym (agree p q mp mq)) (m .led)
 
-      leaders-same : leaders R (members t n g) ≡ leaders Q (members t n g)
-      leaders-same = sym (heads-leaders R (members t n g) lead (m .led)) ∙ heads-leaders Q (members t n g) lead led-q
-
       by-rows : (b c : ℕ) → b ∈ leaders R (members t n g) → c ∈ leaders R (members t n g) → needed s′ (m .mask) (width n) c b ≡ blockNeeds R (members t n g) c b
       by-rows b c mb mc =
-          let bq = subst (λ (l : List ℕ). b ∈ l) leaders-same mb in
-          let cq = subst (λ (l : List ℕ). c ∈ l) leaders-same mc in
-          subst (λ (l : List ℕ). Merged l lead s s′ followers (width n)) (m .are) mg .needs (m .mask) led-q b c bq cq
-          ∙ needs-same Q R (members t n g) lead agree led-q (m .led) c b cq bq mc mb
+          let same = sym (leaders-same Q R (members t n g) agree) in
+          subst (λ (l : List ℕ). Merged l lead s s′ followers (width n)) (m .are) mg .needs (m .mask) led-q b c
+          (subst (λ (l : List ℕ). b ∈ l) same mb) (subst (λ (l : List ℕ). c ∈ l) same mc)
+          ∙ block-needs-same Q R (members t n g) agree c b (lead-of R (members t n g) c mc .0) (lead-of R (members t n g) b mb .0)
 
       module _ (mask : List ℕ) (masked : Masked t n (leaders R (members t n g)) mask) where
         mask-same : (b : ℕ) → b ∈ leaders R (members t n g) → mark mask (width n) 0 b ≡ mark (m .mask) (width n) 0 b

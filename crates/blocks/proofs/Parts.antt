@@ -43,9 +43,9 @@ lead-turn items lead i p v h e f l old x m = go (ℕ-discrete x p) (in-more x it
     go (no y) (inr k) = absurd (y (k ∙ sym e))
 
 -- one item more is met
-pub visited-turn : (items fresh fresh′ : List ℕ) (w i q : ℕ) → i < length items → q ≡ getD items i 0 → Kept fresh fresh′ w → mark fresh′ w 0 q ≡ false
+pub met-more : (items fresh fresh′ : List ℕ) (w i q : ℕ) → i < length items → q ≡ getD items i 0 → Kept fresh fresh′ w → mark fresh′ w 0 q ≡ false
     → ((x : ℕ) → x ∈ take i items → mark fresh w 0 x ≡ false) → (x : ℕ) → x ∈ take (i + 1) items → mark fresh′ w 0 x ≡ false
-visited-turn items fresh fresh′ w i q h e kept gone old x m = go (in-more x items i h m)
+met-more items fresh fresh′ w i q h e kept gone old x m = go (in-more x items i h m)
   where
     go : (x ∈ take i items) ⊎ (x ≡ getD items i 0) → mark fresh′ w 0 x ≡ false
     go (inl k) = kept x (old x k)

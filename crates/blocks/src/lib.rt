@@ -252,7 +252,7 @@ fn step(
     Depths(n, b, p - 1)
 }
 
-// The blocks of q and of all that need it.
+// The blocks of q and of all that need it, where q is not met yet.
 fn search(
     items: &[u16],
     square: &[u64],
@@ -270,12 +270,15 @@ fn search(
 )
     requires { ⌜ InRows (now items) (now square) (now mask) w ⌝ }
     requires { ⌜ Room (now items) (now fresh) (now stacked) (now list) (now stack) (now place) (now starts) (now path) (now lead) w ⌝ }
-    requires { ⌜ mark (now fresh) w 0 q ≡ true ⌝ }
+    requires { ⌜ q ∈ now items ⌝ }
     requires { ⌜ Going (now items) (now square) (now mask) (now fresh) (now stacked) (now stack) (now place) (now starts) (now path) (now lead) w 0 0 0 ⌝ }
     ensures { λ _. ⌜ Going (now (items .entry)) (now (square .entry)) (now (mask .entry))
         (now (fresh .exit)) (now (stacked .exit)) (now (stack .exit)) (now (place .exit)) (now (starts .exit)) (now (path .exit)) (now (lead .exit)) w 0 0 0 ⌝ }
     ensures { λ _. ⌜ Kept (now (fresh .entry)) (now (fresh .exit)) w × (mark (now (fresh .exit)) w 0 q ≡ false) ⌝ }
 {
+    if !marks::has_mark(fresh, w, 0, q) {
+        return;
+    }
     let mut n = 1;
     let mut b = push(
         square,
@@ -317,50 +320,6 @@ fn search(
     }
 }
 
-// The same, where q is not met yet.
-fn visit(
-    items: &[u16],
-    square: &[u64],
-    w: usize,
-    mask: &[u64],
-    fresh: &mut [u64],
-    stacked: &mut [u64],
-    list: &mut [u16],
-    stack: &mut [u16],
-    place: &mut [u16],
-    starts: &mut [u16],
-    path: &mut [u16],
-    lead: &mut [u16],
-    q: usize,
-)
-    requires { ⌜ InRows (now items) (now square) (now mask) w ⌝ }
-    requires { ⌜ Room (now items) (now fresh) (now stacked) (now list) (now stack) (now place) (now starts) (now path) (now lead) w ⌝ }
-    requires { ⌜ q ∈ now items ⌝ }
-    requires { ⌜ Going (now items) (now square) (now mask) (now fresh) (now stacked) (now stack) (now place) (now starts) (now path) (now lead) w 0 0 0 ⌝ }
-    ensures { λ _. ⌜ Going (now (items .entry)) (now (square .entry)) (now (mask .entry))
-        (now (fresh .exit)) (now (stacked .exit)) (now (stack .exit)) (now (place .exit)) (now (starts .exit)) (now (path .exit)) (now (lead .exit)) w 0 0 0 ⌝ }
-    ensures { λ _. ⌜ Kept (now (fresh .entry)) (now (fresh .exit)) w × (mark (now (fresh .exit)) w 0 q ≡ false) ⌝ }
-{
-    if marks::has_mark(fresh, w, 0, q) {
-        search(
-            items,
-            square,
-            w,
-            mask,
-            fresh,
-            stacked,
-            list,
-            stack,
-            place,
-            starts,
-            path,
-            lead,
-            q,
-        );
-        return;
-    }
-}
-
 // For each of the items the smallest label of its block.
 pub fn find_blocks(
     items: &[u16],
@@ -386,7 +345,7 @@ pub fn find_blocks(
     let mut i = 0;
     while i < items.len() {
         let q = marks::widen(items[i]);
-        visit(
+        search(
             items,
             square,
             w,

@@ -10,7 +10,7 @@ use Rattle.order.specs.LabelLists.{_∈_}
 use Rattle.marks.specs.Marks.{mark}
 use Rattle.placing.proofs.Lists.{in-at}
 use Rattle.blocks.specs.Search.{Search, Settled}
-use Rattle.blocks.proofs.Parts.{visited-turn}
+use Rattle.blocks.proofs.Parts.{met-more}
 use Rattle.blocks.proofs.Rooms.{Same, room-as}
 use Rattle.blocks.proofs.Steps.{search-start, settled-start, search-end}
 use Rattle.blocks.proofs.find_blocks.Statement.{statement}
@@ -40,11 +40,11 @@ start-of c = c .before .before .before .before .before .before .before .before .
 abbrev entry-of : tie.After-slice-known11 Inv-loop μ-loop → tie.Start Inv-loop μ-loop
 entry-of c = start-of (copied c .before)
 
-abbrev visit-of : tie.After-slice-known19 Inv-loop μ-loop → tie.After-visit Inv-loop μ-loop
-visit-of c = c .before .before .before .before .before .before .before .before .before .before .before .before .before .before .before .before
+abbrev search-of : tie.After-slice-known19 Inv-loop μ-loop → tie.After-search Inv-loop μ-loop
+search-of c = c .before .before .before .before .before .before .before .before .before .before .before .before .before .before .before .before
 
 abbrev widen-of : tie.After-slice-known19 Inv-loop μ-loop → tie.After-widen Inv-loop μ-loop
-widen-of c = visit-of c .before .before .before .before .before .before .before .before .before
+widen-of c = search-of c .before .before .before .before .before .before .before .before .before
 
 -- in the loop: the lists are as long as at entry
 long : (c : tie.At-loop Inv-loop μ-loop) →
@@ -98,8 +98,8 @@ shared-slice-read-widen c = search needs
 widen-requires : tie.Need-widen-requires Inv-loop μ-loop
 widen-requires c κs = search needs
 
-visit-requires : tie.Need-visit-requires Inv-loop μ-loop
-visit-requires c κs =
+search-requires : tie.Need-search-requires Inv-loop μ-loop
+search-requires c κs =
     let at = c .before .before .before .before .before .before .before .before in
     let loop = at .before .before .before in
     let e = entry-of (loop .before) in
@@ -119,22 +119,22 @@ loop-again c =
     let at = widen-of c in
     let inv = at .before .before .before .loop .inv in
     let same = inv .0 in
-    let visit = visit-of c .visit in
+    let found = search-of c .search in
     let taken = at .before .before .loop-test .taken in (
       record {
-        same-fresh = visit .kept .1 .1 .1 .1 .0 ∙ same .same-fresh;
-        same-stacked = visit .kept .1 .1 .1 .1 .1 .0 ∙ same .same-stacked;
-        same-list = visit .kept .1 .1 .1 .1 .1 .1 .0 ∙ same .same-list;
-        same-stack = visit .kept .1 .1 .1 .1 .1 .1 .1 .0 ∙ same .same-stack;
-        same-place = visit .kept .1 .1 .1 .1 .1 .1 .1 .1 .0 ∙ same .same-place;
-        same-starts = visit .kept .1 .1 .1 .1 .1 .1 .1 .1 .1 .0 ∙ same .same-starts;
-        same-path = visit .kept .1 .1 .1 .1 .1 .1 .1 .1 .1 .1 .0 ∙ same .same-path;
-        same-lead = visit .kept .1 .1 .1 .1 .1 .1 .1 .1 .1 .1 .1 .0 ∙ same .same-lead;
+        same-fresh = found .kept .1 .1 .1 .1 .0 ∙ same .same-fresh;
+        same-stacked = found .kept .1 .1 .1 .1 .1 .0 ∙ same .same-stacked;
+        same-list = found .kept .1 .1 .1 .1 .1 .1 .0 ∙ same .same-list;
+        same-stack = found .kept .1 .1 .1 .1 .1 .1 .1 .0 ∙ same .same-stack;
+        same-place = found .kept .1 .1 .1 .1 .1 .1 .1 .1 .0 ∙ same .same-place;
+        same-starts = found .kept .1 .1 .1 .1 .1 .1 .1 .1 .1 .0 ∙ same .same-starts;
+        same-path = found .kept .1 .1 .1 .1 .1 .1 .1 .1 .1 .1 .0 ∙ same .same-path;
+        same-lead = found .kept .1 .1 .1 .1 .1 .1 .1 .1 .1 .1 .1 .0 ∙ same .same-lead;
       },
-      visit .ensures .0 .0,
-      visit .ensures .0 .1,
+      found .ensures .0 .0,
+      found .ensures .0 .1,
       omega (arith, taken),
-      visited-turn _ (at .before .before .before .loop .fresh) (visit .last .1 .1 .1 .1 .0) _ _ _ taken (at .widen .ensures) (visit .ensures .1 .0) (visit .ensures .1 .1) (inv .4),
+      met-more _ (at .before .before .before .loop .fresh) (found .last .1 .1 .1 .1 .0) _ _ _ taken (at .widen .ensures) (found .ensures .1 .0) (found .ensures .1 .1) (inv .4),
     )
 
 same-length : tie.Need-same-length Inv-loop μ-loop
@@ -182,7 +182,7 @@ find-blocks-spec =
     mul-widen
     shared-slice-read-widen
     widen-requires
-    visit-requires
+    search-requires
     add-i
     loop-less
     loop-again

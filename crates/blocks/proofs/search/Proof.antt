@@ -1,7 +1,11 @@
-use mathlib.Core.Path.{_≡_, refl, _∙_}
+use mathlib.Core.Path.{_≡_, refl, sym, _∙_}
 use mathlib.Core.Logic.{inl}
+use mathlib.Core.Bool.{true}
 use Prim.Native.Nat.{_+_, _*_, _<_}
 use native.Mathlib.Omega.{arith}
+use borrow.Author.Needs.{needs}
+use borrow.Author.Tests.{not-true, not-false}
+use Rattle.marks.specs.Marks.{mark}
 use Rattle.blocks.specs.Search.{freshCount, Search, Settled, Kept}
 use Rattle.blocks.proofs.Rooms.{Same, room-as, pushable}
 use Rattle.blocks.proofs.Steps.{push-turn, search-empty}
@@ -24,14 +28,23 @@ abbrev μ-loop : tie.MeasureT-loop
 abbrev push-of : tie.After-slice-known15 Inv-loop μ-loop → tie.After-push Inv-loop μ-loop
 push-of c = c .before .before .before .before .before .before .before .before .before .before .before .before .before .before
 
-abbrev start-of : tie.After-push-arg7 Inv-loop μ-loop → tie.Start Inv-loop μ-loop
-start-of c = c .before .before .before .before .before .before .before .before .before .before .before .before .before .before .before .before .before .before
+abbrev start-of : tie.After-has-mark-arg Inv-loop μ-loop → tie.Start Inv-loop μ-loop
+start-of c = c .before .before .before .before .before .before .before .before .before .before .before .before
+
+abbrev else1-of : tie.After-push-arg7 Inv-loop μ-loop → tie.Else1 Inv-loop μ-loop
+else1-of c = c .before .before .before .before .before .before .before
 
 abbrev entry-of : tie.After-push Inv-loop μ-loop → tie.Start Inv-loop μ-loop
-entry-of c = start-of (c .before)
+entry-of c = start-of (else1-of (c .before) .before .before)
 
 abbrev step-of : tie.After-slice-known23 Inv-loop μ-loop → tie.After-step Inv-loop μ-loop
 step-of c = c .before .before .before .before .before .before .before .before .before .before .before .before .before .before .before .before
+
+-- q is not met
+unmet : (c : tie.Else1 Inv-loop μ-loop) →
+    let a = start-of (c .before .before) .args in
+    mark (a .fresh .now) (a .w) 0 (a .q) ≡ true
+unmet c = sym (c .before .has-mark .ensures) ∙ not-false _ (c .if1 .left)
 
 -- the first item is met
 module _ (c : tie.After-push Inv-loop μ-loop) where
@@ -44,7 +57,7 @@ module _ (c : tie.After-push Inv-loop μ-loop) where
       × (freshCount (a .items .now) (l .1 .1 .0) (a .w) < freshCount (a .items .now) (a .fresh .now) (a .w)) × Kept (a .fresh .now) (l .1 .1 .0) (a .w)
   pushed =
       let e = entry-of c in
-      push-turn (e .pre .0) (e .pre .1 .1 .1 .0) (e .pre .1 .1 .0) (inl refl) (c .push .ensures) (e .args .lead .now) (e .pre .1 .1 .1 .1)
+      push-turn (e .pre .0) (e .pre .1 .1 .1 .0) (unmet (else1-of (c .before))) (inl refl) (c .push .ensures) (e .args .lead .now) (e .pre .1 .1 .1 .1)
 
 -- in the loop: the lists are as long as at entry
 long : (c : tie.At-loop Inv-loop μ-loop) →
@@ -66,10 +79,21 @@ long c =
       same-lead = same .same-lead;
     }
 
+has-mark-requires : tie.Need-has-mark-requires Inv-loop μ-loop
+has-mark-requires c κs =
+    let pre = start-of c .pre in
+    (pre .0 .below _ (pre .1 .1 .0), omega (arith, pre .1 .0 .fresh-room))
+
+same-length : tie.Need-same-length Inv-loop μ-loop
+same-length c = search needs
+
+returns : tie.Need-returns Inv-loop μ-loop
+returns c = (start-of (c .before .before) .pre .1 .1 .1, (λ x f. f, sym (c .before .has-mark .ensures) ∙ not-true _ (c .if1 .taken)))
+
 push-requires : tie.Need-push-requires Inv-loop μ-loop
 push-requires c κs =
-    let e = start-of c in
-    pushable (e .pre .0) (e .pre .1 .0) (e .pre .1 .1 .1 .0) _ (e .pre .1 .1 .0)
+    let e = start-of (else1-of c .before .before) in
+    pushable (e .pre .0) (e .pre .1 .0) (e .pre .1 .1 .1 .0) _ (unmet (else1-of c))
 
 loop-holds : tie.Need-loop-holds Inv-loop μ-loop
 loop-holds c =
@@ -105,32 +129,32 @@ loop-again c =
       λ x f. step .ensures .1 .kept x (inv .3 x f),
     )
 
-same-length : tie.Need-same-length Inv-loop μ-loop
-same-length c = long (c .before) .same-fresh
-
 same-length-2 : tie.Need-same-length-2 Inv-loop μ-loop
-same-length-2 c = long (c .before) .same-stacked
+same-length-2 c = long (c .before) .same-fresh
 
 same-length-3 : tie.Need-same-length-3 Inv-loop μ-loop
-same-length-3 c = long (c .before) .same-list
+same-length-3 c = long (c .before) .same-stacked
 
 same-length-4 : tie.Need-same-length-4 Inv-loop μ-loop
-same-length-4 c = long (c .before) .same-stack
+same-length-4 c = long (c .before) .same-list
 
 same-length-5 : tie.Need-same-length-5 Inv-loop μ-loop
-same-length-5 c = long (c .before) .same-place
+same-length-5 c = long (c .before) .same-stack
 
 same-length-6 : tie.Need-same-length-6 Inv-loop μ-loop
-same-length-6 c = long (c .before) .same-starts
+same-length-6 c = long (c .before) .same-place
 
 same-length-7 : tie.Need-same-length-7 Inv-loop μ-loop
-same-length-7 c = long (c .before) .same-path
+same-length-7 c = long (c .before) .same-starts
 
 same-length-8 : tie.Need-same-length-8 Inv-loop μ-loop
-same-length-8 c = long (c .before) .same-lead
+same-length-8 c = long (c .before) .same-path
 
-returns : tie.Need-returns Inv-loop μ-loop
-returns c =
+same-length-9 : tie.Need-same-length-9 Inv-loop μ-loop
+same-length-9 c = long (c .before) .same-lead
+
+returns-2 : tie.Need-returns-2 Inv-loop μ-loop
+returns-2 c =
     let loop = c .before in
     let e = entry-of (push-of (loop .before)) in
     let z : loop .loop .p ≡ 0 = omega (arith, c .loop-test .left) in
@@ -146,12 +170,14 @@ search-spec =
     (tie.spec
     Inv-loop
     μ-loop
+    has-mark-requires
+    same-length
+    returns
     push-requires
     loop-holds
     step-requires
     loop-less
     loop-again
-    same-length
     same-length-2
     same-length-3
     same-length-4
@@ -159,4 +185,5 @@ search-spec =
     same-length-6
     same-length-7
     same-length-8
-    returns)
+    same-length-9
+    returns-2)

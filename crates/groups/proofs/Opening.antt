@@ -25,8 +25,8 @@ use Rattle.order.proofs.Tree.{up-le, within-sound, within-complete, within-up}
 use Rattle.marks.specs.Marks.{mark, Common, Rising}
 use Rattle.placing.proofs.Lists.{in-take, count-more, count-take-le}
 use Rattle.reach.specs.MarkRows.{width}
-use Rattle.groups.specs.Members.{Chain, Gathered}
-use Rattle.groups.specs.Opening.{Siblings, InOrUnder, MemberChains, ChainsCleared, AllInside, ValuesMasked}
+use Rattle.groups.specs.Members.{Chain, Gathered, MaskedBy}
+use Rattle.groups.specs.Opening.{Siblings, InOrUnder, MemberChains, ChainsCleared, AllInside}
 use Rattle.groups.proofs.Chains.{labels-few, rising-part, rising-filter, rising-same, chain-same}
 
 take-front : (k : ℕ) (a b : List ℕ) → k ≤ length a → take k (a ++ b) ≡ take k a
@@ -254,7 +254,7 @@ module _ (t : List ℤ) (n : ℕ) (ok : Accepted t n) (block : List ℕ) (s : Si
 
   -- ---- the values inside, listed upward
 
-  module _ (items mask list : List ℕ) (k r : ℕ) (g : AllInside t block items k) (masked : ValuesMasked t n (take (k - 0) items) mask)
+  module _ (items mask list : List ℕ) (k r : ℕ) (g : AllInside t block items k) (masked : MaskedBy t n false (take (k - 0) items) mask)
       (marks : Common mask mask (width n) 0 list r) (rising : Rising (take r list)) where
     counts-same : (q : ℕ) → count q (take r list) ≡ count q (filter inside (values t n))
     counts-same q = marks q ∙ go (so-or-not (isV t q)) (so-or-not (inside q))

@@ -1,6 +1,6 @@
 -- The rule of placing over a Group's members and over the values: what `place` asks, and what it gives.
 use mathlib.Core.Path.{_≡_, refl, sym, ap, _∙_, subst}
-use mathlib.Core.Logic.{_⊎_, inl, inr, _↔_}
+use mathlib.Core.Logic.{_⊎_, inl, inr}
 use mathlib.Core.List.{List}
 use mathlib.Core.Bool.{Bool, true, false, and-true, and-false}
 use Prim.Native.Nat.{ℕ, _+_, _-_, _*_, _≤_, _<_}
@@ -29,7 +29,7 @@ use Rattle.placing.proofs.Lists.{count-more, in-more, rising-once}
 use Rattle.reach.specs.MarkRows.{width}
 use Rattle.reach.proofs.Reading.{row-room}
 use Rattle.needs.specs.Needs.{Holder}
-use Rattle.groups.specs.Members.{Chain, WalkableChain, Gathered, Items, NeedRowsFrom, NeedRowsOf, Scratch, Masked}
+use Rattle.groups.specs.Members.{Chain, WalkableChain, Gathered, Items, NeedRowsFrom, NeedRowsOf, Scratch, isMasked, MaskedBy}
 use Rattle.groups.proofs.Chains.{rising-part, rising-filter}
 
 -- ---- the part of a buffer that holds the items
@@ -64,7 +64,7 @@ module _ (t : List ℤ) (n : ℕ) (ok : Accepted t n) where
   -- ---- what `place` asks, and what it gives
 
   module _ (items : List ℕ) (h : Items t items) where
-    pub item-label : (p : ℕ) → p ∈ items → (1 ≤ p) × (p ≤ n)
+    item-label : (p : ℕ) → p ∈ items → (1 ≤ p) × (p ≤ n)
     item-label p m = def-label t n ok p (h .defs p m)
 
     pub items-few : length items ≤ n
@@ -76,7 +76,7 @@ module _ (t : List ℤ) (n : ℕ) (ok : Accepted t n) where
         at x (inl e) = omega arith
         at x (inr m) = let b = item-label x m in omega (arith, rising-once items (h .rising) x, in-labels t n ok x (b .0) (b .1))
 
-    module _ (mask square : List ℕ) (masked : Masked t n items mask) where
+    module _ (mask square : List ℕ) (masked : MaskedBy t n true items mask) where
       pub fits : (unmet : List ℕ) → (n + 1) * width n ≤ length square → n < length unmet → width n ≤ length mask → Fits items square mask unmet (width n)
       fits unmet room counts wide = record {
         rising = h .rising;
@@ -185,15 +185,17 @@ scratch-as n a b c d e a′ b′ c′ d′ e′ p q r s u h = record {
   orders = omega (arith, h .orders);
 }
 
--- ---- the mask of the items that are so, item by item
+-- ---- the mask, item by item
 
-module _ (So : ℕ → Type 0) (n : ℕ) (items mask : List ℕ) (i p : ℕ) (is : p ≡ getD items i 0) (hi : i < length items)
-    (old : (x : ℕ) → (mark mask (width n) 0 x ≡ true) ↔ ((x ∈ take i items) × So x)) where
+module _ (t : List ℤ) (n : ℕ) (groups : Bool) (items mask : List ℕ) (i p : ℕ) (is : p ≡ getD items i 0) (hi : i < length items) (old : MaskedBy t n groups (take i items) mask) where
+  abbrev So : ℕ → Type 0
+  So x = isMasked t groups x ≡ true
+
   more : (x : ℕ) → x ∈ take i items → x ∈ take (i + 1) items
   more x m = omega (arith, count-more x items i hi)
 
-  pub mask-put : p < 64 * width n → So p → (mask′ : List ℕ) → Added (λ (b : ℕ). b ≡ p) mask mask′ (width n) 0
-      → (x : ℕ) → (mark mask′ (width n) 0 x ≡ true) ↔ ((x ∈ take (i + 1) items) × So x)
+  pub mask-put : p < 64 * width n → isMasked t groups p ≡ true → (mask′ : List ℕ) → Added (λ (b : ℕ). b ≡ p) mask mask′ (width n) 0
+      → MaskedBy t n groups (take (i + 1) items) mask′
   mask-put low h mask′ add x = (λ m. there (add .only x m), λ y. back y (in-more x items i hi (y .0)))
     where
       there : (mark mask (width n) 0 x ≡ true) ⊎ (x ≡ p) → (x ∈ take (i + 1) items) × So x
@@ -204,9 +206,9 @@ module _ (So : ℕ → Type 0) (n : ℕ) (items mask : List ℕ) (i p : ℕ) (is
       back y (inl m) = add .kept x (old x .1 (m, y .1))
       back y (inr m) = let q : x ≡ p = m ∙ sym is in add .new x (omega arith) q
 
-  pub mask-skip : (So p → ⊥) → (x : ℕ) → (mark mask (width n) 0 x ≡ true) ↔ ((x ∈ take (i + 1) items) × So x)
+  pub mask-skip : isMasked t groups p ≡ false → MaskedBy t n groups (take (i + 1) items) mask
   mask-skip f x = (λ m. let o = old x .0 m in (more x (o .0), o .1), λ y. back y (in-more x items i hi (y .0)))
     where
       back : (x ∈ take (i + 1) items) × So x → (x ∈ take i items) ⊎ (x ≡ getD items i 0) → mark mask (width n) 0 x ≡ true
       back y (inl m) = old x .1 (m, y .1)
-      back y (inr m) = absurd (f (subst So (m ∙ sym is) (y .1)))
+      back y (inr m) = both-ways (isMasked t groups p) (subst So (m ∙ sym is) (y .1)) f

@@ -3,13 +3,14 @@
 use mathlib.Core.Path.{_≡_}
 use mathlib.Core.Logic.{_↔_}
 use mathlib.Core.List.{List, [], _∷_}
-use mathlib.Core.Bool.{true}
+use mathlib.Core.Bool.{Bool, true, false}
 use Prim.Native.Nat.{ℕ, _+_, _*_, _≤_, _<_}
 use lib.IntN.{ℤ}
 use lib.ListN.{length, getD, take}
-use Rattle.cells.specs.Table.{isDefinition, owner}
+use Rattle.kinds.specs.GivesValues.{givesValues}
+use Rattle.cells.specs.Table.{kind, isDefinition, owner}
 use Rattle.order.specs.LabelLists.{_∈_}
-use Rattle.order.specs.Order.{members, needs}
+use Rattle.order.specs.Order.{isV, members, needs}
 use Rattle.marks.specs.Marks.{mark}
 use Rattle.needs.specs.Needs.{Holder}
 use Rattle.placing.specs.UnmetCounts.{Rising}
@@ -57,9 +58,14 @@ pub record Scratch (n : ℕ) (mask unmet ready list order : List ℕ) : Type 0 w
   pub lists : 64 * width n ≤ length list
   pub orders : n < length order
 
--- the mask has the Groups and values among the items
-abbrev pub Masked : List ℤ → ℕ → List ℕ → List ℕ → Type 0
-Masked t n items mask = (p : ℕ) → (mark mask (width n) 0 p ≡ true) ↔ ((p ∈ items) × Holder t p)
+-- a value, or a Group if those are wanted too
+abbrev pub isMasked : List ℤ → Bool → ℕ → Bool
+isMasked t true p = givesValues (kind t p)
+isMasked t false p = isV t p
+
+-- the mask has those among the items
+abbrev pub MaskedBy : List ℤ → ℕ → Bool → List ℕ → List ℕ → Type 0
+MaskedBy t n groups items mask = (p : ℕ) → (mark mask (width n) 0 p ≡ true) ↔ ((p ∈ items) × (isMasked t groups p ≡ true))
 
 -- Group g's chain has become l, and no cell changed but those of the Group and of l
 pub record Relinked (n g : ℕ) (l next next′ : List ℕ) : Type 0 where

@@ -1,7 +1,6 @@
 -- A block of several is opened: all definitions that are in it or under it are gathered, and their chains are cleared, since they are
 -- not listed by themselves.
 use mathlib.Core.Path.{_≡_}
-use mathlib.Core.Logic.{_↔_}
 use mathlib.Core.List.{List}
 use mathlib.Core.Bool.{true}
 use Prim.Native.Nat.{ℕ, _≤_}
@@ -9,9 +8,7 @@ use lib.IntN.{ℤ}
 use lib.ListN.{length, getD, take}
 use Rattle.cells.specs.Table.{isDefinition, owner}
 use Rattle.order.specs.LabelLists.{one, count, _∈_, any}
-use Rattle.order.specs.Order.{isV, members, within}
-use Rattle.marks.specs.Marks.{mark}
-use Rattle.reach.specs.MarkRows.{width}
+use Rattle.order.specs.Order.{members, within}
 use Rattle.groups.specs.Members.{Chain}
 
 -- definitions of one Group, each once
@@ -39,7 +36,3 @@ pub record AllInside (t : List ℤ) (block items : List ℕ) (r : ℕ) : Type 0 
   pub counts : (v : ℕ) → isDefinition t v ≡ true → count v (take r items) ≡ one (any (λ p. within t p v) block)
   pub defs : (v : ℕ) → v ∈ take r items → isDefinition t v ≡ true
   pub within : r ≤ length items
-
--- the mask has the values among the items
-abbrev pub ValuesMasked : List ℤ → ℕ → List ℕ → List ℕ → Type 0
-ValuesMasked t n items mask = (p : ℕ) → (mark mask (width n) 0 p ≡ true) ↔ ((p ∈ items) × (isV t p ≡ true))

@@ -13,9 +13,9 @@ ghost use Rattle.order.specs.Order.{members, reaches, needs, memberBlock, block
 ghost use Rattle.reach.specs.MarkRows.{width};
 ghost use Rattle.reach.specs.Chains.{Empty};
 ghost use Rattle.placing.specs.UnmetCounts.{Placed};
-ghost use Rattle.groups.specs.Members.{Chain, Chained, WalkableChain, Gathered, Items, NeedRowsFrom, NeedRowsOf, Scratch, Masked, Relinked};
+ghost use Rattle.groups.specs.Members.{Chain, Chained, WalkableChain, Gathered, Items, NeedRowsFrom, NeedRowsOf, Scratch, isMasked, MaskedBy, Relinked};
 ghost use Rattle.groups.specs.Opened.{Progress, GroupOrder, GroupOrders};
-ghost use Rattle.groups.specs.Opening.{Siblings, MemberChains, ChainsCleared, AllInside, ValuesMasked};
+ghost use Rattle.groups.specs.Opening.{Siblings, MemberChains, ChainsCleared, AllInside};
 
 // ---- members
 
@@ -54,18 +54,30 @@ pub fn append_chain(n: usize, next: &[u16], label: usize, items: &mut [u16], at:
 
 // ---- orders
 
-// The mask of what has values in it: functions need nothing and are not needed.
-pub fn mask_items(table: &[i64], n: usize, items: &[u16], mask: &mut [u64])
+// Whether a mask takes p: a value, or a Group if those are wanted too.
+fn is_masked(table: &[i64], n: usize, p: usize, groups: bool) -> bool
     requires { ⌜ Accepted (now table) n ⌝ }
-    requires { ⌜ Items (now table) (now items) × (width n ≤ length (now mask)) ⌝ }
-    ensures { λ _. ⌜ Masked (now (table .entry)) n (now (items .entry)) (now (mask .exit)) ⌝ }
+    requires { ⌜ (1 ≤ p) × (p ≤ n) ⌝ }
+    ensures { λ r. ⌜ r ≡ isMasked (now (table .entry)) groups p ⌝ }
+{
+    if groups {
+        return reach::gives_values(table, n, p);
+    }
+    reach::kind_of(table, n, p) == kinds::VALUE
+}
+
+// The mask of the values among the items, and of the Groups if wanted. Functions are in none: they need nothing and are not needed.
+pub fn mask_items(table: &[i64], n: usize, items: &[u16], groups: bool, mask: &mut [u64])
+    requires { ⌜ Accepted (now table) n ⌝ }
+    requires { ⌜ ((p : ℕ) → p ∈ now items → isDefinition (now table) p ≡ true) × (width n ≤ length (now mask)) ⌝ }
+    ensures { λ _. ⌜ MaskedBy (now (table .entry)) n groups (now (items .entry)) (now (mask .exit)) ⌝ }
 {
     let w = n / 64 + 1;
     marks::clear_marks(mask, w);
     let mut i = 0;
     while i < items.len() {
         let p = marks::widen(items[i]);
-        if reach::gives_values(table, n, p) {
+        if is_masked(table, n, p, groups) {
             marks::put_mark(mask, w, 0, p);
         }
         i += 1;
@@ -90,7 +102,7 @@ pub fn place_items(
     requires { ⌜ Scratch n (now mask) (now unmet) (now ready) (now list) (now order) ⌝ }
     ensures { λ r. ⌜ Placed (needs (now (table .entry)) n) (now (items .entry)) (now (order .exit)) r ⌝ }
 {
-    mask_items(table, n, items, mask);
+    mask_items(table, n, items, true, mask);
     placing::place(items, square, n / 64 + 1, mask, unmet, ready, list, order)
 }
 
@@ -216,24 +228,6 @@ fn open_members(table: &[i64], n: usize, next: &mut [u16], items: &mut [u16], m:
     k
 }
 
-// The mask of the values among the items.
-fn mask_values(table: &[i64], n: usize, items: &[u16], mask: &mut [u64])
-    requires { ⌜ Accepted (now table) n ⌝ }
-    requires { ⌜ ((p : ℕ) → p ∈ now items → isDefinition (now table) p ≡ true) × (width n ≤ length (now mask)) ⌝ }
-    ensures { λ _. ⌜ ValuesMasked (now (table .entry)) n (now (items .entry)) (now (mask .exit)) ⌝ }
-{
-    let w = n / 64 + 1;
-    marks::clear_marks(mask, w);
-    let mut i = 0;
-    while i < items.len() {
-        let p = marks::widen(items[i]);
-        if reach::kind_of(table, n, p) == kinds::VALUE {
-            marks::put_mark(mask, w, 0, p);
-        }
-        i += 1;
-    }
-}
-
 // Puts the values in a block or under it in front of the items, smaller labels first, and clears the chains in it. Answers how many.
 fn gather_block(
     table: &[i64],
@@ -253,7 +247,7 @@ fn gather_block(
 {
     let m = append_chain(n, links, b, items, 0);
     let k = open_members(table, n, next, items, m);
-    mask_values(table, n, &items[0..k], mask);
+    mask_items(table, n, &items[0..k], false, mask);
     marks::list_marks(mask, n / 64 + 1, 0, mask, items)
 }
 

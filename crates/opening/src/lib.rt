@@ -54,7 +54,7 @@ fn order_blocks(
     let w = n / 64 + 1;
     blocks::merge_blocks(items, lead, square, w, followers, list);
     let k = blocks::gather_leaders(items, lead, heads);
-    groups::mask_items(table, n, &heads[0..k], mask);
+    groups::mask_items(table, n, &heads[0..k], true, mask);
     placing::place(&heads[0..k], square, w, mask, unmet, ready, list, order)
 }
 

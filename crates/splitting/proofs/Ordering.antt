@@ -23,7 +23,7 @@ use Rattle.blocks.specs.Found.{InRows, Room, Led}
 use Rattle.blocks.specs.Merged.{Merged, Mergeable}
 use Rattle.blocks.specs.Merged as merged
 use Rattle.blocks.proofs.Merging.{led-item, led-head, led-same}
-use Rattle.groups.specs.Members.{Gathered, Items, NeedRowsFrom, NeedRowsOf, Scratch, Masked}
+use Rattle.groups.specs.Members.{Gathered, Items, NeedRowsFrom, NeedRowsOf, Scratch, MaskedBy}
 use Rattle.groups.proofs.Chains.{labels-few, rising-part, rising-filter}
 use Rattle.reach.proofs.Reading.{row-room}
 use Rattle.groups.proofs.Orders.{items-of, fits, needed-is}
@@ -60,7 +60,7 @@ module _ (t : List ℤ) (n : ℕ) (ok : Accepted t n) (g : ℕ) where
 
   -- ---- what the search asks, and what it finds
 
-  pub members-in-rows : (square mask : List ℕ) → (n + 1) * width n ≤ length square → width n ≤ length mask → Masked t n (members t n g) mask
+  pub members-in-rows : (square mask : List ℕ) → (n + 1) * width n ≤ length square → width n ≤ length mask → MaskedBy t n true (members t n g) mask
       → InRows (members t n g) square mask (width n)
   members-in-rows square mask room wide masked = record {
     rising = all-items .rising;
@@ -87,7 +87,7 @@ module _ (t : List ℤ) (n : ℕ) (ok : Accepted t n) (g : ℕ) where
         leads-room = λ p m. omega (arith, label p m, r .lead-room);
       }
 
-  pub found-led : (square mask lead : List ℕ) → NeedRowsFrom t n g square → Masked t n (members t n g) mask → Led (needed square mask (width n)) (members t n g) lead
+  pub found-led : (square mask lead : List ℕ) → NeedRowsFrom t n g square → MaskedBy t n true (members t n g) mask → Led (needed square mask (width n)) (members t n g) lead
       → Led (needs t n) (members t n g) lead
   found-led square mask lead rows masked =
       led-same (needed square mask (width n)) R (members t n g) lead (needed-is t n ok (members t n g) all-items mask square masked (rows-of square rows))
@@ -96,20 +96,20 @@ module _ (t : List ℤ) (n : ℕ) (ok : Accepted t n) (g : ℕ) where
     is : take (m - 0) items ≡ members t n g
     is = items-of (members t n g) items m ga
 
-    pub find-asks : (square mask : List ℕ) → (n + 1) * width n ≤ length square → width n ≤ length mask → Masked t n (take (m - 0) items) mask
+    pub find-asks : (square mask : List ℕ) → (n + 1) * width n ≤ length square → width n ≤ length mask → MaskedBy t n true (take (m - 0) items) mask
         → InRows (take (m - 0) items) square mask (width n)
     find-asks square mask room wide masked =
-        subst (λ (l : List ℕ). InRows l square mask (width n)) (sym is) (members-in-rows square mask room wide (subst (λ (l : List ℕ). Masked t n l mask) is masked))
+        subst (λ (l : List ℕ). InRows l square mask (width n)) (sym is) (members-in-rows square mask room wide (subst (λ (l : List ℕ). MaskedBy t n true l mask) is masked))
 
     pub find-room : (mask unmet ready list order stacked stack path lead : List ℕ) → Scratch n mask unmet ready list order → SearchRoom n stacked stack path lead
         → Room (take (m - 0) items) ready stacked list stack unmet order path lead (width n)
     find-room mask unmet ready list order stacked stack path lead s r =
         subst (λ (l : List ℕ). Room l ready stacked list stack unmet order path lead (width n)) (sym is) (search-room mask unmet ready list order stacked stack path lead s r)
 
-    pub find-gives : (square mask lead : List ℕ) → NeedRowsFrom t n g square → Masked t n (take (m - 0) items) mask
+    pub find-gives : (square mask lead : List ℕ) → NeedRowsFrom t n g square → MaskedBy t n true (take (m - 0) items) mask
         → Led (needed square mask (width n)) (take (m - 0) items) lead → LedMembers t n g (take m items) lead
     find-gives square mask lead rows masked led =
-        let k = subst (λ (l : List ℕ). Masked t n l mask) is masked in
+        let k = subst (λ (l : List ℕ). MaskedBy t n true l mask) is masked in
         record {
           are = ga .cells;
           led = found-led square mask lead rows k (subst (λ (l : List ℕ). Led (needed square mask (width n)) l lead) is led);
@@ -166,7 +166,7 @@ module _ (t : List ℤ) (n : ℕ) (ok : Accepted t n) (g : ℕ) where
       pub heads-few : length (take (k - 0) out) ≤ n
       heads-few = omega (arith, ap length (leaders-are out k h), filter-le (isLeader R (members t n g)) (members t n g), labels-few (isMemberOf t g) n)
 
-      pub heads-fit : (square mask unmet : List ℕ) → Masked t n (take (k - 0) out) mask → (n + 1) * width n ≤ length square → n < length unmet → width n ≤ length mask
+      pub heads-fit : (square mask unmet : List ℕ) → MaskedBy t n true (take (k - 0) out) mask → (n + 1) * width n ≤ length square → n < length unmet → width n ≤ length mask
           → Fits (take (k - 0) out) square mask unmet (width n)
       heads-fit square mask unmet masked room counts wide = fits t n ok (take (k - 0) out) heads-items mask square masked unmet room counts wide
 
@@ -191,7 +191,7 @@ module _ (t : List ℤ) (n : ℕ) (ok : Accepted t n) (g : ℕ) where
           (subst (λ (l : List ℕ). b ∈ l) same mb) (subst (λ (l : List ℕ). c ∈ l) same mc)
           ∙ block-needs-same Q R (members t n g) agree c b (lead-of R (members t n g) c mc .0) (lead-of R (members t n g) b mb .0)
 
-      module _ (mask : List ℕ) (masked : Masked t n (leaders R (members t n g)) mask) where
+      module _ (mask : List ℕ) (masked : MaskedBy t n true (leaders R (members t n g)) mask) where
         mask-same : (b : ℕ) → b ∈ leaders R (members t n g) → mark mask (width n) 0 b ≡ mark (m .mask) (width n) 0 b
         mask-same b mb = same-test (mark mask (width n) 0 b) (mark (m .mask) (width n) 0 b)
             (λ h. m .masked b .1 (lead-of R (members t n g) b mb .0, masked b .0 h .1))
@@ -208,11 +208,11 @@ module _ (t : List ℤ) (n : ℕ) (ok : Accepted t n) (g : ℕ) where
           within = omega (arith, pl .within, filter-le (isLeader R (members t n g)) (members t n g), labels-few (isMemberOf t g) n);
         }
 
-      pub heads-placed : (out mask order : List ℕ) (k r : ℕ) → merged.LeadersGathered L lead out k → Masked t n (take (k - 0) out) mask → n < length order
+      pub heads-placed : (out mask order : List ℕ) (k r : ℕ) → merged.LeadersGathered L lead out k → MaskedBy t n true (take (k - 0) out) mask → n < length order
           → Placed (needed s′ mask (width n)) (take (k - 0) out) order r → Gathered (ordered t n g) order r
       heads-placed out mask order k r h masked room pl =
           let e = leaders-are out k h in
-          blocks-placed mask (subst (λ (l : List ℕ). Masked t n l mask) e masked) order r room (subst (λ (l : List ℕ). Placed (needed s′ mask (width n)) l order r) e pl)
+          blocks-placed mask (subst (λ (l : List ℕ). MaskedBy t n true l mask) e masked) order r room (subst (λ (l : List ℕ). Placed (needed s′ mask (width n)) l order r) e pl)
 
   -- ---- the chains of the blocks, in the order of the blocks
 

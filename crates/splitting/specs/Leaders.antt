@@ -1,7 +1,7 @@
 -- The blocks of a Group's members, as `open_group` holds them: the lead of each member, and a chain for each leader.
 use mathlib.Core.Path.{_≡_}
 use mathlib.Core.List.{List}
-use mathlib.Core.Bool.{Bool, not, _&&_}
+use mathlib.Core.Bool.{Bool, true, not, _&&_}
 use lib.Dec.{eqb}
 use Prim.Native.Nat.{ℕ, _+_, _*_, _≤_, _<_}
 use lib.IntN.{ℤ}
@@ -13,7 +13,7 @@ use Rattle.reach.specs.MarkRows.{width}
 use Rattle.placing.specs.UnmetCounts.{Rising, AllBelow}
 use Rattle.blocks.specs.Found.{Led}
 use Rattle.blocks.specs.Merged.{heads}
-use Rattle.groups.specs.Members.{Chain, Gathered, Masked}
+use Rattle.groups.specs.Members.{Chain, Gathered, MaskedBy}
 use Rattle.groups.specs.Opened.{expandedBlock}
 
 -- the items are g's members, each one's lead is the smallest label of its block, and there is a mask of those that hold values
@@ -21,7 +21,7 @@ pub record LedMembers (t : List ℤ) (n g : ℕ) (items lead : List ℕ) : Type 
   pub are : items ≡ members t n g
   pub led : Led (needs t n) (members t n g) lead
   pub mask : List ℕ
-  pub masked : Masked t n (members t n g) mask
+  pub masked : MaskedBy t n true (members t n g) mask
 
 -- what the search for blocks of n labels is lent beside the room for placing; the stack serves for a row of marks listed, too
 pub record SearchRoom (n : ℕ) (stacked stack path lead : List ℕ) : Type 0 where

@@ -38,7 +38,7 @@ fn find_leads(
     ensures { λ r. ⌜ (r ≤ length (now (items .exit))) × LedMembers (now (table .entry)) n group (take r (now (items .exit))) (now (lead .exit)) ⌝ }
 {
     let m = groups::append_chain(n, next, group, items, 0);
-    groups::mask_items(table, n, &items[0..m], mask);
+    groups::mask_items(table, n, &items[0..m], true, mask);
     blocks::find_blocks(
         &items[0..m],
         square,

@@ -21,10 +21,10 @@ entry-of c = c .before .before .before .before .before
 abbrev chain-of : tie.After-open-members-arg2 → tie.After-append-chain
 chain-of c = c .before .before .before .before
 
-abbrev opened-of : tie.After-mask-values-arg2 → tie.After-open-members
+abbrev opened-of : tie.After-mask-items-arg2 → tie.After-open-members
 opened-of c = c .before .before .before .before .before .before .before
 
-abbrev masked-of : tie.After-list-marks-arg2 → tie.After-mask-values
+abbrev masked-of : tie.After-list-marks-arg2 → tie.After-mask-items
 masked-of c = c .before .before .before .before
 
 abbrev listed-of : tie.After-slice-known8 → tie.After-list-marks
@@ -72,17 +72,17 @@ open-members-requires c κs =
       ),
     )
 
-sub-mask-values : tie.Need-sub-mask-values
-sub-mask-values c = search needs
+sub-mask-items : tie.Need-sub-mask-items
+sub-mask-items c = search needs
 
-part-mask-values-start : tie.Need-part-mask-values-start
-part-mask-values-start c = omega arith
+part-mask-items-start : tie.Need-part-mask-items-start
+part-mask-items-start c = omega arith
 
-part-mask-values-end : tie.Need-part-mask-values-end
-part-mask-values-end c = opened (c .before .before .before .before .before) .0 .within
+part-mask-items-end : tie.Need-part-mask-items-end
+part-mask-items-end c = opened (c .before .before .before .before .before) .0 .within
 
-mask-values-requires : tie.Need-mask-values-requires
-mask-values-requires c κs =
+mask-items-requires : tie.Need-mask-items-requires
+mask-items-requires c κs =
     let at = opened-of c in
     let p = entry-of (chain-of (at .before) .before) .pre in
     let z : at .open-members .result - 0 ≡ at .open-members .result = omega arith in
@@ -95,7 +95,7 @@ list-marks-requires : tie.Need-list-marks-requires
 list-marks-requires c κs =
     let at = opened-of (masked-of c .before) in
     let p = entry-of (chain-of (at .before) .before) .pre in
-    let m = masked-of c .mask-values .kept .1 .1 .1 .0 in (
+    let m = masked-of c .mask-items .kept .1 .1 .1 .1 .0 in (
       omega (arith, m, p .1 .0 .4),
       omega (arith, m, p .1 .0 .4),
       omega (arith, at .open-members .kept .1 .1 .1 .0, chain-of (at .before) .append-chain .kept .1 .1 .1 .0, p .1 .0 .3),
@@ -111,7 +111,7 @@ same-length-2 c =
     listed-of c .list-marks .kept .1 .1 .1 .1 .0 ∙ at .open-members .kept .1 .1 .1 .0 ∙ chain-of (at .before) .append-chain .kept .1 .1 .1 .0
 
 same-length-3 : tie.Need-same-length-3
-same-length-3 c = masked-of (listed-of c .before) .mask-values .kept .1 .1 .1 .0
+same-length-3 c = masked-of (listed-of c .before) .mask-items .kept .1 .1 .1 .1 .0
 
 returns : tie.Need-returns
 returns c =
@@ -119,7 +119,7 @@ returns c =
     let entry = entry-of (chain-of (at .before) .before) in
     let p = entry .pre in
     let marks = listed-of c .list-marks in (
-      values-listed _ _ (p .0) _ (block-siblings _ _ (p .0) (entry .args .group) (entry .args .b)) _ _ _ _ _ (opened at .0) (masked-of (listed-of c .before) .mask-values .ensures)
+      values-listed _ _ (p .0) _ (block-siblings _ _ (p .0) (entry .args .group) (entry .args .b)) _ _ _ _ _ (opened at .0) (masked-of (listed-of c .before) .mask-items .ensures)
           (marks .ensures .0) (marks .ensures .2)
           (omega (arith, marks .ensures .1, marks .kept .1 .1 .1 .1 .0, at .open-members .kept .1 .1 .1 .0, chain-of (at .before) .append-chain .kept .1 .1 .1 .0, p .1 .0 .3)),
       opened at .1,
@@ -131,10 +131,10 @@ gather-block-spec =
     (tie.spec
     append-chain-requires
     open-members-requires
-    sub-mask-values
-    part-mask-values-start
-    part-mask-values-end
-    mask-values-requires
+    sub-mask-items
+    part-mask-items-start
+    part-mask-items-end
+    mask-items-requires
     add-list-marks
     list-marks-requires
     same-length

@@ -1,26 +1,25 @@
 use mathlib.Core.Path.{_≡_, refl, sym, _∙_, subst}
-use mathlib.Core.Logic.{⊎-elim, _↔_}
+use mathlib.Core.Logic.{⊎-elim}
 use mathlib.Core.List.{List}
-use mathlib.Core.Bool.{true}
-use Prim.Native.Nat.{ℕ, _+_, _-_, _/_, _≤_}
+use Prim.Native.Nat.{ℕ, _-_, _≤_}
 use native.Mathlib.Omega.{arith}
 use borrow.Author.Needs.{needs}
 use lib.ListN.{length, take}
 use Rattle.order.specs.LabelLists.{_∈_}
 use lib.Seq.{take-all}
-use Rattle.marks.specs.Marks.{mark}
 use Rattle.order.proofs.Tests.{both-ways}
-use Rattle.needs.specs.Needs.{Holder}
+use Rattle.order.proofs.Tables.{def-label}
 use Rattle.placing.proofs.Lists.{in-at}
-use Rattle.groups.proofs.Orders.{item-label, mask-put, mask-skip}
+use Rattle.groups.specs.Members.{MaskedBy}
+use Rattle.groups.proofs.Orders.{mask-put, mask-skip}
 use Rattle.groups.proofs.mask_items.Statement.{statement}
 use Rattle.groups.proofs.mask_items.Tie as tie
 
 abbrev Inv-loop : tie.InvT-loop
-Inv-loop table n items mask₀ w i₀ mask i = (length mask ≡ length mask₀) × (i ≤ length items) × ((p : ℕ) → (mark mask w 0 p ≡ true) ↔ ((p ∈ take i items) × Holder table p))
+Inv-loop table n items groups mask₀ w i₀ mask i = (length mask ≡ length mask₀) × (i ≤ length items) × MaskedBy table n groups (take i items) mask
 
 abbrev μ-loop : tie.MeasureT-loop
-μ-loop table n items mask₀ w i₀ mask i = length items - i
+μ-loop table n items groups mask₀ w i₀ mask i = length items - i
 
 -- ---- earlier places, by later ones
 
@@ -33,7 +32,7 @@ after-clear-marks c = c .before .before .before
 abbrev loop-of : tie.After-widen Inv-loop μ-loop → tie.At-loop Inv-loop μ-loop
 loop-of c = c .before .before .before
 
-abbrev turn-of : tie.After-gives-values Inv-loop μ-loop → tie.In-loop Inv-loop μ-loop
+abbrev turn-of : tie.After-is-masked Inv-loop μ-loop → tie.In-loop Inv-loop μ-loop
 turn-of c = c .before .before .before
 
 module _ (c : tie.After-widen Inv-loop μ-loop) where
@@ -50,7 +49,7 @@ module _ (c : tie.After-widen Inv-loop μ-loop) where
       (1 ≤ c .widen .result) × (c .widen .result ≤ entry .args .n)
   label =
       let entry = entry-of (loop-of c) in
-      item-label _ _ (entry .pre .0) _ (entry .pre .1 .0) (c .widen .result) here
+      def-label _ _ (entry .pre .0) (c .widen .result) (entry .pre .1 .0 (c .widen .result) here)
 
 add-w : tie.Need-add-w Inv-loop μ-loop
 add-w c = search needs
@@ -73,8 +72,8 @@ shared-slice-read-widen c = search needs
 widen-requires : tie.Need-widen-requires Inv-loop μ-loop
 widen-requires c κs = search needs
 
-gives-values-requires : tie.Need-gives-values-requires Inv-loop μ-loop
-gives-values-requires c κs =
+is-masked-requires : tie.Need-is-masked-requires Inv-loop μ-loop
+is-masked-requires c κs =
     let entry = entry-of (loop-of c) in
     (entry .pre .0, label c)
 
@@ -97,20 +96,20 @@ loop-again c =
     let loop = turn-of (c .before) .before in
     let entry = entry-of (turn-of (c .before) .before) in
     let at-widen = c .before .before in
-    let t = entry .args .table .now in
+    let a = entry .args in
     let taken = turn-of (c .before) .loop-test .taken in
     let b = label at-widen in
     ⊎-elim (λ w. rw (w .5) (
       w .2 .kept .0 ∙ loop .loop .inv .0,
       omega arith,
-      mask-put (Holder t) (entry .args .n) (entry .args .items .now) (loop .loop .mask) (loop .loop .i) _ (at-widen .widen .ensures) taken (loop .loop .inv .2) (omega (arith, b))
-          (sym (c .before .gives-values .ensures) ∙ w .0 .taken) _ (w .2 .ensures),
+      mask-put (a .table .now) (a .n) (a .groups) (a .items .now) (loop .loop .mask) (loop .loop .i) _ (at-widen .widen .ensures) taken (loop .loop .inv .2) (omega (arith, b))
+          (sym (c .before .is-masked .ensures) ∙ w .0 .taken) _ (w .2 .ensures),
     ))
     (λ w. rw (w .1) (
       loop .loop .inv .0,
       omega arith,
-      mask-skip (Holder t) (entry .args .n) (entry .args .items .now) (loop .loop .mask) (loop .loop .i) _ (at-widen .widen .ensures) taken (loop .loop .inv .2)
-          (λ h. both-ways _ h (sym (c .before .gives-values .ensures) ∙ w .0 .left)),
+      mask-skip (a .table .now) (a .n) (a .groups) (a .items .now) (loop .loop .mask) (loop .loop .i) _ (at-widen .widen .ensures) taken (loop .loop .inv .2)
+          (sym (c .before .is-masked .ensures) ∙ w .0 .left),
     ))
     (c .if1 .came)
 
@@ -124,7 +123,7 @@ returns c =
     let loop = c .before in
     let entry = entry-of (c .before) in
     let e = take-all (loop .loop .i) (entry .args .items .now) (omega (arith, c .loop-test .left)) in
-    λ p. subst (λ (k : List ℕ). (mark (loop .loop .mask) (entry .args .n / 64 + 1) 0 p ≡ true) ↔ ((p ∈ k) × Holder (entry .args .table .now) p)) e (loop .loop .inv .2 p)
+    subst (λ (k : List ℕ). MaskedBy (entry .args .table .now) (entry .args .n) (entry .args .groups) k (loop .loop .mask)) e (loop .loop .inv .2)
 
 pub mask-items-spec : {M : Type 1} → statement M
 mask-items-spec =
@@ -138,7 +137,7 @@ mask-items-spec =
     mul-widen
     shared-slice-read-widen
     widen-requires
-    gives-values-requires
+    is-masked-requires
     put-mark-requires
     add-i
     loop-less

@@ -20,7 +20,7 @@ after-place c = c .before .before .before .before .before .before .before .befor
 mask-items-requires : tie.Need-mask-items-requires
 mask-items-requires c κs =
     let pre = entry-of c .pre in
-    (pre .0, (pre .1 .0, pre .1 .1 .1 .masks))
+    (pre .0, (pre .1 .0 .defs, pre .1 .1 .1 .masks))
 
 add-place : tie.Need-add-place
 add-place c =
@@ -33,14 +33,14 @@ place-requires c κs =
     let p = entry .pre in
     let s = p .1 .1 .1 in
     let mask-items = after-mask-items c .mask-items in (
-      fits _ _ (p .0) _ (p .1 .0) _ _ (mask-items .ensures) _ (p .1 .1 .0 .0) (s .counts) (omega (arith, s .masks, mask-items .kept .1 .1 .1 .0)),
+      fits _ _ (p .0) _ (p .1 .0) _ _ (mask-items .ensures) _ (p .1 .1 .0 .0) (s .counts) (omega (arith, s .masks, mask-items .kept .1 .1 .1 .1 .0)),
       (s .lists, s .readies, omega (arith, items-few _ _ (p .0) (entry .args .items .now) (p .1 .0), s .orders)),
     )
 
 same-length : tie.Need-same-length
 same-length c =
     let mask-items = after-mask-items-from-slice-known10 c .mask-items in
-    mask-items .kept .1 .1 .1 .0
+    mask-items .kept .1 .1 .1 .1 .0
 
 same-length-2 : tie.Need-same-length-2
 same-length-2 c =

@@ -101,7 +101,7 @@ mask-items-requires c κs =
     let entry = entry-from-after-mask-items-arg2 c in
     let gather-leaders = at-gather-leaders-from-after-mask-items-arg2 c .gather-leaders in
     let p = entry .pre in
-    (p .0, (heads-items _ _ (p .0) _ _ _ (p .1 .1 .1 .1) _ _ (gather-leaders .ensures), p .1 .1 .0 .masks))
+    (p .0, (heads-items _ _ (p .0) _ _ _ (p .1 .1 .1 .1) _ _ (gather-leaders .ensures) .defs, p .1 .1 .0 .masks))
 
 sub-place : tie.Need-sub-place
 sub-place c = search needs
@@ -126,7 +126,7 @@ place-requires c κs =
     let p = entry .pre in
     let s = p .1 .1 .0 in
     let room : (entry .args .n + 1) * width (entry .args .n) ≤ length (merge-blocks .last .1 .1 .0) = omega (arith, p .1 .1 .1 .0 .0, merge-blocks .kept .1 .1 .0) in
-    let wide : width (entry .args .n) ≤ length (mask-items .last .1 .1 .1 .0) = omega (arith, s .masks, mask-items .kept .1 .1 .1 .0) in
+    let wide : width (entry .args .n) ≤ length (mask-items .last .1 .1 .1 .1 .0) = omega (arith, s .masks, mask-items .kept .1 .1 .1 .1 .0) in
     let few = heads-few (entry .args .table .now) (entry .args .n) (p .0) (entry .args .group) (entry .args .items .now) (entry .args .lead .now) (p .1 .1 .1 .1) _ _ (gather-leaders .ensures) in (
       heads-fit _ _ (p .0) _ _ _ (p .1 .1 .1 .1) _ _ (gather-leaders .ensures) _ _ _ (mask-items .ensures) room (s .counts) wide,
       (omega (arith, s .lists, merge-blocks .kept .1 .1 .1 .1 .1 .0), s .readies, omega (arith, few, s .orders)),

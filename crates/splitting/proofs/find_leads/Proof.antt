@@ -86,7 +86,7 @@ mask-items-requires c κs =
     let a = entry .args in
     let p = entry .pre in
     let g = append-chain .ensures (members (a .table .now) (a .n) (a .group)) (p .1 .1 .1 .1) in
-    (p .0, (member-items _ _ (p .0) _ _ _ g, p .1 .0 .1 .masks))
+    (p .0, (member-items _ _ (p .0) _ _ _ g .defs, p .1 .0 .1 .masks))
 
 sub-find-blocks : tie.Need-sub-find-blocks
 sub-find-blocks c = search needs
@@ -114,7 +114,7 @@ find-blocks-requires c κs =
     let a = entry .args in
     let p = entry .pre in
     let g = append-chain .ensures (members (a .table .now) (a .n) (a .group)) (p .1 .1 .1 .1) in
-    let wide : width (a .n) ≤ length (mask-items .last .1 .1 .1 .0) = omega (arith, p .1 .0 .1 .masks, mask-items .kept .1 .1 .1 .0) in (
+    let wide : width (a .n) ≤ length (mask-items .last .1 .1 .1 .1 .0) = omega (arith, p .1 .0 .1 .masks, mask-items .kept .1 .1 .1 .1 .0) in (
       find-asks _ _ (p .0) _ _ _ g _ _ (p .1 .1 .1 .0 .0) wide (mask-items .ensures),
       find-room _ _ (p .0) _ _ _ g _ _ _ _ _ _ _ _ _ (p .1 .0 .1) (p .1 .1 .0),
     )

@@ -106,7 +106,7 @@ fn join_group(
 
 // Puts a Group in order whose members get stuck: its blocks of several are opened, and all its blocks placed. Above it, a Group that is in
 // or under such a block has no chain then.
-pub fn open_group(
+fn open_group(
     table: &[i64],
     n: usize,
     square: &mut [u64],

@@ -174,14 +174,12 @@ module _ (t : List ℤ) (n : ℕ) (ok : Accepted t n) where
 
 -- ---- scratch of the same lengths
 
-pub scratch-as : (n : ℕ) (a b c d e a′ b′ c′ d′ e′ : List ℕ) → length a′ ≡ length a → length b′ ≡ length b → length c′ ≡ length c → length d′ ≡ length d
-    → length e′ ≡ length e
-    → Scratch n a b c d e → Scratch n a′ b′ c′ d′ e′
-scratch-as n a b c d e a′ b′ c′ d′ e′ p q r s u h = record {
+pub scratch-as : (n : ℕ) (a b c d a′ b′ c′ d′ : List ℕ) → length a′ ≡ length a → length b′ ≡ length b → length c′ ≡ length c → length d′ ≡ length d
+    → Scratch n a b c d → Scratch n a′ b′ c′ d′
+scratch-as n a b c d a′ b′ c′ d′ p q r s h = record {
   masks = omega (arith, h .masks);
   counts = omega (arith, h .counts);
   readies = omega (arith, h .readies);
-  lists = omega (arith, h .lists);
   orders = omega (arith, h .orders);
 }
 

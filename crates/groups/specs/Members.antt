@@ -51,11 +51,10 @@ abbrev pub NeedRowsOf : List ℤ → ℕ → List ℕ → List ℕ → Type 0
 NeedRowsOf t n items square = (p q : ℕ) → p ∈ items → q ∈ items → Holder t p → Holder t q → mark square (width n) q p ≡ needs t n p q
 
 -- room for placing n labels
-pub record Scratch (n : ℕ) (mask unmet ready list order : List ℕ) : Type 0 where
+pub record Scratch (n : ℕ) (mask unmet ready order : List ℕ) : Type 0 where
   pub masks : width n ≤ length mask
   pub counts : n < length unmet
   pub readies : width n ≤ length ready
-  pub lists : 64 * width n ≤ length list
   pub orders : n < length order
 
 -- a value, or a Group if those are wanted too

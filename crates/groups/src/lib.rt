@@ -93,17 +93,16 @@ pub fn place_items(
     mask: &mut [u64],
     unmet: &mut [u16],
     ready: &mut [u64],
-    list: &mut [u16],
     order: &mut [u16],
 ) -> usize
     requires { ⌜ Accepted (now table) n ⌝ }
     requires { ⌜ Items (now table) (now items) ⌝ }
     requires { ⌜ ((n + 1) * width n ≤ length (now square)) × NeedRowsOf (now table) n (now items) (now square) ⌝ }
-    requires { ⌜ Scratch n (now mask) (now unmet) (now ready) (now list) (now order) ⌝ }
+    requires { ⌜ Scratch n (now mask) (now unmet) (now ready) (now order) ⌝ }
     ensures { λ r. ⌜ Placed (needs (now (table .entry)) n) (now (items .entry)) (now (order .exit)) r ⌝ }
 {
     mask_items(table, n, items, true, mask);
-    placing::place(items, square, n / 64 + 1, mask, unmet, ready, list, order)
+    placing::place(items, square, n / 64 + 1, mask, unmet, ready, order)
 }
 
 // The chain of a Group in the order given.
@@ -136,27 +135,16 @@ fn order_group(
     mask: &mut [u64],
     unmet: &mut [u16],
     ready: &mut [u64],
-    list: &mut [u16],
     order: &mut [u16],
 ) -> bool
     requires { ⌜ Accepted (now table) n ⌝ }
-    requires { ⌜ ((1 ≤ group) × (group ≤ n) × (2 * n < length (now next)) × (n < length (now items))) × Scratch n (now mask) (now unmet) (now ready) (now list) (now order) ⌝ }
+    requires { ⌜ ((1 ≤ group) × (group ≤ n) × (2 * n < length (now next)) × (n < length (now items))) × Scratch n (now mask) (now unmet) (now ready) (now order) ⌝ }
     requires { ⌜ ((n + 1) * width n ≤ length (now square)) × NeedRowsFrom (now table) n group (now square) ⌝ }
     requires { ⌜ Chain n (now next) (getD (now next) group 0) (members (now table) n group) ⌝ }
     ensures { λ r. ⌜ GroupOrder (now (table .entry)) n group (now (next .entry)) (now (next .exit)) r ⌝ }
 {
     let m = append_chain(n, next, group, items, 0);
-    let r = place_items(
-        table,
-        n,
-        square,
-        &items[0..m],
-        mask,
-        unmet,
-        ready,
-        list,
-        order,
-    );
+    let r = place_items(table, n, square, &items[0..m], mask, unmet, ready, order);
     if r != m {
         return true;
     }
@@ -175,30 +163,17 @@ pub fn order_groups(
     mask: &mut [u64],
     unmet: &mut [u16],
     ready: &mut [u64],
-    list: &mut [u16],
     order: &mut [u16],
 ) -> usize
     requires { ⌜ Accepted (now table) n ⌝ }
-    requires { ⌜ ((1 ≤ from) × (from ≤ n + 1) × (2 * n < length (now next)) × (n < length (now items))) × Scratch n (now mask) (now unmet) (now ready) (now list) (now order) ⌝ }
+    requires { ⌜ ((1 ≤ from) × (from ≤ n + 1) × (2 * n < length (now next)) × (n < length (now items))) × Scratch n (now mask) (now unmet) (now ready) (now order) ⌝ }
     requires { ⌜ (((n + 1) * width n ≤ length (now square)) × NeedRowsFrom (now table) n from (now square)) × Progress (now table) n from (now next) ⌝ }
     ensures { λ r. ⌜ GroupOrders (now (table .entry)) n from (now (next .exit)) r ⌝ }
 {
     let mut g = from;
     while g <= n {
         if next[g] != 0 {
-            if order_group(
-                table,
-                n,
-                square,
-                next,
-                g,
-                items,
-                mask,
-                unmet,
-                ready,
-                list,
-                order,
-            ) {
+            if order_group(table, n, square, next, g, items, mask, unmet, ready, order) {
                 return g;
             }
         }
@@ -264,27 +239,16 @@ pub fn open_block(
     mask: &mut [u64],
     unmet: &mut [u16],
     ready: &mut [u64],
-    list: &mut [u16],
     order: &mut [u16],
 ) -> usize
     requires { ⌜ Accepted (now table) n × (place16 (now table) n ≡ 0) ⌝ }
     requires { ⌜ (b ≤ n) × (2 * n < length (now next)) × (2 * n < length (now links)) × (64 * width n ≤ length (now items)) ⌝ }
-    requires { ⌜ Scratch n (now mask) (now unmet) (now ready) (now list) (now order) ⌝ }
+    requires { ⌜ Scratch n (now mask) (now unmet) (now ready) (now order) ⌝ }
     requires { ⌜ ((n + 1) * width n ≤ length (now square)) × NeedRowsFrom (now table) n group (now square) ⌝ }
     requires { ⌜ Chain n (now links) (getD (now links) b 0) (memberBlock (now table) n group b) × MemberChains (now table) n (memberBlock (now table) n group b) (now next) ⌝ }
     ensures { λ r. ⌜ Placed (reaches (now (table .entry)) n) (blockValues (now (table .entry)) n group b) (now (order .exit)) r ⌝ }
     ensures { λ _. ⌜ ChainsCleared (now (table .entry)) (memberBlock (now (table .entry)) n group b) (now (next .entry)) (now (next .exit)) ⌝ }
 {
     let m = gather_block(table, n, next, links, group, b, items, mask);
-    place_items(
-        table,
-        n,
-        square,
-        &items[0..m],
-        mask,
-        unmet,
-        ready,
-        list,
-        order,
-    )
+    place_items(table, n, square, &items[0..m], mask, unmet, ready, order)
 }

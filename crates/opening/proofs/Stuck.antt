@@ -23,10 +23,12 @@ left-less t n from g r next z h l o = rw (ne-eqb g 0 z) (go (ℕ-discrete r 0))
     go (yes e) = rw (eq-eqb r 0 e) (omega arith)
     go (no e) = rw (ne-eqb r 0 e) (omega (arith, o .stuck e .0, o .stuck e .1))
 
-pub searchable-as : (n : ℕ) (a b c d a′ b′ c′ d′ : List ℕ) → length a′ ≡ length a → length b′ ≡ length b → length c′ ≡ length c → length d′ ≡ length d
-    → SearchRoom n a b c d
-    → SearchRoom n a′ b′ c′ d′
-searchable-as n a b c d a′ b′ c′ d′ p q r s h = record {
+pub searchable-as : (n : ℕ) (a b c d e a′ b′ c′ d′ e′ : List ℕ) → length a′ ≡ length a → length b′ ≡ length b → length c′ ≡ length c → length d′ ≡ length d
+    → length e′ ≡ length e
+    → SearchRoom n a b c d e
+    → SearchRoom n a′ b′ c′ d′ e′
+searchable-as n a b c d e a′ b′ c′ d′ e′ p q r s u h = record {
+  list-room = omega (arith, h .list-room);
   stacked-room = omega (arith, h .stacked-room);
   stack-room = omega (arith, h .stack-room);
   path-room = omega (arith, h .path-room);

@@ -44,8 +44,8 @@ fn order_blocks(
     order: &mut [u16],
 ) -> usize
     requires { ⌜ Accepted (now table) n ⌝ }
-    requires { ⌜ (n < length (now lead)) × (width n ≤ length (now followers)) × (n < length (now heads)) ⌝ }
-    requires { ⌜ Scratch n (now mask) (now unmet) (now ready) (now list) (now order) ⌝ }
+    requires { ⌜ (n < length (now lead)) × (width n ≤ length (now followers)) × (n < length (now heads)) × (64 * width n ≤ length (now list)) ⌝ }
+    requires { ⌜ Scratch n (now mask) (now unmet) (now ready) (now order) ⌝ }
     requires { ⌜ ((n + 1) * width n ≤ length (now square)) × NeedRowsFrom (now table) n group (now square) ⌝ }
     requires { ⌜ LedMembers (now table) n group (now items) (now lead) ⌝ }
     ensures { λ r. ⌜ Gathered (ordered (now (table .entry)) n group) (now (order .exit)) r ⌝ }
@@ -55,7 +55,7 @@ fn order_blocks(
     blocks::merge_blocks(items, lead, square, w, followers, list);
     let k = blocks::gather_leaders(items, lead, heads);
     groups::mask_items(table, n, &heads[0..k], true, mask);
-    placing::place(&heads[0..k], square, w, mask, unmet, ready, list, order)
+    placing::place(&heads[0..k], square, w, mask, unmet, ready, order)
 }
 
 // Puts the chains of a Group's blocks into its own, in the order of the blocks.
@@ -78,8 +78,8 @@ fn join_group(
     out: &mut [u16],
 )
     requires { ⌜ Accepted (now table) n ⌝ }
-    requires { ⌜ (n < length (now lead)) × (width n ≤ length (now followers)) × (n < length (now heads)) ⌝ }
-    requires { ⌜ ((group ≤ n) × (2 * n < length (now next)) × (2 * n < length (now links)) × (n < length (now out))) × Scratch n (now mask) (now unmet) (now ready) (now list) (now order) ⌝ }
+    requires { ⌜ (n < length (now lead)) × (width n ≤ length (now followers)) × (n < length (now heads)) × (64 * width n ≤ length (now list)) ⌝ }
+    requires { ⌜ ((group ≤ n) × (2 * n < length (now next)) × (2 * n < length (now links)) × (n < length (now out))) × Scratch n (now mask) (now unmet) (now ready) (now order) ⌝ }
     requires { ⌜ ((n + 1) * width n ≤ length (now square)) × NeedRowsFrom (now table) n group (now square) ⌝ }
     requires { ⌜ LedMembers (now table) n group (now items) (now lead) × LeaderChains (now table) n group (now links) ⌝ }
     ensures { λ _. ⌜ Relinked n group (expanded (now (table .entry)) n group) (now (next .entry)) (now (next .exit)) ⌝ }
@@ -125,8 +125,8 @@ fn open_group(
     links: &mut [u16],
 )
     requires { ⌜ Accepted (now table) n × (place16 (now table) n ≡ 0) ⌝ }
-    requires { ⌜ ((2 * n < length (now next)) × (n < length (now items)) × (2 * n < length (now links))) × Scratch n (now mask) (now unmet) (now ready) (now list) (now order) ⌝ }
-    requires { ⌜ SearchRoom n (now stacked) (now stack) (now path) (now lead) ⌝ }
+    requires { ⌜ ((2 * n < length (now next)) × (n < length (now items)) × (2 * n < length (now links))) × Scratch n (now mask) (now unmet) (now ready) (now order) ⌝ }
+    requires { ⌜ SearchRoom n (now list) (now stacked) (now stack) (now path) (now lead) ⌝ }
     requires { ⌜ ((n + 1) * width n ≤ length (now square)) × NeedRowsFrom (now table) n group (now square) ⌝ }
     requires { ⌜ Openable (now table) n group (now next) ⌝ }
     ensures { λ _. ⌜ Progress (now (table .entry)) n (group + 1) (now (next .exit)) × NeedRowsFrom (now (table .entry)) n (group + 1) (now (square .exit)) ⌝ }
@@ -189,8 +189,8 @@ pub fn open_groups(
     links: &mut [u16],
 )
     requires { ⌜ Accepted (now table) n × (place16 (now table) n ≡ 0) ⌝ }
-    requires { ⌜ ((2 * n < length (now next)) × (n < length (now items)) × (2 * n < length (now links))) × Scratch n (now mask) (now unmet) (now ready) (now list) (now order) ⌝ }
-    requires { ⌜ SearchRoom n (now stacked) (now stack) (now path) (now lead) ⌝ }
+    requires { ⌜ ((2 * n < length (now next)) × (n < length (now items)) × (2 * n < length (now links))) × Scratch n (now mask) (now unmet) (now ready) (now order) ⌝ }
+    requires { ⌜ SearchRoom n (now list) (now stacked) (now stack) (now path) (now lead) ⌝ }
     requires { ⌜ ((n + 1) * width n ≤ length (now square)) × Stopped (now table) n stuck (now next) (now square) ⌝ }
     ensures { λ _. ⌜ Progress (now (table .entry)) n (n + 1) (now (next .exit)) ⌝ }
 {
@@ -224,7 +224,6 @@ pub fn open_groups(
             mask,
             unmet,
             ready,
-            list,
             order,
         );
     }

@@ -94,7 +94,7 @@ module _ (n k b : ℕ) where
   abbrev pub Fresh : Type 0
   Fresh =
       ((2 * n < length (replicate {0} {A = ℕ} (2 * k - 1) 0)) × Empty n (replicate (2 * k - 1) 0))
-      × ((n < length (replicate {0} {A = ℕ} k 0)) × Scratch n (replicate b 0) (replicate k 0) (replicate b 0) (replicate (64 * b) 0) (replicate k 0))
+      × ((n < length (replicate {0} {A = ℕ} k 0)) × Scratch n (replicate b 0) (replicate k 0) (replicate b 0) (replicate k 0))
 
   pub zero-lists : n < k → width n ≤ b → Fresh
   zero-lists h g = (
@@ -105,7 +105,6 @@ module _ (n k b : ℕ) where
         masks = omega (arith, long b);
         counts = omega (arith, long k);
         readies = omega (arith, long b);
-        lists = omega (arith, long (64 * b));
         orders = omega (arith, long k);
       },
     ),
@@ -113,12 +112,13 @@ module _ (n k b : ℕ) where
 
   -- and what opening Groups asks
   abbrev pub FreshSearch : Type 0
-  FreshSearch = (2 * n < length (replicate {0} {A = ℕ} (2 * k - 1) 0)) × SearchRoom n (replicate b 0) (replicate (64 * b) 0) (replicate k 0) (replicate k 0)
+  FreshSearch = (2 * n < length (replicate {0} {A = ℕ} (2 * k - 1) 0)) × SearchRoom n (replicate (64 * b) 0) (replicate b 0) (replicate (64 * b) 0) (replicate k 0) (replicate k 0)
 
   pub zero-search : n < k → width n ≤ b → FreshSearch
   zero-search h g = (
     omega (arith, long (2 * k - 1)),
     record {
+      list-room = omega (arith, long (64 * b));
       stacked-room = omega (arith, long b);
       stack-room = omega (arith, long (64 * b));
       path-room = omega (arith, long k);

@@ -67,15 +67,15 @@ fn open_small(
     mask: &mut [u64],
     unmet: &mut [u16],
     ready: &mut [u64],
-    list: &mut [u16],
     order: &mut [u16],
 )
     requires { ⌜ Accepted (now table) n × (place16 (now table) n ≡ 0) ⌝ }
     requires { ⌜ n ≤ 127 ⌝ }
-    requires { ⌜ ((2 * n < length (now next)) × (n < length (now items))) × Scratch n (now mask) (now unmet) (now ready) (now list) (now order) ⌝ }
+    requires { ⌜ ((2 * n < length (now next)) × (n < length (now items))) × Scratch n (now mask) (now unmet) (now ready) (now order) ⌝ }
     requires { ⌜ ((n + 1) * width n ≤ length (now square)) × Stopped (now table) n stuck (now next) (now square) ⌝ }
     ensures { λ _. ⌜ Progress (now (table .entry)) n (n + 1) (now (next .exit)) ⌝ }
 {
+    let mut list = [0u16; 128];
     let mut stacked = [0u64; 2];
     let mut stack = [0u16; 128];
     let mut path = [0u16; 128];
@@ -91,7 +91,7 @@ fn open_small(
         mask,
         unmet,
         ready,
-        list,
+        &mut list,
         order,
         &mut stacked,
         &mut stack,
@@ -112,11 +112,10 @@ fn open_stuck(
     mask: &mut [u64],
     unmet: &mut [u16],
     ready: &mut [u64],
-    list: &mut [u16],
     order: &mut [u16],
 )
     requires { ⌜ Accepted (now table) n × (place16 (now table) n ≡ 0) ⌝ }
-    requires { ⌜ ((2 * n < length (now next)) × (n < length (now items))) × Scratch n (now mask) (now unmet) (now ready) (now list) (now order) ⌝ }
+    requires { ⌜ ((2 * n < length (now next)) × (n < length (now items))) × Scratch n (now mask) (now unmet) (now ready) (now order) ⌝ }
     requires { ⌜ ((n + 1) * width n ≤ length (now square)) × Stopped (now table) n stuck (now next) (now square) ⌝ }
     ensures { λ _. ⌜ Progress (now (table .entry)) n (n + 1) (now (next .exit)) ⌝ }
 {
@@ -131,11 +130,11 @@ fn open_stuck(
             mask,
             unmet,
             ready,
-            list,
             order,
         );
         return;
     }
+    let mut list = [0u16; 1088];
     let mut stacked = [0u64; 17];
     let mut stack = [0u16; 1088];
     let mut path = [0u16; 1025];
@@ -151,7 +150,7 @@ fn open_stuck(
         mask,
         unmet,
         ready,
-        list,
+        &mut list,
         order,
         &mut stacked,
         &mut stack,
@@ -174,30 +173,17 @@ fn list_in(
     mask: &mut [u64],
     unmet: &mut [u16],
     ready: &mut [u64],
-    list: &mut [u16],
     order: &mut [u16],
 ) -> Planned
     requires { ⌜ Accepted (now table) n ⌝ }
     requires { ⌜ (n ≤ length (now plan)) × (place16 (now table) n ≡ 0) ⌝ }
     requires { ⌜ ((n + 1) * width n ≤ length (now square)) × NeedRows (now table) n (now square) ⌝ }
     requires { ⌜ (2 * n < length (now next)) × Empty n (now next) ⌝ }
-    requires { ⌜ (n < length (now items)) × Scratch n (now mask) (now unmet) (now ready) (now list) (now order) ⌝ }
+    requires { ⌜ (n < length (now items)) × Scratch n (now mask) (now unmet) (now ready) (now order) ⌝ }
     ensures { λ r. ⌜ PlanIs (Order.plan (now (table .entry)) n) (now (plan .entry)) (now (plan .exit)) r ⌝ }
 {
     groups::link_members(table, n, next);
-    let stuck = groups::order_groups(
-        table,
-        n,
-        square,
-        next,
-        1,
-        items,
-        mask,
-        unmet,
-        ready,
-        list,
-        order,
-    );
+    let stuck = groups::order_groups(table, n, square, next, 1, items, mask, unmet, ready, order);
     if stuck == 0 {
         return Planned::Whole(list_group(table, n, next, plan, 0, 1) as u64);
     }
@@ -211,7 +197,6 @@ fn list_in(
         mask,
         unmet,
         ready,
-        list,
         order,
     );
     Planned::Mixed(list_group(table, n, next, plan, 0, 1) as u64)
@@ -230,7 +215,6 @@ fn list_small(table: &[i64], n: usize, plan: &mut [i64], square: &mut [u64]) -> 
     let mut mask = [0u64; 2];
     let mut unmet = [0u16; 128];
     let mut ready = [0u64; 2];
-    let mut list = [0u16; 128];
     let mut order = [0u16; 128];
     list_in(
         table,
@@ -242,7 +226,6 @@ fn list_small(table: &[i64], n: usize, plan: &mut [i64], square: &mut [u64]) -> 
         &mut mask,
         &mut unmet,
         &mut ready,
-        &mut list,
         &mut order,
     )
 }
@@ -262,7 +245,6 @@ fn list_plan(table: &[i64], n: usize, plan: &mut [i64], square: &mut [u64]) -> P
     let mut mask = [0u64; 17];
     let mut unmet = [0u16; 1025];
     let mut ready = [0u64; 17];
-    let mut list = [0u16; 1088];
     let mut order = [0u16; 1025];
     list_in(
         table,
@@ -274,7 +256,6 @@ fn list_plan(table: &[i64], n: usize, plan: &mut [i64], square: &mut [u64]) -> P
         &mut mask,
         &mut unmet,
         &mut ready,
-        &mut list,
         &mut order,
     )
 }

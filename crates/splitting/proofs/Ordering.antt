@@ -1,7 +1,7 @@
 -- The blocks of a Group found by rows of needs, and placed.
 use mathlib.Core.Path.{_≡_, sym, ap, _∙_, subst}
 use mathlib.Core.List.{List}
-use mathlib.Core.Bool.{Bool, _&&_}
+use mathlib.Core.Bool.{Bool, true, _&&_}
 use Prim.Native.Nat.{ℕ, _+_, _-_, _*_, _≤_, _<_}
 use native.Mathlib.Omega.{arith}
 use lib.IntN.{ℤ}
@@ -71,7 +71,7 @@ module _ (t : List ℤ) (n : ℕ) (ok : Accepted t n) (g : ℕ) where
     mask-room = wide;
   }
 
-  pub search-room : (mask unmet ready list order stacked stack path lead : List ℕ) → Scratch n mask unmet ready list order → SearchRoom n stacked stack path lead
+  pub search-room : (mask unmet ready list order stacked stack path lead : List ℕ) → Scratch n mask unmet ready order → SearchRoom n list stacked stack path lead
       → Room (members t n g) ready stacked list stack unmet order path lead (width n)
   search-room mask unmet ready list order stacked stack path lead s r =
       let few = labels-few (isMemberOf t g) n in
@@ -79,7 +79,7 @@ module _ (t : List ℤ) (n : ℕ) (ok : Accepted t n) (g : ℕ) where
         few = omega (arith, few, ok .few);
         fresh-room = s .readies;
         stacked-room = r .stacked-room;
-        list-room = s .lists;
+        list-room = r .list-room;
         stack-room = omega (arith, few, r .stack-room);
         starts-room = omega (arith, few, s .orders);
         path-room = omega (arith, few, r .path-room);
@@ -101,7 +101,7 @@ module _ (t : List ℤ) (n : ℕ) (ok : Accepted t n) (g : ℕ) where
     find-asks square mask room wide masked =
         subst (λ (l : List ℕ). InRows l square mask (width n)) (sym is) (members-in-rows square mask room wide (subst (λ (l : List ℕ). MaskedBy t n true l mask) is masked))
 
-    pub find-room : (mask unmet ready list order stacked stack path lead : List ℕ) → Scratch n mask unmet ready list order → SearchRoom n stacked stack path lead
+    pub find-room : (mask unmet ready list order stacked stack path lead : List ℕ) → Scratch n mask unmet ready order → SearchRoom n list stacked stack path lead
         → Room (take (m - 0) items) ready stacked list stack unmet order path lead (width n)
     find-room mask unmet ready list order stacked stack path lead s r =
         subst (λ (l : List ℕ). Room l ready stacked list stack unmet order path lead (width n)) (sym is) (search-room mask unmet ready list order stacked stack path lead s r)

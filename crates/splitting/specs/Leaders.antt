@@ -1,4 +1,4 @@
--- The blocks of a Group's members, as `open_group` holds them: the lead of each member, and a chain for each leader.
+-- The blocks of a Group's members, as a Group is split by them: the lead of each member, and a chain for each leader.
 use mathlib.Core.Path.{_≡_}
 use mathlib.Core.List.{List}
 use mathlib.Core.Bool.{Bool, true, not, _&&_}
@@ -24,7 +24,8 @@ pub record LedMembers (t : List ℤ) (n g : ℕ) (items lead : List ℕ) : Type 
   pub masked : MaskedBy t n true (members t n g) mask
 
 -- what the search for blocks of n labels is lent beside the room for placing; the stack serves for a row of marks listed, too
-pub record SearchRoom (n : ℕ) (stacked stack path lead : List ℕ) : Type 0 where
+pub record SearchRoom (n : ℕ) (list stacked stack path lead : List ℕ) : Type 0 where
+  pub list-room : 64 * width n ≤ length list
   pub stacked-room : width n ≤ length stacked
   pub stack-room : 64 * width n ≤ length stack
   pub path-room : n < length path

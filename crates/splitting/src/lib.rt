@@ -31,8 +31,8 @@ fn find_leads(
     lead: &mut [u16],
 ) -> usize
     requires { ⌜ Accepted (now table) n ⌝ }
-    requires { ⌜ ((group ≤ n) × (2 * n < length (now next)) × (n < length (now items))) × Scratch n (now mask) (now unmet) (now ready) (now list) (now order) ⌝ }
-    requires { ⌜ SearchRoom n (now stacked) (now stack) (now path) (now lead) ⌝ }
+    requires { ⌜ ((group ≤ n) × (2 * n < length (now next)) × (n < length (now items))) × Scratch n (now mask) (now unmet) (now ready) (now order) ⌝ }
+    requires { ⌜ SearchRoom n (now list) (now stacked) (now stack) (now path) (now lead) ⌝ }
     requires { ⌜ ((n + 1) * width n ≤ length (now square)) × NeedRowsFrom (now table) n group (now square) ⌝ }
     requires { ⌜ Chain n (now next) (getD (now next) group 0) (members (now table) n group) ⌝ }
     ensures { λ r. ⌜ (r ≤ length (now (items .exit))) × LedMembers (now (table .entry)) n group (take r (now (items .exit))) (now (lead .exit)) ⌝ }
@@ -61,7 +61,7 @@ fn link_blocks(n: usize, items: &[u16], lead: &[u16], links: &mut [u16])
     requires { ⌜ (n ≤ labelLimit) × Linkable n (now items) (now lead) (now links) ⌝ }
     ensures { λ _. ⌜ BlockChains n (now (items .entry)) (now (lead .entry)) (now (links .exit)) ⌝ }
 {
-    placing::clear_counts(items, links);
+    placing::clear_cells(items, links);
     let mut i = items.len();
     while 0 < i {
         i -= 1;
@@ -96,12 +96,11 @@ fn open_lead(
     mask: &mut [u64],
     unmet: &mut [u16],
     ready: &mut [u64],
-    list: &mut [u16],
     order: &mut [u16],
 )
     requires { ⌜ Accepted (now table) n × (place16 (now table) n ≡ 0) ⌝ }
     requires { ⌜ (b ≤ n) × (2 * n < length (now next)) × (2 * n < length (now links)) × (64 * width n ≤ length (now pile)) ⌝ }
-    requires { ⌜ Scratch n (now mask) (now unmet) (now ready) (now list) (now order) ⌝ }
+    requires { ⌜ Scratch n (now mask) (now unmet) (now ready) (now order) ⌝ }
     requires { ⌜ ((n + 1) * width n ≤ length (now square)) × NeedRowsFrom (now table) n group (now square) ⌝ }
     requires { ⌜ Chain n (now links) (getD (now links) b 0) (memberBlock (now table) n group b) × MemberChains (now table) n (memberBlock (now table) n group b) (now next) ⌝ }
     ensures { λ _. ⌜ ChainsCleared (now (table .entry)) (memberBlock (now (table .entry)) n group b) (now (next .entry)) (now (next .exit)) ⌝ }
@@ -119,7 +118,6 @@ fn open_lead(
         mask,
         unmet,
         ready,
-        list,
         order,
     );
     groups::relink(n, links, b, order, r);
@@ -139,11 +137,10 @@ fn open_blocks(
     mask: &mut [u64],
     unmet: &mut [u16],
     ready: &mut [u64],
-    list: &mut [u16],
     order: &mut [u16],
 )
     requires { ⌜ Accepted (now table) n × (place16 (now table) n ≡ 0) ⌝ }
-    requires { ⌜ ((2 * n < length (now next)) × (2 * n < length (now links)) × (64 * width n ≤ length (now pile))) × Scratch n (now mask) (now unmet) (now ready) (now list) (now order) ⌝ }
+    requires { ⌜ ((2 * n < length (now next)) × (2 * n < length (now links)) × (64 * width n ≤ length (now pile))) × Scratch n (now mask) (now unmet) (now ready) (now order) ⌝ }
     requires { ⌜ ((n + 1) * width n ≤ length (now square)) × NeedRowsFrom (now table) n group (now square) ⌝ }
     requires { ⌜ LedMembers (now table) n group (now items) (now lead) × Linkable n (now items) (now lead) (now links) ⌝ }
     requires { ⌜ BlockChains n (now items) (now lead) (now links) × Openable (now table) n group (now next) ⌝ }
@@ -166,7 +163,6 @@ fn open_blocks(
                 mask,
                 unmet,
                 ready,
-                list,
                 order,
             );
         }
@@ -194,8 +190,8 @@ pub fn split_group(
     links: &mut [u16],
 ) -> usize
     requires { ⌜ Accepted (now table) n × (place16 (now table) n ≡ 0) ⌝ }
-    requires { ⌜ ((2 * n < length (now next)) × (n < length (now items)) × (2 * n < length (now links))) × Scratch n (now mask) (now unmet) (now ready) (now list) (now order) ⌝ }
-    requires { ⌜ SearchRoom n (now stacked) (now stack) (now path) (now lead) ⌝ }
+    requires { ⌜ ((2 * n < length (now next)) × (n < length (now items)) × (2 * n < length (now links))) × Scratch n (now mask) (now unmet) (now ready) (now order) ⌝ }
+    requires { ⌜ SearchRoom n (now list) (now stacked) (now stack) (now path) (now lead) ⌝ }
     requires { ⌜ ((n + 1) * width n ≤ length (now square)) × NeedRowsFrom (now table) n group (now square) ⌝ }
     requires { ⌜ Openable (now table) n group (now next) ⌝ }
     ensures { λ r. ⌜ (r ≤ length (now (items .exit))) × LedMembers (now (table .entry)) n group (take r (now (items .exit))) (now (lead .exit)) ⌝ }
@@ -233,7 +229,6 @@ pub fn split_group(
         mask,
         unmet,
         ready,
-        list,
         order,
     );
     m

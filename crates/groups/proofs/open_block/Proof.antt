@@ -9,13 +9,13 @@ use Rattle.groups.proofs.open_block.Tie as tie
 -- ---- earlier places, by later ones
 
 abbrev entry-of : tie.After-gather-block-arg3 → tie.Start
-entry-of c = c .before .before .before .before .before .before .before .before .before .before .before .before
+entry-of c = c .before .before .before .before .before .before .before .before .before .before .before
 
-abbrev gathered-of : tie.After-place-items-arg6 → tie.After-gather-block
-gathered-of c = c .before .before .before .before .before .before .before .before .before .before .before .before .before
+abbrev gathered-of : tie.After-place-items-arg5 → tie.After-gather-block
+gathered-of c = c .before .before .before .before .before .before .before .before .before .before .before .before
 
-abbrev placed-of : tie.After-slice-known15 → tie.After-place-items
-placed-of c = c .before .before .before .before .before .before .before .before .before .before
+abbrev placed-of : tie.After-slice-known13 → tie.After-place-items
+placed-of c = c .before .before .before .before .before .before .before .before
 
 gather-block-requires : tie.Need-gather-block-requires
 gather-block-requires c κs =
@@ -43,7 +43,7 @@ place-items-requires c κs =
         some-items _ _ (p .0 .0) _ _ _ (gather-block .ensures .0),
         (
           (p .1 .1 .1 .0 .0, some-rows _ _ (p .0 .0) _ _ _ (gather-block .ensures .0) (a .group) _ (block-owner _ _ (p .0 .0) (a .group) (a .b)) (p .1 .1 .1 .0 .1)),
-          scratch-as _ _ _ _ _ _ _ _ _ _ _ (gather-block .kept .1 .1 .1 .1 .1 .1 .1 .0) refl refl refl refl (p .1 .1 .0),
+          scratch-as _ _ _ _ _ _ _ _ _ (gather-block .kept .1 .1 .1 .1 .1 .1 .1 .0) refl refl refl (p .1 .1 .0),
         ),
       ),
     )
@@ -66,9 +66,6 @@ same-length-5 c = placed-of c .place-items .kept .1 .1 .1 .1 .1 .1 .0
 same-length-6 : tie.Need-same-length-6
 same-length-6 c = placed-of c .place-items .kept .1 .1 .1 .1 .1 .1 .1 .0
 
-same-length-7 : tie.Need-same-length-7
-same-length-7 c = placed-of c .place-items .kept .1 .1 .1 .1 .1 .1 .1 .1 .0
-
 returns : tie.Need-returns
 returns c =
     let gather-block = gathered-of (placed-of c .before) .gather-block in
@@ -90,5 +87,4 @@ open-block-spec =
     same-length-4
     same-length-5
     same-length-6
-    same-length-7
     returns)

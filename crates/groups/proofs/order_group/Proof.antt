@@ -15,46 +15,46 @@ use Rattle.groups.proofs.order_group.Tie as tie
 -- ---- earlier places, by later ones
 
 abbrev entry-from-after-append-chain-arg2 : tie.After-append-chain-arg2 → tie.Start
-entry-from-after-append-chain-arg2 c = c .before .before .before .before .before .before .before .before .before .before
+entry-from-after-append-chain-arg2 c = c .before .before .before .before .before .before .before .before .before
 
 abbrev entry-from-after-items2 : tie.After-items2 → tie.Start
-entry-from-after-items2 c = c .before .before .before .before .before .before .before .before .before .before .before .before .before .before
+entry-from-after-items2 c = c .before .before .before .before .before .before .before .before .before .before .before .before .before
 
-abbrev at-append-chain-from-after-place-items-arg6 : tie.After-place-items-arg6 → tie.After-append-chain
-at-append-chain-from-after-place-items-arg6 c = c .before .before .before .before .before .before .before .before .before
+abbrev at-append-chain-from-after-place-items-arg5 : tie.After-place-items-arg5 → tie.After-append-chain
+at-append-chain-from-after-place-items-arg5 c = c .before .before .before .before .before .before .before .before
 
-abbrev entry-from-after-place-items-arg6 : tie.After-place-items-arg6 → tie.Start
-entry-from-after-place-items-arg6 c = at-append-chain-from-after-place-items-arg6 c .before .before .before .before .before .before .before .before .before .before .before
+abbrev entry-from-after-place-items-arg5 : tie.After-place-items-arg5 → tie.Start
+entry-from-after-place-items-arg5 c = at-append-chain-from-after-place-items-arg5 c .before .before .before .before .before .before .before .before .before .before
 
 abbrev at-place-items-from-then1 : tie.Then1 → tie.After-place-items
-at-place-items-from-then1 c = c .before .before .before .before .before .before .before .before .before .before .before
+at-place-items-from-then1 c = c .before .before .before .before .before .before .before .before .before
 
 abbrev at-append-chain-from-then1 : tie.Then1 → tie.After-append-chain
-at-append-chain-from-then1 c = at-place-items-from-then1 c .before .before .before .before .before .before .before .before .before .before
+at-append-chain-from-then1 c = at-place-items-from-then1 c .before .before .before .before .before .before .before .before .before
 
 abbrev entry-from-then1 : tie.Then1 → tie.Start
-entry-from-then1 c = at-append-chain-from-then1 c .before .before .before .before .before .before .before .before .before .before .before
+entry-from-then1 c = at-append-chain-from-then1 c .before .before .before .before .before .before .before .before .before .before
 
 abbrev at-place-items-from-after-relink-arg2 : tie.After-relink-arg2 → tie.After-place-items
-at-place-items-from-after-relink-arg2 c = c .before .before .before .before .before .before .before .before .before .before .before .before .before
+at-place-items-from-after-relink-arg2 c = c .before .before .before .before .before .before .before .before .before .before .before
 
 abbrev at-append-chain-from-after-relink-arg2 : tie.After-relink-arg2 → tie.After-append-chain
-at-append-chain-from-after-relink-arg2 c = at-place-items-from-after-relink-arg2 c .before .before .before .before .before .before .before .before .before .before
+at-append-chain-from-after-relink-arg2 c = at-place-items-from-after-relink-arg2 c .before .before .before .before .before .before .before .before .before
 
 abbrev entry-from-after-relink-arg2 : tie.After-relink-arg2 → tie.Start
-entry-from-after-relink-arg2 c = at-append-chain-from-after-relink-arg2 c .before .before .before .before .before .before .before .before .before .before .before
+entry-from-after-relink-arg2 c = at-append-chain-from-after-relink-arg2 c .before .before .before .before .before .before .before .before .before .before
 
-abbrev at-if1-from-after-slice-known14 : tie.After-slice-known14 → tie.Else1
-at-if1-from-after-slice-known14 c = c .before .before .before .before .before
+abbrev at-if1-from-after-slice-known12 : tie.After-slice-known12 → tie.Else1
+at-if1-from-after-slice-known12 c = c .before .before .before .before .before
 
-abbrev at-place-items-from-after-slice-known14 : tie.After-slice-known14 → tie.After-place-items
-at-place-items-from-after-slice-known14 c = at-if1-from-after-slice-known14 c .before .before .before .before .before .before .before .before .before .before .before
+abbrev at-place-items-from-after-slice-known12 : tie.After-slice-known12 → tie.After-place-items
+at-place-items-from-after-slice-known12 c = at-if1-from-after-slice-known12 c .before .before .before .before .before .before .before .before .before
 
-abbrev at-append-chain-from-after-slice-known14 : tie.After-slice-known14 → tie.After-append-chain
-at-append-chain-from-after-slice-known14 c = at-place-items-from-after-slice-known14 c .before .before .before .before .before .before .before .before .before .before
+abbrev at-append-chain-from-after-slice-known12 : tie.After-slice-known12 → tie.After-append-chain
+at-append-chain-from-after-slice-known12 c = at-place-items-from-after-slice-known12 c .before .before .before .before .before .before .before .before .before
 
-abbrev entry-from-after-slice-known14 : tie.After-slice-known14 → tie.Start
-entry-from-after-slice-known14 c = at-append-chain-from-after-slice-known14 c .before .before .before .before .before .before .before .before .before .before .before
+abbrev entry-from-after-slice-known12 : tie.After-slice-known12 → tie.Start
+entry-from-after-slice-known12 c = at-append-chain-from-after-slice-known12 c .before .before .before .before .before .before .before .before .before .before
 
 append-chain-requires : tie.Need-append-chain-requires
 append-chain-requires c κs =
@@ -79,8 +79,8 @@ part-place-items-end c =
 
 place-items-requires : tie.Need-place-items-requires
 place-items-requires c κs =
-    let entry = entry-from-after-place-items-arg6 c in
-    let append-chain = at-append-chain-from-after-place-items-arg6 c .append-chain in
+    let entry = entry-from-after-place-items-arg5 c in
+    let append-chain = at-append-chain-from-after-place-items-arg5 c .append-chain in
     let p = entry .pre in
     let g = append-chain .ensures (members (entry .args .table .now) (entry .args .n) (entry .args .group)) (p .1 .1 .1) in
     (p .0, (member-items _ _ (p .0) _ _ _ g, ((p .1 .1 .0 .0, member-rows _ _ (p .0) _ _ _ g _ (p .1 .1 .0 .1)), p .1 .0 .1)))
@@ -103,9 +103,6 @@ same-length-5 c = search needs
 same-length-6 : tie.Need-same-length-6
 same-length-6 c = search needs
 
-same-length-7 : tie.Need-same-length-7
-same-length-7 c = search needs
-
 returns : tie.Need-returns
 returns c =
     let entry = entry-from-then1 c in
@@ -113,7 +110,7 @@ returns c =
     let place-items = at-place-items-from-then1 c .place-items in
     let p = entry .pre in
     let g = append-chain .ensures (members (entry .args .table .now) (entry .args .n) (entry .args .group)) (p .1 .1 .1) in
-    let h : entry .args .n < length (place-items .last .1 .1 .1 .1 .1 .1 .1 .1 .0) = omega (arith, place-items .kept .1 .1 .1 .1 .1 .1 .1 .1 .0, p .1 .0 .1 .orders) in
+    let h : entry .args .n < length (place-items .last .1 .1 .1 .1 .1 .1 .1 .0) = omega (arith, place-items .kept .1 .1 .1 .1 .1 .1 .1 .0, p .1 .0 .1 .orders) in
     (order-stuck _ _ (p .0) _ _ _ g _ h _ (place-items .ensures) (c .if1 .taken), refl)
 
 relink-requires : tie.Need-relink-requires
@@ -125,11 +122,14 @@ relink-requires c κs =
     let p = entry .pre in
     let g = append-chain .ensures (members (entry .args .table .now) (entry .args .n) (entry .args .group)) (p .1 .1 .1) in
     let e = place-items .ensures in
-    let h : entry .args .n < length (place-items .last .1 .1 .1 .1 .1 .1 .1 .1 .0) = omega (arith, place-items .kept .1 .1 .1 .1 .1 .1 .1 .1 .0, p .1 .0 .1 .orders) in
+    let h : entry .args .n < length (place-items .last .1 .1 .1 .1 .1 .1 .1 .0) = omega (arith, place-items .kept .1 .1 .1 .1 .1 .1 .1 .0, p .1 .0 .1 .orders) in
     let i = if1 .left in (
       (p .0 .few, p .1 .0 .0 .1, p .1 .0 .0 .2, omega (arith, order-short _ _ (p .0) _ _ _ g _ h _ e, h)),
       (order-labels _ _ (p .0) _ _ _ g _ h _ e i, order-once _ _ (p .0) _ _ _ g _ h _ e i),
     )
+
+same-length-7 : tie.Need-same-length-7
+same-length-7 c = search needs
 
 same-length-8 : tie.Need-same-length-8
 same-length-8 c = search needs
@@ -146,23 +146,17 @@ same-length-11 c = search needs
 same-length-12 : tie.Need-same-length-12
 same-length-12 c = search needs
 
-same-length-13 : tie.Need-same-length-13
-same-length-13 c = search needs
-
-same-length-14 : tie.Need-same-length-14
-same-length-14 c = search needs
-
 returns-2 : tie.Need-returns-2
 returns-2 c =
-    let entry = entry-from-after-slice-known14 c in
-    let append-chain = at-append-chain-from-after-slice-known14 c .append-chain in
-    let place-items = at-place-items-from-after-slice-known14 c .place-items in
-    let if1 = at-if1-from-after-slice-known14 c .if1 in
+    let entry = entry-from-after-slice-known12 c in
+    let append-chain = at-append-chain-from-after-slice-known12 c .append-chain in
+    let place-items = at-place-items-from-after-slice-known12 c .place-items in
+    let if1 = at-if1-from-after-slice-known12 c .if1 in
     let relink = c .before .before .relink in
     let p = entry .pre in
     let g = append-chain .ensures (members (entry .args .table .now) (entry .args .n) (entry .args .group)) (p .1 .1 .1) in
     let e = place-items .ensures in
-    let h : entry .args .n < length (place-items .last .1 .1 .1 .1 .1 .1 .1 .1 .0) = omega (arith, place-items .kept .1 .1 .1 .1 .1 .1 .1 .1 .0, p .1 .0 .1 .orders) in
+    let h : entry .args .n < length (place-items .last .1 .1 .1 .1 .1 .1 .1 .0) = omega (arith, place-items .kept .1 .1 .1 .1 .1 .1 .1 .0, p .1 .0 .1 .orders) in
     let i = if1 .left in (
       subst (λ (l : List ℕ). Relinked (entry .args .n) (entry .args .group) l (entry .args .next .now) (relink .last .1 .0))
           (order-expanded _ _ (p .0) _ _ _ g _ h _ e i) (relink .ensures),
@@ -184,14 +178,12 @@ order-group-spec =
     same-length-4
     same-length-5
     same-length-6
-    same-length-7
     returns
     relink-requires
+    same-length-7
     same-length-8
     same-length-9
     same-length-10
     same-length-11
     same-length-12
-    same-length-13
-    same-length-14
     returns-2)

@@ -6,16 +6,16 @@ use Rattle.groups.proofs.place_items.Tie as tie
 -- ---- earlier places, by later ones
 
 abbrev entry-of : tie.After-mask-items-arg → tie.Start
-entry-of c = c .before .before .before .before .before .before .before .before
+entry-of c = c .before .before .before .before .before .before .before
 
-abbrev after-mask-items : tie.After-place-arg5 → tie.After-mask-items
-after-mask-items c = c .before .before .before .before .before .before .before
+abbrev after-mask-items : tie.After-place-arg4 → tie.After-mask-items
+after-mask-items c = c .before .before .before .before .before .before
 
-abbrev after-mask-items-from-slice-known10 : tie.After-slice-known10 → tie.After-mask-items
-after-mask-items-from-slice-known10 c = after-mask-items (c .before .before .before .before .before .before .before .before .before)
+abbrev after-mask-items-from-slice-known8 : tie.After-slice-known8 → tie.After-mask-items
+after-mask-items-from-slice-known8 c = after-mask-items (c .before .before .before .before .before .before .before)
 
-abbrev after-place : tie.After-slice-known10 → tie.After-place
-after-place c = c .before .before .before .before .before .before .before .before
+abbrev after-place : tie.After-slice-known8 → tie.After-place
+after-place c = c .before .before .before .before .before .before
 
 mask-items-requires : tie.Need-mask-items-requires
 mask-items-requires c κs =
@@ -34,12 +34,12 @@ place-requires c κs =
     let s = p .1 .1 .1 in
     let mask-items = after-mask-items c .mask-items in (
       fits _ _ (p .0) _ (p .1 .0) _ _ (mask-items .ensures) _ (p .1 .1 .0 .0) (s .counts) (omega (arith, s .masks, mask-items .kept .1 .1 .1 .1 .0)),
-      (s .lists, s .readies, omega (arith, items-few _ _ (p .0) (entry .args .items .now) (p .1 .0), s .orders)),
+      (s .readies, omega (arith, items-few _ _ (p .0) (entry .args .items .now) (p .1 .0), s .orders)),
     )
 
 same-length : tie.Need-same-length
 same-length c =
-    let mask-items = after-mask-items-from-slice-known10 c .mask-items in
+    let mask-items = after-mask-items-from-slice-known8 c .mask-items in
     mask-items .kept .1 .1 .1 .1 .0
 
 same-length-2 : tie.Need-same-length-2
@@ -57,15 +57,10 @@ same-length-4 c =
     let place = after-place c .place in
     place .kept .1 .1 .1 .1 .1 .1 .0
 
-same-length-5 : tie.Need-same-length-5
-same-length-5 c =
-    let place = after-place c .place in
-    place .kept .1 .1 .1 .1 .1 .1 .1 .0
-
 returns : tie.Need-returns
 returns c =
-    let entry = entry-of (after-mask-items-from-slice-known10 c .before) in
-    let mask-items = after-mask-items-from-slice-known10 c .mask-items in
+    let entry = entry-of (after-mask-items-from-slice-known8 c .before) in
+    let mask-items = after-mask-items-from-slice-known8 c .mask-items in
     let place = after-place c .place in
     let p = entry .pre in
     placed-needs _ _ (p .0) _ (p .1 .0) _ _ (mask-items .ensures) (p .1 .1 .0 .1) _ _ (place .ensures)
@@ -81,5 +76,4 @@ place-items-spec =
     same-length-2
     same-length-3
     same-length-4
-    same-length-5
     returns)

@@ -67,6 +67,7 @@ join-group-requires c κs =
           omega (arith, s .lead-room, split-group .kept .1 .1 .1 .1 .1 .1 .1 .1 .1 .1 .1 .1 .1 .1 .0),
           omega (arith, s .stacked-room, split-group .kept .1 .1 .1 .1 .1 .1 .1 .1 .1 .1 .1 .0),
           omega (arith, s .path-room, split-group .kept .1 .1 .1 .1 .1 .1 .1 .1 .1 .1 .1 .1 .1 .0),
+          omega (arith, s .list-room, split-group .kept .1 .1 .1 .1 .1 .1 .1 .1 .1 .0),
         ),
         (
           (
@@ -76,8 +77,8 @@ join-group-requires c κs =
               omega (arith, p .1 .0 .0 .2, split-group .kept .1 .1 .1 .1 .1 .1 .1 .1 .1 .1 .1 .1 .1 .1 .1 .0),
               omega (arith, s .stack-room, split-group .kept .1 .1 .1 .1 .1 .1 .1 .1 .1 .1 .1 .1 .0),
             ),
-            scratch-as _ _ _ _ _ _ _ _ _ _ _ (split-group .kept .1 .1 .1 .1 .1 .1 .0) (split-group .kept .1 .1 .1 .1 .1 .1 .1 .0) (split-group .kept .1 .1 .1 .1 .1 .1 .1 .1 .0)
-                (split-group .kept .1 .1 .1 .1 .1 .1 .1 .1 .1 .0) (split-group .kept .1 .1 .1 .1 .1 .1 .1 .1 .1 .1 .0) (p .1 .0 .1),
+            scratch-as _ _ _ _ _ _ _ _ _ (split-group .kept .1 .1 .1 .1 .1 .1 .0) (split-group .kept .1 .1 .1 .1 .1 .1 .1 .0) (split-group .kept .1 .1 .1 .1 .1 .1 .1 .1 .0)
+                (split-group .kept .1 .1 .1 .1 .1 .1 .1 .1 .1 .1 .0) (p .1 .0 .1),
           ),
           (p .1 .1 .1 .0, (led-part _ _ (p .0 .0) _ (split-group .last .1 .1 .1 .1 .1 .0) _ (split-group .result) (split-group .ensures .0 .1), split-group .ensures .1 .1)),
         ),

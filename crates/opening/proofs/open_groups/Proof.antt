@@ -49,43 +49,43 @@ abbrev entry-from-after-order-groups-arg2 : tie.After-order-groups-arg2 Inv-loop
 entry-from-after-order-groups-arg2 c =
     at-loop-from-after-order-groups-arg2 c .before .before .before .before .before .before .before .before .before .before .before .before .before .before
 
-abbrev at-open-group-from-after-order-groups-arg8 : tie.After-order-groups-arg8 Inv-loop μ-loop → tie.After-open-group Inv-loop μ-loop
-at-open-group-from-after-order-groups-arg8 c =
-    let back = c .before .before .before .before .before .before .before .before .before .before .before .before .before .before .before .before .before .before in
+abbrev at-open-group-from-after-order-groups-arg7 : tie.After-order-groups-arg7 Inv-loop μ-loop → tie.After-open-group Inv-loop μ-loop
+at-open-group-from-after-order-groups-arg7 c =
+    let back = c .before .before .before .before .before .before .before .before .before .before .before .before .before .before .before .before .before in
     back .before .before .before .before .before .before .before .before .before .before .before .before .before .before .before .before
 
-abbrev at-loop-test-from-after-order-groups-arg8 : tie.After-order-groups-arg8 Inv-loop μ-loop → tie.In-loop Inv-loop μ-loop
-at-loop-test-from-after-order-groups-arg8 c =
-    at-open-group-from-after-order-groups-arg8 c .before .before .before .before .before .before .before .before .before .before .before .before .before .before
+abbrev at-loop-test-from-after-order-groups-arg7 : tie.After-order-groups-arg7 Inv-loop μ-loop → tie.In-loop Inv-loop μ-loop
+at-loop-test-from-after-order-groups-arg7 c =
+    at-open-group-from-after-order-groups-arg7 c .before .before .before .before .before .before .before .before .before .before .before .before .before .before
 
-abbrev at-loop-from-after-order-groups-arg8 : tie.After-order-groups-arg8 Inv-loop μ-loop → tie.At-loop Inv-loop μ-loop
-at-loop-from-after-order-groups-arg8 c = at-loop-test-from-after-order-groups-arg8 c .before
+abbrev at-loop-from-after-order-groups-arg7 : tie.After-order-groups-arg7 Inv-loop μ-loop → tie.At-loop Inv-loop μ-loop
+at-loop-from-after-order-groups-arg7 c = at-loop-test-from-after-order-groups-arg7 c .before
 
-abbrev entry-from-after-order-groups-arg8 : tie.After-order-groups-arg8 Inv-loop μ-loop → tie.Start Inv-loop μ-loop
-entry-from-after-order-groups-arg8 c =
-    at-loop-from-after-order-groups-arg8 c .before .before .before .before .before .before .before .before .before .before .before .before .before .before
+abbrev entry-from-after-order-groups-arg7 : tie.After-order-groups-arg7 Inv-loop μ-loop → tie.Start Inv-loop μ-loop
+entry-from-after-order-groups-arg7 c =
+    at-loop-from-after-order-groups-arg7 c .before .before .before .before .before .before .before .before .before .before .before .before .before .before
 
-abbrev at-order-groups-from-after-slice-known33 : tie.After-slice-known33 Inv-loop μ-loop → tie.After-order-groups Inv-loop μ-loop
-at-order-groups-from-after-slice-known33 c = c .before .before .before .before .before .before .before .before .before .before .before .before .before .before
+abbrev at-order-groups-from-after-slice-known32 : tie.After-slice-known32 Inv-loop μ-loop → tie.After-order-groups Inv-loop μ-loop
+at-order-groups-from-after-slice-known32 c = c .before .before .before .before .before .before .before .before .before .before .before .before
 
-abbrev at-loop-test-from-after-slice-known33 : tie.After-slice-known33 Inv-loop μ-loop → tie.In-loop Inv-loop μ-loop
-at-loop-test-from-after-slice-known33 c =
-    let back = c .before .before .before .before .before .before .before .before .before .before .before .before .before .before .before .before .before .before in
+abbrev at-loop-test-from-after-slice-known32 : tie.After-slice-known32 Inv-loop μ-loop → tie.In-loop Inv-loop μ-loop
+at-loop-test-from-after-slice-known32 c =
+    let back = c .before .before .before .before .before .before .before .before .before .before .before .before .before .before .before in
     let back2 = back .before .before .before .before .before .before .before .before .before .before .before .before .before .before .before .before .before .before in
     let back3 = back2 .before .before .before .before .before .before .before .before .before .before .before .before .before .before .before .before .before .before in
     back3 .before .before .before .before .before .before .before .before .before
 
-abbrev at-loop-from-after-slice-known33 : tie.After-slice-known33 Inv-loop μ-loop → tie.At-loop Inv-loop μ-loop
-at-loop-from-after-slice-known33 c = at-loop-test-from-after-slice-known33 c .before
+abbrev at-loop-from-after-slice-known32 : tie.After-slice-known32 Inv-loop μ-loop → tie.At-loop Inv-loop μ-loop
+at-loop-from-after-slice-known32 c = at-loop-test-from-after-slice-known32 c .before
 
-abbrev at-open-group-from-after-slice-known33 : tie.After-slice-known33 Inv-loop μ-loop → tie.After-open-group Inv-loop μ-loop
-at-open-group-from-after-slice-known33 c =
-    let back = c .before .before .before .before .before .before .before .before .before .before .before .before .before .before .before .before .before .before in
+abbrev at-open-group-from-after-slice-known32 : tie.After-slice-known32 Inv-loop μ-loop → tie.After-open-group Inv-loop μ-loop
+at-open-group-from-after-slice-known32 c =
+    let back = c .before .before .before .before .before .before .before .before .before .before .before .before .before .before .before in
     let back2 = back .before .before .before .before .before .before .before .before .before .before .before .before .before .before .before .before .before .before in
     back2 .before .before .before .before .before .before .before .before .before .before .before .before .before
 
-abbrev entry-from-after-slice-known33 : tie.After-slice-known33 Inv-loop μ-loop → tie.Start Inv-loop μ-loop
-entry-from-after-slice-known33 c = at-loop-from-after-slice-known33 c .before .before .before .before .before .before .before .before .before .before .before .before .before .before
+abbrev entry-from-after-slice-known32 : tie.After-slice-known32 Inv-loop μ-loop → tie.Start Inv-loop μ-loop
+entry-from-after-slice-known32 c = at-loop-from-after-slice-known32 c .before .before .before .before .before .before .before .before .before .before .before .before .before .before
 
 loop-holds : tie.Need-loop-holds Inv-loop μ-loop
 loop-holds c =
@@ -103,10 +103,10 @@ open-group-requires c κs =
       (
         (
           (omega (arith, p .1 .0 .0 .0, inv .1), omega (arith, p .1 .0 .0 .1, inv .2), omega (arith, p .1 .0 .0 .2, inv .12)),
-          scratch-as _ _ _ _ _ _ _ _ _ _ _ (inv .3) (inv .4) (inv .5) (inv .6) (inv .7) (p .1 .0 .1),
+          scratch-as _ _ _ _ _ _ _ _ _ (inv .3) (inv .4) (inv .5) (inv .7) (p .1 .0 .1),
         ),
         (
-          searchable-as _ _ _ _ _ _ _ _ _ (inv .8) (inv .9) (inv .10) (inv .11) (p .1 .1 .0),
+          searchable-as _ _ _ _ _ _ _ _ _ _ _ (inv .6) (inv .8) (inv .9) (inv .10) (inv .11) (p .1 .1 .0),
           ((omega (arith, p .1 .1 .1 .0, inv .0), inv .13 .rows z), inv .13 .turn z),
         ),
       ),
@@ -122,10 +122,10 @@ add-order-groups c =
 
 order-groups-requires : tie.Need-order-groups-requires Inv-loop μ-loop
 order-groups-requires c κs =
-    let entry = entry-from-after-order-groups-arg8 c in
-    let loop = at-loop-from-after-order-groups-arg8 c .loop in
-    let loop-test = at-loop-test-from-after-order-groups-arg8 c .loop-test in
-    let open-group = at-open-group-from-after-order-groups-arg8 c .open-group in
+    let entry = entry-from-after-order-groups-arg7 c in
+    let loop = at-loop-from-after-order-groups-arg7 c .loop in
+    let loop-test = at-loop-test-from-after-order-groups-arg7 c .loop-test in
+    let open-group = at-open-group-from-after-order-groups-arg7 c .open-group in
     let p = entry .pre in
     let inv = loop .inv in
     let op = inv .13 .turn (loop-test .taken) in (
@@ -133,9 +133,8 @@ order-groups-requires c κs =
       (
         (
           (omega arith, omega (arith, op .high), omega (arith, p .1 .0 .0 .0, inv .1, open-group .kept .1 .1 .1 .0), omega (arith, p .1 .0 .0 .1, inv .2, open-group .kept .1 .1 .1 .1 .1 .0)),
-          scratch-as _ _ _ _ _ _ _ _ _ _ _ (open-group .kept .1 .1 .1 .1 .1 .1 .0 ∙ inv .3) (open-group .kept .1 .1 .1 .1 .1 .1 .1 .0 ∙ inv .4)
-              (open-group .kept .1 .1 .1 .1 .1 .1 .1 .1 .0 ∙ inv .5)
-              (open-group .kept .1 .1 .1 .1 .1 .1 .1 .1 .1 .0 ∙ inv .6) (open-group .kept .1 .1 .1 .1 .1 .1 .1 .1 .1 .1 .0 ∙ inv .7) (p .1 .0 .1),
+          scratch-as _ _ _ _ _ _ _ _ _ (open-group .kept .1 .1 .1 .1 .1 .1 .0 ∙ inv .3) (open-group .kept .1 .1 .1 .1 .1 .1 .1 .0 ∙ inv .4)
+              (open-group .kept .1 .1 .1 .1 .1 .1 .1 .1 .0 ∙ inv .5) (open-group .kept .1 .1 .1 .1 .1 .1 .1 .1 .1 .1 .0 ∙ inv .7) (p .1 .0 .1),
         ),
         ((omega (arith, p .1 .1 .1 .0, inv .0, open-group .kept .1 .1 .0), open-group .ensures .1), open-group .ensures .0),
       ),
@@ -143,18 +142,18 @@ order-groups-requires c κs =
 
 loop-less : tie.Need-loop-less Inv-loop μ-loop
 loop-less c =
-    let loop = at-loop-from-after-slice-known33 c .loop in
-    let loop-test = at-loop-test-from-after-slice-known33 c .loop-test in
-    let order-groups = at-order-groups-from-after-slice-known33 c .order-groups in
+    let loop = at-loop-from-after-slice-known32 c .loop in
+    let loop-test = at-loop-test-from-after-slice-known32 c .loop-test in
+    let order-groups = at-order-groups-from-after-slice-known32 c .order-groups in
     let op = loop .inv .13 .turn (loop-test .taken) in
     left-less _ _ _ _ _ _ (loop-test .taken) (op .high) (omega arith) (order-groups .ensures)
 
 loop-again : tie.Need-loop-again Inv-loop μ-loop
 loop-again c =
-    let entry = entry-from-after-slice-known33 c in
-    let loop = at-loop-from-after-slice-known33 c .loop in
-    let open-group = at-open-group-from-after-slice-known33 c .open-group in
-    let order-groups = at-order-groups-from-after-slice-known33 c .order-groups in
+    let entry = entry-from-after-slice-known32 c in
+    let loop = at-loop-from-after-slice-known32 c .loop in
+    let open-group = at-open-group-from-after-slice-known32 c .open-group in
+    let order-groups = at-order-groups-from-after-slice-known32 c .order-groups in
     let p = entry .pre in
     let inv = loop .inv in (
       open-group .kept .1 .1 .0 ∙ inv .0,
@@ -163,8 +162,8 @@ loop-again c =
       order-groups .kept .1 .1 .1 .1 .1 .1 .0 ∙ open-group .kept .1 .1 .1 .1 .1 .1 .0 ∙ inv .3,
       order-groups .kept .1 .1 .1 .1 .1 .1 .1 .0 ∙ open-group .kept .1 .1 .1 .1 .1 .1 .1 .0 ∙ inv .4,
       order-groups .kept .1 .1 .1 .1 .1 .1 .1 .1 .0 ∙ open-group .kept .1 .1 .1 .1 .1 .1 .1 .1 .0 ∙ inv .5,
-      order-groups .kept .1 .1 .1 .1 .1 .1 .1 .1 .1 .0 ∙ open-group .kept .1 .1 .1 .1 .1 .1 .1 .1 .1 .0 ∙ inv .6,
-      order-groups .kept .1 .1 .1 .1 .1 .1 .1 .1 .1 .1 .0 ∙ open-group .kept .1 .1 .1 .1 .1 .1 .1 .1 .1 .1 .0 ∙ inv .7,
+      open-group .kept .1 .1 .1 .1 .1 .1 .1 .1 .1 .0 ∙ inv .6,
+      order-groups .kept .1 .1 .1 .1 .1 .1 .1 .1 .1 .0 ∙ open-group .kept .1 .1 .1 .1 .1 .1 .1 .1 .1 .1 .0 ∙ inv .7,
       open-group .kept .1 .1 .1 .1 .1 .1 .1 .1 .1 .1 .1 .0 ∙ inv .8,
       open-group .kept .1 .1 .1 .1 .1 .1 .1 .1 .1 .1 .1 .1 .0 ∙ inv .9,
       open-group .kept .1 .1 .1 .1 .1 .1 .1 .1 .1 .1 .1 .1 .1 .0 ∙ inv .10,

@@ -38,33 +38,33 @@ entry-from-after-heads3 c =
     let back = c .before .before .before .before .before .before .before .before .before .before .before .before .before .before .before .before .before .before in
     back .before .before .before .before .before .before .before .before .before .before .before .before .before
 
-abbrev at-mask-items-from-after-place-arg7 : tie.After-place-arg7 → tie.After-mask-items
-at-mask-items-from-after-place-arg7 c = c .before .before .before .before .before .before .before .before .before .before
+abbrev at-mask-items-from-after-place-arg6 : tie.After-place-arg6 → tie.After-mask-items
+at-mask-items-from-after-place-arg6 c = c .before .before .before .before .before .before .before .before .before
 
-abbrev at-gather-leaders-from-after-place-arg7 : tie.After-place-arg7 → tie.After-gather-leaders
-at-gather-leaders-from-after-place-arg7 c = at-mask-items-from-after-place-arg7 c .before .before .before .before .before .before
+abbrev at-gather-leaders-from-after-place-arg6 : tie.After-place-arg6 → tie.After-gather-leaders
+at-gather-leaders-from-after-place-arg6 c = at-mask-items-from-after-place-arg6 c .before .before .before .before .before .before
 
-abbrev at-merge-blocks-from-after-place-arg7 : tie.After-place-arg7 → tie.After-merge-blocks
-at-merge-blocks-from-after-place-arg7 c = at-gather-leaders-from-after-place-arg7 c .before .before .before .before .before .before .before .before
+abbrev at-merge-blocks-from-after-place-arg6 : tie.After-place-arg6 → tie.After-merge-blocks
+at-merge-blocks-from-after-place-arg6 c = at-gather-leaders-from-after-place-arg6 c .before .before .before .before .before .before .before .before
 
-abbrev entry-from-after-place-arg7 : tie.After-place-arg7 → tie.Start
-entry-from-after-place-arg7 c = at-merge-blocks-from-after-place-arg7 c .before .before .before .before .before .before .before .before .before .before .before .before .before .before
+abbrev entry-from-after-place-arg6 : tie.After-place-arg6 → tie.Start
+entry-from-after-place-arg6 c = at-merge-blocks-from-after-place-arg6 c .before .before .before .before .before .before .before .before .before .before .before .before .before .before
 
-abbrev at-place-from-after-slice-known17 : tie.After-slice-known17 → tie.After-place
-at-place-from-after-slice-known17 c = c .before .before .before .before .before .before .before .before
+abbrev at-place-from-after-slice-known16 : tie.After-slice-known16 → tie.After-place
+at-place-from-after-slice-known16 c = c .before .before .before .before .before .before
 
-abbrev at-mask-items-from-after-slice-known17 : tie.After-slice-known17 → tie.After-mask-items
-at-mask-items-from-after-slice-known17 c = at-place-from-after-slice-known17 c .before .before .before .before .before .before .before .before .before .before .before
+abbrev at-mask-items-from-after-slice-known16 : tie.After-slice-known16 → tie.After-mask-items
+at-mask-items-from-after-slice-known16 c = at-place-from-after-slice-known16 c .before .before .before .before .before .before .before .before .before .before
 
-abbrev at-gather-leaders-from-after-slice-known17 : tie.After-slice-known17 → tie.After-gather-leaders
-at-gather-leaders-from-after-slice-known17 c = at-mask-items-from-after-slice-known17 c .before .before .before .before .before .before
+abbrev at-gather-leaders-from-after-slice-known16 : tie.After-slice-known16 → tie.After-gather-leaders
+at-gather-leaders-from-after-slice-known16 c = at-mask-items-from-after-slice-known16 c .before .before .before .before .before .before
 
-abbrev at-merge-blocks-from-after-slice-known17 : tie.After-slice-known17 → tie.After-merge-blocks
-at-merge-blocks-from-after-slice-known17 c = at-gather-leaders-from-after-slice-known17 c .before .before .before .before .before .before .before .before
+abbrev at-merge-blocks-from-after-slice-known16 : tie.After-slice-known16 → tie.After-merge-blocks
+at-merge-blocks-from-after-slice-known16 c = at-gather-leaders-from-after-slice-known16 c .before .before .before .before .before .before .before .before
 
-abbrev entry-from-after-slice-known17 : tie.After-slice-known17 → tie.Start
-entry-from-after-slice-known17 c =
-    at-merge-blocks-from-after-slice-known17 c .before .before .before .before .before .before .before .before .before .before .before .before .before .before
+abbrev entry-from-after-slice-known16 : tie.After-slice-known16 → tie.Start
+entry-from-after-slice-known16 c =
+    at-merge-blocks-from-after-slice-known16 c .before .before .before .before .before .before .before .before .before .before .before .before .before .before
 
 add-w : tie.Need-add-w
 add-w c = search needs
@@ -73,7 +73,7 @@ merge-blocks-requires : tie.Need-merge-blocks-requires
 merge-blocks-requires c κs =
     let entry = entry-from-after-merge-blocks-arg3 c in
     let p = entry .pre in
-    (mergeable _ _ (p .0) _ _ _ (p .1 .1 .1 .1) _ (p .1 .0 .0) (p .1 .1 .1 .0 .0), (p .1 .0 .1, p .1 .1 .0 .lists))
+    (mergeable _ _ (p .0) _ _ _ (p .1 .1 .1 .1) _ (p .1 .0 .0) (p .1 .1 .1 .0 .0), (p .1 .0 .1, p .1 .0 .3))
 
 gather-leaders-requires : tie.Need-gather-leaders-requires
 gather-leaders-requires c κs =
@@ -119,17 +119,17 @@ part-place-end c =
 
 place-requires : tie.Need-place-requires
 place-requires c κs =
-    let entry = entry-from-after-place-arg7 c in
-    let merge-blocks = at-merge-blocks-from-after-place-arg7 c .merge-blocks in
-    let mask-items = at-mask-items-from-after-place-arg7 c .mask-items in
-    let gather-leaders = at-gather-leaders-from-after-place-arg7 c .gather-leaders in
+    let entry = entry-from-after-place-arg6 c in
+    let merge-blocks = at-merge-blocks-from-after-place-arg6 c .merge-blocks in
+    let mask-items = at-mask-items-from-after-place-arg6 c .mask-items in
+    let gather-leaders = at-gather-leaders-from-after-place-arg6 c .gather-leaders in
     let p = entry .pre in
     let s = p .1 .1 .0 in
     let room : (entry .args .n + 1) * width (entry .args .n) ≤ length (merge-blocks .last .1 .1 .0) = omega (arith, p .1 .1 .1 .0 .0, merge-blocks .kept .1 .1 .0) in
     let wide : width (entry .args .n) ≤ length (mask-items .last .1 .1 .1 .1 .0) = omega (arith, s .masks, mask-items .kept .1 .1 .1 .1 .0) in
     let few = heads-few (entry .args .table .now) (entry .args .n) (p .0) (entry .args .group) (entry .args .items .now) (entry .args .lead .now) (p .1 .1 .1 .1) _ _ (gather-leaders .ensures) in (
       heads-fit _ _ (p .0) _ _ _ (p .1 .1 .1 .1) _ _ (gather-leaders .ensures) _ _ _ (mask-items .ensures) room (s .counts) wide,
-      (omega (arith, s .lists, merge-blocks .kept .1 .1 .1 .1 .1 .0), s .readies, omega (arith, few, s .orders)),
+      (s .readies, omega (arith, few, s .orders)),
     )
 
 same-length : tie.Need-same-length
@@ -158,13 +158,13 @@ same-length-8 c = search needs
 
 returns : tie.Need-returns
 returns c =
-    let entry = entry-from-after-slice-known17 c in
-    let place = at-place-from-after-slice-known17 c .place in
-    let merge-blocks = at-merge-blocks-from-after-slice-known17 c .merge-blocks in
-    let gather-leaders = at-gather-leaders-from-after-slice-known17 c .gather-leaders in
-    let mask-items = at-mask-items-from-after-slice-known17 c .mask-items in
+    let entry = entry-from-after-slice-known16 c in
+    let place = at-place-from-after-slice-known16 c .place in
+    let merge-blocks = at-merge-blocks-from-after-slice-known16 c .merge-blocks in
+    let gather-leaders = at-gather-leaders-from-after-slice-known16 c .gather-leaders in
+    let mask-items = at-mask-items-from-after-slice-known16 c .mask-items in
     let p = entry .pre in
-    let room : entry .args .n < length (place .last .1 .1 .1 .1 .1 .1 .1 .0) = omega (arith, p .1 .1 .0 .orders, place .kept .1 .1 .1 .1 .1 .1 .1 .0) in (
+    let room : entry .args .n < length (place .last .1 .1 .1 .1 .1 .1 .0) = omega (arith, p .1 .1 .0 .orders, place .kept .1 .1 .1 .1 .1 .1 .0) in (
       heads-placed _ _ (p .0) _ _ _ (p .1 .1 .1 .1) _ _ _ (merge-blocks .ensures) (p .1 .1 .1 .0 .1) _ _ _ _ _ (gather-leaders .ensures) (mask-items .ensures) room (place .ensures),
       rows-after _ _ (p .0) _ _ _ (p .1 .1 .1 .1) _ _ _ (merge-blocks .ensures) (p .1 .1 .1 .0 .1),
     )

@@ -10,86 +10,86 @@ use Rattle.planning.proofs.list_in.Tie as tie
 
 -- ---- earlier places, by later ones
 
-abbrev at-link-members-from-after-order-groups-arg8 : tie.After-order-groups-arg8 → tie.After-link-members
-at-link-members-from-after-order-groups-arg8 c = c .before .before .before .before .before .before .before .before .before .before
+abbrev at-link-members-from-after-order-groups-arg7 : tie.After-order-groups-arg7 → tie.After-link-members
+at-link-members-from-after-order-groups-arg7 c = c .before .before .before .before .before .before .before .before .before
 
-abbrev entry-from-after-order-groups-arg8 : tie.After-order-groups-arg8 → tie.Start
-entry-from-after-order-groups-arg8 c = at-link-members-from-after-order-groups-arg8 c .before .before .before .before .before .before .before .before .before .before
+abbrev entry-from-after-order-groups-arg7 : tie.After-order-groups-arg7 → tie.Start
+entry-from-after-order-groups-arg7 c = at-link-members-from-after-order-groups-arg7 c .before .before .before .before .before .before .before .before .before
 
 abbrev at-order-groups-from-after-list-group-arg2 : tie.After-list-group-arg2 → tie.After-order-groups
-at-order-groups-from-after-list-group-arg2 c = c .before .before .before .before .before .before .before .before .before .before .before .before .before .before .before .before .before
+at-order-groups-from-after-list-group-arg2 c = c .before .before .before .before .before .before .before .before .before .before .before .before .before .before .before
 
 abbrev at-link-members-from-after-list-group-arg2 : tie.After-list-group-arg2 → tie.After-link-members
-at-link-members-from-after-list-group-arg2 c = at-order-groups-from-after-list-group-arg2 c .before .before .before .before .before .before .before .before .before .before .before
+at-link-members-from-after-list-group-arg2 c = at-order-groups-from-after-list-group-arg2 c .before .before .before .before .before .before .before .before .before .before
 
 abbrev entry-from-after-list-group-arg2 : tie.After-list-group-arg2 → tie.Start
-entry-from-after-list-group-arg2 c = at-link-members-from-after-list-group-arg2 c .before .before .before .before .before .before .before .before .before .before
+entry-from-after-list-group-arg2 c = at-link-members-from-after-list-group-arg2 c .before .before .before .before .before .before .before .before .before
 
 abbrev at-order-groups-from-after-plan : tie.After-plan → tie.After-order-groups
 at-order-groups-from-after-plan c =
-    let back = c .before .before .before .before .before .before .before .before .before .before .before .before .before .before .before .before .before .before in
+    let back = c .before .before .before .before .before .before .before .before .before .before .before .before .before .before .before .before in
     back .before
 
 abbrev entry-from-after-plan : tie.After-plan → tie.Start
 entry-from-after-plan c =
-    let back = c .before .before .before .before .before .before .before .before .before .before .before .before .before .before .before .before .before .before in
-    let back2 = back .before .before .before .before .before .before .before .before .before .before .before .before .before .before .before .before .before .before in
+    let back = c .before .before .before .before .before .before .before .before .before .before .before .before .before .before .before .before in
+    let back2 = back .before .before .before .before .before .before .before .before .before .before .before .before .before .before .before .before in
     back2 .before .before .before .before
 
-abbrev at-order-groups-from-after-open-stuck-arg8 : tie.After-open-stuck-arg8 → tie.After-order-groups
-at-order-groups-from-after-open-stuck-arg8 c =
-    let back = c .before .before .before .before .before .before .before .before .before .before .before .before .before .before .before .before .before .before in
+abbrev at-order-groups-from-after-open-stuck-arg7 : tie.After-open-stuck-arg7 → tie.After-order-groups
+at-order-groups-from-after-open-stuck-arg7 c =
+    let back = c .before .before .before .before .before .before .before .before .before .before .before .before .before .before .before in
     back .before .before .before .before .before
 
-abbrev at-link-members-from-after-open-stuck-arg8 : tie.After-open-stuck-arg8 → tie.After-link-members
-at-link-members-from-after-open-stuck-arg8 c = at-order-groups-from-after-open-stuck-arg8 c .before .before .before .before .before .before .before .before .before .before .before
+abbrev at-link-members-from-after-open-stuck-arg7 : tie.After-open-stuck-arg7 → tie.After-link-members
+at-link-members-from-after-open-stuck-arg7 c = at-order-groups-from-after-open-stuck-arg7 c .before .before .before .before .before .before .before .before .before .before
 
-abbrev entry-from-after-open-stuck-arg8 : tie.After-open-stuck-arg8 → tie.Start
-entry-from-after-open-stuck-arg8 c = at-link-members-from-after-open-stuck-arg8 c .before .before .before .before .before .before .before .before .before .before
+abbrev entry-from-after-open-stuck-arg7 : tie.After-open-stuck-arg7 → tie.Start
+entry-from-after-open-stuck-arg7 c = at-link-members-from-after-open-stuck-arg7 c .before .before .before .before .before .before .before .before .before
 
 abbrev at-open-stuck-from-after-list-group-arg4 : tie.After-list-group-arg4 → tie.After-open-stuck
 at-open-stuck-from-after-list-group-arg4 c =
-    c .before .before .before .before .before .before .before .before .before .before .before .before .before .before .before .before .before .before
+    c .before .before .before .before .before .before .before .before .before .before .before .before .before .before .before .before
 
 abbrev at-order-groups-from-after-list-group-arg4 : tie.After-list-group-arg4 → tie.After-order-groups
 at-order-groups-from-after-list-group-arg4 c =
-    let back = c .before .before .before .before .before .before .before .before .before .before .before .before .before .before .before .before .before .before in
-    let back2 = back .before .before .before .before .before .before .before .before .before .before .before .before .before .before .before .before .before .before in
+    let back = c .before .before .before .before .before .before .before .before .before .before .before .before .before .before .before .before in
+    let back2 = back .before .before .before .before .before .before .before .before .before .before .before .before .before .before .before in
     back2 .before .before .before .before .before .before
 
 abbrev at-link-members-from-after-list-group-arg4 : tie.After-list-group-arg4 → tie.After-link-members
-at-link-members-from-after-list-group-arg4 c = at-order-groups-from-after-list-group-arg4 c .before .before .before .before .before .before .before .before .before .before .before
+at-link-members-from-after-list-group-arg4 c = at-order-groups-from-after-list-group-arg4 c .before .before .before .before .before .before .before .before .before .before
 
 abbrev entry-from-after-list-group-arg4 : tie.After-list-group-arg4 → tie.Start
-entry-from-after-list-group-arg4 c = at-link-members-from-after-list-group-arg4 c .before .before .before .before .before .before .before .before .before .before
+entry-from-after-list-group-arg4 c = at-link-members-from-after-list-group-arg4 c .before .before .before .before .before .before .before .before .before
 
 abbrev at-open-stuck-from-after-plan2 : tie.After-plan2 → tie.After-open-stuck
 at-open-stuck-from-after-plan2 c =
-    let back = c .before .before .before .before .before .before .before .before .before .before .before .before .before .before .before .before .before .before in
+    let back = c .before .before .before .before .before .before .before .before .before .before .before .before .before .before .before .before in
     back .before .before
 
 abbrev at-order-groups-from-after-plan2 : tie.After-plan2 → tie.After-order-groups
 at-order-groups-from-after-plan2 c =
-    let back = c .before .before .before .before .before .before .before .before .before .before .before .before .before .before .before .before .before .before in
-    let back2 = back .before .before .before .before .before .before .before .before .before .before .before .before .before .before .before .before .before .before in
+    let back = c .before .before .before .before .before .before .before .before .before .before .before .before .before .before .before .before in
+    let back2 = back .before .before .before .before .before .before .before .before .before .before .before .before .before .before .before in
     back2 .before .before .before .before .before .before .before .before
 
 abbrev at-link-members-from-after-plan2 : tie.After-plan2 → tie.After-link-members
-at-link-members-from-after-plan2 c = at-order-groups-from-after-plan2 c .before .before .before .before .before .before .before .before .before .before .before
+at-link-members-from-after-plan2 c = at-order-groups-from-after-plan2 c .before .before .before .before .before .before .before .before .before .before
 
 abbrev at-if1-from-after-plan2 : tie.After-plan2 → tie.Else1
-at-if1-from-after-plan2 c = at-open-stuck-from-after-plan2 c .before .before .before .before .before .before .before .before .before
+at-if1-from-after-plan2 c = at-open-stuck-from-after-plan2 c .before .before .before .before .before .before .before .before
 
 abbrev entry-from-after-plan2 : tie.After-plan2 → tie.Start
-entry-from-after-plan2 c = at-link-members-from-after-plan2 c .before .before .before .before .before .before .before .before .before .before
+entry-from-after-plan2 c = at-link-members-from-after-plan2 c .before .before .before .before .before .before .before .before .before
 
 link-members-requires : tie.Need-link-members-requires
 link-members-requires c κs = search needs
 
 order-groups-requires : tie.Need-order-groups-requires
 order-groups-requires c κs =
-    let entry = entry-from-after-order-groups-arg8 c in
-    let link-members = at-link-members-from-after-order-groups-arg8 c .link-members in
+    let entry = entry-from-after-order-groups-arg7 c in
+    let link-members = at-link-members-from-after-order-groups-arg7 c .link-members in
     let p = entry .pre in
     let r = p .1 .1 .1 in (
       p .0,
@@ -137,9 +137,6 @@ same-length-7 c = search needs
 same-length-8 : tie.Need-same-length-8
 same-length-8 c = search needs
 
-same-length-9 : tie.Need-same-length-9
-same-length-9 c = search needs
-
 returns : tie.Need-returns
 returns c =
     let entry = entry-from-after-plan c in
@@ -151,17 +148,17 @@ returns c =
 
 open-stuck-requires : tie.Need-open-stuck-requires
 open-stuck-requires c κs =
-    let entry = entry-from-after-open-stuck-arg8 c in
-    let link-members = at-link-members-from-after-open-stuck-arg8 c .link-members in
-    let order-groups = at-order-groups-from-after-open-stuck-arg8 c .order-groups in
+    let entry = entry-from-after-open-stuck-arg7 c in
+    let link-members = at-link-members-from-after-open-stuck-arg7 c .link-members in
+    let order-groups = at-order-groups-from-after-open-stuck-arg7 c .order-groups in
     let p = entry .pre in
     let r = p .1 .1 .1 in (
       (p .0, p .1 .0 .1),
       (
         (
           (omega (arith, r .0 .0, link-members .kept .1 .1 .0, order-groups .kept .1 .1 .1 .0), omega (arith, r .1 .0, order-groups .kept .1 .1 .1 .1 .1 .0)),
-          scratch-as _ _ _ _ _ _ _ _ _ _ _ (order-groups .kept .1 .1 .1 .1 .1 .1 .0) (order-groups .kept .1 .1 .1 .1 .1 .1 .1 .0) (order-groups .kept .1 .1 .1 .1 .1 .1 .1 .1 .0)
-              (order-groups .kept .1 .1 .1 .1 .1 .1 .1 .1 .1 .0) (order-groups .kept .1 .1 .1 .1 .1 .1 .1 .1 .1 .1 .0) (r .1 .1),
+          scratch-as _ _ _ _ _ _ _ _ _ (order-groups .kept .1 .1 .1 .1 .1 .1 .0) (order-groups .kept .1 .1 .1 .1 .1 .1 .1 .0) (order-groups .kept .1 .1 .1 .1 .1 .1 .1 .1 .0)
+              (order-groups .kept .1 .1 .1 .1 .1 .1 .1 .1 .1 .0) (r .1 .1),
         ),
         (p .1 .1 .0 .0, stopped _ _ (p .0) 1 _ _ _ (omega arith) (λ x y a b l. p .1 .1 .0 .1 x y a b) (order-groups .ensures)),
       ),
@@ -181,42 +178,39 @@ list-group-requires-2 c κs =
       ),
     )
 
+same-length-9 : tie.Need-same-length-9
+same-length-9 c = search needs
+
 same-length-10 : tie.Need-same-length-10
 same-length-10 c = search needs
 
 same-length-11 : tie.Need-same-length-11
-same-length-11 c = search needs
-
-same-length-12 : tie.Need-same-length-12
-same-length-12 c =
+same-length-11 c =
     let open-stuck = at-open-stuck-from-after-plan2 c .open-stuck in
     let order-groups = at-order-groups-from-after-plan2 c .order-groups in
     let link-members = at-link-members-from-after-plan2 c .link-members in
     open-stuck .kept .1 .1 .1 .0 ∙ order-groups .kept .1 .1 .1 .0 ∙ link-members .kept .1 .1 .0
 
-same-length-13 : tie.Need-same-length-13
-same-length-13 c =
+same-length-12 : tie.Need-same-length-12
+same-length-12 c =
     let open-stuck = at-open-stuck-from-after-plan2 c .open-stuck in
     let order-groups = at-order-groups-from-after-plan2 c .order-groups in
     open-stuck .kept .1 .1 .1 .1 .1 .0 ∙ order-groups .kept .1 .1 .1 .1 .1 .0
 
-same-length-14 : tie.Need-same-length-14
-same-length-14 c =
+same-length-13 : tie.Need-same-length-13
+same-length-13 c =
     let open-stuck = at-open-stuck-from-after-plan2 c .open-stuck in
     let order-groups = at-order-groups-from-after-plan2 c .order-groups in
     open-stuck .kept .1 .1 .1 .1 .1 .1 .0 ∙ order-groups .kept .1 .1 .1 .1 .1 .1 .0
+
+same-length-14 : tie.Need-same-length-14
+same-length-14 c = search needs
 
 same-length-15 : tie.Need-same-length-15
 same-length-15 c = search needs
 
 same-length-16 : tie.Need-same-length-16
 same-length-16 c = search needs
-
-same-length-17 : tie.Need-same-length-17
-same-length-17 c = search needs
-
-same-length-18 : tie.Need-same-length-18
-same-length-18 c = search needs
 
 returns-2 : tie.Need-returns-2
 returns-2 c =
@@ -243,10 +237,10 @@ list-in-spec =
     same-length-6
     same-length-7
     same-length-8
-    same-length-9
     returns
     open-stuck-requires
     list-group-requires-2
+    same-length-9
     same-length-10
     same-length-11
     same-length-12
@@ -254,6 +248,4 @@ list-in-spec =
     same-length-14
     same-length-15
     same-length-16
-    same-length-17
-    same-length-18
     returns-2)

@@ -9,7 +9,7 @@ use Rattle.planning.proofs.list_plan.Tie as tie
 -- ---- earlier places, by later ones
 
 abbrev entry-from-after-order : tie.After-order → tie.Start
-entry-from-after-order c = c .before .before .before .before .before .before .before .before .before .before .before
+entry-from-after-order c = c .before .before .before .before .before .before .before .before .before .before
 
 list-small-requires : tie.Need-list-small-requires
 list-small-requires c κs = search needs
@@ -41,9 +41,6 @@ slice-aggregate-list-in-5 c = search needs
 slice-aggregate-list-in-6 : tie.Need-slice-aggregate-list-in-6
 slice-aggregate-list-in-6 c = search needs
 
-slice-aggregate-list-in-7 : tie.Need-slice-aggregate-list-in-7
-slice-aggregate-list-in-7 c = search needs
-
 list-in-requires : tie.Need-list-in-requires
 list-in-requires c κs =
     let entry = entry-from-after-order c in
@@ -74,7 +71,6 @@ list-plan-spec =
     slice-aggregate-list-in-4
     slice-aggregate-list-in-5
     slice-aggregate-list-in-6
-    slice-aggregate-list-in-7
     list-in-requires
     same-length-3
     same-length-4

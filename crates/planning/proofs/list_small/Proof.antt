@@ -8,7 +8,7 @@ use Rattle.planning.proofs.list_small.Tie as tie
 -- ---- earlier places, by later ones
 
 abbrev entry-from-after-order : tie.After-order → tie.Start
-entry-from-after-order c = c .before .before .before .before .before .before .before .before .before .before
+entry-from-after-order c = c .before .before .before .before .before .before .before .before .before
 
 slice-aggregate-list-in : tie.Need-slice-aggregate-list-in
 slice-aggregate-list-in c = search needs
@@ -27,9 +27,6 @@ slice-aggregate-list-in-5 c = search needs
 
 slice-aggregate-list-in-6 : tie.Need-slice-aggregate-list-in-6
 slice-aggregate-list-in-6 c = search needs
-
-slice-aggregate-list-in-7 : tie.Need-slice-aggregate-list-in-7
-slice-aggregate-list-in-7 c = search needs
 
 list-in-requires : tie.Need-list-in-requires
 list-in-requires c κs =
@@ -57,7 +54,6 @@ list-small-spec =
     slice-aggregate-list-in-4
     slice-aggregate-list-in-5
     slice-aggregate-list-in-6
-    slice-aggregate-list-in-7
     list-in-requires
     same-length
     same-length-2

@@ -10,7 +10,7 @@ use Rattle.planning.proofs.open_small.Tie as tie
 abbrev entry-from-after-links : tie.After-links → tie.Start
 entry-from-after-links c =
     let back = c .before .before .before .before .before .before .before .before .before .before .before .before .before .before .before .before .before .before in
-    back .before .before .before
+    back .before .before
 
 slice-aggregate-open-groups : tie.Need-slice-aggregate-open-groups
 slice-aggregate-open-groups c = search needs
@@ -26,6 +26,9 @@ slice-aggregate-open-groups-4 c = search needs
 
 slice-aggregate-open-groups-5 : tie.Need-slice-aggregate-open-groups-5
 slice-aggregate-open-groups-5 c = search needs
+
+slice-aggregate-open-groups-6 : tie.Need-slice-aggregate-open-groups-6
+slice-aggregate-open-groups-6 c = search needs
 
 open-groups-requires : tie.Need-open-groups-requires
 open-groups-requires c κs =
@@ -56,9 +59,6 @@ same-length-6 c = search needs
 same-length-7 : tie.Need-same-length-7
 same-length-7 c = search needs
 
-same-length-8 : tie.Need-same-length-8
-same-length-8 c = search needs
-
 returns : tie.Need-returns
 returns c = search needs
 
@@ -71,6 +71,7 @@ open-small-spec =
     slice-aggregate-open-groups-3
     slice-aggregate-open-groups-4
     slice-aggregate-open-groups-5
+    slice-aggregate-open-groups-6
     open-groups-requires
     same-length
     same-length-2
@@ -79,5 +80,4 @@ open-small-spec =
     same-length-5
     same-length-6
     same-length-7
-    same-length-8
     returns)

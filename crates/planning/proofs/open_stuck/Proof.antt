@@ -8,21 +8,21 @@ use Rattle.planning.proofs.open_stuck.Tie as tie
 
 -- ---- earlier places, by later ones
 
-abbrev at-if1-from-after-open-small-arg8 : tie.After-open-small-arg8 → tie.Then1
-at-if1-from-after-open-small-arg8 c = c .before .before .before .before .before .before .before .before
+abbrev at-if1-from-after-open-small-arg7 : tie.After-open-small-arg7 → tie.Then1
+at-if1-from-after-open-small-arg7 c = c .before .before .before .before .before .before .before
 
-abbrev entry-from-after-open-small-arg8 : tie.After-open-small-arg8 → tie.Start
-entry-from-after-open-small-arg8 c = at-if1-from-after-open-small-arg8 c .before .before .before .before .before .before .before .before .before
+abbrev entry-from-after-open-small-arg7 : tie.After-open-small-arg7 → tie.Start
+entry-from-after-open-small-arg7 c = at-if1-from-after-open-small-arg7 c .before .before .before .before .before .before .before .before
 
 abbrev entry-from-after-links : tie.After-links → tie.Start
 entry-from-after-links c =
     let back = c .before .before .before .before .before .before .before .before .before .before .before .before .before .before .before .before .before .before in
-    back .before .before .before .before
+    back .before .before .before
 
 open-small-requires : tie.Need-open-small-requires
 open-small-requires c κs =
-    let entry = entry-from-after-open-small-arg8 c in
-    let if1 = at-if1-from-after-open-small-arg8 c .if1 in
+    let entry = entry-from-after-open-small-arg7 c in
+    let if1 = at-if1-from-after-open-small-arg7 c .if1 in
     let p = entry .pre in
     (p .0, (if1 .taken, (p .1 .0, p .1 .1)))
 
@@ -47,9 +47,6 @@ same-length-6 c = search needs
 same-length-7 : tie.Need-same-length-7
 same-length-7 c = search needs
 
-same-length-8 : tie.Need-same-length-8
-same-length-8 c = search needs
-
 returns : tie.Need-returns
 returns c = search needs
 
@@ -68,6 +65,9 @@ slice-aggregate-open-groups-4 c = search needs
 slice-aggregate-open-groups-5 : tie.Need-slice-aggregate-open-groups-5
 slice-aggregate-open-groups-5 c = search needs
 
+slice-aggregate-open-groups-6 : tie.Need-slice-aggregate-open-groups-6
+slice-aggregate-open-groups-6 c = search needs
+
 open-groups-requires : tie.Need-open-groups-requires
 open-groups-requires c κs =
     let entry = entry-from-after-links c in
@@ -75,6 +75,9 @@ open-groups-requires c κs =
     let h : entry .args .n ≤ labelLimit = p .0 .0 .few in
     let z = zero-search (entry .args .n) 1025 17 (omega arith) (omega arith) in
     (p .0, (((p .1 .0 .0 .0, p .1 .0 .0 .1, z .0), p .1 .0 .1), (z .1, p .1 .1)))
+
+same-length-8 : tie.Need-same-length-8
+same-length-8 c = search needs
 
 same-length-9 : tie.Need-same-length-9
 same-length-9 c = search needs
@@ -94,12 +97,6 @@ same-length-13 c = search needs
 same-length-14 : tie.Need-same-length-14
 same-length-14 c = search needs
 
-same-length-15 : tie.Need-same-length-15
-same-length-15 c = search needs
-
-same-length-16 : tie.Need-same-length-16
-same-length-16 c = search needs
-
 returns-2 : tie.Need-returns-2
 returns-2 c = search needs
 
@@ -115,20 +112,19 @@ open-stuck-spec =
     same-length-5
     same-length-6
     same-length-7
-    same-length-8
     returns
     slice-aggregate-open-groups
     slice-aggregate-open-groups-2
     slice-aggregate-open-groups-3
     slice-aggregate-open-groups-4
     slice-aggregate-open-groups-5
+    slice-aggregate-open-groups-6
     open-groups-requires
+    same-length-8
     same-length-9
     same-length-10
     same-length-11
     same-length-12
     same-length-13
     same-length-14
-    same-length-15
-    same-length-16
     returns-2)

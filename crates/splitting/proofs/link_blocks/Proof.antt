@@ -20,8 +20,8 @@ abbrev μ-loop : tie.MeasureT-loop
 abbrev entry-from-after-widen : tie.After-widen Inv-loop μ-loop → tie.Start Inv-loop μ-loop
 entry-from-after-widen c = c .before .before .before .before .before .before .before .before .before .before .before
 
-abbrev at-clear-counts-from-after-widen : tie.After-widen Inv-loop μ-loop → tie.After-clear-counts Inv-loop μ-loop
-at-clear-counts-from-after-widen c = c .before .before .before .before .before .before
+abbrev at-clear-cells-from-after-widen : tie.After-widen Inv-loop μ-loop → tie.After-clear-cells Inv-loop μ-loop
+at-clear-cells-from-after-widen c = c .before .before .before .before .before .before
 
 abbrev entry-from-after-widen2 : tie.After-widen2 Inv-loop μ-loop → tie.Start Inv-loop μ-loop
 entry-from-after-widen2 c = c .before .before .before .before .before .before .before .before .before .before .before .before .before
@@ -44,7 +44,7 @@ at-loop-test-from-after-slice-known3 c = c .before .before .before .before .befo
 -- in a turn: the item at hand, and its lead
 module _ (c : tie.After-widen Inv-loop μ-loop) where
   same : length (c .before .before .before .loop .links) ≡ length ((entry-from-after-widen c) .args .links .now)
-  same = c .before .before .before .loop .inv .0 ∙ (at-clear-counts-from-after-widen c) .clear-counts .kept .1 .0
+  same = c .before .before .before .loop .inv .0 ∙ (at-clear-cells-from-after-widen c) .clear-cells .kept .1 .0
 
   item : c .widen .result ∈ (entry-from-after-widen c) .args .items .now
   item =
@@ -61,8 +61,8 @@ module _ (c : tie.After-widen2 Inv-loop μ-loop) where
       entry .pre .1 .label (c .widen2 .result)
       (subst (λ (b : ℕ). b ∈ entry .args .items .now) (sym (c .widen2 .ensures)) (entry .pre .1 .item _ (item (c .before .before))))
 
-clear-counts-requires : tie.Need-clear-counts-requires Inv-loop μ-loop
-clear-counts-requires c κs =
+clear-cells-requires : tie.Need-clear-cells-requires Inv-loop μ-loop
+clear-cells-requires c κs =
     let entry = c .before .before .before .before in
     let ok = entry .pre .1 in
     λ p m. let b = ok .label p m in omega (arith, b, ok .room)
@@ -70,8 +70,8 @@ clear-counts-requires c κs =
 loop-holds : tie.Need-loop-holds Inv-loop μ-loop
 loop-holds c =
     let entry = entry-from-after-slice-known2 c in
-    let clear-counts = c .before .before .clear-counts in
-    (refl, omega arith, linking-none _ _ _ (length (entry .args .items .now)) _ (omega arith) (clear-counts .ensures))
+    let clear-cells = c .before .before .clear-cells in
+    (refl, omega arith, linking-none _ _ _ (length (entry .args .items .now)) _ (omega arith) (clear-cells .ensures))
 
 sub-i : tie.Need-sub-i Inv-loop μ-loop
 sub-i c = search needs
@@ -147,8 +147,8 @@ loop-again c =
 same-length : tie.Need-same-length Inv-loop μ-loop
 same-length c =
     let loop = c .before .loop in
-    let clear-counts = c .before .before .before .before .clear-counts in
-    loop .inv .0 ∙ clear-counts .kept .1 .0
+    let clear-cells = c .before .before .before .before .clear-cells in
+    loop .inv .0 ∙ clear-cells .kept .1 .0
 
 returns : tie.Need-returns Inv-loop μ-loop
 returns c =
@@ -161,7 +161,7 @@ link-blocks-spec =
     (tie.spec
     Inv-loop
     μ-loop
-    clear-counts-requires
+    clear-cells-requires
     loop-holds
     sub-i
     mul-widen

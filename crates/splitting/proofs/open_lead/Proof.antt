@@ -12,20 +12,20 @@ use Rattle.splitting.proofs.open_lead.Tie as tie
 -- ---- earlier places, by later ones
 
 abbrev at-open-block-from-after-relink-arg2 : tie.After-relink-arg2 → tie.After-open-block
-at-open-block-from-after-relink-arg2 c = c .before .before .before .before .before .before .before .before .before .before .before .before .before .before .before .before
+at-open-block-from-after-relink-arg2 c = c .before .before .before .before .before .before .before .before .before .before .before .before .before .before
 
 abbrev entry-from-after-relink-arg2 : tie.After-relink-arg2 → tie.Start
 entry-from-after-relink-arg2 c =
-    at-open-block-from-after-relink-arg2 c .before .before .before .before .before .before .before .before .before .before .before .before .before .before .before .before .before .before
+    at-open-block-from-after-relink-arg2 c .before .before .before .before .before .before .before .before .before .before .before .before .before .before .before .before
 
-abbrev at-open-block-from-after-slice-known16 : tie.After-slice-known16 → tie.After-open-block
-at-open-block-from-after-slice-known16 c =
-    let back = c .before .before .before .before .before .before .before .before .before .before .before .before .before .before .before .before .before .before in
+abbrev at-open-block-from-after-slice-known14 : tie.After-slice-known14 → tie.After-open-block
+at-open-block-from-after-slice-known14 c =
+    let back = c .before .before .before .before .before .before .before .before .before .before .before .before .before .before .before .before in
     back .before
 
-abbrev entry-from-after-slice-known16 : tie.After-slice-known16 → tie.Start
-entry-from-after-slice-known16 c =
-    at-open-block-from-after-slice-known16 c .before .before .before .before .before .before .before .before .before .before .before .before .before .before .before .before .before .before
+abbrev entry-from-after-slice-known14 : tie.After-slice-known14 → tie.Start
+entry-from-after-slice-known14 c =
+    at-open-block-from-after-slice-known14 c .before .before .before .before .before .before .before .before .before .before .before .before .before .before .before .before
 
 open-block-requires : tie.Need-open-block-requires
 open-block-requires c κs = search needs
@@ -38,7 +38,7 @@ relink-requires c κs =
     let p = entry .pre in
     let e = open-block .ensures .0 in
     let v = values-few _ _ (p .0 .0) (a .group) (a .b) in (
-      (p .0 .0 .few, p .1 .0 .0, p .1 .0 .2, omega (arith, v, e .within, p .1 .1 .0 .orders, open-block .kept .1 .1 .1 .1 .1 .1 .1 .1 .1 .1 .1 .1 .0)),
+      (p .0 .0 .few, p .1 .0 .0, p .1 .0 .2, omega (arith, v, e .within, p .1 .1 .0 .orders, open-block .kept .1 .1 .1 .1 .1 .1 .1 .1 .1 .1 .1 .0)),
       (
         λ x i. plan-label _ _ (p .0 .0) (a .group) (a .b) x (subst (λ (l : List ℕ). x ∈ l) (e .cells) i),
         λ x. subst (λ (l : List ℕ). count x l ≤ 1) (sym (e .cells)) (plan-once _ _ (p .0 .0) (a .group) (a .b) x),
@@ -66,13 +66,10 @@ same-length-6 c = search needs
 same-length-7 : tie.Need-same-length-7
 same-length-7 c = search needs
 
-same-length-8 : tie.Need-same-length-8
-same-length-8 c = search needs
-
 returns : tie.Need-returns
 returns c =
-    let entry = entry-from-after-slice-known16 c in
-    let open-block = at-open-block-from-after-slice-known16 c .open-block in
+    let entry = entry-from-after-slice-known14 c in
+    let open-block = at-open-block-from-after-slice-known14 c .open-block in
     let relink = c .before .before .relink in
     let a = entry .args in (
       open-block .ensures .1,
@@ -92,5 +89,4 @@ open-lead-spec =
     same-length-5
     same-length-6
     same-length-7
-    same-length-8
     returns)

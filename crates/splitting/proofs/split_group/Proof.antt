@@ -26,35 +26,35 @@ entry-from-after-link-blocks-arg3 c =
     let back2 = back .before .before .before .before .before .before .before .before .before .before .before .before .before .before .before .before .before .before in
     back2 .before .before .before .before .before .before .before .before .before .before .before .before .before
 
-abbrev at-link-blocks-from-after-open-blocks-arg10 : tie.After-open-blocks-arg10 → tie.After-link-blocks
-at-link-blocks-from-after-open-blocks-arg10 c = c .before .before .before .before .before .before .before .before .before .before .before .before .before
+abbrev at-link-blocks-from-after-open-blocks-arg9 : tie.After-open-blocks-arg9 → tie.After-link-blocks
+at-link-blocks-from-after-open-blocks-arg9 c = c .before .before .before .before .before .before .before .before .before .before .before .before
 
-abbrev at-find-leads-from-after-open-blocks-arg10 : tie.After-open-blocks-arg10 → tie.After-find-leads
-at-find-leads-from-after-open-blocks-arg10 c =
-    let back = c .before .before .before .before .before .before .before .before .before .before .before .before .before .before .before .before .before .before in
+abbrev at-find-leads-from-after-open-blocks-arg9 : tie.After-open-blocks-arg9 → tie.After-find-leads
+at-find-leads-from-after-open-blocks-arg9 c =
+    let back = c .before .before .before .before .before .before .before .before .before .before .before .before .before .before .before .before .before in
     let back2 = back .before .before .before .before .before .before .before .before .before .before .before .before .before .before .before .before .before .before in
     back2 .before .before
 
-abbrev entry-from-after-open-blocks-arg10 : tie.After-open-blocks-arg10 → tie.Start
-entry-from-after-open-blocks-arg10 c =
-    let back = c .before .before .before .before .before .before .before .before .before .before .before .before .before .before .before .before .before .before in
+abbrev entry-from-after-open-blocks-arg9 : tie.After-open-blocks-arg9 → tie.Start
+entry-from-after-open-blocks-arg9 c =
+    let back = c .before .before .before .before .before .before .before .before .before .before .before .before .before .before .before .before .before in
     let back2 = back .before .before .before .before .before .before .before .before .before .before .before .before .before .before .before .before .before .before in
     let back3 = back2 .before .before .before .before .before .before .before .before .before .before .before .before .before .before .before .before .before .before in
     back3 .before .before .before .before .before .before .before .before .before
 
-abbrev at-find-leads-from-after-slice-known31 : tie.After-slice-known31 → tie.After-find-leads
-at-find-leads-from-after-slice-known31 c =
-    let back = c .before .before .before .before .before .before .before .before .before .before .before .before .before .before .before .before .before .before in
+abbrev at-find-leads-from-after-slice-known30 : tie.After-slice-known30 → tie.After-find-leads
+at-find-leads-from-after-slice-known30 c =
+    let back = c .before .before .before .before .before .before .before .before .before .before .before .before .before .before .before in
     let back2 = back .before .before .before .before .before .before .before .before .before .before .before .before .before .before .before .before .before .before in
     let back3 = back2 .before .before .before .before .before .before .before .before .before .before .before .before .before .before .before .before .before .before in
     back3 .before
 
-abbrev at-open-blocks-from-after-slice-known31 : tie.After-slice-known31 → tie.After-open-blocks
-at-open-blocks-from-after-slice-known31 c = c .before .before .before .before .before .before .before .before .before .before .before .before .before .before .before .before
+abbrev at-open-blocks-from-after-slice-known30 : tie.After-slice-known30 → tie.After-open-blocks
+at-open-blocks-from-after-slice-known30 c = c .before .before .before .before .before .before .before .before .before .before .before .before .before .before
 
-abbrev at-link-blocks-from-after-slice-known31 : tie.After-slice-known31 → tie.After-link-blocks
-at-link-blocks-from-after-slice-known31 c =
-    at-open-blocks-from-after-slice-known31 c .before .before .before .before .before .before .before .before .before .before .before .before .before .before
+abbrev at-link-blocks-from-after-slice-known30 : tie.After-slice-known30 → tie.After-link-blocks
+at-link-blocks-from-after-slice-known30 c =
+    at-open-blocks-from-after-slice-known30 c .before .before .before .before .before .before .before .before .before .before .before .before .before
 
 find-leads-requires : tie.Need-find-leads-requires
 find-leads-requires c κs =
@@ -98,9 +98,9 @@ part-open-blocks-end c = search needs
 
 open-blocks-requires : tie.Need-open-blocks-requires
 open-blocks-requires c κs =
-    let entry = entry-from-after-open-blocks-arg10 c in
-    let find-leads = at-find-leads-from-after-open-blocks-arg10 c .find-leads in
-    let link-blocks = at-link-blocks-from-after-open-blocks-arg10 c .link-blocks in
+    let entry = entry-from-after-open-blocks-arg9 c in
+    let find-leads = at-find-leads-from-after-open-blocks-arg9 c .find-leads in
+    let link-blocks = at-link-blocks-from-after-open-blocks-arg9 c .link-blocks in
     let p = entry .pre in
     let led = led-part _ _ (p .0 .0) _ (find-leads .last .1 .1 .1 .1 .1 .0) _ (find-leads .result) (find-leads .ensures .1) in
     let same = find-leads .kept .1 .1 .1 .1 .1 .1 .1 .1 .1 .1 .1 .1 .1 .1 .0 in
@@ -110,8 +110,8 @@ open-blocks-requires c κs =
       (
         (
           (p .1 .0 .0 .0, links, omega (arith, p .1 .1 .0 .stack-room, find-leads .kept .1 .1 .1 .1 .1 .1 .1 .1 .1 .1 .1 .1 .0)),
-          scratch-as _ _ _ _ _ _ _ _ _ _ _ (find-leads .kept .1 .1 .1 .1 .1 .1 .0) (find-leads .kept .1 .1 .1 .1 .1 .1 .1 .0) (find-leads .kept .1 .1 .1 .1 .1 .1 .1 .1 .0)
-              (find-leads .kept .1 .1 .1 .1 .1 .1 .1 .1 .1 .0) (find-leads .kept .1 .1 .1 .1 .1 .1 .1 .1 .1 .1 .0) (p .1 .0 .1),
+          scratch-as _ _ _ _ _ _ _ _ _ (find-leads .kept .1 .1 .1 .1 .1 .1 .0) (find-leads .kept .1 .1 .1 .1 .1 .1 .1 .0) (find-leads .kept .1 .1 .1 .1 .1 .1 .1 .1 .0)
+              (find-leads .kept .1 .1 .1 .1 .1 .1 .1 .1 .1 .1 .0) (p .1 .0 .1),
         ),
         (p .1 .1 .1 .0, ((led, linkable _ _ (p .0 .0) _ _ _ led _ room links), (link-blocks .ensures, p .1 .1 .1 .1))),
       ),
@@ -121,63 +121,60 @@ same-length : tie.Need-same-length
 same-length c = search needs
 
 same-length-2 : tie.Need-same-length-2
-same-length-2 c = (at-find-leads-from-after-slice-known31 c .find-leads) .kept .1 .1 .1 .1 .1 .0
+same-length-2 c = (at-find-leads-from-after-slice-known30 c .find-leads) .kept .1 .1 .1 .1 .1 .0
 
 same-length-3 : tie.Need-same-length-3
 same-length-3 c =
-    let open-blocks = at-open-blocks-from-after-slice-known31 c .open-blocks in
-    let find-leads = at-find-leads-from-after-slice-known31 c .find-leads in
+    let open-blocks = at-open-blocks-from-after-slice-known30 c .open-blocks in
+    let find-leads = at-find-leads-from-after-slice-known30 c .find-leads in
     open-blocks .kept .1 .1 .1 .1 .1 .1 .1 .1 .1 .0 ∙ find-leads .kept .1 .1 .1 .1 .1 .1 .0
 
 same-length-4 : tie.Need-same-length-4
 same-length-4 c =
-    let open-blocks = at-open-blocks-from-after-slice-known31 c .open-blocks in
-    let find-leads = at-find-leads-from-after-slice-known31 c .find-leads in
+    let open-blocks = at-open-blocks-from-after-slice-known30 c .open-blocks in
+    let find-leads = at-find-leads-from-after-slice-known30 c .find-leads in
     open-blocks .kept .1 .1 .1 .1 .1 .1 .1 .1 .1 .1 .0 ∙ find-leads .kept .1 .1 .1 .1 .1 .1 .1 .0
 
 same-length-5 : tie.Need-same-length-5
 same-length-5 c =
-    let open-blocks = at-open-blocks-from-after-slice-known31 c .open-blocks in
-    let find-leads = at-find-leads-from-after-slice-known31 c .find-leads in
+    let open-blocks = at-open-blocks-from-after-slice-known30 c .open-blocks in
+    let find-leads = at-find-leads-from-after-slice-known30 c .find-leads in
     open-blocks .kept .1 .1 .1 .1 .1 .1 .1 .1 .1 .1 .1 .0 ∙ find-leads .kept .1 .1 .1 .1 .1 .1 .1 .1 .0
 
 same-length-6 : tie.Need-same-length-6
-same-length-6 c =
-    let open-blocks = at-open-blocks-from-after-slice-known31 c .open-blocks in
-    let find-leads = at-find-leads-from-after-slice-known31 c .find-leads in
-    open-blocks .kept .1 .1 .1 .1 .1 .1 .1 .1 .1 .1 .1 .1 .0 ∙ find-leads .kept .1 .1 .1 .1 .1 .1 .1 .1 .1 .0
+same-length-6 c = (at-find-leads-from-after-slice-known30 c .find-leads) .kept .1 .1 .1 .1 .1 .1 .1 .1 .1 .0
 
 same-length-7 : tie.Need-same-length-7
 same-length-7 c =
-    let open-blocks = at-open-blocks-from-after-slice-known31 c .open-blocks in
-    let find-leads = at-find-leads-from-after-slice-known31 c .find-leads in
-    open-blocks .kept .1 .1 .1 .1 .1 .1 .1 .1 .1 .1 .1 .1 .1 .0 ∙ find-leads .kept .1 .1 .1 .1 .1 .1 .1 .1 .1 .1 .0
+    let open-blocks = at-open-blocks-from-after-slice-known30 c .open-blocks in
+    let find-leads = at-find-leads-from-after-slice-known30 c .find-leads in
+    open-blocks .kept .1 .1 .1 .1 .1 .1 .1 .1 .1 .1 .1 .1 .0 ∙ find-leads .kept .1 .1 .1 .1 .1 .1 .1 .1 .1 .1 .0
 
 same-length-8 : tie.Need-same-length-8
-same-length-8 c = (at-find-leads-from-after-slice-known31 c .find-leads) .kept .1 .1 .1 .1 .1 .1 .1 .1 .1 .1 .1 .0
+same-length-8 c = (at-find-leads-from-after-slice-known30 c .find-leads) .kept .1 .1 .1 .1 .1 .1 .1 .1 .1 .1 .1 .0
 
 same-length-9 : tie.Need-same-length-9
 same-length-9 c =
-    let open-blocks = at-open-blocks-from-after-slice-known31 c .open-blocks in
-    let find-leads = at-find-leads-from-after-slice-known31 c .find-leads in
+    let open-blocks = at-open-blocks-from-after-slice-known30 c .open-blocks in
+    let find-leads = at-find-leads-from-after-slice-known30 c .find-leads in
     open-blocks .kept .1 .1 .1 .1 .1 .1 .1 .1 .0 ∙ find-leads .kept .1 .1 .1 .1 .1 .1 .1 .1 .1 .1 .1 .1 .0
 
 same-length-10 : tie.Need-same-length-10
-same-length-10 c = (at-find-leads-from-after-slice-known31 c .find-leads) .kept .1 .1 .1 .1 .1 .1 .1 .1 .1 .1 .1 .1 .1 .0
+same-length-10 c = (at-find-leads-from-after-slice-known30 c .find-leads) .kept .1 .1 .1 .1 .1 .1 .1 .1 .1 .1 .1 .1 .1 .0
 
 same-length-11 : tie.Need-same-length-11
-same-length-11 c = (at-find-leads-from-after-slice-known31 c .find-leads) .kept .1 .1 .1 .1 .1 .1 .1 .1 .1 .1 .1 .1 .1 .1 .0
+same-length-11 c = (at-find-leads-from-after-slice-known30 c .find-leads) .kept .1 .1 .1 .1 .1 .1 .1 .1 .1 .1 .1 .1 .1 .1 .0
 
 same-length-12 : tie.Need-same-length-12
 same-length-12 c =
-    let open-blocks = at-open-blocks-from-after-slice-known31 c .open-blocks in
-    let link-blocks = at-link-blocks-from-after-slice-known31 c .link-blocks in
+    let open-blocks = at-open-blocks-from-after-slice-known30 c .open-blocks in
+    let link-blocks = at-link-blocks-from-after-slice-known30 c .link-blocks in
     open-blocks .kept .1 .1 .1 .1 .1 .1 .1 .0 ∙ link-blocks .kept .1 .1 .1 .0
 
 returns : tie.Need-returns
 returns c =
-    let find-leads = at-find-leads-from-after-slice-known31 c .find-leads in
-    let open-blocks = at-open-blocks-from-after-slice-known31 c .open-blocks in
+    let find-leads = at-find-leads-from-after-slice-known30 c .find-leads in
+    let open-blocks = at-open-blocks-from-after-slice-known30 c .open-blocks in
     (find-leads .ensures, open-blocks .ensures)
 
 pub split-group-spec : {M : Type 1} → statement M

@@ -18,7 +18,7 @@ use Rattle.order.proofs.Lists.{zero-or-in, filter-le}
 use Rattle.marks.specs.Marks.{mark, places, Added}
 use Rattle.marks.proofs.Bits.{places-step}
 use Rattle.marks.proofs.Squares.{common-turn, listing-none, listing-end}
-use Rattle.placing.specs.UnmetCounts.{needed, Fits, Row, Raised, Lowered}
+use Rattle.placing.specs.UnmetCounts.{needed, Fits, Row, RaisedBy, LoweredBy}
 use Rattle.placing.proofs.Lists.{count-more, in-more, filter-more}
 
 pub eq-one : (x p : ℕ) → x ≡ p → one (eqb x p) ≡ 1
@@ -111,7 +111,7 @@ module _ (items square mask : List ℕ) (w i q : ℕ) (z : q ≡ getD items i 0)
       let r : length (take i items) ≡ i = length-take-le i items (omega arith) in
       omega (arith, old p h, filter-le (needed square mask w p) (take i items), one-le (needed square mask w p q))
 
-  pub count-turn : (unmet′ : List ℕ) → Raised (λ (p : ℕ). one (needed square mask w p q)) unmet unmet′
+  pub count-turn : (unmet′ : List ℕ) → RaisedBy (λ (p : ℕ). one (needed square mask w p q)) unmet unmet′
       → (p : ℕ) → p ∈ items → getD unmet′ p 0 ≡ length (filter (needed square mask w p) (take (i + 1) items))
   count-turn unmet′ more p h =
       let s : one (needed square mask w p q) ≡ one (needed square mask w p (getD items i 0)) = ap (λ (x : ℕ). one (needed square mask w p x)) z in
@@ -119,7 +119,7 @@ module _ (items square mask : List ℕ) (w i q : ℕ) (z : q ≡ getD items i 0)
 
 -- ---- raised
 
-pub raised-one : (unmet : List ℕ) (p : ℕ) → p < length unmet → Raised (λ (x : ℕ). one (eqb x p)) unmet (set unmet p (getD unmet p 0 + 1))
+pub raised-one : (unmet : List ℕ) (p : ℕ) → p < length unmet → RaisedBy (λ (x : ℕ). one (eqb x p)) unmet (set unmet p (getD unmet p 0 + 1))
 raised-one unmet p h x = go (ℕ-discrete x p)
   where
     go : Dec (x ≡ p) → getD (set unmet p (getD unmet p 0 + 1)) x 0 ≡ getD unmet x 0 + one (eqb x p)
@@ -128,12 +128,12 @@ raised-one unmet p h x = go (ℕ-discrete x p)
 
 -- ---- lowered
 
-pub lowered-none : (less : ℕ → ℕ) → ((p : ℕ) → less p ≡ 0) → (unmet ready : List ℕ) (w : ℕ) → Lowered less unmet ready unmet ready w
+pub lowered-none : (less : ℕ → ℕ) → ((p : ℕ) → less p ≡ 0) → (unmet ready : List ℕ) (w : ℕ) → LoweredBy less unmet ready unmet ready w
 lowered-none less z unmet ready w = record { counts = λ p. omega (arith, z p); kept = λ p e. e; new = λ p m. absurd (omega (arith, z p)); only = λ p e. inl e }
 
 -- first by `a`, then by `b`
 module _ (a b both : ℕ → ℕ) (sum : (p : ℕ) → a p + b p ≡ both p) (unmet ready unmet₁ ready₁ unmet₂ ready₂ : List ℕ) (w : ℕ) where
-  pub lowered-on : Lowered a unmet ready unmet₁ ready₁ w → Lowered b unmet₁ ready₁ unmet₂ ready₂ w → Lowered both unmet ready unmet₂ ready₂ w
+  pub lowered-on : LoweredBy a unmet ready unmet₁ ready₁ w → LoweredBy b unmet₁ ready₁ unmet₂ ready₂ w → LoweredBy both unmet ready unmet₂ ready₂ w
   lowered-on f g = record {
     counts = λ p. omega (arith, sum p, f .counts p, g .counts p);
     kept = λ p e. g .kept p (f .kept p e);
@@ -157,7 +157,7 @@ module _ (a b both : ℕ → ℕ) (sum : (p : ℕ) → a p + b p ≡ both p) (un
 module _ (unmet ready ready′ : List ℕ) (w p : ℕ) (inside : p < length unmet) (some : 1 ≤ getD unmet p 0) where
   pub lowered-one : ((x : ℕ) → mark ready w 0 x ≡ true → mark ready′ w 0 x ≡ true) → (getD unmet p 0 - 1 ≡ 0 → mark ready′ w 0 p ≡ true)
       → ((x : ℕ) → mark ready′ w 0 x ≡ true → (mark ready w 0 x ≡ true) ⊎ ((x ≡ p) × (getD unmet p 0 - 1 ≡ 0)))
-      → Lowered (λ (x : ℕ). one (eqb x p)) unmet ready (set unmet p (getD unmet p 0 - 1)) ready′ w
+      → LoweredBy (λ (x : ℕ). one (eqb x p)) unmet ready (set unmet p (getD unmet p 0 - 1)) ready′ w
   lowered-one keep put only = record {
     counts = λ x. counts x (ℕ-discrete x p);
     kept = keep;

@@ -16,7 +16,7 @@ use Rattle.order.proofs.Tests.{both-ways, so-or-not, one-in}
 use Rattle.order.proofs.Lists.{in-append, in-single, of-mem, zero-or-in, first-refute}
 use Rattle.marks.specs.Marks.{mark, Dropped, First}
 use Rattle.marks.proofs.Squares.{mark-in}
-use Rattle.placing.specs.UnmetCounts.{Rising, blocks, State, Lowered, Placed}
+use Rattle.placing.specs.UnmetCounts.{Rising, blocks, State, LoweredBy, Placed}
 use Rattle.placing.proofs.Lists.{filter-ext, any-zero, zero-any, rising-once, first-least-is, mem-same, mem-other, one-less}
 
 pub record Going (R : ℕ → ℕ → Bool) (items unmet ready order : List ℕ) (w k : ℕ) : Type 0 where
@@ -106,7 +106,7 @@ module _ (R : ℕ → ℕ → Bool) (items : List ℕ) (rising : Rising items) (
             go (inr i) = omega (arith, less p, g .state .counts p (item p i))
 
         pub going-step : k < length items → k < length order → (ready₁ unmet′ ready′ : List ℕ) → Dropped ready ready₁ w 0 r
-            → Lowered (λ (p : ℕ). one (R p r)) unmet ready₁ unmet′ ready′ w → Going R items unmet′ ready′ (set order k r) w (k + 1)
+            → LoweredBy (λ (p : ℕ). one (R p r)) unmet ready₁ unmet′ ready′ w → Going R items unmet′ ready′ (set order k r) w (k + 1)
         going-step hk ho ready₁ unmet′ ready′ drop low = record { state = record { counts = counts; met = met; free = λ p. (there p, back p) }; rest = rest; within = omega arith }
           where
             done : take (k + 1) (set order k r) ≡ take k order ++ r ∷ []

@@ -31,11 +31,11 @@ abbrev pub Raisable : (ℕ → ℕ) → List ℕ → Type 0
 Raisable more unmet = (p : ℕ) → 0 < more p → getD unmet p 0 + more p < 65536
 
 -- the count of each p rises by `more p`
-abbrev pub Raised : (ℕ → ℕ) → List ℕ → List ℕ → Type 0
-Raised more unmet unmet′ = (p : ℕ) → getD unmet′ p 0 ≡ getD unmet p 0 + more p
+abbrev pub RaisedBy : (ℕ → ℕ) → List ℕ → List ℕ → Type 0
+RaisedBy more unmet unmet′ = (p : ℕ) → getD unmet′ p 0 ≡ getD unmet p 0 + more p
 
 -- the count of each p falls by `less p`, and what so comes to 0 is ready
-pub record Lowered (less : ℕ → ℕ) (unmet ready unmet′ ready′ : List ℕ) (w : ℕ) : Type 0 where
+pub record LoweredBy (less : ℕ → ℕ) (unmet ready unmet′ ready′ : List ℕ) (w : ℕ) : Type 0 where
   pub counts : (p : ℕ) → getD unmet′ p 0 + less p ≡ getD unmet p 0
   pub kept : (p : ℕ) → mark ready w 0 p ≡ true → mark ready′ w 0 p ≡ true
   pub new : (p : ℕ) → 0 < less p → getD unmet′ p 0 ≡ 0 → mark ready′ w 0 p ≡ true

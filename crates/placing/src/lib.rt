@@ -9,12 +9,12 @@ ghost use Prim.Native.Nat.{ℕ, _+_, _*_, _≤_, _<_};
 ghost use lib.ListN.{length, getD};
 ghost use Rattle.order.specs.LabelLists.{one, count, _∈_, filter};
 ghost use Rattle.marks.specs.Marks.{mark, places};
-ghost use Rattle.placing.specs.UnmetCounts.{needed, AllBelow, Row, Raisable, Raised, Lowered, Fits, State, Placed};
+ghost use Rattle.placing.specs.UnmetCounts.{needed, AllBelow, Row, Raisable, RaisedBy, LoweredBy, Fits, State, Placed};
 
 // One unmet need more for each mark of a word, counted on from `base`.
 fn raise_word(word: u64, base: usize, unmet: &mut [u16])
     requires { ⌜ (base + 64 < 65536) × AllBelow (places 64 base word) (length (now unmet)) × Raisable (λ (p : ℕ). count p (places 64 base word)) (now unmet) ⌝ }
-    ensures { λ _. ⌜ Raised (λ (p : ℕ). count p (places 64 base word)) (now (unmet .entry)) (now (unmet .exit)) ⌝ }
+    ensures { λ _. ⌜ RaisedBy (λ (p : ℕ). count p (places 64 base word)) (now (unmet .entry)) (now (unmet .exit)) ⌝ }
 {
     let mut x = word;
     while x != 0 {
@@ -28,7 +28,7 @@ fn raise_word(word: u64, base: usize, unmet: &mut [u16])
 fn raise(square: &[u64], w: usize, mask: &[u64], q: usize, unmet: &mut [u16])
     requires { ⌜ Row (now square) (now mask) (now unmet) w q ⌝ }
     requires { ⌜ Raisable (λ (p : ℕ). one (needed (now square) (now mask) w p q)) (now unmet) ⌝ }
-    ensures { λ _. ⌜ Raised (λ (p : ℕ). one (needed (now (square .entry)) (now (mask .entry)) w p q)) (now (unmet .entry)) (now (unmet .exit)) ⌝ }
+    ensures { λ _. ⌜ RaisedBy (λ (p : ℕ). one (needed (now (square .entry)) (now (mask .entry)) w p q)) (now (unmet .entry)) (now (unmet .exit)) ⌝ }
 {
     if !marks::has_mark(mask, w, 0, q) {
         return;
@@ -45,7 +45,7 @@ fn raise(square: &[u64], w: usize, mask: &[u64], q: usize, unmet: &mut [u16])
 fn lower_word(word: u64, base: usize, w: usize, unmet: &mut [u16], ready: &mut [u64])
     requires { ⌜ (base + 64 < 65536) × AllBelow (places 64 base word) (length (now unmet)) × AllBelow (places 64 base word) (64 * w) ⌝ }
     requires { ⌜ ((p : ℕ) → count p (places 64 base word) ≤ getD (now unmet) p 0) × (w ≤ length (now ready)) ⌝ }
-    ensures { λ _. ⌜ Lowered (λ (p : ℕ). count p (places 64 base word)) (now (unmet .entry)) (now (ready .entry)) (now (unmet .exit)) (now (ready .exit)) w ⌝ }
+    ensures { λ _. ⌜ LoweredBy (λ (p : ℕ). count p (places 64 base word)) (now (unmet .entry)) (now (ready .entry)) (now (unmet .exit)) (now (ready .exit)) w ⌝ }
 {
     let mut x = word;
     while x != 0 {
@@ -62,7 +62,7 @@ fn lower_word(word: u64, base: usize, w: usize, unmet: &mut [u16], ready: &mut [
 fn lower(square: &[u64], w: usize, mask: &[u64], q: usize, unmet: &mut [u16], ready: &mut [u64])
     requires { ⌜ Row (now square) (now mask) (now unmet) w q ⌝ }
     requires { ⌜ ((p : ℕ) → one (needed (now square) (now mask) w p q) ≤ getD (now unmet) p 0) × (w ≤ length (now ready)) ⌝ }
-    ensures { λ _. ⌜ Lowered (λ (p : ℕ). one (needed (now (square .entry)) (now (mask .entry)) w p q))
+    ensures { λ _. ⌜ LoweredBy (λ (p : ℕ). one (needed (now (square .entry)) (now (mask .entry)) w p q))
         (now (unmet .entry)) (now (ready .entry)) (now (unmet .exit)) (now (ready .exit)) w ⌝ }
 {
     if !marks::has_mark(mask, w, 0, q) {

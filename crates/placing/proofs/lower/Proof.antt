@@ -8,14 +8,14 @@ use borrow.Author.Tests.{not-true, not-false}
 use lib.ListN.{length}
 use Rattle.marks.specs.Marks.{mark}
 use Rattle.marks.proofs.Squares.{mark-in}
-use Rattle.placing.specs.UnmetCounts.{Row, Lowered}
+use Rattle.placing.specs.UnmetCounts.{Row, LoweredBy}
 use Rattle.placing.proofs.Counts.{below, below-start, below-end, below-le, below-turn, in-word, needed-none, lowered-none, lowered-on}
 use Rattle.placing.proofs.lower.Statement.{statement}
 use Rattle.placing.proofs.lower.Tie as tie
 
 abbrev Inv-loop : tie.InvT-loop
 Inv-loop square w mask q unmet₀ ready₀ a j₀ unmet ready j =
-    (length unmet ≡ length unmet₀) × (length ready ≡ length ready₀) × (j ≤ w) × Lowered (below square mask w q (64 * j)) unmet₀ ready₀ unmet ready w
+    (length unmet ≡ length unmet₀) × (length ready ≡ length ready₀) × (j ≤ w) × LoweredBy (below square mask w q (64 * j)) unmet₀ ready₀ unmet ready w
 
 abbrev μ-loop : tie.MeasureT-loop
 μ-loop square w mask q unmet₀ ready₀ a j₀ unmet ready j = w - j

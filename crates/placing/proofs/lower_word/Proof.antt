@@ -11,7 +11,7 @@ use lib.ListN.{length, getD, set, length-set}
 use Rattle.order.specs.LabelLists.{one, count, _∈_}
 use Rattle.marks.specs.Marks.{places}
 use Rattle.marks.proofs.Bits.{places-none}
-use Rattle.placing.specs.UnmetCounts.{Lowered}
+use Rattle.placing.specs.UnmetCounts.{LoweredBy}
 use Rattle.placing.proofs.Counts.{eq-one, Counted, lowest-counted, lowered-none, lowered-on, lowered-one}
 use Rattle.placing.proofs.lower_word.Statement.{statement}
 use Rattle.placing.proofs.lower_word.Tie as tie
@@ -19,7 +19,7 @@ use Rattle.placing.proofs.lower_word.Tie as tie
 abbrev Inv-loop : tie.InvT-loop
 Inv-loop word base w unmet₀ ready₀ x₀ unmet ready x =
     (length unmet ≡ length unmet₀) × (x < 2 ^ 64) × ((p : ℕ) → count p (places 64 base x) ≤ count p (places 64 base word)) × (length ready ≡ length ready₀)
-    × Lowered (λ (p : ℕ). count p (places 64 base word) - count p (places 64 base x)) unmet₀ ready₀ unmet ready w
+    × LoweredBy (λ (p : ℕ). count p (places 64 base word) - count p (places 64 base x)) unmet₀ ready₀ unmet ready w
 
 abbrev μ-loop : tie.MeasureT-loop
 μ-loop word base w unmet₀ ready₀ x₀ unmet ready x = x
@@ -61,9 +61,9 @@ module _ (c : tie.In-loop Inv-loop μ-loop) where
 
   -- with the lowest lowered, all but the rest are
   lowered : (ready′ : List ℕ)
-      → Lowered (λ (p : ℕ). one (eqb p lowest)) (c .before .loop .unmet) (c .before .loop .ready) (set (c .before .loop .unmet) lowest (getD (c .before .loop .unmet) lowest 0 - 1)) ready′
+      → LoweredBy (λ (p : ℕ). one (eqb p lowest)) (c .before .loop .unmet) (c .before .loop .ready) (set (c .before .loop .unmet) lowest (getD (c .before .loop .unmet) lowest 0 - 1)) ready′
       (entry-of (c .before) .args .w)
-      → Lowered (λ (p : ℕ). count p (places 64 (entry-of (c .before) .args .base) (entry-of (c .before) .args .word)) - count p (places 64 (entry-of (c .before) .args .base) rest))
+      → LoweredBy (λ (p : ℕ). count p (places 64 (entry-of (c .before) .args .base) (entry-of (c .before) .args .word)) - count p (places 64 (entry-of (c .before) .args .base) rest))
       (entry-of (c .before) .args .unmet .now) (entry-of (c .before) .args .ready .now) (set (c .before .loop .unmet) lowest (getD (c .before .loop .unmet) lowest 0 - 1)) ready′
       (entry-of (c .before) .args .w)
   lowered ready′ = lowered-on _ _ _ (λ p. omega (arith, counted p, c .before .loop .inv .2 p)) _ _ _ _ _ _ _ (c .before .loop .inv .4)

@@ -43,20 +43,6 @@ module _ (square mask : List ℕ) (w q : ℕ) where
   pub below-start : (p : ℕ) → below (64 * 0) p ≡ 0
   below-start p = sym (listing-none square mask w q p)
 
-  module _ (e : mark mask w 0 q ≡ true) where
-    needed-masked : (p : ℕ) → one (mark square w q p && mark mask w 0 p) ≡ one (needed square mask w p q)
-    needed-masked p = rw e
-
-    pub below-end : (p : ℕ) → below (64 * w) p ≡ one (needed square mask w p q)
-    below-end p = listing-end square mask w q p ∙ needed-masked p
-
-    pub below-le : (k p : ℕ) → below k p ≤ one (needed square mask w p q)
-    below-le k p = go (ltb p k) refl
-      where
-        go : (t : Bool) → ltb p k ≡ t → below k p ≤ one (needed square mask w p q)
-        go true h = rw h (omega (arith, needed-masked p))
-        go false h = rw h (omega arith)
-
   -- word j of what they have in common
   abbrev pub word : ℕ → List ℕ
   word j = places 64 (64 * j) (bitAnd (getD square (q * w + j) 0) (getD mask j 0))
@@ -66,6 +52,24 @@ module _ (square mask : List ℕ) (w q : ℕ) where
 
   pub in-word : (j : ℕ) → j < w → (p : ℕ) → p ∈ word j → mark mask w 0 p ≡ true
   in-word j h p i = and-right (ltb p (64 * (j + 1)) && mark square w q p) (mark mask w 0 p) (one-in _ (omega (arith, below-turn j h p)))
+
+  module _ (e : mark mask w 0 q ≡ true) where
+    needed-masked : (p : ℕ) → one (mark square w q p && mark mask w 0 p) ≡ one (needed square mask w p q)
+    needed-masked p = rw e
+
+    pub below-end : (p : ℕ) → below (64 * w) p ≡ one (needed square mask w p q)
+    below-end p = listing-end square mask w q p ∙ needed-masked p
+
+    below-le : (k p : ℕ) → below k p ≤ one (needed square mask w p q)
+    below-le k p = go (ltb p k) refl
+      where
+        go : (t : Bool) → ltb p k ≡ t → below k p ≤ one (needed square mask w p q)
+        go true h = rw h (omega (arith, needed-masked p))
+        go false h = rw h (omega arith)
+
+    -- what word j adds goes to those that need q
+    pub word-le : (j : ℕ) → j < w → (p : ℕ) → below (64 * j) p + count p (word j) ≤ one (needed square mask w p q)
+    word-le j h p = omega (arith, below-turn j h p, below-le (64 * (j + 1)) p)
 
 -- what needs q is an item
 pub need-item : (items square mask unmet : List ℕ) (w q : ℕ) → Fits items square mask unmet w → (p : ℕ) → needed square mask w p q ≡ true → p ∈ items

@@ -1,6 +1,6 @@
 use mathlib.Core.Path.{_≡_, refl, sym, ap, _∙_}
 use mathlib.Core.Bool.{true}
-use Prim.Native.Nat.{ℕ, _+_, _-_, _*_, _≤_}
+use Prim.Native.Nat.{ℕ, _-_, _*_, _≤_}
 use native.Mathlib.Omega.{arith}
 use native.Mathlib.Nat.{le-antisymm}
 use borrow.Author.Needs.{needs}
@@ -9,7 +9,7 @@ use lib.ListN.{length}
 use Rattle.marks.specs.Marks.{mark}
 use Rattle.marks.proofs.Squares.{mark-in}
 use Rattle.placing.specs.UnmetCounts.{Row, LoweredBy}
-use Rattle.placing.proofs.Counts.{below, below-start, below-end, below-le, below-turn, in-word, needed-none, lowered-none, lowered-on}
+use Rattle.placing.proofs.Counts.{below, below-start, below-end, below-turn, word-le, in-word, needed-none, lowered-none, lowered-on}
 use Rattle.placing.proofs.lower.Statement.{statement}
 use Rattle.placing.proofs.lower.Tie as tie
 
@@ -86,9 +86,8 @@ lower-word-requires c κs =
       ),
       (
         λ p.
-            let n = below-turn (entry .args .square .now) (entry .args .mask .now) (entry .args .w) (entry .args .q) (loop .j) (turn .loop-test .taken) p in
-            let l = below-le (entry .args .square .now) (entry .args .mask .now) (entry .args .w) (entry .args .q) (masked (turn .before .before)) (64 * (loop .j + 1)) p in
-            omega (arith, n, l, loop .inv .3 .counts p, entry .pre .1 .0 p),
+            let l = word-le (entry .args .square .now) (entry .args .mask .now) (entry .args .w) (entry .args .q) (masked (turn .before .before)) (loop .j) (turn .loop-test .taken) p in
+            omega (arith, l, loop .inv .3 .counts p, entry .pre .1 .0 p),
         omega (arith, entry .pre .1 .1, loop .inv .1),
       ),
     )

@@ -8,7 +8,7 @@ use borrow.Author.Tests.{not-true, not-false}
 use lib.ListN.{length, getD}
 use Rattle.marks.specs.Marks.{mark}
 use Rattle.placing.specs.UnmetCounts.{Row}
-use Rattle.placing.proofs.Counts.{below, below-start, below-end, below-le, below-turn, in-word, needed-none}
+use Rattle.placing.proofs.Counts.{below, below-start, below-end, below-turn, word-le, in-word, needed-none}
 use Rattle.placing.proofs.raise.Statement.{statement}
 use Rattle.placing.proofs.raise.Tie as tie
 
@@ -81,9 +81,8 @@ raise-word-requires c κs =
       omega (arith, row .narrow, turn .loop-test .taken),
       λ p i. omega (arith, row .counted p (in-word (entry .args .square .now) (entry .args .mask .now) (entry .args .w) (entry .args .q) (loop .j) (turn .loop-test .taken) p i), loop .inv .0),
       λ p i.
-          let n = below-turn (entry .args .square .now) (entry .args .mask .now) (entry .args .w) (entry .args .q) (loop .j) (turn .loop-test .taken) p in
-          let l = below-le (entry .args .square .now) (entry .args .mask .now) (entry .args .w) (entry .args .q) (masked (turn .before .before)) (64 * (loop .j + 1)) p in
-          omega (arith, n, l, loop .inv .2 p, entry .pre .1 p (omega (arith, n, l))),
+          let l = word-le (entry .args .square .now) (entry .args .mask .now) (entry .args .w) (entry .args .q) (masked (turn .before .before)) (loop .j) (turn .loop-test .taken) p in
+          omega (arith, l, loop .inv .2 p, entry .pre .1 p (omega (arith, l))),
     )
 
 add-j : tie.Need-add-j Inv-loop μ-loop

@@ -7,7 +7,9 @@ has-mark-requires : tie.Need-has-mark-requires
 has-mark-requires c κs = search needs
 
 drop-mark-requires : tie.Need-drop-mark-requires
-drop-mark-requires c κs = (c .before .before .before .before .before .pre, sym (c .before .before .has-mark .ensures) ∙ c .before .if1 .taken)
+drop-mark-requires c κs =
+    let entry = c .before .before .before .before .before in
+    (entry .pre, sym (c .before .before .has-mark .ensures) ∙ c .before .if1 .taken)
 
 same-length : tie.Need-same-length
 same-length c = search needs

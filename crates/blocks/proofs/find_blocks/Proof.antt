@@ -34,6 +34,9 @@ cleared c = c .before .before .before .before .before .before
 abbrev copied : tie.After-slice-known11 Inv-loop μ-loop → tie.After-copy-marks Inv-loop μ-loop
 copied c = cleared c .before .before .before .before
 
+abbrev led : tie.After-slice-known11 Inv-loop μ-loop → tie.After-lead-selves Inv-loop μ-loop
+led c = c .before .before
+
 abbrev start-of : tie.After-copy-marks-arg Inv-loop μ-loop → tie.Start Inv-loop μ-loop
 start-of c = c .before .before .before .before .before .before .before .before .before .before .before .before
 
@@ -45,6 +48,9 @@ search-of c = c .before .before .before .before .before .before .before .before 
 
 abbrev widen-of : tie.After-slice-known19 Inv-loop μ-loop → tie.After-widen Inv-loop μ-loop
 widen-of c = search-of c .before .before .before .before .before .before .before .before .before
+
+abbrev loop-of : tie.After-widen Inv-loop μ-loop → tie.At-loop Inv-loop μ-loop
+loop-of c = c .before .before .before
 
 -- in the loop: the lists are as long as at entry
 long : (c : tie.At-loop Inv-loop μ-loop) →
@@ -62,7 +68,7 @@ long c =
       same-place = same .same-place;
       same-starts = same .same-starts;
       same-path = same .same-path;
-      same-lead = same .same-lead ∙ c .before .before .before .lead-selves .kept .1 .0;
+      same-lead = same .same-lead ∙ led (c .before) .lead-selves .kept .1 .0;
     }
 
 copy-marks-requires : tie.Need-copy-marks-requires Inv-loop μ-loop
@@ -71,16 +77,20 @@ copy-marks-requires c κs =
     (pre .0 .mask-room, pre .1 .fresh-room)
 
 clear-marks-requires : tie.Need-clear-marks-requires Inv-loop μ-loop
-clear-marks-requires c κs = start-of (c .before .before .before .before) .pre .1 .stacked-room
+clear-marks-requires c κs =
+    let at-copy-marks-arg = c .before .before .before .before in
+    start-of at-copy-marks-arg .pre .1 .stacked-room
 
 lead-selves-requires : tie.Need-lead-selves-requires Inv-loop μ-loop
-lead-selves-requires c κs = start-of (c .before .before .before .before .before .before .before .before) .pre .1 .leads-room
+lead-selves-requires c κs =
+    let at-copy-marks-arg = c .before .before .before .before .before .before .before .before in
+    start-of at-copy-marks-arg .pre .1 .leads-room
 
 loop-holds : tie.Need-loop-holds Inv-loop μ-loop
 loop-holds c =
     let copy-marks = copied c .copy-marks .ensures in
     let clear-marks = cleared c .clear-marks .ensures in
-    let lead-selves = c .before .before .lead-selves in
+    let lead-selves = led c .lead-selves in
     let args = entry-of c .args in (
       record { same-fresh = refl; same-stacked = refl; same-list = refl; same-stack = refl; same-place = refl; same-starts = refl; same-path = refl; same-lead = refl },
       search-start _ _ _ _ _ _ copy-marks clear-marks _ _ _ _,
@@ -101,7 +111,7 @@ widen-requires c κs = search needs
 search-requires : tie.Need-search-requires Inv-loop μ-loop
 search-requires c κs =
     let at = c .before .before .before .before .before .before .before .before in
-    let loop = at .before .before .before in
+    let loop = loop-of at in
     let e = entry-of (loop .before) in
     let inv = loop .loop .inv in
     let items = e .args .items .now in
@@ -109,7 +119,9 @@ search-requires c κs =
     (e .pre .0, (room-as (long loop) (e .pre .1), (item, (inv .1, inv .2))))
 
 add-i : tie.Need-add-i Inv-loop μ-loop
-add-i c = let at = widen-of c in omega (arith, at .before .before .loop-test .taken, entry-of (at .before .before .before .before) .pre .1 .few)
+add-i c =
+    let at = widen-of c in
+    omega (arith, at .before .before .loop-test .taken, entry-of (loop-of at .before) .pre .1 .few)
 
 loop-less : tie.Need-loop-less Inv-loop μ-loop
 loop-less c = search needs
@@ -117,7 +129,7 @@ loop-less c = search needs
 loop-again : tie.Need-loop-again Inv-loop μ-loop
 loop-again c =
     let at = widen-of c in
-    let inv = at .before .before .before .loop .inv in
+    let inv = loop-of at .loop .inv in
     let same = inv .0 in
     let found = search-of c .search in
     let taken = at .before .before .loop-test .taken in (
@@ -134,7 +146,7 @@ loop-again c =
       found .ensures .0 .0,
       found .ensures .0 .1,
       omega (arith, taken),
-      met-more _ (at .before .before .before .loop .fresh) (found .last .1 .1 .1 .1 .0) _ _ _ taken (at .widen .ensures) (found .ensures .1 .0) (found .ensures .1 .1) (inv .4),
+      met-more _ (loop-of at .loop .fresh) (found .last .1 .1 .1 .1 .0) _ _ _ taken (at .widen .ensures) (found .ensures .1 .0) (found .ensures .1 .1) (inv .4),
     )
 
 same-length : tie.Need-same-length Inv-loop μ-loop

@@ -8,9 +8,10 @@ smallest-requires c κs = search needs
 
 leave-requires : tie.Need-leave-requires
 leave-requires c κs =
+    let at-shared-slice-known = c .before .before .before .before .before in
     let entry = c .before .before .before .before .before .before in
     let i = c .before .before .smallest .ensures .is in (
-      (omega (arith, entry .pre .0), entry .pre .0 .1, entry .pre .0 .2, omega (arith, c .before .before .before .before .before .shared-slice-known .given (i .0), i .3)),
+      (omega (arith, entry .pre .0), entry .pre .0 .1, entry .pre .0 .2, omega (arith, at-shared-slice-known .shared-slice-known .given (i .0), i .3)),
       (entry .pre .1 .0, entry .pre .1 .1),
     )
 
@@ -22,10 +23,12 @@ same-length-2 c = search needs
 
 returns : tie.Need-returns
 returns c =
+    let at-smallest = c .before .before .before .before .before .before .before in
+    let at-leave = c .before .before .before .before in
     record {
-      least = c .before .before .before .before .before .before .before .smallest .result;
-      smallest = c .before .before .before .before .before .before .before .smallest .ensures;
-      left = c .before .before .before .before .leave .ensures;
+      least = at-smallest .smallest .result;
+      smallest = at-smallest .smallest .ensures;
+      left = at-leave .leave .ensures;
     }
 
 pub finish-spec : {M : Type 1} → statement M

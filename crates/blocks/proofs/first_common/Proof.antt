@@ -52,14 +52,18 @@ cast-result : tie.Need-cast-result Inv-loop μ-loop
 cast-result c = omega (arith, trailing-le 64 (word c))
 
 add-result : tie.Need-add-result Inv-loop μ-loop
-add-result c = omega (arith, trailing-le 64 (word c), c .before .before .before .loop-test .taken, c .before .before .before .before .before .pre)
+add-result c =
+    let turn = c .before .before .before in
+    let entry = c .before .before .before .before .before in
+    omega (arith, trailing-le 64 (word c), turn .loop-test .taken, entry .pre)
 
 returns : tie.Need-returns Inv-loop μ-loop
 returns c =
+    let turn = c .before .before .before in
     let loop = c .before .before .before .before in
     let j = loop .loop .j in
     let entry = loop .before in
-    common-found _ _ _ _ _ (c .before .before .before .loop-test .taken) (omega (arith, c .if1 .taken))
+    common-found _ _ _ _ _ (turn .loop-test .taken) (omega (arith, c .if1 .taken))
     (and-lt 64 (getD (entry .args .s .now) (entry .args .p * entry .args .w + j) 0) (getD (entry .args .mask .now) j 0)
     (omega (arith, c .before .before .shared-slice-known .given (entry .args .p * entry .args .w + j))) (omega (arith, c .before .shared-slice-known2 .given j)))
 
@@ -71,8 +75,9 @@ loop-less c = search needs
 
 loop-again : tie.Need-loop-again Inv-loop μ-loop
 loop-again c =
+    let turn = c .before .before .before in
     let inv = c .before .before .before .before .loop .inv in
-    (omega arith, common-turn _ _ _ _ _ (c .before .before .before .loop-test .taken) (omega (arith, c .if1 .left)) (inv .1))
+    (omega arith, common-turn _ _ _ _ _ (turn .loop-test .taken) (omega (arith, c .if1 .left)) (inv .1))
 
 mul-result-2 : tie.Need-mul-result-2 Inv-loop μ-loop
 mul-result-2 c = search needs

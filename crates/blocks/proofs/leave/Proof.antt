@@ -53,7 +53,9 @@ mul-widen : tie.Need-mul-widen Inv-loop μ-loop
 mul-widen c = search needs
 
 shared-slice-read-widen : tie.Need-shared-slice-read-widen Inv-loop μ-loop
-shared-slice-read-widen c = omega (arith, c .before .loop-test .taken, c .before .before .before .before .before .before .pre .0)
+shared-slice-read-widen c =
+    let entry = c .before .before .before .before .before .before in
+    omega (arith, c .before .loop-test .taken, entry .pre .0)
 
 widen-requires : tie.Need-widen-requires Inv-loop μ-loop
 widen-requires c κs = search needs
@@ -74,7 +76,9 @@ mul-lead c =
     omega (arith, at .widen .ensures, at .before .shared-slice-known2 .given (loop-of at .loop .i))
 
 slice-write-lead : tie.Need-slice-write-lead Inv-loop μ-loop
-slice-write-lead c = inside (c .before .before .before .before)
+slice-write-lead c =
+    let at-widen = c .before .before .before .before in
+    inside at-widen
 
 add-i : tie.Need-add-i Inv-loop μ-loop
 add-i c = search needs

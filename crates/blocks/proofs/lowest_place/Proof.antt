@@ -44,13 +44,17 @@ mul-widen : tie.Need-mul-widen Inv-loop μ-loop
 mul-widen c = search needs
 
 shared-slice-read-widen : tie.Need-shared-slice-read-widen Inv-loop μ-loop
-shared-slice-read-widen c = omega (arith, c .before .loop-test .taken, c .before .before .before .before .before .pre)
+shared-slice-read-widen c =
+    let entry = c .before .before .before .before .before in
+    omega (arith, c .before .loop-test .taken, entry .pre)
 
 widen-requires : tie.Need-widen-requires Inv-loop μ-loop
 widen-requires c κs = search needs
 
 mul-widen-2 : tie.Need-mul-widen-2 Inv-loop μ-loop
-mul-widen-2 c = omega (arith, c .widen .ensures, c .before .shared-slice-known3 .given (c .before .before .before .loop .i))
+mul-widen-2 c =
+    let at-loop = c .before .before .before in
+    omega (arith, c .widen .ensures, c .before .shared-slice-known3 .given (at-loop .loop .i))
 
 shared-slice-read-widen-2 : tie.Need-shared-slice-read-widen-2 Inv-loop μ-loop
 shared-slice-read-widen-2 c =

@@ -19,7 +19,9 @@ abbrev closed-of : tie.After-slice-known8 → tie.After-close-rows
 closed-of c = c .before .before .before .before
 
 clear-marks-requires : tie.Need-clear-marks-requires
-clear-marks-requires c κs = c .before .before .before .before .before .before .pre .1 .0
+clear-marks-requires c κs =
+    let entry = c .before .before .before .before .before .before in
+    entry .pre .1 .0
 
 join-rows-requires : tie.Need-join-rows-requires
 join-rows-requires c κs =

@@ -87,12 +87,14 @@ same-length-7 c = search needs
 
 returns : tie.Need-returns
 returns c =
+    let at-drop-mark = c .before .before .before .before .before .before .before .before in
+    let at-put-mark = c .before .before .before .before in
     let pre = entry-of (c .before .before) .pre in
     record {
       low = meet-of (c .before .before) .meet .result;
       met = meet-of (c .before .before) .meet .ensures;
-      dropped = c .before .before .before .before .before .before .before .before .drop-mark .ensures;
-      added = c .before .before .before .before .put-mark .ensures;
+      dropped = at-drop-mark .drop-mark .ensures;
+      added = at-put-mark .put-mark .ensures;
       stack-put = stored _ _ _ (pre .stack-room);
       place-put = stored _ _ _ (pre .place-room);
       path-put = stored _ _ _ (pre .path-room);

@@ -40,7 +40,9 @@ led c =
     (in-take (entry .args .list .now) _ (loop-of c .loop .j) (c .before .before .loop-test .taken) (entry .pre .0 .0)))
 
 loop-holds : tie.Need-loop-holds Inv-loop μ-loop
-loop-holds c = (refl, omega arith, leads-none (c .before .before .before .args .lead .now) _ _ _)
+loop-holds c =
+    let entry = c .before .before .before in
+    (refl, omega arith, leads-none (entry .args .lead .now) _ _ _)
 
 mul-widen : tie.Need-mul-widen Inv-loop μ-loop
 mul-widen c = search needs

@@ -102,9 +102,10 @@ loop-holds c =
 
 step-requires : tie.Need-step-requires Inv-loop μ-loop
 step-requires c κs =
+    let turn = c .before .before .before .before .before .before .before .before in
     let loop = c .before .before .before .before .before .before .before .before .before in
     let e = entry-of (push-of (loop .before)) in
-    (e .pre .0, (room-as (long loop) (e .pre .1 .0), (c .before .before .before .before .before .before .before .before .loop-test .taken, (loop .loop .inv .1, loop .loop .inv .2))))
+    (e .pre .0, (room-as (long loop) (e .pre .1 .0), (turn .loop-test .taken, (loop .loop .inv .1, loop .loop .inv .2))))
 
 loop-less : tie.Need-loop-less Inv-loop μ-loop
 loop-less c = omega (arith, step-of c .step .ensures .1 .less)

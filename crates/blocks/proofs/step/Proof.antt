@@ -76,7 +76,9 @@ mul-widen-2 : tie.Need-mul-widen-2
 mul-widen-2 c = let f = few (start-of (c .before .before)) in omega (arith, at-within c)
 
 slice-read-widen-2 : tie.Need-slice-read-widen-2
-slice-read-widen-2 c = let f = few (start-of (c .before .before .before)) in omega (arith, at-within (c .before), start-of (c .before .before .before) .pre .1 .0 .stack-room)
+slice-read-widen-2 c =
+    let at-slice-known = c .before .before .before in
+    let f = few (start-of at-slice-known) in omega (arith, at-within (c .before), start-of at-slice-known .pre .1 .0 .stack-room)
 
 widen-requires-2 : tie.Need-widen-requires-2
 widen-requires-2 c κs = search needs

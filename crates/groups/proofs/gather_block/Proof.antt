@@ -79,7 +79,9 @@ part-mask-items-start : tie.Need-part-mask-items-start
 part-mask-items-start c = omega arith
 
 part-mask-items-end : tie.Need-part-mask-items-end
-part-mask-items-end c = opened (c .before .before .before .before .before) .0 .within
+part-mask-items-end c =
+    let at-open-members = c .before .before .before .before .before in
+    opened at-open-members .0 .within
 
 mask-items-requires : tie.Need-mask-items-requires
 mask-items-requires c κs =

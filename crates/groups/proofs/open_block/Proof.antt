@@ -30,7 +30,9 @@ part-place-items-start : tie.Need-part-place-items-start
 part-place-items-start c = omega arith
 
 part-place-items-end : tie.Need-part-place-items-end
-part-place-items-end c = c .before .before .before .before .before .before .before .gather-block .ensures .0 .within
+part-place-items-end c =
+    let at-gather-block = c .before .before .before .before .before .before .before in
+    at-gather-block .gather-block .ensures .0 .within
 
 place-items-requires : tie.Need-place-items-requires
 place-items-requires c κs =

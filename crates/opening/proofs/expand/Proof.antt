@@ -39,23 +39,28 @@ at-loop-from-after-slice-known2 c = at-loop-test-from-after-slice-known2 c .befo
 abbrev entry-from-after-loop : tie.After-loop Inv-loop μ-loop → tie.Start Inv-loop μ-loop
 entry-from-after-loop c = c .before .before .before .before .before
 
+abbrev loop-of : tie.After-widen Inv-loop μ-loop → tie.At-loop Inv-loop μ-loop
+loop-of c = c .before .before .before
+
 -- in a turn: the one at hand
 module _ (c : tie.After-widen Inv-loop μ-loop) where
-  before : c .before .before .before .loop .i < length (take ((entry-from-after-widen c) .args .k) ((entry-from-after-widen c) .args .order .now))
+  before : loop-of c .loop .i < length (take ((entry-from-after-widen c) .args .k) ((entry-from-after-widen c) .args .order .now))
   before =
       let entry = (entry-from-after-widen c) in
       omega (arith, c .before .before .loop-test .taken, length-take-le (entry .args .k) (entry .args .order .now) (entry .pre .0 .2))
 
-  here : c .widen .result ≡ getD (take ((entry-from-after-widen c) .args .k) ((entry-from-after-widen c) .args .order .now)) (c .before .before .before .loop .i) 0
+  here : c .widen .result ≡ getD (take ((entry-from-after-widen c) .args .k) ((entry-from-after-widen c) .args .order .now)) (loop-of c .loop .i) 0
   here =
       let entry = (entry-from-after-widen c) in
-      c .widen .ensures ∙ sym (getD-take (entry .args .k) (entry .args .order .now) (c .before .before .before .loop .i) 0 (c .before .before .loop-test .taken))
+      c .widen .ensures ∙ sym (getD-take (entry .args .k) (entry .args .order .now) (loop-of c .loop .i) 0 (c .before .before .loop-test .taken))
 
   item : c .widen .result ∈ take ((entry-from-after-widen c) .args .k) ((entry-from-after-widen c) .args .order .now)
-  item = expand-item _ _ _ _ ((entry-from-after-widen c) .pre .1) _ (c .before .before .before .loop .inv .0) _ _ (c .before .before .before .loop .inv .2) before _ here
+  item = expand-item _ _ _ _ ((entry-from-after-widen c) .pre .1) _ (loop-of c .loop .inv .0) _ _ (loop-of c .loop .inv .2) before _ here
 
 loop-holds : tie.Need-loop-holds Inv-loop μ-loop
-loop-holds c = (refl, omega arith, expanding-none _ _ _ _ (c .before .before .before .pre .1) _)
+loop-holds c =
+    let entry = c .before .before .before in
+    (refl, omega arith, expanding-none _ _ _ _ (entry .pre .1) _)
 
 mul-widen : tie.Need-mul-widen Inv-loop μ-loop
 mul-widen c = search needs
@@ -89,6 +94,7 @@ loop-less c = omega (arith, (at-loop-test-from-after-slice-known2 c .loop-test) 
 
 loop-again : tie.Need-loop-again Inv-loop μ-loop
 loop-again c =
+    let at-widen = c .before .before .before .before in
     let entry = entry-from-after-slice-known2 c in
     let append-chain = c .before .before .append-chain in
     let loop = at-loop-from-after-slice-known2 c .loop in
@@ -96,7 +102,7 @@ loop-again c =
     let p = entry .pre in (
       append-chain .kept .1 .1 .1 .0 ∙ loop .inv .0,
       omega (arith, loop-test .taken),
-      expanding-turn _ _ _ _ (p .1) _ (loop .inv .0) _ _ (loop .inv .2) (before (c .before .before .before .before)) _ (here (c .before .before .before .before)) _ _ (append-chain .ensures),
+      expanding-turn _ _ _ _ (p .1) _ (loop .inv .0) _ _ (loop .inv .2) (before at-widen) _ (here at-widen) _ _ (append-chain .ensures),
     )
 
 same-length : tie.Need-same-length Inv-loop μ-loop

@@ -105,7 +105,9 @@ put-mark-requires c κs =
     (entry .pre .0 .2 _ (here turn), omega (arith, entry .pre .1 .1, turn .before .loop .inv .3))
 
 sub-x : tie.Need-sub-x Inv-loop μ-loop
-sub-x c = omega (arith, c .before .before .before .loop-test .taken)
+sub-x c =
+    let turn = c .before .before .before in
+    omega (arith, turn .loop-test .taken)
 
 loop-less : tie.Need-loop-less Inv-loop μ-loop
 loop-less c =

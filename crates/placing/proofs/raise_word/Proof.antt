@@ -56,7 +56,9 @@ add-unmet c =
     omega (arith, counted t p, eq-one p p refl, t .before .loop .inv .3 p, t .before .before .pre .2 p (here t))
 
 mul-unmet-2 : tie.Need-mul-unmet-2 Inv-loop μ-loop
-mul-unmet-2 c = omega (arith, c .before .before .before .pre .0, trailing-le 64 (c .before .before .loop .x))
+mul-unmet-2 c =
+    let entry = c .before .before .before in
+    omega (arith, entry .pre .0, trailing-le 64 (c .before .before .loop .x))
 
 slice-write-unmet : tie.Need-slice-write-unmet Inv-loop μ-loop
 slice-write-unmet c = inside (c .before)

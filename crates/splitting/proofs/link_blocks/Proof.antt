@@ -41,15 +41,18 @@ at-loop-from-after-slice-known3 c = c .before .before .before .before .before .b
 abbrev at-loop-test-from-after-slice-known3 : tie.After-slice-known3 Inv-loop μ-loop → tie.In-loop Inv-loop μ-loop
 at-loop-test-from-after-slice-known3 c = c .before .before .before .before .before
 
+abbrev loop-of : tie.After-widen Inv-loop μ-loop → tie.At-loop Inv-loop μ-loop
+loop-of c = c .before .before .before
+
 -- in a turn: the item at hand, and its lead
 module _ (c : tie.After-widen Inv-loop μ-loop) where
-  same : length (c .before .before .before .loop .links) ≡ length ((entry-from-after-widen c) .args .links .now)
-  same = c .before .before .before .loop .inv .0 ∙ (at-clear-cells-from-after-widen c) .clear-cells .kept .1 .0
+  same : length (loop-of c .loop .links) ≡ length ((entry-from-after-widen c) .args .links .now)
+  same = loop-of c .loop .inv .0 ∙ (at-clear-cells-from-after-widen c) .clear-cells .kept .1 .0
 
   item : c .widen .result ∈ (entry-from-after-widen c) .args .items .now
   item =
-      link-item _ _ ((entry-from-after-widen c) .args .lead .now) _ _ _ ((entry-from-after-widen c) .pre .1) same (c .before .before .before .loop .inv .2)
-      (c .before .before .loop-test .taken) (c .before .before .before .loop .inv .1) _ (getD ((entry-from-after-widen c) .args .lead .now) (c .widen .result) 0) (c .widen .ensures) refl
+      link-item _ _ ((entry-from-after-widen c) .args .lead .now) _ _ _ ((entry-from-after-widen c) .pre .1) same (loop-of c .loop .inv .2)
+      (c .before .before .loop-test .taken) (loop-of c .loop .inv .1) _ (getD ((entry-from-after-widen c) .args .lead .now) (c .widen .result) 0) (c .widen .ensures) refl
 
   label : (1 ≤ c .widen .result) × (c .widen .result ≤ (entry-from-after-widen c) .args .n)
   label = (entry-from-after-widen c) .pre .1 .label (c .widen .result) item
@@ -102,37 +105,49 @@ mul-links c = omega (arith, lead-label (c), label (c .before .before), (entry-fr
 
 slice-read-links : tie.Need-slice-read-links Inv-loop μ-loop
 slice-read-links c =
-    omega (arith, lead-label (c .before), (entry-from-after-slice-known3 c) .pre .1 .room, same (c .before .before .before))
+    let at-widen = c .before .before .before in
+    omega (arith, lead-label (c .before), (entry-from-after-slice-known3 c) .pre .1 .room, same at-widen)
 
 add-links : tie.Need-add-links Inv-loop μ-loop
-add-links c = omega (arith, lead-label (c .before), label (c .before .before .before), (entry-from-after-slice-known3 c) .pre .0)
+add-links c =
+    let at-widen = c .before .before .before in
+    omega (arith, lead-label (c .before), label at-widen, (entry-from-after-slice-known3 c) .pre .0)
 
 mul-links-2 : tie.Need-mul-links-2 Inv-loop μ-loop
-mul-links-2 c = omega (arith, lead-label (c .before), label (c .before .before .before), (entry-from-after-slice-known3 c) .pre .0)
+mul-links-2 c =
+    let at-widen = c .before .before .before in
+    omega (arith, lead-label (c .before), label at-widen, (entry-from-after-slice-known3 c) .pre .0)
 
 slice-write-links : tie.Need-slice-write-links Inv-loop μ-loop
 slice-write-links c =
-    omega (arith, label (c .before .before .before), (entry-from-after-slice-known3 c) .pre .1 .room, same (c .before .before .before))
+    let at-widen = c .before .before .before in
+    omega (arith, label at-widen, (entry-from-after-slice-known3 c) .pre .1 .room, same at-widen)
 
 cast-links : tie.Need-cast-links Inv-loop μ-loop
-cast-links c = omega (arith, lead-label (c .before), label (c .before .before .before), (entry-from-after-slice-known3 c) .pre .0)
+cast-links c =
+    let at-widen = c .before .before .before in
+    omega (arith, lead-label (c .before), label at-widen, (entry-from-after-slice-known3 c) .pre .0)
 
 mul-links-3 : tie.Need-mul-links-3 Inv-loop μ-loop
-mul-links-3 c = omega (arith, lead-label (c .before), label (c .before .before .before), (entry-from-after-slice-known3 c) .pre .0)
+mul-links-3 c =
+    let at-widen = c .before .before .before in
+    omega (arith, lead-label (c .before), label at-widen, (entry-from-after-slice-known3 c) .pre .0)
 
 slice-write-links-2 : tie.Need-slice-write-links-2 Inv-loop μ-loop
 slice-write-links-2 c =
+    let at-widen = c .before .before .before in
     let entry = entry-from-after-slice-known3 c in
     let loop = at-loop-from-after-slice-known3 c .loop in
     let widen = c .before .before .before .widen in
     let widen2 = c .before .widen2 in
-    omega (arith, lead-label (c .before), entry .pre .1 .room, same (c .before .before .before), length-set (loop .links) (entry .args .n + widen .result) (getD (loop .links) (widen2 .result) 0))
+    omega (arith, lead-label (c .before), entry .pre .1 .room, same at-widen, length-set (loop .links) (entry .args .n + widen .result) (getD (loop .links) (widen2 .result) 0))
 
 loop-less : tie.Need-loop-less Inv-loop μ-loop
 loop-less c = search needs
 
 loop-again : tie.Need-loop-again Inv-loop μ-loop
 loop-again c =
+    let at-widen = c .before .before .before in
     let loop = at-loop-from-after-slice-known3 c .loop in
     let widen = c .before .before .before .widen in
     let entry = entry-from-after-slice-known3 c in
@@ -141,7 +156,7 @@ loop-again c =
     let w = widen in (
       length-set (set (loop .links) _ _) _ _ ∙ length-set (loop .links) _ _ ∙ loop .inv .0,
       omega (arith, loop .inv .1),
-      linking-turn _ _ _ _ _ _ (entry .pre .1) (same (c .before .before .before)) (loop .inv .2) (loop-test .taken) (loop .inv .1) _ _ (w .ensures) (widen2 .ensures),
+      linking-turn _ _ _ _ _ _ (entry .pre .1) (same at-widen) (loop .inv .2) (loop-test .taken) (loop .inv .1) _ _ (w .ensures) (widen2 .ensures),
     )
 
 same-length : tie.Need-same-length Inv-loop μ-loop

@@ -62,6 +62,9 @@ entry-from-joined1 c = at-loop-from-joined1 c .before .before .before .before .b
 abbrev entry-from-after-loop : tie.After-loop Inv-loop μ-loop → tie.Start Inv-loop μ-loop
 entry-from-after-loop c = c .before .before .before .before .before .before .before .before .before .before .before .before
 
+abbrev loop-from-after-widen : tie.After-widen Inv-loop μ-loop → tie.At-loop Inv-loop μ-loop
+loop-from-after-widen c = c .before .before .before
+
 -- in a turn: the member at hand
 module _ (c : tie.After-widen Inv-loop μ-loop) where
   item : c .widen .result ∈ (entry-from-after-widen c) .args .items .now
@@ -69,7 +72,7 @@ module _ (c : tie.After-widen Inv-loop μ-loop) where
       let p = (entry-from-after-widen c) .pre in
       let led = p .1 .1 .1 .0 .0 in
       subst (λ (l : List ℕ). c .widen .result ∈ l) (sym (led .are))
-      (here _ _ (p .0 .0) _ _ _ (led .led) _ (led .are) _ _ (c .before .before .loop-test .taken) (c .widen .ensures) _ _ (c .before .before .before .loop .inv .7))
+      (here _ _ (p .0 .0) _ _ _ (led .led) _ (led .are) _ _ (c .before .before .loop-test .taken) (c .widen .ensures) _ _ (loop-from-after-widen c .loop .inv .7))
 
   label : (1 ≤ c .widen .result) × (c .widen .result ≤ (entry-from-after-widen c) .args .n)
   label = (entry-from-after-widen c) .pre .1 .1 .1 .0 .1 .label (c .widen .result) item

@@ -47,11 +47,8 @@ module _ (square mask : List ℕ) (w q : ℕ) where
   abbrev pub word : ℕ → List ℕ
   word j = places 64 (64 * j) (bitAnd (getD square (q * w + j) 0) (getD mask j 0))
 
-  pub below-turn : (j : ℕ) → j < w → (p : ℕ) → below (64 * j) p + count p (word j) ≡ below (64 * (j + 1)) p
-  below-turn j h p = common-turn square mask w q j h p
-
   pub in-word : (j : ℕ) → j < w → (p : ℕ) → p ∈ word j → mark mask w 0 p ≡ true
-  in-word j h p i = and-right (ltb p (64 * (j + 1)) && mark square w q p) (mark mask w 0 p) (one-in _ (omega (arith, below-turn j h p)))
+  in-word j h p i = and-right (ltb p (64 * (j + 1)) && mark square w q p) (mark mask w 0 p) (one-in _ (omega (arith, common-turn square mask w q j h p)))
 
   module _ (e : mark mask w 0 q ≡ true) where
     needed-masked : (p : ℕ) → one (mark square w q p && mark mask w 0 p) ≡ one (needed square mask w p q)
@@ -69,7 +66,7 @@ module _ (square mask : List ℕ) (w q : ℕ) where
 
     -- what word j adds goes to those that need q
     pub word-le : (j : ℕ) → j < w → (p : ℕ) → below (64 * j) p + count p (word j) ≤ one (needed square mask w p q)
-    word-le j h p = omega (arith, below-turn j h p, below-le (64 * (j + 1)) p)
+    word-le j h p = omega (arith, common-turn square mask w q j h p, below-le (64 * (j + 1)) p)
 
 -- what needs q is an item
 pub need-item : (items square mask unmet : List ℕ) (w q : ℕ) → Fits items square mask unmet w → (p : ℕ) → needed square mask w p q ≡ true → p ∈ items

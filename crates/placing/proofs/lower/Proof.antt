@@ -7,9 +7,9 @@ use borrow.Author.Needs.{needs}
 use borrow.Author.Tests.{not-true, not-false}
 use lib.ListN.{length}
 use Rattle.marks.specs.Marks.{mark}
-use Rattle.marks.proofs.Squares.{mark-in}
-use Rattle.placing.specs.UnmetCounts.{Row, LoweredBy}
-use Rattle.placing.proofs.Counts.{below, below-start, below-end, below-turn, word-le, in-word, needed-none, lowered-none, lowered-on}
+use Rattle.marks.proofs.Squares.{mark-in, common-turn}
+use Rattle.placing.specs.UnmetCounts.{LoweredBy}
+use Rattle.placing.proofs.Counts.{below, below-start, below-end, word-le, in-word, needed-none, lowered-none, lowered-on}
 use Rattle.placing.proofs.lower.Statement.{statement}
 use Rattle.placing.proofs.lower.Tie as tie
 
@@ -29,10 +29,8 @@ turn-of c = c .before .before .before .before
 abbrev turn-from-slice-known4 : tie.After-slice-known4 Inv-loop μ-loop → tie.In-loop Inv-loop μ-loop
 turn-from-slice-known4 c = turn-of (c .before .before .before .before .before)
 
--- the row and the word at hand are there
-row-of : (c : tie.In-loop Inv-loop μ-loop) → Row (entry-of (c .before .before) .args .square .now) (entry-of (c .before .before) .args .mask .now)
-    (entry-of (c .before .before) .args .unmet .now) (entry-of (c .before .before) .args .w) (entry-of (c .before .before) .args .q)
-row-of c = entry-of (c .before .before) .pre .0
+abbrev entry-in : tie.In-loop Inv-loop μ-loop → tie.Start Inv-loop μ-loop
+entry-in c = entry-of (c .before .before)
 
 -- q is in the mask
 masked : (c : tie.Else1 Inv-loop μ-loop) → mark (entry-of c .args .mask .now) (entry-of c .args .w) 0 (entry-of c .args .q) ≡ true
@@ -56,29 +54,29 @@ loop-holds : tie.Need-loop-holds Inv-loop μ-loop
 loop-holds c = (refl, refl, omega arith, lowered-none _ (below-start _ _ _ _) _ _ _)
 
 add-lower-word : tie.Need-add-lower-word Inv-loop μ-loop
-add-lower-word c = omega (arith, row-of c .row, c .loop-test .taken)
+add-lower-word c = omega (arith, entry-in c .pre .0 .row, c .loop-test .taken)
 
 mul-lower-word : tie.Need-mul-lower-word Inv-loop μ-loop
-mul-lower-word c = omega (arith, row-of c .row, c .loop-test .taken)
+mul-lower-word c = omega (arith, entry-in c .pre .0 .row, c .loop-test .taken)
 
 shared-slice-read-lower-word : tie.Need-shared-slice-read-lower-word Inv-loop μ-loop
-shared-slice-read-lower-word c = omega (arith, row-of (c .before) .row, c .before .loop-test .taken)
+shared-slice-read-lower-word c = omega (arith, entry-in (c .before) .pre .0 .row, c .before .loop-test .taken)
 
 mul-lower-word-2 : tie.Need-mul-lower-word-2 Inv-loop μ-loop
-mul-lower-word-2 c = omega (arith, row-of (c .before) .narrow, c .before .loop-test .taken)
+mul-lower-word-2 c = omega (arith, entry-in (c .before) .pre .0 .narrow, c .before .loop-test .taken)
 
 shared-slice-read-lower-word-2 : tie.Need-shared-slice-read-lower-word-2 Inv-loop μ-loop
-shared-slice-read-lower-word-2 c = omega (arith, row-of (c .before .before) .mask-room, c .before .before .loop-test .taken)
+shared-slice-read-lower-word-2 c = omega (arith, entry-in (c .before .before) .pre .0 .mask-room, c .before .before .loop-test .taken)
 
 mul-lower-word-3 : tie.Need-mul-lower-word-3 Inv-loop μ-loop
-mul-lower-word-3 c = omega (arith, row-of (c .before .before) .narrow, c .before .before .loop-test .taken)
+mul-lower-word-3 c = omega (arith, entry-in (c .before .before) .pre .0 .narrow, c .before .before .loop-test .taken)
 
 lower-word-requires : tie.Need-lower-word-requires Inv-loop μ-loop
 lower-word-requires c κs =
     let turn = turn-of c in
-    let entry = entry-of (turn .before .before) in
+    let entry = entry-in turn in
     let loop = turn .before .loop in
-    let row = row-of turn in (
+    let row = entry .pre .0 in (
       (
         omega (arith, row .narrow, turn .loop-test .taken),
         λ p i. omega (arith, row .counted p (in-word (entry .args .square .now) (entry .args .mask .now) (entry .args .w) (entry .args .q) (loop .j) (turn .loop-test .taken) p i), loop .inv .0),
@@ -93,7 +91,7 @@ lower-word-requires c κs =
     )
 
 add-j : tie.Need-add-j Inv-loop μ-loop
-add-j c = omega (arith, row-of (turn-from-slice-known4 c) .narrow, turn-from-slice-known4 c .loop-test .taken)
+add-j c = omega (arith, entry-in (turn-from-slice-known4 c) .pre .0 .narrow, turn-from-slice-known4 c .loop-test .taken)
 
 loop-less : tie.Need-loop-less Inv-loop μ-loop
 loop-less c = omega (arith, turn-from-slice-known4 c .loop-test .taken)
@@ -106,7 +104,7 @@ loop-again c =
       lowered .kept .1 .1 .1 .0 ∙ loop .inv .0,
       lowered .kept .1 .1 .1 .1 .0 ∙ loop .inv .1,
       omega (arith, turn .loop-test .taken),
-      lowered-on _ _ _ (below-turn _ _ _ _ (loop .j) (turn .loop-test .taken)) _ _ _ _ _ _ _ (loop .inv .3) (lowered .ensures),
+      lowered-on _ _ _ (common-turn _ _ _ _ (loop .j) (turn .loop-test .taken)) _ _ _ _ _ _ _ (loop .inv .3) (lowered .ensures),
     )
 
 same-length : tie.Need-same-length Inv-loop μ-loop

@@ -7,8 +7,8 @@ use borrow.Author.Needs.{needs}
 use borrow.Author.Tests.{not-true, not-false}
 use lib.ListN.{length, getD}
 use Rattle.marks.specs.Marks.{mark}
-use Rattle.placing.specs.UnmetCounts.{Row}
-use Rattle.placing.proofs.Counts.{below, below-start, below-end, below-turn, word-le, in-word, needed-none}
+use Rattle.marks.proofs.Squares.{common-turn}
+use Rattle.placing.proofs.Counts.{below, below-start, below-end, word-le, in-word, needed-none}
 use Rattle.placing.proofs.raise.Statement.{statement}
 use Rattle.placing.proofs.raise.Tie as tie
 
@@ -27,10 +27,8 @@ turn-of c = c .before .before .before
 abbrev turn-from-slice-known2 : tie.After-slice-known2 Inv-loop μ-loop → tie.In-loop Inv-loop μ-loop
 turn-from-slice-known2 c = turn-of (c .before .before .before)
 
--- the row and the word at hand are there
-row-of : (c : tie.In-loop Inv-loop μ-loop) → Row (entry-of (c .before .before) .args .square .now) (entry-of (c .before .before) .args .mask .now)
-    (entry-of (c .before .before) .args .unmet .now) (entry-of (c .before .before) .args .w) (entry-of (c .before .before) .args .q)
-row-of c = entry-of (c .before .before) .pre .0
+abbrev entry-in : tie.In-loop Inv-loop μ-loop → tie.Start Inv-loop μ-loop
+entry-in c = entry-of (c .before .before)
 
 -- q is in the mask
 masked : (c : tie.Else1 Inv-loop μ-loop) → mark (entry-of c .args .mask .now) (entry-of c .args .w) 0 (entry-of c .args .q) ≡ true
@@ -55,29 +53,29 @@ loop-holds : tie.Need-loop-holds Inv-loop μ-loop
 loop-holds c = (refl, omega arith, λ p. omega (arith, below-start (entry-of c .args .square .now) (entry-of c .args .mask .now) (entry-of c .args .w) (entry-of c .args .q) p))
 
 add-raise-word : tie.Need-add-raise-word Inv-loop μ-loop
-add-raise-word c = omega (arith, row-of c .row, c .loop-test .taken)
+add-raise-word c = omega (arith, entry-in c .pre .0 .row, c .loop-test .taken)
 
 mul-raise-word : tie.Need-mul-raise-word Inv-loop μ-loop
-mul-raise-word c = omega (arith, row-of c .row, c .loop-test .taken)
+mul-raise-word c = omega (arith, entry-in c .pre .0 .row, c .loop-test .taken)
 
 shared-slice-read-raise-word : tie.Need-shared-slice-read-raise-word Inv-loop μ-loop
-shared-slice-read-raise-word c = omega (arith, row-of (c .before) .row, c .before .loop-test .taken)
+shared-slice-read-raise-word c = omega (arith, entry-in (c .before) .pre .0 .row, c .before .loop-test .taken)
 
 mul-raise-word-2 : tie.Need-mul-raise-word-2 Inv-loop μ-loop
-mul-raise-word-2 c = omega (arith, row-of (c .before) .narrow, c .before .loop-test .taken)
+mul-raise-word-2 c = omega (arith, entry-in (c .before) .pre .0 .narrow, c .before .loop-test .taken)
 
 shared-slice-read-raise-word-2 : tie.Need-shared-slice-read-raise-word-2 Inv-loop μ-loop
-shared-slice-read-raise-word-2 c = omega (arith, row-of (c .before .before) .mask-room, c .before .before .loop-test .taken)
+shared-slice-read-raise-word-2 c = omega (arith, entry-in (c .before .before) .pre .0 .mask-room, c .before .before .loop-test .taken)
 
 mul-raise-word-3 : tie.Need-mul-raise-word-3 Inv-loop μ-loop
-mul-raise-word-3 c = omega (arith, row-of (c .before .before) .narrow, c .before .before .loop-test .taken)
+mul-raise-word-3 c = omega (arith, entry-in (c .before .before) .pre .0 .narrow, c .before .before .loop-test .taken)
 
 raise-word-requires : tie.Need-raise-word-requires Inv-loop μ-loop
 raise-word-requires c κs =
     let turn = turn-of c in
-    let entry = entry-of (turn .before .before) in
+    let entry = entry-in turn in
     let loop = turn .before .loop in
-    let row = row-of turn in (
+    let row = entry .pre .0 in (
       omega (arith, row .narrow, turn .loop-test .taken),
       λ p i. omega (arith, row .counted p (in-word (entry .args .square .now) (entry .args .mask .now) (entry .args .w) (entry .args .q) (loop .j) (turn .loop-test .taken) p i), loop .inv .0),
       λ p i.
@@ -86,7 +84,7 @@ raise-word-requires c κs =
     )
 
 add-j : tie.Need-add-j Inv-loop μ-loop
-add-j c = omega (arith, row-of (turn-from-slice-known2 c) .narrow, turn-from-slice-known2 c .loop-test .taken)
+add-j c = omega (arith, entry-in (turn-from-slice-known2 c) .pre .0 .narrow, turn-from-slice-known2 c .loop-test .taken)
 
 loop-less : tie.Need-loop-less Inv-loop μ-loop
 loop-less c = omega (arith, turn-from-slice-known2 c .loop-test .taken)
@@ -94,7 +92,7 @@ loop-less c = omega (arith, turn-from-slice-known2 c .loop-test .taken)
 loop-again : tie.Need-loop-again Inv-loop μ-loop
 loop-again c =
     let turn = turn-from-slice-known2 c in
-    let entry = entry-of (turn .before .before) in
+    let entry = entry-in turn in
     let loop = turn .before .loop in
     let raised = c .before .before .raise-word in (
       raised .kept .1 .1 .0 ∙ loop .inv .0,
@@ -103,7 +101,7 @@ loop-again c =
         arith,
         raised .ensures p,
         loop .inv .2 p,
-        below-turn (entry .args .square .now) (entry .args .mask .now) (entry .args .w) (entry .args .q) (loop .j) (turn .loop-test .taken) p,
+        common-turn (entry .args .square .now) (entry .args .mask .now) (entry .args .w) (entry .args .q) (loop .j) (turn .loop-test .taken) p,
       ),
     )
 

@@ -10,8 +10,8 @@ use Rattle.order.proofs.Tests.{both-ways, not-so}
 use Rattle.order.proofs.Lists.{filter-in}
 use Rattle.marks.specs.Marks.{mark}
 use Rattle.marks.proofs.Squares.{mark-in}
-use Rattle.placing.specs.UnmetCounts.{needed}
-use Rattle.blocks.specs.Found.{InRows, Room}
+use Rattle.placing.specs.UnmetCounts.{needed, InRows}
+use Rattle.blocks.specs.Found.{Room}
 use Rattle.blocks.specs.Search.{Search, Pushable}
 use Rattle.blocks.proofs.Reaching.{positions-few}
 use Rattle.blocks.proofs.Steps.{needed-of, needed-row, stack-item, stacked-item, some-start}
@@ -49,7 +49,7 @@ module _ {items square mask fresh stacked list stack place starts path lead : Li
 
   -- the top of the path, and what stands there
   module _ {s v : ℕ} (some : 0 < p) (top : s ≡ getD path (p - 1) 0) (here : v ≡ getD stack s 0) where
-    pub top-within : s < n
+    top-within : s < n
     top-within = omega (arith, g .steps .under (p - 1) (omega arith))
 
     pub top-item : v ∈ items

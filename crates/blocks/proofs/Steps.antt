@@ -18,8 +18,8 @@ use Rattle.order.proofs.Blocks.{Onto, onto-needs, Tog, in-block, block-in}
 use Rattle.order.proofs.Finding.{block-found}
 use Rattle.marks.specs.Marks.{mark}
 use Rattle.marks.proofs.Squares.{mark-in}
-use Rattle.placing.specs.UnmetCounts.{needed}
-use Rattle.blocks.specs.Found.{InRows, IsLead, Led}
+use Rattle.placing.specs.UnmetCounts.{needed, InRows}
+use Rattle.blocks.specs.Found.{IsLead, Led}
 use Rattle.blocks.specs.Search.{Positions, Among, OneClass, NeedsOrIs, freshCount, Search, Settled, Kept, StandsFrom, Smallest, HasLeft, Pushed}
 use Rattle.blocks.proofs.Reaching.{reach-trans, reach-step, reach-tog, positions-top, positions-fewer, positions-cut, positions-push}
 

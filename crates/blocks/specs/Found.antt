@@ -1,22 +1,12 @@
--- The blocks of items whose needs stand in rows of marks: what is asked of the rows, and what is found.
+-- The blocks of items whose needs stand in rows of marks: what the search is lent, and what it finds.
 use mathlib.Core.Path.{_≡_}
 use mathlib.Core.List.{List}
 use mathlib.Core.Bool.{Bool, true}
-use Prim.Native.Nat.{ℕ, _+_, _*_, _≤_, _<_}
+use Prim.Native.Nat.{ℕ, _*_, _≤_, _<_}
 use lib.ListN.{length, getD}
 use Rattle.order.specs.LabelLists.{_∈_}
 use Rattle.order.specs.Blocks.{blockOf, isLeader}
-use Rattle.marks.specs.Marks.{mark}
-use Rattle.placing.specs.UnmetCounts.{Rising, AllBelow}
-
--- the items go upward and have rows and marks; the mask has items alone
-pub record InRows (items square mask : List ℕ) (w : ℕ) : Type 0 where
-  pub rising : Rising items
-  pub narrow : w ≤ 1000
-  pub below : AllBelow items (64 * w)
-  pub rows : (p : ℕ) → p ∈ items → p * w + w ≤ length square
-  pub masked : (p : ℕ) → mark mask w 0 p ≡ true → p ∈ items
-  pub mask-room : w ≤ length mask
+use Rattle.placing.specs.UnmetCounts.{AllBelow}
 
 -- what the search is lent: rows of marks, a list of a row's marks, three stacks of the items, and a place and a lead for each
 pub record Room (items fresh stacked list stack place starts path lead : List ℕ) (w : ℕ) : Type 0 where

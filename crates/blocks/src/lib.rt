@@ -8,8 +8,8 @@ ghost use Prim.Native.Nat.{ℕ, _+_, _*_, _≤_, _<_};
 ghost use lib.ListN.{length, getD, take};
 ghost use Rattle.order.specs.LabelLists.{_∈_, one};
 ghost use Rattle.marks.specs.Marks.{mark, InSquare, Added, Dropped};
-ghost use Rattle.placing.specs.UnmetCounts.{needed, AllBelow};
-ghost use Rattle.blocks.specs.Found.{InRows, Room, Led};
+ghost use Rattle.placing.specs.UnmetCounts.{needed, AllBelow, InRows};
+ghost use Rattle.blocks.specs.Found.{Room, Led};
 ghost use Rattle.blocks.specs.Search.{Going, Kept, Nearer, CommonMark, Lowest, StartsCut, Smallest, LowestNeeder, Pushable, Pushed, HasLeft, Finished};
 ghost use Rattle.blocks.specs.Merged.{heads, Mergeable, Joined, Following, LeadOf, ClosedRow, ClosedRows, Merged, LeadersGathered};
 

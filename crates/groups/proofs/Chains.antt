@@ -78,7 +78,7 @@ pub chain-empty : (n : ℕ) (next : List ℕ) (p : ℕ) (l : List ℕ) → p ≡
 chain-empty n next p [] e c = refl
 chain-empty n next p (x ∷ l) e c = absurd (omega (arith, c .0, c .1))
 
-pub chain-once : (n : ℕ) (next : List ℕ) (p : ℕ) (l k : List ℕ) → Chain n next p l → Chain n next p k → l ≡ k
+chain-once : (n : ℕ) (next : List ℕ) (p : ℕ) (l k : List ℕ) → Chain n next p l → Chain n next p k → l ≡ k
 chain-once n next p [] k c d = sym (chain-empty n next p k c d)
 chain-once n next p (x ∷ l) [] c d = absurd (omega (arith, c .0, c .1))
 chain-once n next p (x ∷ l) (y ∷ k) c d =

@@ -30,7 +30,7 @@ use Rattle.groups.specs.Opened.{expandedBlock, expanded}
 
 -- ---- joined lists
 
-pub joined-each : (f : ℕ → List ℕ) (l : List ℕ) → ((b : ℕ) → b ∈ l → f b ≡ b ∷ []) → joined f l ≡ l
+joined-each : (f : ℕ → List ℕ) (l : List ℕ) → ((b : ℕ) → b ∈ l → f b ≡ b ∷ []) → joined f l ≡ l
 joined-each f [] h = refl
 joined-each f (x ∷ l) h = rw (h x (in-here x l)) (ap (λ (k : List ℕ). x ∷ k) (joined-each f l (λ b m. h b (in-there b x l m))))
 
@@ -150,7 +150,7 @@ module _ (t : List ℤ) (n : ℕ) (ok : Accepted t n) (g : ℕ) where
           let q = member-of t n ok g (hc .0) (hc .1) in
           apart t n ok (hb .0) (hc .0) x (pos-of t n ok (hb .0) (p .0)) (pos-of t n ok (hc .0) (q .0)) (p .1 ∙ sym (q .1)) e (hb .3) (hc .3)
 
-  pub block-once : (b x : ℕ) → count x (expandedBlock t n g b) ≤ 1
+  block-once : (b x : ℕ) → count x (expandedBlock t n g b) ≤ 1
   block-once b x = go (so-or-not (several R items b))
     where
       go : (several R items b ≡ true) ⊎ (several R items b ≡ false) → count x (expandedBlock t n g b) ≤ 1

@@ -24,7 +24,7 @@ use Rattle.order.proofs.Alike.{placed-same}
 use Rattle.order.proofs.Needs.{holds, holds-intro, holds-v, needs-intro, needs-elim, only-itself}
 use Rattle.order.proofs.Planned.{place16-exactly}
 use Rattle.marks.specs.Marks.{mark, Added}
-use Rattle.placing.specs.UnmetCounts.{needed, Fits, Placed}
+use Rattle.placing.specs.UnmetCounts.{needed, InRows, Fits, Placed}
 use Rattle.placing.proofs.Lists.{count-more, in-more, rising-once}
 use Rattle.reach.specs.MarkRows.{width}
 use Rattle.reach.proofs.Reading.{row-room}
@@ -77,17 +77,19 @@ module _ (t : List ℤ) (n : ℕ) (ok : Accepted t n) where
         at x (inr m) = let b = item-label x m in omega (arith, rising-once items (h .rising) x, in-labels t n ok x (b .0) (b .1))
 
     module _ (mask square : List ℕ) (masked : MaskedBy t n true items mask) where
-      pub fits : (unmet : List ℕ) → (n + 1) * width n ≤ length square → n < length unmet → width n ≤ length mask → Fits items square mask unmet (width n)
-      fits unmet room counts wide = record {
+      pub in-rows : (n + 1) * width n ≤ length square → width n ≤ length mask → InRows items square mask (width n)
+      in-rows room wide = record {
         rising = h .rising;
-        few = omega (arith, items-few, ok .few);
         narrow = omega (arith, ok .few);
         below = λ p m. let b = item-label p m in omega (arith, b);
-        counted = λ p m. let b = item-label p m in omega (arith, b);
         rows = λ p m. row-room n (width n) p (length square) (item-label p m .1) room;
         masked = λ p m. masked p .0 m .0;
         mask-room = wide;
       }
+
+      pub fits : (unmet : List ℕ) → (n + 1) * width n ≤ length square → n < length unmet → width n ≤ length mask → Fits items square mask unmet (width n)
+      fits unmet room counts wide =
+          record { in-rows = in-rows room wide; few = omega (arith, items-few, ok .few); counted = λ p m. let b = item-label p m in omega (arith, b) }
 
       in-mask : (p : ℕ) → p ∈ items → Holder t p → mark mask (width n) 0 p ≡ true
       in-mask p i d = masked p .1 (i, d)

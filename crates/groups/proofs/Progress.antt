@@ -51,14 +51,14 @@ module _ (t : List ℤ) (n : ℕ) (ok : Accepted t n) where
 
   -- ---- what is opened
 
-  pub opened-more : (g h : ℕ) → Opened t n g h → Opened t n (g + 1) h
+  opened-more : (g h : ℕ) → Opened t n g h → Opened t n (g + 1) h
   opened-more g h o = record { def = o .def; member = o .member; some = o .some; early = omega (arith, o .early); many = o .many; inside = o .inside }
 
   opened-under : (g h k : ℕ) → Opened t n g h → isDefinition t k ≡ true → Within t h k → Opened t n g k
   opened-under g h k o d u = record { def = d; member = o .member; some = o .some; early = o .early; many = o .many; inside = within-trans t n ok (o .member) h k (o .inside) u }
 
   -- by a member of g
-  abbrev pub OpenedBy : ℕ → ℕ → Type 0
+  abbrev OpenedBy : ℕ → ℕ → Type 0
   OpenedBy g h = (isDefinition t h ≡ true) × ((q : ℕ) × (q ∈ members t n g) × (several (needs t n) (members t n g) q ≡ true) × Within t q h)
 
   opened-by : (g h : ℕ) → 1 ≤ g → OpenedBy g h → Opened t n (g + 1) h

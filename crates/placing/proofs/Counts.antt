@@ -24,7 +24,7 @@ use Rattle.placing.proofs.Lists.{count-more, in-more, filter-more}
 pub eq-one : (x p : ℕ) → x ≡ p → one (eqb x p) ≡ 1
 eq-one x p e = ap one (eq-eqb x p e)
 
-pub ne-one : (x p : ℕ) → (x ≡ p → ⊥) → one (eqb x p) ≡ 0
+ne-one : (x p : ℕ) → (x ≡ p → ⊥) → one (eqb x p) ≡ 0
 ne-one x p e = ap one (ne-eqb x p e)
 
 -- ---- those that need q, word by word
@@ -70,30 +70,17 @@ module _ (square mask : List ℕ) (w q : ℕ) where
 
 -- what needs q is an item
 pub need-item : (items square mask unmet : List ℕ) (w q : ℕ) → Fits items square mask unmet w → (p : ℕ) → needed square mask w p q ≡ true → p ∈ items
-need-item items square mask unmet w q f p e = f .masked p (needed-right square mask w q p e)
+need-item items square mask unmet w q f p e = f .in-rows .masked p (needed-right square mask w q p e)
 
 module _ (items square mask unmet unmet′ : List ℕ) (w : ℕ) (e : length unmet′ ≡ length unmet) (f : Fits items square mask unmet w) where
   pub fits-as : Fits items square mask unmet′ w
-  fits-as = record {
-    rising = f .rising;
-    few = f .few;
-    narrow = f .narrow;
-    below = f .below;
-    counted = λ p m. omega (arith, f .counted p m);
-    rows = f .rows;
-    masked = f .masked;
-    mask-room = f .mask-room;
-  }
+  fits-as = record { in-rows = f .in-rows; few = f .few; counted = λ p m. omega (arith, f .counted p m) }
 
   -- an item has a row
   pub row-of : (q : ℕ) → q ∈ items → Row square mask unmet′ w q
-  row-of q m = record {
-    narrow = f .narrow;
-    below = f .below q m;
-    row = f .rows q m;
-    mask-room = f .mask-room;
-    counted = λ p h. omega (arith, f .counted p (f .masked p h));
-  }
+  row-of q m =
+      let r = f .in-rows in
+      record { narrow = r .narrow; below = r .below q m; row = r .rows q m; mask-room = r .mask-room; counted = λ p h. omega (arith, f .counted p (r .masked p h)) }
 
 -- ---- the marks of a word, the lowest first
 

@@ -46,7 +46,7 @@ count-take-le p l i m h =
 
 -- ---- filters
 
-pub filter-cons : (f : ℕ → Bool) (x : ℕ) (l : List ℕ) → length (filter f (x ∷ l)) ≡ one (f x) + length (filter f l)
+filter-cons : (f : ℕ → Bool) (x : ℕ) (l : List ℕ) → length (filter f (x ∷ l)) ≡ one (f x) + length (filter f l)
 filter-cons f x l = go (so-or-not (f x))
   where
     go : (f x ≡ true) ⊎ (f x ≡ false) → length (filter f (x ∷ l)) ≡ one (f x) + length (filter f l)

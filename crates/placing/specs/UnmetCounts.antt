@@ -41,16 +41,20 @@ pub record LoweredBy (less : ℕ → ℕ) (unmet ready unmet′ ready′ : List 
   pub new : (p : ℕ) → 0 < less p → getD unmet′ p 0 ≡ 0 → mark ready′ w 0 p ≡ true
   pub only : (p : ℕ) → mark ready′ w 0 p ≡ true → (mark ready w 0 p ≡ true) ⊎ ((0 < less p) × (getD unmet′ p 0 ≡ 0))
 
--- the items go upward and have counts, rows and marks; the mask has items alone
-pub record Fits (items square mask unmet : List ℕ) (w : ℕ) : Type 0 where
+-- the items go upward and have rows and marks; the mask has items alone
+pub record InRows (items square mask : List ℕ) (w : ℕ) : Type 0 where
   pub rising : Rising items
-  pub few : length items < 65536
   pub narrow : w ≤ 1000
   pub below : AllBelow items (64 * w)
-  pub counted : AllBelow items (length unmet)
   pub rows : (p : ℕ) → p ∈ items → p * w + w ≤ length square
   pub masked : (p : ℕ) → mark mask w 0 p ≡ true → p ∈ items
   pub mask-room : w ≤ length mask
+
+-- and have counts
+pub record Fits (items square mask unmet : List ℕ) (w : ℕ) : Type 0 where
+  pub in-rows : InRows items square mask w
+  pub few : length items < 65536
+  pub counted : AllBelow items (length unmet)
 
 -- p needs q, and q is not done
 abbrev pub blocks : (ℕ → ℕ → Bool) → List ℕ → ℕ → ℕ → Bool

@@ -59,7 +59,7 @@ module _ (n : ℕ) (items lead : List ℕ) where
     pub link-item : x ∈ items
     link-item = behind x (subst (λ (l : List ℕ). x ∈ l) (sym parts) (in-here x (drop i items)))
 
-    pub link-lead : b ∈ items
+    link-lead : b ∈ items
     link-lead = subst (λ (v : ℕ). v ∈ items) (sym isb) (ok .item x link-item)
 
     later : (y : ℕ) → y ∈ drop i items → (y ∈ items) × (y ≡ x → ⊥)

@@ -182,7 +182,7 @@ module _ (t : List ℤ) (n : ℕ) (ok : Accepted t n) (g : ℕ) (lead next₀ : 
       linked : Chain n links (getD links (n + x) 0) (block-parts .0)
       linked = let c : Chain n links (getD links x 0) (x ∷ block-parts .0) = subst (λ (l : List ℕ). Chain n links (getD links x 0) l) (block-parts .1) block-chain in c .2
 
-      pub link-several : (getD links (n + x) 0 ≡ 0 → ⊥) → several R items x ≡ true
+      link-several : (getD links (n + x) 0 ≡ 0 → ⊥) → several R items x ≡ true
       link-several z = go (block-parts .0) (block-parts .1) block-rest linked
         where
           go : (rest : List ℕ) → memberBlock t n g x ≡ x ∷ rest → Rising (x ∷ rest) → Chain n links (getD links (n + x) 0) rest → several R items x ≡ true
@@ -191,7 +191,7 @@ module _ (t : List ℤ) (n : ℕ) (ok : Accepted t n) (g : ℕ) (lead next₀ : 
               any-intro (λ q. not (eqb q x)) (memberBlock t n g x) y (subst (λ (k : List ℕ). y ∈ k) (sym e) (in-there y x (y ∷ l) (in-here y l)))
               (ap not (ne-eqb y x (λ s. omega (arith, r .0 y (in-here y l)))))
 
-      pub link-single : getD links (n + x) 0 ≡ 0 → several R items x ≡ false
+      link-single : getD links (n + x) 0 ≡ 0 → several R items x ≡ false
       link-single z = go (block-parts .0) (block-parts .1) linked
         where
           go : (rest : List ℕ) → memberBlock t n g x ≡ x ∷ rest → Chain n links (getD links (n + x) 0) rest → several R items x ≡ false

@@ -17,16 +17,16 @@ use Rattle.order.proofs.Alike.{same-test, placed-same}
 use Rattle.order.proofs.Blocks.{lead-of, leaders-same, block-needs-same}
 use Rattle.order.proofs.BlockPlan.{ordered-lead}
 use Rattle.marks.specs.Marks.{mark}
-use Rattle.placing.specs.UnmetCounts.{Rising, AllBelow, needed, Fits, Placed}
+use Rattle.placing.specs.UnmetCounts.{Rising, AllBelow, needed, Fits, Placed, InRows}
 use Rattle.reach.specs.MarkRows.{width}
-use Rattle.blocks.specs.Found.{InRows, Room, Led}
+use Rattle.blocks.specs.Found.{Room, Led}
 use Rattle.blocks.specs.Merged.{Merged, Mergeable}
 use Rattle.blocks.specs.Merged as merged
 use Rattle.blocks.proofs.Merging.{led-item, led-head, led-same}
 use Rattle.groups.specs.Members.{Gathered, Items, NeedRowsFrom, NeedRowsOf, Scratch, MaskedBy}
 use Rattle.groups.proofs.Chains.{labels-few, rising-part, rising-filter}
 use Rattle.reach.proofs.Reading.{row-room}
-use Rattle.groups.proofs.Orders.{items-of, fits, needed-is}
+use Rattle.groups.proofs.Orders.{items-of, in-rows, fits, needed-is}
 use Rattle.groups.specs.Opened.{expandedBlock, expanded}
 use Rattle.splitting.specs.Leaders.{LedMembers, SearchRoom, Linkable, LeaderChains, Chains, Expanded}
 use Rattle.groups.proofs.Expanded.{expanded-few, block-label}
@@ -37,10 +37,10 @@ module _ (t : List ℤ) (n : ℕ) (ok : Accepted t n) (g : ℕ) where
   abbrev R : ℕ → ℕ → Bool
   R = needs t n
 
-  pub all-items : Items t (members t n g)
+  all-items : Items t (members t n g)
   all-items = record { rising = rising-filter (isMemberOf t g) 1 n; defs = λ p i. member-of t n ok g p i .0 }
 
-  pub leader-items : Items t (leaders R (members t n g))
+  leader-items : Items t (leaders R (members t n g))
   leader-items = record {
     rising = rising-part (isLeader R (members t n g)) (members t n g) (rising-filter (isMemberOf t g) 1 n);
     defs = λ p i. member-of t n ok g p (lead-of R (members t n g) p i .0) .0;
@@ -60,18 +60,7 @@ module _ (t : List ℤ) (n : ℕ) (ok : Accepted t n) (g : ℕ) where
 
   -- ---- what the search asks, and what it finds
 
-  pub members-in-rows : (square mask : List ℕ) → (n + 1) * width n ≤ length square → width n ≤ length mask → MaskedBy t n true (members t n g) mask
-      → InRows (members t n g) square mask (width n)
-  members-in-rows square mask room wide masked = record {
-    rising = all-items .rising;
-    narrow = omega (arith, ok .few);
-    below = below;
-    rows = has-row square room;
-    masked = λ p m. masked p .0 m .0;
-    mask-room = wide;
-  }
-
-  pub search-room : (mask unmet ready list order stacked stack path lead : List ℕ) → Scratch n mask unmet ready order → SearchRoom n list stacked stack path lead
+  search-room : (mask unmet ready list order stacked stack path lead : List ℕ) → Scratch n mask unmet ready order → SearchRoom n list stacked stack path lead
       → Room (members t n g) ready stacked list stack unmet order path lead (width n)
   search-room mask unmet ready list order stacked stack path lead s r =
       let few = labels-few (isMemberOf t g) n in
@@ -87,7 +76,7 @@ module _ (t : List ℤ) (n : ℕ) (ok : Accepted t n) (g : ℕ) where
         leads-room = λ p m. omega (arith, label p m, r .lead-room);
       }
 
-  pub found-led : (square mask lead : List ℕ) → NeedRowsFrom t n g square → MaskedBy t n true (members t n g) mask → Led (needed square mask (width n)) (members t n g) lead
+  found-led : (square mask lead : List ℕ) → NeedRowsFrom t n g square → MaskedBy t n true (members t n g) mask → Led (needed square mask (width n)) (members t n g) lead
       → Led (needs t n) (members t n g) lead
   found-led square mask lead rows masked =
       led-same (needed square mask (width n)) R (members t n g) lead (needed-is t n ok (members t n g) all-items mask square masked (rows-of square rows))
@@ -98,8 +87,7 @@ module _ (t : List ℤ) (n : ℕ) (ok : Accepted t n) (g : ℕ) where
 
     pub find-asks : (square mask : List ℕ) → (n + 1) * width n ≤ length square → width n ≤ length mask → MaskedBy t n true (take (m - 0) items) mask
         → InRows (take (m - 0) items) square mask (width n)
-    find-asks square mask room wide masked =
-        subst (λ (l : List ℕ). InRows l square mask (width n)) (sym is) (members-in-rows square mask room wide (subst (λ (l : List ℕ). MaskedBy t n true l mask) is masked))
+    find-asks square mask room wide masked = in-rows t n ok (take (m - 0) items) (subst (Items t) (sym is) all-items) mask square masked room wide
 
     pub find-room : (mask unmet ready list order stacked stack path lead : List ℕ) → Scratch n mask unmet ready order → SearchRoom n list stacked stack path lead
         → Room (take (m - 0) items) ready stacked list stack unmet order path lead (width n)
@@ -153,7 +141,7 @@ module _ (t : List ℤ) (n : ℕ) (ok : Accepted t n) (g : ℕ) where
 
     -- ---- the leaders
 
-    pub leaders-are : (out : List ℕ) (k : ℕ) → merged.LeadersGathered L lead out k → take (k - 0) out ≡ leaders R (members t n g)
+    leaders-are : (out : List ℕ) (k : ℕ) → merged.LeadersGathered L lead out k → take (k - 0) out ≡ leaders R (members t n g)
     leaders-are out k h =
         let z : k - 0 ≡ k = omega arith in
         ap (λ (j : ℕ). take j out) z ∙ h .cells R (subst (λ (l : List ℕ). Led R l lead) (sym (m .are)) (m .led)) ∙ ap (leaders R) (m .are)

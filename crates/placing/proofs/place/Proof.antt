@@ -67,7 +67,7 @@ module _ (c : tie.Else1 Inv-loop μ-loop) where
   item =
       let entry = entry-of (turn-of c .before) in
       let inv = turn-of c .before .loop .inv in
-      item-is _ _ (entry .pre .0 .rising) _ _ _ _ _ (inv .3) _ (c .before .first-mark .ensures) low .0
+      item-is _ _ (entry .pre .0 .in-rows .rising) _ _ _ _ _ (inv .3) _ (c .before .first-mark .ensures) low .0
 
 start-requires : tie.Need-start-requires Inv-loop μ-loop
 start-requires c κs =
@@ -78,17 +78,17 @@ loop-holds : tie.Need-loop-holds Inv-loop μ-loop
 loop-holds c =
     let entry = entry-from-start-arg2 (after-start c .before) in
     let start = after-start c .start in
-    (refl, refl, refl, going-start _ _ (entry .pre .0 .rising) _ _ _ _ (start .ensures))
+    (refl, refl, refl, going-start _ _ (entry .pre .0 .in-rows .rising) _ _ _ _ (start .ensures))
 
 first-mark-requires : tie.Need-first-mark-requires Inv-loop μ-loop
 first-mark-requires c κs =
     let entry = entry-of (c .before .before) in
-    (omega (arith, long (c .before .before), entry .pre .1 .0), entry .pre .0 .narrow)
+    (omega (arith, long (c .before .before), entry .pre .1 .0), entry .pre .0 .in-rows .narrow)
 
 mul-if1 : tie.Need-mul-if1 Inv-loop μ-loop
 mul-if1 c =
     let entry = entry-of (loop-of c) in
-    omega (arith, entry .pre .0 .narrow)
+    omega (arith, entry .pre .0 .in-rows .narrow)
 
 same-length : tie.Need-same-length Inv-loop μ-loop
 same-length c =
@@ -110,7 +110,7 @@ returns c =
     let entry = entry-of (turn-from-then1 c .before) in
     let inv = turn-from-then1 c .before .loop .inv in
     let loop-test = turn-from-then1 c .loop-test in
-    going-none _ _ (entry .pre .0 .rising) _ _ _ _ _ (inv .3) _ (c .before .first-mark .ensures) (loop-test .taken) (c .if1 .taken)
+    going-none _ _ (entry .pre .0 .in-rows .rising) _ _ _ _ _ (inv .3) _ (c .before .first-mark .ensures) (loop-test .taken) (c .if1 .taken)
 
 drop-mark-requires : tie.Need-drop-mark-requires Inv-loop μ-loop
 drop-mark-requires c κs =
@@ -122,7 +122,7 @@ cast-order : tie.Need-cast-order Inv-loop μ-loop
 cast-order c =
     let entry = entry-of (turn-of (else1-of c) .before) in
     let else1 = else1-of c in
-    omega (arith, low else1, entry .pre .0 .narrow)
+    omega (arith, low else1, entry .pre .0 .in-rows .narrow)
 
 mul-order : tie.Need-mul-order Inv-loop μ-loop
 mul-order c =
@@ -151,7 +151,7 @@ lower-requires c κs =
     let f = entry .pre .0 in (
       row-of _ _ _ _ _ _ (long loop .0) f _ (item at-else),
       (
-        unmet-of _ _ (f .rising) _ _ _ _ _ (loop .loop .inv .3) _ (at-else .before .first-mark .ensures) (low at-else) (need-item _ _ _ _ _ _ f),
+        unmet-of _ _ (f .in-rows .rising) _ _ _ _ _ (loop .loop .inv .3) _ (at-else .before .first-mark .ensures) (low at-else) (need-item _ _ _ _ _ _ f),
         omega (arith, after-drop-mark (c .before .before) .drop-mark .kept .0, long loop .1, entry .pre .1 .0),
       ),
     )
@@ -174,7 +174,7 @@ loop-again c =
       lower .kept .1 .1 .1 .1 .0 ∙ loop .loop .inv .0,
       lower .kept .1 .1 .1 .1 .1 .0 ∙ drop-mark .kept .0 ∙ loop .loop .inv .1,
       length-set (loop .loop .order) _ _ ∙ loop .loop .inv .2,
-      going-step _ _ (f .rising) _ _ _ _ _ (loop .loop .inv .3) _ (at-else .before .first-mark .ensures) (low at-else) (need-item _ _ _ _ _ _ f) (loop-test .taken)
+      going-step _ _ (f .in-rows .rising) _ _ _ _ _ (loop .loop .inv .3) _ (at-else .before .first-mark .ensures) (low at-else) (need-item _ _ _ _ _ _ f) (loop-test .taken)
           (omega (arith, loop-test .taken, entry .pre .1 .1, loop .loop .inv .2)) _ _ _ (drop-mark .ensures) (lower .ensures),
     )
 
@@ -190,7 +190,7 @@ same-length-6 c = c .before .loop .inv .2
 returns-2 : tie.Need-returns-2 Inv-loop μ-loop
 returns-2 c =
     let entry = entry-of (c .before) in
-    going-end _ _ (entry .pre .0 .rising) _ _ _ _ _ (c .before .loop .inv .3) (omega (arith, c .loop-test .left))
+    going-end _ _ (entry .pre .0 .in-rows .rising) _ _ _ _ _ (c .before .loop .inv .3) (omega (arith, c .loop-test .left))
 
 pub place-spec : {M : Type 1} → statement M
 place-spec =

@@ -46,7 +46,7 @@ mark-ready-requires c κs =
     let clear-marks = after-clear-marks c .clear-marks in
     let f = entry .pre .0 in
     let k = count-needs .kept .1 .1 .1 .1 .0 ∙ clear-cells .kept .1 .0 in
-    ((λ p m. omega (arith, k, f .counted p m), f .below, omega (arith, entry .pre .1, clear-marks .kept .0)), clear-marks .ensures)
+    ((λ p m. omega (arith, k, f .counted p m), f .in-rows .below, omega (arith, entry .pre .1, clear-marks .kept .0)), clear-marks .ensures)
 
 same-length : tie.Need-same-length
 same-length c =

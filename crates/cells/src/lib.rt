@@ -135,6 +135,14 @@ pub fn cell_at(t: &[i64], label: usize, j: usize) -> usize
     nat_at(t, 8 * (label - 1) + j)
 }
 
+// The same of a label that the table is known to have: where it stands is not tested.
+pub fn label_cell(t: &[i64], label: usize, j: usize) -> usize
+    requires { ⌜ (1 ≤ label) × (8 * label ≤ length (now t)) × (j < 8) ⌝ }
+    ensures { λ r. ⌜ r ≡ cell (now (t .entry)) label j ⌝ }
+{
+    nat_of(t[8 * (label - 1) + j])
+}
+
 // The same where the cell is known to hold a natural number: read as it stands.
 pub fn natural_cell(t: &[i64], label: usize, j: usize) -> usize
     requires { ⌜ (1 ≤ label) × (8 * label ≤ length (now t)) × (j < 8) × (intAt (now t) (8 * (label - 1) + j) ≡ pos (cell (now t) label j)) ⌝ }

@@ -5,6 +5,7 @@ use mathlib.Core.List.{List, [], _∷_, map}
 use Prim.Native.Nat.{ℕ, zero, suc, _+_, _-_, _≤_, _<_}
 use native.Mathlib.Numerals.{add-one}
 use native.Mathlib.Omega.{arith}
+use native.Mathlib.Decide.{ℕ-discrete}
 use borrow.Author.Tests.{le-leb, eq-eqb, ne-eqb}
 use lib.Dec.{leb, eqb}
 use lib.ListN.{length, getD, drop, drop-of-length-le, List·getD-map}
@@ -17,7 +18,7 @@ use Rattle.kinds.specs.Kinds.{Kind, kinds, noKind, kindAt, codeIn, codeO
 use Rattle.kinds.specs.Kinds.{argumentPlace, wantedBy, takes, groupCode, valueCode, numberCode}
 use Rattle.kinds.proofs.Tests.{clash}
 use Rattle.kinds.proofs.Rows.{every, implies, by-rule, by-rows}
-use Rattle.kinds.proofs.Laws.{defines, kinds-length, body-definition}
+use Rattle.kinds.proofs.Laws.{defines, kinds-length, kind-low, kind-high, body-definition}
 use Rattle.kinds.proofs.Clauses.{usesOf, expression-uses}
 
 -- ---- the row of a code
@@ -83,6 +84,21 @@ not-among : (xs : List ℕ) (c : ℕ) → Other xs c → among xs c ≡ false
 not-among [] c h = refl
 not-among (x ∷ xs) c h = rw (ne-eqb c x (h .1)) (not-among xs c (h .0))
 
+-- the arms before it go from m down to 1
+abbrev downward : ℕ → List ℕ
+downward zero = []
+downward (suc m) = suc m ∷ downward m
+
+last-of : (m c : ℕ) → 1 ≤ c → c ≤ m + 1 → Other (downward m) c → c ≡ m + 1
+last-of zero c h g o = omega arith
+last-of (suc m) c h g o = go (ℕ-discrete c (suc m + 1)) (λ below. last-of m c h below (o .0))
+  where
+    go : Dec (c ≡ suc m + 1) → (c ≤ m + 1 → c ≡ m + 1) → c ≡ suc m + 1
+    go (yes e) f = e
+    go (no e) f =
+        let below : c ≤ m + 1 = omega arith in
+        absurd (o .1 (f below ∙ add-one m))
+
 -- the rows that pass p have codes of those arms, so that its row does not
 module _ (p : Kind → Bool) (codes : List ℕ) (none : p noKind ≡ false) (rows : every (λ i k. implies (p k) (among codes i)) 1 kinds ≡ true) (c : ℕ) where
   pub other : Other codes c → p (kindAt c) ≡ false
@@ -117,6 +133,9 @@ module _ (c : ℕ) where
   pub other-clause : Other (12 ∷ 11 ∷ 10 ∷ 9 ∷ 8 ∷ 7 ∷ 6 ∷ 5 ∷ 4 ∷ []) c → clauseOf c ≡ clause.None
   unfolding clauseOf kinds
   other-clause h = no-clause (clauseOf c) (other (λ k. usesOf (k .clause) .some) (12 ∷ 11 ∷ 10 ∷ 9 ∷ 8 ∷ 7 ∷ 6 ∷ 5 ∷ 4 ∷ []) refl refl c h)
+
+  pub other-last : isKind c ≡ true → Other (11 ∷ 10 ∷ 9 ∷ 8 ∷ 7 ∷ 6 ∷ 5 ∷ 4 ∷ 3 ∷ 2 ∷ 1 ∷ []) c → c ≡ 12
+  other-last e h = last-of 11 c (kind-low c e) (omega (arith, kind-high c e, kinds-length)) h
 
   pub other-wanted : Other (7 ∷ 6 ∷ []) c → wantedBy c ≡ 0
   unfolding wantedBy kinds

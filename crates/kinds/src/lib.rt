@@ -1,5 +1,5 @@
-// Document 01's table of kinds, and what a kind is: the other crates ask here. The constant table holds the fields alone, since it is laid
-// out anew wherever it is looked up; the other columns of a row are matches on its code.
+// Document 01's table of kinds, and what a kind is: the other crates ask here. The constant table holds the fields; the other columns of a
+// row are matches on its code.
 
 ghost use mathlib.Core.Path.{_≡_};
 ghost use mathlib.Core.Bool.{true};
@@ -147,12 +147,33 @@ const KINDS: [Fields; COUNT] = [
     },
 ];
 
-// The fields of the kind with this code.
-pub fn fields_of(code: usize) -> Fields
+// The row of the table with this code.
+fn row_at(code: usize) -> Fields
     requires { ⌜ isKind code ≡ true ⌝ }
     ensures { λ r. ⌜ r ≡ fieldsAt code ⌝ }
 {
     KINDS[code - 1]
+}
+
+// The fields of the kind with this code. In each arm the place is known when it is compiled, so that the table is not laid out at each lookup.
+pub fn fields_of(code: usize) -> Fields
+    requires { ⌜ isKind code ≡ true ⌝ }
+    ensures { λ r. ⌜ r ≡ fieldsAt code ⌝ }
+{
+    match code {
+        1 => row_at(1),
+        2 => row_at(2),
+        3 => row_at(3),
+        4 => row_at(4),
+        5 => row_at(5),
+        6 => row_at(6),
+        7 => row_at(7),
+        8 => row_at(8),
+        9 => row_at(9),
+        10 => row_at(10),
+        11 => row_at(11),
+        _ => row_at(12),
+    }
 }
 
 // The code of the kind with this letter, or 0.

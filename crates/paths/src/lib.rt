@@ -67,8 +67,8 @@ fn hash_name(text: &[u8], from: usize, to: usize) -> usize
     hash
 }
 
-// Whether two parts of the text, of one size, are the same name.
-fn same_name(text: &[u8], a: usize, b: usize, size: usize) -> bool
+// Whether two parts of the text, of one size, are the same name, byte by byte.
+fn same_tail(text: &[u8], a: usize, b: usize, size: usize) -> bool
     requires { ⌜ (a + size ≤ length (now text)) × (b + size ≤ length (now text)) ⌝ }
     ensures { λ r. ⌜ r ≡ sameName (slice a (a + size) (now (text .entry))) (slice b (b + size) (now (text .entry))) ⌝ }
 {
@@ -81,6 +81,22 @@ fn same_name(text: &[u8], a: usize, b: usize, size: usize) -> bool
         }
     }
     true
+}
+
+// Whether two parts of the text, of one size, are the same name: eight bytes at a time where eight remain, and byte by byte after that.
+fn same_name(text: &[u8], a: usize, b: usize, size: usize) -> bool
+    requires { ⌜ (a + size ≤ length (now text)) × (b + size ≤ length (now text)) ⌝ }
+    ensures { λ r. ⌜ r ≡ sameName (slice a (a + size) (now (text .entry))) (slice b (b + size) (now (text .entry))) ⌝ }
+{
+    let mut i: usize = 0;
+    while 8 <= size - i {
+        if text::same_eight(text, a + i, b + i) {
+            i += 8;
+        } else {
+            return false;
+        }
+    }
+    same_tail(text, a + i, b + i, size - i)
 }
 
 // Whether definition m has the name text[from..to].

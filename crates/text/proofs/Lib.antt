@@ -6,3 +6,4 @@ pub mod Fields
 pub mod Names
 pub mod Labels
 pub mod Lowercase
+pub mod Words

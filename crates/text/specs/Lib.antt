@@ -1,4 +1,5 @@
 pub mod Bytes
+pub mod Words
 pub mod Pieces
 pub mod Forms
 pub mod Scans

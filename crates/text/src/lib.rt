@@ -2,12 +2,13 @@
 // A part of the text is given by two positions, `from` and `to`, the second past its last byte.
 
 ghost use mathlib.Core.Path.{_≡_};
-ghost use Prim.Native.Nat.{_≤_, _<_};
+ghost use Prim.Native.Nat.{_+_, _^_, _≤_, _<_};
 ghost use lib.Dec.{eqb};
 ghost use lib.ListN.{length};
 ghost use lib.Seq.{slice};
 ghost use Rattle.cells.specs.Limits.{labelLimit, sizeLimit};
-ghost use Rattle.text.specs.Bytes.{one, countBy, isNewline, isLetter, isAlphanumeric, lowercaseByte, isTwoCases, same, endsLines};
+ghost use Rattle.text.specs.Bytes.{one, countBy, isNewline, isLetter, isAlphanumeric, lowercaseByte, lowercase, isTwoCases, same, endsLines};
+ghost use Rattle.text.specs.Words.{bytesIn};
 ghost use Rattle.text.specs.Forms.{isName, isPath, labelOf};
 ghost use Rattle.text.specs.Scans.{runEnd, fieldEnd, nameEnd, isBad, isGraphic};
 use numbers::Decimal;
@@ -136,6 +137,70 @@ pub fn same_but_case(x: u8, y: u8) -> bool
         return are_two_cases(x, y);
     }
     are_two_cases(y, x)
+}
+
+// ---- eight bytes at once
+
+// The first byte of a part of the text as a number. Two of these make a pair, two pairs a half, two halves a word; the compiler makes one load
+// of all that.
+fn byte_at(text: &[u8], from: usize) -> u64
+    requires { ⌜ from + 1 ≤ length (now text) ⌝ }
+    ensures { λ r. ⌜ (bytesIn 1 r ≡ slice from (from + 1) (now (text .entry))) × (r < 256 ^ 1) ⌝ }
+{
+    text[from] as u64
+}
+
+fn pair_at(text: &[u8], from: usize) -> u64
+    requires { ⌜ from + 2 ≤ length (now text) ⌝ }
+    ensures { λ r. ⌜ (bytesIn 2 r ≡ slice from (from + 2) (now (text .entry))) × (r < 256 ^ 2) ⌝ }
+{
+    byte_at(text, from) + 256 * byte_at(text, from + 1)
+}
+
+fn half_at(text: &[u8], from: usize) -> u64
+    requires { ⌜ from + 4 ≤ length (now text) ⌝ }
+    ensures { λ r. ⌜ (bytesIn 4 r ≡ slice from (from + 4) (now (text .entry))) × (r < 256 ^ 4) ⌝ }
+{
+    pair_at(text, from) + 65536 * pair_at(text, from + 2)
+}
+
+// The word whose bytes are the eight of the text from `from` on.
+pub fn word_at(text: &[u8], from: usize) -> u64
+    requires { ⌜ from + 8 ≤ length (now text) ⌝ }
+    ensures { λ r. ⌜ bytesIn 8 r ≡ slice from (from + 8) (now (text .entry)) ⌝ }
+{
+    half_at(text, from) + 4294967296 * half_at(text, from + 4)
+}
+
+// In each byte of a word: its highest bit; what lifts a capital A to that bit; what a capital Z, taken from it, leaves that bit.
+const HIGH_BITS: u64 = 0x8080808080808080;
+
+const FROM_A: u64 = 0x3f3f3f3f3f3f3f3f;
+
+const UP_TO_Z: u64 = 0xdadadadadadadada;
+
+// The word with small letters for capitals. Byte by byte: the highest bit of `capitals` says that the byte is from A to Z and below 128, and a
+// quarter of that bit is what a small letter is more. No byte carries into the next.
+fn fold_word(w: u64) -> u64
+    ensures { λ r. ⌜ bytesIn 8 r ≡ lowercase (bytesIn 8 w) ⌝ }
+{
+    let high = w & HIGH_BITS;
+    let low = w - high;
+    let capitals = (low + FROM_A) & (UP_TO_Z - low) & (HIGH_BITS - high);
+    w + capitals / 4
+}
+
+// Whether the eight bytes from `a` on and those from `b` on are the same but for case. Most that are compared are equal, so that is asked first.
+pub fn same_eight(text: &[u8], a: usize, b: usize) -> bool
+    requires { ⌜ (a + 8 ≤ length (now text)) × (b + 8 ≤ length (now text)) ⌝ }
+    ensures { λ r. ⌜ r ≡ same (lowercase (slice a (a + 8) (now (text .entry)))) (lowercase (slice b (b + 8) (now (text .entry)))) ⌝ }
+{
+    let x = word_at(text, a);
+    let y = word_at(text, b);
+    if x == y {
+        return true;
+    }
+    fold_word(x) == fold_word(y)
 }
 
 // An ASCII letter.

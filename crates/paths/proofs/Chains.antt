@@ -19,7 +19,8 @@ use Rattle.text.proofs.Bytes.{true-false, and-left, and-right}
 use Rattle.paths.specs.Names.{nameOf, sameName, isNamed, member}
 use Rattle.paths.specs.Buckets.{Searchable, hashes, hashOf, startOf, Stretch, Allotted, bucketOf, bucketAt, inBucket, lastBelow}
 use Rattle.paths.specs.Buckets.{LinkedBelow, AllLinked, Fresh, firstIn, Walkable, walkBy, walk, linkedMember}
-use Rattle.paths.proofs.SameName.{same-hash, hash-small}
+use Rattle.paths.proofs.SameName.{same-hash}
+use Rattle.paths.proofs.Hashes.{hash-small}
 use Rattle.paths.proofs.LastBelow.{last-hit, last-miss, last-one, last-small, last-passes, none-last, last-skip}
 use Rattle.paths.proofs.Members.{named-parts, member-named, member-last}
 

@@ -1,4 +1,5 @@
 pub mod SameName
+pub mod Hashes
 pub mod FirstLabel
 pub mod LastBelow
 pub mod Members

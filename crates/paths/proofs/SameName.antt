@@ -15,7 +15,7 @@ use Rattle.text.proofs.Fields.{slice-join}
 use Rattle.text.proofs.Bytes.{same-eq}
 use Rattle.text.proofs.Lowercase.{lowercase-at, lowercase-length, case-same, same-case}
 use Rattle.paths.specs.Names.{sameName, NamesButCase}
-use Rattle.paths.specs.Buckets.{hashes, hashFactor, hashFrom, hashOf}
+use Rattle.paths.specs.Buckets.{hashBytes, hashOf}
 
 same-is : (x y : List ℕ) → sameName x y ≡ same (lowercase x) (lowercase y)
 unfolding sameName
@@ -58,7 +58,7 @@ module _ (x y : List ℕ) where
 
   pub same-hash : sameName x y ≡ true → hashOf x ≡ hashOf y
   unfolding hashOf
-  same-hash e = ap (hashFrom 0) (to-equal x y e)
+  same-hash e = ap hashBytes (to-equal x y e)
 
 -- ---- equal bytes, but for case
 
@@ -74,39 +74,6 @@ module _ (x y : List ℕ) where
     where
       at : (i : ℕ) → i < length (lowercase x) → getD (lowercase x) i 0 ≡ getD (lowercase y) i 0
       at i h = lowercase-at x i ∙ case-same (getD x i 0) (getD y i 0) (p .bytes i (omega (arith, lowercase-length x))) ∙ sym (lowercase-at y i)
-
--- ---- a hash is below 2 ^ 32
-
-small-from : (w : List ℕ) (h : ℕ) → h < hashes → hashFrom h w < hashes
-small-from [] h l = l
-small-from (x ∷ w) h l = small-from w ((h + x % 32) * hashFactor % hashes) (omega arith)
-
-pub hash-small : (w : List ℕ) → hashOf w < hashes
-unfolding hashOf
-hash-small w = small-from (lowercase w) 0 (omega arith)
-
--- ---- the loop of a hash: at byte i, what is left hashed on gives the hash of the name
-
-pub record Hashing (s : List ℕ) (from to hash i : ℕ) : Type 0 where
-  pub low : from ≤ i
-  pub high : i ≤ to
-  pub small : hash < hashes
-  pub rest : hashFrom hash (lowercase (slice i to s)) ≡ hashOf (slice from to s)
-
-pub hash-start : (s : List ℕ) (from to : ℕ) → from ≤ to → Hashing s from to 0 from
-unfolding hashOf
-hash-start s from to h = record { low = omega arith; high = h; small = omega arith; rest = refl }
-
-module _ {s : List ℕ} {from to hash i : ℕ} (h : Hashing s from to hash i) where
-  pub hash-turn : i < to → to ≤ length s → {b : ℕ} → b ≡ lowercaseByte (getD s i 0) % 32 → Hashing s from to ((hash + b) * hashFactor % hashes) (i + 1)
-  hash-turn l k {b} e =
-      record { low = omega (arith, h .low); high = omega arith; small = omega arith; rest = rw e (sym step ∙ h .rest) }
-    where
-      step : hashFrom hash (lowercase (slice i to s)) ≡ hashFrom ((hash + lowercaseByte (getD s i 0) % 32) * hashFactor % hashes) (lowercase (slice (i + 1) to s))
-      step = rw (slice-at s i to l k)
-
-  pub hash-done : to ≤ i → hash ≡ hashOf (slice from to s)
-  hash-done l = sym (rw (slice-none s i to (omega (arith, h .high)))) ∙ h .rest
 
 -- ---- the loop of a comparison: at byte i, what is left of two parts of one size is the same exactly if the whole is
 

@@ -4,9 +4,9 @@ use mathlib.Core.Path.{_≡_}
 use mathlib.Core.Bool.{Bool, true, cond, not, _&&_}
 use mathlib.Core.List.{List, [], _∷_}
 use Prim.Native.Nat.{ℕ, zero, suc, _+_, _*_, _/_, _%_, _-_, _≤_, _<_}
-use lib.Dec.{eqb}
+use lib.Dec.{leb, eqb}
 use lib.IntN.{ℤ, pos}
-use lib.ListN.{length, getD, set}
+use lib.ListN.{length, getD, set, take, drop}
 use Rattle.cells.specs.Limits.{labelLimit}
 use Rattle.cells.specs.Characters.{dot}
 use Rattle.cells.specs.Cells.{intAt}
@@ -39,17 +39,28 @@ pub record Searchable (s : List ℕ) (t : List ℤ) (n : ℕ) : Type 0 where
 abbrev pub hashes : ℕ
 hashes = 4294967296
 
--- the factor of the hash, a prime
-abbrev pub hashFactor : ℕ
-hashFactor = 3266489917
+-- the factors of the hash, for the two halves of a word
+abbrev pub lowFactor : ℕ
+lowFactor = 877249963
 
--- the hash of bytes, by the low five bits of each, after bytes of hash h
-abbrev pub hashFrom : ℕ → List ℕ → ℕ
-hashFrom h [] = h
-hashFrom h (x ∷ w) = hashFrom ((h + x % 32) * hashFactor % hashes) w
+abbrev pub highFactor : ℕ
+highFactor = 1567245785
+
+-- the low five bits of bytes as one number, the first byte the lowest: the two cases of a letter have the same
+abbrev pub bitsOf : List ℕ → ℕ
+bitsOf [] = 0
+bitsOf (x ∷ w) = x % 32 + 256 * bitsOf w
+
+-- a hash and a word more
+abbrev pub addWord : ℕ → ℕ → ℕ
+addWord h w = ((h + w % hashes) * lowFactor + w / hashes * highFactor) / 16 % hashes
+
+-- the hash of bytes: of the first eight, then of eight more; no name has more than sixteen
+abbrev pub hashBytes : List ℕ → ℕ
+hashBytes w = cond (leb (length w) 8) (addWord 0 (bitsOf w)) (addWord (addWord 0 (bitsOf (take 8 w))) (bitsOf (take 8 (drop 8 w))))
 
 unfoldable pub hashOf : List ℕ → ℕ
-hashOf w = hashFrom 0 (lowercase w)
+hashOf w = hashBytes (lowercase w)
 
 -- ---- the buckets of each Group
 

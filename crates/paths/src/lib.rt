@@ -3,7 +3,7 @@
 
 ghost use mathlib.Core.Path.{_≡_};
 ghost use mathlib.Core.Bool.{true, _&&_};
-ghost use Prim.Native.Nat.{ℕ, _+_, _-_, _*_, _%_, _≤_, _<_};
+ghost use Prim.Native.Nat.{ℕ, _+_, _-_, _*_, _%_, _≤_, _<_, min};
 ghost use lib.Dec.{eqb};
 ghost use lib.IntN.{pos};
 ghost use lib.ListN.{length, getD, set, drop};
@@ -16,18 +16,25 @@ ghost use Rattle.text.specs.Bytes.{lowercaseByte};
 ghost use Rattle.text.specs.Pieces.{cut};
 ghost use Rattle.text.specs.Scans.{runEnd};
 ghost use Rattle.paths.specs.Names.{nameOf, sameName, isNamed};
-ghost use Rattle.paths.specs.Buckets.{notDot, NameInText, Searchable, hashOf, hashes};
+ghost use Rattle.paths.specs.Buckets.{notDot, NameInText, Searchable, bitsOf, addWord, hashOf, hashes};
 ghost use Rattle.paths.specs.Buckets.{startOf, Stretch, Allotted, countedAt, sumTo, MembersCounted, bucketOf};
 ghost use Rattle.paths.specs.Buckets.{lastBelow, LinkedBelow, AllLinked, Fresh, firstIn, Walkable, linkedMember};
 ghost use Rattle.paths.specs.Paths.{headFrom, descended, targetCell, duplicateBad, pathHeadBad, laterBad, laterRows, headRows, pathsBad};
 ghost use Rattle.paths.specs.TargetCells.{headCell, targetBy, wrongTarget};
 use refusals::Verdict;
 
-// A hash is below 2^32. The factor is a prime: with it, members with names such as `v17` share a bucket a third as often as with 2^32 divided by
-// the golden ratio.
+// A hash is below 2^32. The factors, for the two halves of a word, are such that no sum below wraps, and were chosen among some thousands: with
+// them members with names such as `v17`, `sphere3` or sixteen letters that differ at their end share a bucket as seldom as chance would have it.
 const HASHES: usize = 4294967296;
 
-const FACTOR: usize = 3266489917;
+const LOW_FACTOR: usize = 877249963;
+
+const HIGH_FACTOR: usize = 1567245785;
+
+// Of each byte of a word its low five bits, and all bits of a word.
+const FIVE_BITS: u64 = 0x1f1f1f1f1f1f1f1f;
+
+const ALL_BITS: u64 = 0xffffffffffffffff;
 
 // ---- names
 
@@ -53,18 +60,70 @@ fn compared_bits(byte: u8) -> usize
     (byte % 32) as usize
 }
 
+// The low five bits of up to eight bytes as one number, byte by byte from the last.
+fn tail_bits(text: &[u8], from: usize, size: usize) -> usize
+    requires { ⌜ (size ≤ 8) × (from + size ≤ length (now text)) ⌝ }
+    ensures { λ r. ⌜ r ≡ bitsOf (slice from (from + size) (now (text .entry))) ⌝ }
+{
+    let mut bits: usize = 0;
+    let mut i = size;
+    while 0 < i {
+        i -= 1;
+        bits = compared_bits(text[from + i]) + 256 * bits;
+    }
+    bits
+}
+
+// The same by one word, where the text has eight bytes there: it does for every name of a sheet, since three fields follow the name's.
+fn name_bits(text: &[u8], from: usize, size: usize) -> usize
+    requires { ⌜ (size ≤ 8) × (from + size ≤ length (now text)) ⌝ }
+    ensures { λ r. ⌜ r ≡ bitsOf (slice from (from + size) (now (text .entry))) ⌝ }
+{
+    if size == 0 {
+        return 0;
+    }
+    if text.len() - from < 8 {
+        return tail_bits(text, from, size);
+    }
+    (text::word_at(text, from) & FIVE_BITS & (ALL_BITS >> (64 - 8 * size))) as usize
+}
+
+// A hash and a word more.
+fn add_word(hash: usize, word: usize) -> usize
+    requires { ⌜ hash < hashes ⌝ }
+    ensures { λ r. ⌜ r ≡ addWord hash word ⌝ }
+{
+    ((hash + word % HASHES) * LOW_FACTOR + word / HASHES * HIGH_FACTOR) / 16 % HASHES
+}
+
+// The smaller of a size and 8.
+fn at_most_eight(size: usize) -> usize
+    ensures { λ r. ⌜ r ≡ min size 8 ⌝ }
+{
+    if size < 8 { size } else { 8 }
+}
+
+// The hash of a name longer than eight bytes.
+fn hash_long(text: &[u8], from: usize, to: usize) -> usize
+    requires { ⌜ (from + 8 < to) × (to ≤ length (now text)) ⌝ }
+    ensures { λ r. ⌜ r ≡ hashOf (slice from to (now (text .entry))) ⌝ }
+{
+    let first = add_word(0, name_bits(text, from, 8));
+    add_word(
+        first,
+        name_bits(text, from + 8, at_most_eight(to - from - 8)),
+    )
+}
+
 // A hash of a name, by what the comparison of names compares.
 fn hash_name(text: &[u8], from: usize, to: usize) -> usize
     requires { ⌜ (from ≤ to) × (to ≤ length (now text)) ⌝ }
     ensures { λ r. ⌜ r ≡ hashOf (slice from to (now (text .entry))) ⌝ }
 {
-    let mut hash: usize = 0;
-    let mut i = from;
-    while i < to {
-        hash = (hash + compared_bits(text[i])) * FACTOR % HASHES;
-        i += 1;
+    if to - from <= 8 {
+        return add_word(0, name_bits(text, from, to - from));
     }
-    hash
+    hash_long(text, from, to)
 }
 
 // Whether two parts of the text, of one size, are the same name, byte by byte.

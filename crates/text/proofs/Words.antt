@@ -82,11 +82,11 @@ byteTest x =
     leb (x - bitAnd x 128) 127
     && (eqb (marked x 128 63 218 % 4) 0 && (eqb (x + marked x 128 63 218 / 4) (lowercaseByte x) && leb (lowercaseByte x) 255))
 
-abbrev each : (ℕ → Bool) → ℕ → Bool
+abbrev pub each : (ℕ → Bool) → ℕ → Bool
 each p zero = true
 each p (suc n) = p n && each p n
 
-each-at : (p : ℕ → Bool) (n x : ℕ) → each p n ≡ true → x < n → p x ≡ true
+pub each-at : (p : ℕ → Bool) (n x : ℕ) → each p n ≡ true → x < n → p x ≡ true
 each-at p zero x e h = absurd (omega arith)
 each-at p (suc n) x e h = go (ℕ-discrete x n) (each-at p n x (and-right (p n) (each p n) e))
   where

@@ -6,7 +6,7 @@ use lib.Seq.{slice}
 use Rattle.cells.specs.Characters.{dot}
 use Rattle.text.specs.Pieces.{cut}
 use Rattle.paths.specs.Paths.{descended}
-use Rattle.paths.proofs.SameName.{hash-small}
+use Rattle.paths.proofs.Hashes.{hash-small}
 use Rattle.paths.proofs.Chains.{linked-walkable, member-is}
 use Rattle.paths.proofs.Resolving.{later, stop-low, stop-high, names-cut, member-high, later-stop, later-on, later-end}
 use native.Mathlib.Omega.{arith}

@@ -1,63 +1,49 @@
-use Prim.Native.Nat.{_-_}
-use Rattle.paths.proofs.SameName.{Hashing, hash-start, hash-turn, hash-done}
+use mathlib.Core.Path.{_≡_, sym, ap, _∙_}
+use Prim.Native.Nat.{_+_, _-_}
 use native.Mathlib.Omega.{arith}
-use borrow.Author.Needs.{needs}
+use lib.Seq.{slice}
+use Rattle.paths.specs.Buckets.{bitsOf, addWord}
+use Rattle.paths.proofs.Hashes.{short-hash}
 use Rattle.paths.proofs.hash_name.Statement.{statement}
 use Rattle.paths.proofs.hash_name.Tie as tie
 
-abbrev Inv-loop : tie.InvT-loop
-Inv-loop text from to hash₀ i₀ hash i = Hashing text from to hash i
+sub-if1 : tie.Need-sub-if1
+sub-if1 c = c .before .pre .0
 
-abbrev μ-loop : tie.MeasureT-loop
-μ-loop text from to hash₀ i₀ hash i = to - i
+sub-name-bits : tie.Need-sub-name-bits
+sub-name-bits c = c .before .before .pre .0
 
-loop-holds : tie.Need-loop-holds Inv-loop μ-loop
-loop-holds c =
-    let a = c .before .args in
-    hash-start (a .text .now) (a .from) (a .to) (c .before .pre .0)
+name-bits-requires : tie.Need-name-bits-requires
+name-bits-requires c κs = (c .if1 .taken, omega arith)
 
-shared-slice-read-compared-bits : tie.Need-shared-slice-read-compared-bits Inv-loop μ-loop
-shared-slice-read-compared-bits c = omega arith
+add-word-requires : tie.Need-add-word-requires
+add-word-requires c κs = omega arith
 
-compared-bits-requires : tie.Need-compared-bits-requires Inv-loop μ-loop
-compared-bits-requires c κs = search needs
+returns : tie.Need-returns
+returns c =
+    let entry = c .before .before .before .before in
+    let s = entry .args .text .now in
+    let from = entry .args .from in
+    let to = entry .args .to in
+    let end : from + (to - from) ≡ to = omega arith in
+    c .add-word .ensures
+    ∙ ap (addWord 0) (c .before .name-bits .ensures ∙ ap (λ e. bitsOf (slice from e s)) end)
+    ∙ short-hash s from to (entry .pre .1) (c .before .before .if1 .taken)
 
-add-hash : tie.Need-add-hash Inv-loop μ-loop
-add-hash c =
-    let l = c .before .before .before .loop in
-    omega (arith, l .inv .small, c .compared-bits .ensures .1)
+hash-long-requires : tie.Need-hash-long-requires
+hash-long-requires c κs = (omega arith, c .before .before .pre .1)
 
-mul-hash : tie.Need-mul-hash Inv-loop μ-loop
-mul-hash c =
-    let l = c .before .before .before .loop in
-    omega (arith, l .inv .small, c .compared-bits .ensures .1)
-
-add-i : tie.Need-add-i Inv-loop μ-loop
-add-i c = omega arith
-
-loop-less : tie.Need-loop-less Inv-loop μ-loop
-loop-less c = omega arith
-
-loop-again : tie.Need-loop-again Inv-loop μ-loop
-loop-again c =
-    let l = c .before .before .before .loop in
-    hash-turn (l .inv) (omega arith) (omega arith) (c .compared-bits .ensures .0)
-
-returns : tie.Need-returns Inv-loop μ-loop
-returns c = hash-done (c .before .loop .inv) (omega arith)
+returns-2 : tie.Need-returns-2
+returns-2 c = c .hash-long .ensures
 
 pub hash-name-spec : {M : Type 1} → statement M
 hash-name-spec =
     tie.close
     (tie.spec
-    Inv-loop
-    μ-loop
-    loop-holds
-    shared-slice-read-compared-bits
-    compared-bits-requires
-    add-hash
-    mul-hash
-    add-i
-    loop-less
-    loop-again
-    returns)
+    sub-if1
+    sub-name-bits
+    name-bits-requires
+    add-word-requires
+    returns
+    hash-long-requires
+    returns-2)

@@ -1,7 +1,7 @@
 -- What is found is the last with the name among those linked before it; then the definition is linked.
 use Prim.Native.Nat.{_+_, _≤_}
 use lib.ListN.{length}
-use Rattle.paths.proofs.SameName.{hash-small}
+use Rattle.paths.proofs.Hashes.{hash-small}
 use Rattle.paths.proofs.Chains.{stretch, walkable, Own, own-read, own-group, own-found, own-room, own-linked}
 use native.Mathlib.Omega.{arith}
 use borrow.Author.Needs.{needs}

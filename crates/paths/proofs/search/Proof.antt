@@ -5,7 +5,7 @@ use lib.Seq.{slice}
 use Rattle.paths.specs.Names.{member}
 use Rattle.paths.specs.Buckets.{startOf}
 use Rattle.paths.specs.Paths.{headFrom}
-use Rattle.paths.proofs.SameName.{hash-small}
+use Rattle.paths.proofs.Hashes.{hash-small}
 use Rattle.paths.proofs.Chains.{Walking, linked-stretch, linked-room, member-walking, walking-less, walking-hit, walking-turn, walking-end}
 use Rattle.paths.proofs.Resolving.{head-end, head-found, head-next}
 use native.Mathlib.Omega.{arith}

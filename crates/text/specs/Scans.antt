@@ -1,13 +1,14 @@
 -- What the scanners look for and find, as positions of the text s.
+use mathlib.Core.Path.{_≡_}
 use mathlib.Core.Bool.{Bool, true, false, cond, not, _&&_}
 use mathlib.Core.List.{List, [], _∷_}
-use Prim.Native.Nat.{ℕ, suc, _+_, _-_}
+use Prim.Native.Nat.{ℕ, suc, _+_, _-_, _≤_}
 use lib.Dec.{leb, ltb, eqb}
-use lib.ListN.{length, getD}
+use lib.ListN.{length, getD, drop}
 use lib.Seq.{slice}
 use Rattle.cells.specs.Limits.{nameLimit}
 use Rattle.cells.specs.Characters.{newline, space}
-use Rattle.text.specs.Bytes.{isAllowed, isLetter, isAlphanumeric}
+use Rattle.text.specs.Bytes.{countBy, isAllowed, isLetter, isAlphanumeric}
 use Rattle.text.specs.Pieces.{cut, firstOf}
 
 -- ---- bytes
@@ -18,6 +19,17 @@ isBad x = not (isAllowed x)
 -- a byte above the space: what neither ends a line nor parts two fields
 abbrev pub isGraphic : ℕ → Bool
 isGraphic x = ltb space x
+
+-- ---- counts
+
+-- how many bytes are counted in one block
+abbrev pub blockSize : ℕ
+blockSize = 128
+
+-- n bytes of s, from `from` on and before `to`, pass the test p
+pub record Counted (p : ℕ → Bool) (s : List ℕ) (from to n : ℕ) : Type 0 where
+  pub more : n + countBy p (drop to s) ≡ countBy p (drop from s)
+  pub few : n ≤ to - from
 
 -- ---- runs
 

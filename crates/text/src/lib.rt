@@ -10,13 +10,13 @@ ghost use Rattle.cells.specs.Limits.{labelLimit, sizeLimit};
 ghost use Rattle.text.specs.Bytes.{one, countBy, isNewline, isLetter, isAlphanumeric, lowercaseByte, lowercase, isTwoCases, same, endsLines};
 ghost use Rattle.text.specs.Words.{bytesIn};
 ghost use Rattle.text.specs.Forms.{isName, isPath, labelOf};
-ghost use Rattle.text.specs.Scans.{runEnd, fieldEnd, nameEnd, isBad, isGraphic};
+ghost use Rattle.text.specs.Scans.{blockSize, Counted, runEnd, fieldEnd, nameEnd, isBad, isGraphic};
 use numbers::Decimal;
 
 // ---- the bytes of a text
 
 // 1 for a byte that row 1 does not allow, else 0.
-fn bad_byte(b: u8) -> u32
+fn bad_byte(b: u8) -> u8
     ensures { λ r. ⌜ r ≡ one (isBad b) ⌝ }
 {
     if b == b'\n' {
@@ -32,7 +32,7 @@ fn bad_byte(b: u8) -> u32
 }
 
 // 1 for the byte that ends a line, else 0.
-fn newline(b: u8) -> u32
+fn newline(b: u8) -> u8
     ensures { λ r. ⌜ r ≡ one (isNewline b) ⌝ }
 {
     if b == b'\n' { 1 } else { 0 }
@@ -44,7 +44,32 @@ pub struct Counts {
     pub lines: u32,
 }
 
-// Row 1's bytes and the lines are counted in one pass. The counts are narrow, so that several bytes are counted at once.
+// The same of at most 128 bytes: counts of one byte, so that sixteen bytes are counted at once.
+pub struct BlockCounts {
+    pub bad: u8,
+    pub lines: u8,
+}
+
+// How many bytes are counted in one block.
+const BLOCK: usize = 128;
+
+// The bytes from `from` up to `to` are counted.
+fn survey_block(text: &[u8], from: usize, to: usize) -> BlockCounts
+    requires { ⌜ (from ≤ to) × (to ≤ length (now text)) × (to ≤ from + blockSize) ⌝ }
+    ensures { λ r. ⌜ Counted isBad (now (text .entry)) from to (r .bad) × Counted isNewline (now (text .entry)) from to (r .lines) ⌝ }
+{
+    let mut bad: u8 = 0;
+    let mut lines: u8 = 0;
+    let mut i = from;
+    while i < to {
+        bad += bad_byte(text[i]);
+        lines += newline(text[i]);
+        i += 1;
+    }
+    BlockCounts { bad, lines }
+}
+
+// Row 1's bytes and the lines are counted in one pass, block by block.
 pub fn survey(text: &[u8]) -> Counts
     requires { ⌜ length (now text) ≤ sizeLimit ⌝ }
     ensures { λ r. ⌜ (r .bad ≡ countBy isBad (now (text .entry))) × (r .lines ≡ countBy isNewline (now (text .entry))) ⌝ }
@@ -52,11 +77,15 @@ pub fn survey(text: &[u8]) -> Counts
     let mut bad: u32 = 0;
     let mut lines: u32 = 0;
     let mut i = 0;
-    while i < text.len() {
-        bad += bad_byte(text[i]);
-        lines += newline(text[i]);
-        i += 1;
+    while BLOCK <= text.len() - i {
+        let block = survey_block(text, i, i + BLOCK);
+        bad += block.bad as u32;
+        lines += block.lines as u32;
+        i += BLOCK;
     }
+    let rest = survey_block(text, i, text.len());
+    bad += rest.bad as u32;
+    lines += rest.lines as u32;
     Counts { bad, lines }
 }
 

@@ -1,13 +1,11 @@
--- The loop's invariant: what is counted so far, and what is left to count, make the whole count.
+-- What is counted so far, and what is left to count, make the whole count.
 use mathlib.Core.Path.{_≡_}
-use Prim.Native.Nat.{_<_, _+_, _-_, _≤_}
+use Prim.Native.Nat.{_+_, _-_, _≤_}
 use native.Mathlib.Omega.{arith}
-use lib.ListN.{getD, length, drop}
-use borrow.Author.Needs.{needs}
+use lib.ListN.{length, drop}
 use Rattle.text.specs.Bytes.{countBy, isNewline}
 use Rattle.text.specs.Scans.{isBad}
-use Rattle.cells.proofs.Tests.{one-le}
-use Rattle.text.proofs.Bytes.{count-step, count-end}
+use Rattle.text.proofs.Bytes.{count-end}
 use Rattle.text.proofs.survey.Statement.{statement}
 use Rattle.text.proofs.survey.Tie as tie
 
@@ -21,29 +19,26 @@ abbrev μ-loop : tie.MeasureT-loop
 loop-holds : tie.Need-loop-holds Inv-loop μ-loop
 loop-holds c = omega arith
 
-shared-slice-read-bad-byte : tie.Need-shared-slice-read-bad-byte Inv-loop μ-loop
-shared-slice-read-bad-byte c = omega arith
+sub-loop : tie.Need-sub-loop Inv-loop μ-loop
+sub-loop c = omega arith
 
-bad-byte-requires : tie.Need-bad-byte-requires Inv-loop μ-loop
-bad-byte-requires c κs = search needs
+add-survey-block : tie.Need-add-survey-block Inv-loop μ-loop
+add-survey-block c = omega arith
+
+survey-block-requires : tie.Need-survey-block-requires Inv-loop μ-loop
+survey-block-requires c κs = (omega arith, omega arith, omega arith)
+
+cast-bad : tie.Need-cast-bad Inv-loop μ-loop
+cast-bad c = record { fits = omega (arith, c .before .survey-block .ensures .0 .few) }
 
 add-bad : tie.Need-add-bad Inv-loop μ-loop
-add-bad c =
-    let entry = c .before .before .before .before .before in
-    let loop = c .before .before .before .loop in
-    omega (arith, c .bad-byte .ensures, one-le (isBad (getD (entry .args .text .now) (loop .i) 0)))
+add-bad c = record { fits = omega (arith, c .before .survey-block .ensures .0 .few) }
 
-shared-slice-read-newline : tie.Need-shared-slice-read-newline Inv-loop μ-loop
-shared-slice-read-newline c = omega arith
-
-newline-requires : tie.Need-newline-requires Inv-loop μ-loop
-newline-requires c κs = search needs
+cast-lines : tie.Need-cast-lines Inv-loop μ-loop
+cast-lines c = record { fits = omega (arith, c .before .before .survey-block .ensures .1 .few) }
 
 add-lines : tie.Need-add-lines Inv-loop μ-loop
-add-lines c =
-    let entry = c .before .before .before .before .before .before .before in
-    let loop = c .before .before .before .before .before .loop in
-    omega (arith, c .newline .ensures, one-le (isNewline (getD (entry .args .text .now) (loop .i) 0)))
+add-lines c = record { fits = omega (arith, c .before .before .survey-block .ensures .1 .few) }
 
 add-i : tie.Need-add-i Inv-loop μ-loop
 add-i c = omega arith
@@ -53,21 +48,31 @@ loop-less c = omega arith
 
 loop-again : tie.Need-loop-again Inv-loop μ-loop
 loop-again c =
-    let s = c .before .before .before .before .before .before .before .args .text .now in
-    let i = c .before .before .before .before .before .loop .i in
-    let h : i < length s = omega arith in (
-      omega arith,
-      omega (arith, c .before .before .bad-byte .ensures, one-le (isBad (getD s i 0))),
-      omega (arith, c .newline .ensures, one-le (isNewline (getD s i 0))),
-      omega (arith, c .before .before .bad-byte .ensures, count-step isBad s i h),
-      omega (arith, c .newline .ensures, count-step isNewline s i h),
-    )
+    let bad = c .before .before .survey-block .ensures .0 in
+    let lines = c .before .before .survey-block .ensures .1 in
+    (omega arith, omega (arith, bad .few), omega (arith, lines .few), omega (arith, bad .more), omega (arith, lines .more))
+
+survey-block-requires-2 : tie.Need-survey-block-requires-2 Inv-loop μ-loop
+survey-block-requires-2 c κs = (omega arith, omega arith, omega arith)
+
+cast-bad-2 : tie.Need-cast-bad-2 Inv-loop μ-loop
+cast-bad-2 c = record { fits = omega (arith, c .before .survey-block2 .ensures .0 .few) }
+
+add-bad-2 : tie.Need-add-bad-2 Inv-loop μ-loop
+add-bad-2 c = record { fits = omega (arith, c .before .survey-block2 .ensures .0 .few) }
+
+cast-lines-2 : tie.Need-cast-lines-2 Inv-loop μ-loop
+cast-lines-2 c = record { fits = omega (arith, c .before .before .survey-block2 .ensures .1 .few) }
+
+add-lines-2 : tie.Need-add-lines-2 Inv-loop μ-loop
+add-lines-2 c = record { fits = omega (arith, c .before .before .survey-block2 .ensures .1 .few) }
 
 returns : tie.Need-returns Inv-loop μ-loop
 returns c =
-    let s = c .before .before .before .args .text .now in
-    let i = c .before .loop .i in
-    (omega (arith, count-end isBad s i (omega arith)), omega (arith, count-end isNewline s i (omega arith)))
+    let s = c .before .before .before .before .before .before .args .text .now in
+    let bad = c .before .before .survey-block2 .ensures .0 in
+    let lines = c .before .before .survey-block2 .ensures .1 in
+    (omega (arith, bad .more, count-end isBad s (length s) (omega arith)), omega (arith, lines .more, count-end isNewline s (length s) (omega arith)))
 
 pub survey-spec : {M : Type 1} → statement M
 survey-spec =
@@ -76,13 +81,19 @@ survey-spec =
     Inv-loop
     μ-loop
     loop-holds
-    shared-slice-read-bad-byte
-    bad-byte-requires
+    sub-loop
+    add-survey-block
+    survey-block-requires
+    cast-bad
     add-bad
-    shared-slice-read-newline
-    newline-requires
+    cast-lines
     add-lines
     add-i
     loop-less
     loop-again
+    survey-block-requires-2
+    cast-bad-2
+    add-bad-2
+    cast-lines-2
+    add-lines-2
     returns)

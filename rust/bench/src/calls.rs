@@ -1,8 +1,8 @@
-//! The calls, each from the library and from the reference.
+//! The calls, each from the library and from what it is measured by.
 
 use lindypo::raw;
 
-use crate::earlier;
+use crate::{earlier, floor};
 
 #[derive(Debug, Clone, Copy, PartialEq, Eq)]
 pub enum Call {
@@ -20,6 +20,8 @@ pub enum Side {
     Reference,
     /// An earlier library, where one is linked.
     Earlier,
+    /// The same for every call.
+    Floor,
 }
 
 /// All that a call is lent; it takes what is its own.
@@ -37,14 +39,24 @@ pub struct Lent<'a> {
 pub type Function = fn(Lent) -> usize;
 
 impl Side {
+    pub const COUNT: usize = 4;
+
     /// The two that are always there.
     pub const BOTH: [Side; 2] = [Side::Library, Side::Reference];
+
+    /// Those whose calls do all of the work.
+    pub const WORKING: [Side; 3] = [Side::Library, Side::Reference, Side::Earlier];
+
+    /// These and the floor.
+    pub const ALL: [Side; Side::COUNT] =
+        [Side::Library, Side::Reference, Side::Earlier, Side::Floor];
 
     pub fn name(self) -> &'static str {
         match self {
             Side::Library => "library",
             Side::Reference => "reference",
             Side::Earlier => "earlier",
+            Side::Floor => "floor",
         }
     }
 }
@@ -72,6 +84,7 @@ impl Call {
             Side::Library => Some(self.library()),
             Side::Reference => Some(self.reference()),
             Side::Earlier => earlier::function(self),
+            Side::Floor => Some(|lent| floor::floor(lent.text, lent.table)),
         }
     }
 

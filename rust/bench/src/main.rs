@@ -1,6 +1,7 @@
 //! `cargo run --release -p bench`: the proved library's time beside the Rust
 //! reference's, for every call. Words choose: the names of calls, and parts of
-//! the names of sheets (`-- plan tangled`, `-- run growth`, `-- instructions`).
+//! the names of sheets (`-- plan tangled`, `-- run growth`, `-- instructions`,
+//! `-- floor`).
 //!
 //! Both are release builds and get the same sheets and the same buffers, just
 //! long enough, which both clear; Follow gets the plan. Rounds of the library
@@ -13,11 +14,15 @@
 //! Built with `LINDYPO_EARLIER` set to the archive of an earlier library, it
 //! times that one too, in the same turns, on sheets of which it answers the same:
 //! the last column is our time to its.
+//!
+//! The floor is one pass over the bytes that judges nothing. Read and Run on everyday
+//! orders are given as multiples of its time, too, taken in the same turns.
 
 #![deny(unsafe_code)]
 
 mod calls;
 mod earlier;
+mod floor;
 mod instructions;
 mod measure;
 mod workloads;
@@ -28,16 +33,18 @@ use std::process::ExitCode;
 use calls::{Call, Side};
 use instructions::CALLS_ONLY;
 use measure::{measure, Times, ROUNDS};
-use workloads::{growths, workloads, Growth, Workload};
+use workloads::{floored, growths, workloads, Growth, Workload, BAR};
 
 /// Passes through all sheets; fewer where only the growth is wanted.
 const PASSES: usize = 12;
 const GROWTH_PASSES: usize = 4;
 
-/// How much longer than the reference the library may take, and than an earlier
-/// library.
-const BAR: f64 = 1.1;
+/// How much longer than an earlier library ours may take.
 const EARLIER_BAR: f64 = 1.05;
+
+/// The calls that are measured by the floor, and how many times its time the library
+/// may take on an order of as many lines as a sheet may have.
+const FLOOR_BARS: [(Call, f64); 2] = [(Call::Read, 3.0), (Call::Run, 4.5)];
 
 /// Width of the names of sheets.
 const WIDTH: usize = 30;
@@ -84,6 +91,7 @@ fn measure_all(choice: &Choice) -> ExitCode {
         measured += compare(call, choice, &workloads);
         measured += grow(call, choice, &growths);
         measured += count(call, choice);
+        measured += compare_floor(call, choice);
     }
     if measured > 0 {
         return ExitCode::SUCCESS;
@@ -114,18 +122,31 @@ fn compare(call: Call, choice: &Choice, workloads: &[Workload]) -> usize {
         "ratio",
         earlier_columns(call)
     );
-    let times = measure(call, &workloads, PASSES);
+    let times = measure(call, &workloads, &Side::WORKING, PASSES);
     for (workload, times) in workloads.iter().zip(&times) {
         print(workload, times);
     }
-    let within = times.iter().filter(|times| times.ratio() <= BAR).count();
-    println!(
-        "\n{name}: {within} of {} within the bar of {BAR}",
-        workloads.len()
-    );
+    println!("\n{name}: {}", within_bars(&workloads, &times));
     compare_earlier(&name, &times);
     println!();
     workloads.len()
+}
+
+/// How many of those that have a bar are within it, and how many have none.
+fn within_bars(workloads: &[&Workload], times: &[Times]) -> String {
+    let (mut barred, mut within) = (0, 0);
+    for (workload, times) in workloads.iter().zip(times) {
+        if let Some(bar) = workload.bar {
+            barred += 1;
+            let ratio = times.ratio(Side::Library, Side::Reference);
+            within += usize::from(ratio.is_some_and(|ratio| ratio <= bar));
+        }
+    }
+    let said = format!("{within} of {barred} within the bar of {BAR}");
+    match workloads.len() - barred {
+        0 => said,
+        others => format!("{said}; {others} more without a bar"),
+    }
 }
 
 /// The headings of an earlier library's columns, where one is linked.
@@ -137,7 +158,8 @@ fn earlier_columns(call: Call) -> &'static str {
 }
 
 fn compare_earlier(name: &str, times: &[Times]) {
-    let ratios: Vec<f64> = times.iter().filter_map(Times::to_earlier).collect();
+    let to_earlier = |times: &Times| times.ratio(Side::Library, Side::Earlier);
+    let ratios: Vec<f64> = times.iter().filter_map(to_earlier).collect();
     if let Some(most) = ratios.iter().copied().reduce(f64::max) {
         let within = ratios.iter().filter(|&&ratio| ratio <= EARLIER_BAR).count();
         println!(
@@ -148,17 +170,73 @@ fn compare_earlier(name: &str, times: &[Times]) {
 }
 
 fn print(workload: &Workload, times: &Times) {
-    let earlier = times.to_earlier().map_or(String::new(), |ratio| {
-        format!(" {:>9.2} {ratio:>6.2}", 1e6 * times.earlier)
+    let to = |side| times.ratio(Side::Library, side);
+    let micros = |side| 1e6 * times.of(side);
+    let earlier = to(Side::Earlier).map_or(String::new(), |ratio| {
+        format!(" {:>9.2} {ratio:>6.2}", micros(Side::Earlier))
     });
     println!(
-        "{:<WIDTH$} {:>6} {:>7} {:>9.2} {:>10.2} {:>6.2}{earlier}",
+        "{:<WIDTH$} {:>6} {:>7} {:>9.2} {:>10.2} {:>6.2}{earlier}{}",
         workload.name,
         workload.lines(),
         workload.bytes(),
-        1e6 * times.library,
-        1e6 * times.reference,
-        times.ratio()
+        micros(Side::Library),
+        micros(Side::Reference),
+        to(Side::Reference).unwrap_or(f64::NAN),
+        workload.bar.map_or("  no bar", |_| "")
+    );
+}
+
+/// Prints what Read or Run takes of the floor's time, where that is chosen; says how
+/// many.
+fn compare_floor(call: Call, choice: &Choice) -> usize {
+    let bar = FLOOR_BARS.into_iter().find(|&(barred, _)| barred == call);
+    let Some((_, bar)) = bar.filter(|_| choice.has_sheet("floor")) else {
+        return 0;
+    };
+    println!(
+        "{:<WIDTH$} {:>6} {:>7} {:>9} {:>9} {:>10} {:>9}",
+        format!("{}, multiples of the floor", call.name()),
+        "lines",
+        "bytes",
+        "floor",
+        "library",
+        "reference",
+        "earlier"
+    );
+    let workloads = floored();
+    let sheets: Vec<&Workload> = workloads.iter().collect();
+    let times = measure(call, &sheets, &Side::ALL, PASSES);
+    for (workload, times) in workloads.iter().zip(&times) {
+        print_floor(workload, times);
+    }
+    let longest = times
+        .last()
+        .and_then(|times| times.ratio(Side::Library, Side::Floor));
+    let is_within = longest.is_some_and(|ratio| ratio <= bar);
+    let said = if is_within { "within" } else { "above" };
+    println!(
+        "\n{}: {said} the bar of {bar} times the floor on the last\n",
+        call.name()
+    );
+    workloads.len()
+}
+
+/// The floor's microseconds, and the others' times as multiples of that.
+fn print_floor(workload: &Workload, times: &Times) {
+    let multiple = |side| {
+        let ratio = times.ratio(side, Side::Floor);
+        ratio.map_or("-".to_string(), |ratio| format!("{ratio:.2}"))
+    };
+    println!(
+        "{:<WIDTH$} {:>6} {:>7} {:>9.2} {:>9} {:>10} {:>9}",
+        workload.name,
+        workload.lines(),
+        workload.bytes(),
+        1e6 * times.of(Side::Floor),
+        multiple(Side::Library),
+        multiple(Side::Reference),
+        multiple(Side::Earlier)
     );
 }
 
@@ -181,7 +259,7 @@ fn grow(call: Call, choice: &Choice, growths: &[Growth]) -> usize {
     );
     for growth in &growths {
         let sizes: Vec<&Workload> = growth.sizes.iter().collect();
-        let times = measure(call, &sizes, GROWTH_PASSES);
+        let times = measure(call, &sizes, &Side::BOTH, GROWTH_PASSES);
         print_growth(growth, &times);
     }
     println!();
@@ -210,12 +288,12 @@ fn count(call: Call, choice: &Choice) -> usize {
 fn print_growth(growth: &Growth, times: &[Times]) {
     let [small, large] = growth.sizes.each_ref().map(Workload::lines);
     let more = large as f64 / small as f64;
-    let exponent = |time: fn(&Times) -> f64| (time(&times[1]) / time(&times[0])).ln() / more.ln();
+    let exponent = |side| (times[1].of(side) / times[0].of(side)).ln() / more.ln();
     println!(
         "{:<WIDTH$} {:>14} {:>9.2} {:>10.2}",
         growth.name,
         format!("{small} to {large}"),
-        exponent(|times| times.library),
-        exponent(|times| times.reference)
+        exponent(Side::Library),
+        exponent(Side::Reference)
     );
 }

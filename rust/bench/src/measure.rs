@@ -1,4 +1,4 @@
-//! Times of the library, of the reference and of an earlier library.
+//! Times of the library and of what it is measured by.
 
 use std::hint::black_box;
 use std::time::Instant;
@@ -13,45 +13,34 @@ const WARM_UP: usize = 3;
 /// About this many seconds for each round.
 const ROUND: f64 = 0.0007;
 
-/// Seconds a call of the library and of the reference; of an earlier library
-/// too where one is linked and answers the same.
+/// Seconds a call, by side; endless for a side that is not measured, for an earlier
+/// library that is not linked and for one that answers otherwise.
 #[derive(Clone)]
-pub struct Times {
-    pub library: f64,
-    pub reference: f64,
-    pub earlier: f64,
-}
+pub struct Times([f64; Side::COUNT]);
 
 impl Times {
     /// Slower than any, to start from.
-    const MAX: Times = Times {
-        library: f64::INFINITY,
-        reference: f64::INFINITY,
-        earlier: f64::INFINITY,
-    };
+    const MAX: Times = Times([f64::INFINITY; Side::COUNT]);
 
-    pub fn ratio(&self) -> f64 {
-        self.library / self.reference
+    pub fn of(&self, side: Side) -> f64 {
+        self.0[side as usize]
     }
 
-    /// To the earlier library's time; none without one.
-    pub fn to_earlier(&self) -> Option<f64> {
-        let is_there = self.earlier.is_finite();
-        is_there.then_some(self.library / self.earlier)
+    /// One side's time to another's; none where either is not there.
+    pub fn ratio(&self, side: Side, to: Side) -> Option<f64> {
+        let is_there = self.of(side).is_finite() && self.of(to).is_finite();
+        is_there.then_some(self.of(side) / self.of(to))
     }
 
-    /// The shorter time of each.
-    fn min(&self, other: &Times) -> Times {
-        Times {
-            library: self.library.min(other.library),
-            reference: self.reference.min(other.reference),
-            earlier: self.earlier.min(other.earlier),
-        }
+    fn keep_shorter(&mut self, side: Side, seconds: f64) {
+        let time = &mut self.0[side as usize];
+        *time = time.min(seconds);
     }
 }
 
-/// The shortest times of each workload, in several passes through all of them.
-pub fn measure(call: Call, workloads: &[&Workload], passes: usize) -> Vec<Times> {
+/// The shortest times of each workload, in several passes through all of them, in
+/// rounds that these sides take in turn.
+pub fn measure(call: Call, workloads: &[&Workload], sides: &[Side], passes: usize) -> Vec<Times> {
     let mut jobs: Vec<Job> = workloads
         .iter()
         .map(|work| Job::timed(call, work))
@@ -60,17 +49,17 @@ pub fn measure(call: Call, workloads: &[&Workload], passes: usize) -> Vec<Times>
     for _ in 0..passes {
         for (job, shortest) in jobs.iter_mut().zip(&mut shortest) {
             for _ in 0..WARM_UP {
-                job.round();
+                job.round(sides, &mut Times::MAX.clone());
             }
             for _ in 0..ROUNDS {
-                *shortest = shortest.min(&job.round());
+                job.round(sides, shortest);
             }
         }
     }
     shortest
 }
 
-/// A call on a workload, with the buffers that both are lent.
+/// A call on a workload, with the buffers that every side is lent.
 pub struct Job<'a> {
     call: Call,
     sheets: &'a [Sheet],
@@ -106,11 +95,11 @@ impl<'a> Job<'a> {
         job
     }
 
-    fn round(&mut self) -> Times {
-        Times {
-            library: self.seconds(Side::Library),
-            reference: self.seconds(Side::Reference),
-            earlier: self.seconds(Side::Earlier),
+    /// A round of each side; of its times, those that are shorter are kept.
+    fn round(&mut self, sides: &[Side], shortest: &mut Times) {
+        for &side in sides {
+            let seconds = self.seconds(side);
+            shortest.keep_shorter(side, seconds);
         }
     }
 

@@ -31,11 +31,17 @@ impl Sheet {
     }
 }
 
+/// How much longer than the reference the library may take.
+pub const BAR: f64 = 1.1;
+
 /// Sheets of as many lines each, taken in turn, and the calls to measure.
 pub struct Workload {
     pub name: String,
     pub calls: &'static [Call],
     pub sheets: Vec<Sheet>,
+    /// The bar that it is under; none for what only somebody who means harm sends,
+    /// where a hash and a sorted list cannot be compared.
+    pub bar: Option<f64>,
 }
 
 impl Workload {
@@ -44,7 +50,12 @@ impl Workload {
             name: name.to_string(),
             calls,
             sheets: vec![Sheet::new(text)],
+            bar: Some(BAR),
         }
+    }
+
+    fn without_bar(self) -> Self {
+        Workload { bar: None, ..self }
     }
 
     fn everyday(lines: usize, sheets: u64) -> Self {
@@ -57,6 +68,7 @@ impl Workload {
             name,
             calls: &Call::ALL,
             sheets: texts.map(Sheet::new).collect(),
+            bar: Some(BAR),
         }
     }
 
@@ -78,6 +90,7 @@ pub fn workloads() -> Vec<Workload> {
     list.extend(shapes());
     list.extend(tangled());
     list.extend(in_other_letters());
+    list.extend(near_names());
     list.extend([7, 9, 15, 16].map(refused));
     list
 }
@@ -158,9 +171,27 @@ fn in_other_letters() -> [Workload; 4] {
             name: format!("{SHEETS} everyday, mixed letters"),
             calls: all,
             sheets: mixed.map(Sheet::new).collect(),
+            bar: Some(BAR),
         },
         Workload::one("flat Group, paths in capitals", all, flat),
     ]
+}
+
+/// Names of 16 bytes that are hard to tell apart, such as templates have; and such
+/// that a hash does not tell apart.
+fn near_names() -> [Workload; 4] {
+    let one = |name, text| Workload::one(name, &Call::ALL, text);
+    [
+        one("names that differ at their end", generator::near_names(19)),
+        one("paths of eight such names", generator::near_paths(360)),
+        one("names in one slot", generator::one_slot(511)).without_bar(),
+        one("names of one hash", generator::one_hash()).without_bar(),
+    ]
+}
+
+/// The everyday orders that are measured by the floor.
+pub fn floored() -> [Workload; 3] {
+    LINES.map(|lines| Workload::everyday(lines, 1))
 }
 
 fn refused(number: u64) -> Workload {
@@ -197,6 +228,7 @@ pub fn growths() -> Vec<Growth> {
         everyday,
         growth("flat Group", all, generator::flat, [127, 511]),
         growth("nested Groups", all, generator::nested, [124, 500]),
+        growth("names in one slot", all, generator::one_slot, [127, 511]),
         growth("chain, forward", planned, generator::forward, [127, 511]),
         growth("chain, backward", planned, generator::backward, [127, 511]),
         growth("dense", planned, generator::dense, [43, 171]),

@@ -4,7 +4,8 @@
 //! `random` makes sheets that read, `damage` spoils them, `letters` writes their
 //! names in capitals and small letters, `rows` takes them apart, `lent` chooses
 //! buffer lengths and orders for Follow, `tangles` says where a sheet is tangled,
-//! `everyday`, `shapes` and `tangled` hold the fixed sheets.
+//! `everyday`, `shapes`, `tangled` and `near` hold the fixed sheets, `slots` names
+//! that share a slot of the library's hash.
 
 #![forbid(unsafe_code)]
 
@@ -13,10 +14,12 @@ mod damage;
 mod everyday;
 mod lent;
 mod letters;
+mod near;
 mod random;
 mod rng;
 pub mod rows;
 mod shapes;
+pub mod slots;
 mod tangled;
 mod tangles;
 
@@ -24,6 +27,7 @@ pub use damage::{damage, damaged};
 pub use everyday::everyday;
 pub use lent::{buffer_length, order, planned, print_length, proper_order};
 pub use letters::{capital_paths, is_same_name, recase, recased, recased_name, OtherLetters};
+pub use near::{near_names, near_paths, one_hash, one_slot};
 pub use random::{sheet, sheet_within};
 pub use rng::Rng;
 pub use shapes::{

@@ -2,6 +2,7 @@
 
 use crate::builder::{Builder, MAX_LINES};
 use crate::letters::capital_paths;
+use crate::near::{near_names, near_paths, one_hash, one_slot};
 use crate::tangled::{
     every_second_in_ring, nested_tangle, ring, ring_among, rings, rings_in_every_second, tangled,
 };
@@ -18,6 +19,10 @@ pub fn shapes() -> Vec<Shape> {
     let mut shapes = vec![
         shape("flat Group of 500 values", flat(500)),
         shape("flat Group, paths in capitals", capital_paths(&flat(500))),
+        shape("names that differ at their end", near_names(19)),
+        shape("paths of eight such names", near_paths(360)),
+        shape("names in one slot", one_slot(511)),
+        shape("names of one hash", one_hash()),
         shape("chain of 500, forward", forward(500)),
         shape("chain of 500, backward", backward(500)),
         shape("500 nested Groups", nested(500)),
@@ -72,7 +77,7 @@ fn short_name(number: usize) -> String {
 }
 
 /// Values that each read another one, where there is one.
-fn chain(values: usize, name: fn(usize) -> String, other: fn(usize) -> usize) -> Vec<u8> {
+pub fn chain(values: usize, name: impl Fn(usize) -> String, other: fn(usize) -> usize) -> Vec<u8> {
     let mut builder = Builder::new();
     for value in 0..values {
         let body = match other(value) {

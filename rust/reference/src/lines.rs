@@ -59,6 +59,25 @@ const MAX_NAME: usize = 16;
 const MAX_PATH: usize = 8;
 const MAX_NUMBER: i64 = 1_000_000_000;
 
+/// The row of each letter.
+const ROWS: [Option<&KindRow>; 256] = {
+    let mut rows = [None; 256];
+    let mut at = 0;
+    while at < KINDS.len() {
+        rows[KINDS[at].letter as usize] = Some(&KINDS[at]);
+        at += 1;
+    }
+    rows
+};
+
+/// The row of a kind field.
+fn row_of(part: &[u8]) -> Option<&'static KindRow> {
+    match part {
+        [letter] => ROWS[usize::from(*letter)],
+        _ => None,
+    }
+}
+
 /// The forms of fields a, b and c of a kind.
 pub fn forms(kind: Kind) -> [Form; 3] {
     KINDS[kind as usize - 1].fields
@@ -69,50 +88,41 @@ pub fn split(text: &[u8], count: usize) -> Result<Vec<Line>, Refusal> {
     let mut lines = Vec::with_capacity(count);
     let mut start = FIRST_LINE.len();
     for label in 1..=count {
-        let (spans, next) = cut(text, start);
-        let line = spans
+        let line = cut(text, &mut start)
             .ok_or(5)
             .and_then(|spans| parse(text, spans, label, count))
             .map_err(|number| Refusal::new(number, label))?;
         lines.push(line);
-        start = next;
     }
     Ok(lines)
 }
 
-/// The fields of the line at `start`, if they are five and none is empty, and
-/// the start of the next line.
-fn cut(text: &[u8], start: usize) -> (Option<[Span; FIELDS]>, usize) {
+/// The fields of the line at `start`, if they are five and none is empty; `start`
+/// moves to the next line. Of the bytes that row 1 allows, a space and a line end are
+/// the smallest.
+fn cut(text: &[u8], start: &mut usize) -> Option<[Span; FIELDS]> {
     let mut spans = [Span::default(); FIELDS];
-    let mut count = 0;
-    let mut filled = true;
-    let mut from = start;
-    for (at, &byte) in (start..).zip(&text[start..]) {
-        if byte != b' ' && byte != b'\n' {
-            continue;
+    for (field, span) in spans.iter_mut().enumerate() {
+        let rest = &text[*start..];
+        let length = rest.iter().position(|&byte| byte <= b' ')?;
+        let is_last = rest[length] == b'\n';
+        if length == 0 || is_last != (field == FIELDS - 1) {
+            return None;
         }
-        if let Some(span) = spans.get_mut(count) {
-            *span = Span {
-                start: from as u32,
-                length: (at - from) as u32,
-            };
-        }
-        filled &= at > from;
-        count += 1;
-        from = at + 1;
-        if byte == b'\n' {
-            break;
-        }
+        *span = Span {
+            start: *start as u32,
+            length: length as u32,
+        };
+        *start += length + 1;
     }
-    ((filled && count == FIELDS).then_some(spans), from)
+    Some(spans)
 }
 
 /// One line from its five fields, or the number of its refusal (6 or 7).
 fn parse(text: &[u8], spans: [Span; FIELDS], label: Label, count: usize) -> Result<Line, u64> {
     let parts = spans.map(|span| &text[span.start as usize..][..span.length as usize]);
     let [letter, name, fields @ ..] = parts;
-    let mut kinds = KINDS.iter();
-    let row = kinds.find(|row| *letter == [row.letter]).ok_or(6u64)?;
+    let row = row_of(letter).ok_or(6u64)?;
     let mut line = Line {
         kind: row.kind,
         name: Span::default(),

@@ -2,23 +2,45 @@
 
 use std::ops::Range;
 
-use crate::sheet::{Kind, Label, Sheet};
+use crate::sheet::{Kind, Label, Line, Sheet};
 use crate::Refusal;
 
-/// A name as one number. Its bytes, 16 at most, can be read back from it but
-/// for the case of letters, so two keys are equal exactly when the names are.
+/// A name as one number, a word of 16 bytes. The name's own bytes can be read back
+/// from it but for the case of letters, so two keys are equal exactly when the names
+/// are.
 type NameKey = u128;
+
+const KEY_BYTES: usize = 16;
 
 /// The bit that a small letter has and its capital has not, in every byte.
 /// Digits have it, so in a name it changes capitals alone; a byte of the key
 /// that no byte of the name is in becomes a space, which no name has.
-const SMALL: NameKey = NameKey::from_ne_bytes([b'a' ^ b'A'; 16]);
+const SMALL: NameKey = NameKey::from_ne_bytes([b'a' ^ b'A'; KEY_BYTES]);
 
-fn key(name: &[u8]) -> NameKey {
-    let bytes = name
-        .iter()
-        .fold(0, |key, &byte| key << 8 | NameKey::from(byte));
-    bytes | SMALL
+/// The key of the name that stands there: the whole word is taken from the text, and
+/// what comes after the name is shifted out.
+fn key(text: &[u8], start: usize, length: usize) -> NameKey {
+    let rest = &text[start..];
+    let bytes = rest.first_chunk().copied().unwrap_or_else(|| {
+        let mut bytes = [0; KEY_BYTES];
+        bytes[..rest.len()].copy_from_slice(rest);
+        bytes
+    });
+    NameKey::from_le_bytes(bytes) << (8 * (KEY_BYTES - length)) | SMALL
+}
+
+/// The keys of the names that a path is made of.
+fn path_keys<'a>(sheet: &Sheet<'a>, label: Label) -> impl Iterator<Item = NameKey> + 'a {
+    let text = sheet.text;
+    let mut start = sheet.line(label).name.start as usize;
+    sheet
+        .name(label)
+        .split(|&byte| byte == b'.')
+        .map(move |name| {
+            let key = key(text, start, name.len());
+            start += name.len() + 1;
+            key
+        })
 }
 
 /// The members of all Groups, sorted by Group, then by name, then by label.
@@ -33,8 +55,9 @@ impl Members {
         let mut sorted = Vec::new();
         for label in sheet.labels().skip(1) {
             if sheet.kind(label).is_definition() {
-                let group = sheet.line(label).owner;
-                sorted.push((group, key(sheet.name(label)), label as u32));
+                let Line { name, owner, .. } = sheet.line(label);
+                let key = key(sheet.text, name.start as usize, name.length as usize);
+                sorted.push((*owner, key, label as u32));
             }
         }
         sorted.sort_unstable();
@@ -93,7 +116,7 @@ pub fn resolve(sheet: &mut Sheet) -> Result<(), Refusal> {
 
 /// Where the path of an R or C ends, or the number of its refusal.
 fn find_target(sheet: &Sheet, members: &Members, label: Label) -> Result<Label, u64> {
-    let mut names = sheet.name(label).split(|&byte| byte == b'.').map(key);
+    let mut names = path_keys(sheet, label);
     let start = sheet.owner(sheet.owner(label));
     let head = names
         .next()

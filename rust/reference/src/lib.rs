@@ -1,6 +1,6 @@
 //! The rules of order sheets in Rust: document 01, "the paper", with the orders
 //! of document 02 so far: 1, names compared without regard to the case of
-//! letters, and 2, only the tangled Groups opened.
+//! letters, 2, only the tangled Groups opened, and 3, names compared by the word.
 //!
 //! One module for each stage, in the order in which refusals are found:
 //! `text` (rows 1 to 3), `lines` (5 to 7), `tree` (8 to 11), `paths` (12 to

@@ -1,5 +1,7 @@
 //! Rows 5 to 7: one pass down the lines.
 
+use std::ops::Range;
+
 use crate::sheet::{Kind, Label, Line, Span};
 use crate::text::FIRST_LINE;
 use crate::Refusal;
@@ -7,7 +9,7 @@ use crate::Refusal;
 /// What a kind wants in a field. `Group` and `Expression` are both label
 /// fields; row 8 asks what they lead to.
 #[derive(Debug, Clone, Copy, PartialEq, Eq)]
-pub enum Form {
+enum Form {
     Missing,
     Name,
     Path,
@@ -21,14 +23,28 @@ struct KindRow {
     kind: Kind,
     name: Form,
     fields: [Form; 3],
+    /// Where body or operands stand in `fields`: side by side.
+    operands: Range<usize>,
 }
 
 const fn row(letter: u8, kind: Kind, name: Form, fields: [Form; 3]) -> KindRow {
+    let mut operands = 0..0;
+    let mut field = 0;
+    while field < fields.len() {
+        if matches!(fields[field], Form::Expression) {
+            if operands.end == 0 {
+                operands.start = field;
+            }
+            operands.end = field + 1;
+        }
+        field += 1;
+    }
     KindRow {
         letter,
         kind,
         name,
         fields,
+        operands,
     }
 }
 
@@ -78,9 +94,10 @@ fn row_of(part: &[u8]) -> Option<&'static KindRow> {
     }
 }
 
-/// The forms of fields a, b and c of a kind.
-pub fn forms(kind: Kind) -> [Form; 3] {
-    KINDS[kind as usize - 1].fields
+/// The body or operands of a line, which are expressions.
+pub fn operands(line: &Line) -> impl Iterator<Item = Label> + '_ {
+    let fields = KINDS[line.kind as usize - 1].operands.clone();
+    line.fields[fields].iter().map(|&label| label as Label)
 }
 
 /// The lines after line one, `count` of them.

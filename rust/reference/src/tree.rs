@@ -1,7 +1,7 @@
 //! Rows 8 to 11: what each line leads to, and the owner of each line.
 
-use crate::lines::{forms, Form};
-use crate::sheet::{Kind, Label, Line, Sheet};
+use crate::lines::operands;
+use crate::sheet::{Kind, Label, Sheet};
 use crate::Refusal;
 
 const MAX_LEVEL: u32 = 32;
@@ -13,14 +13,6 @@ pub fn connect(sheet: &mut Sheet) -> Result<(), Refusal> {
     let levels = fill_owners(sheet);
     check_arguments(sheet)?;
     check_levels(sheet, &levels)
-}
-
-/// The body or operands of a line.
-fn operands(line: &Line) -> impl Iterator<Item = Label> + '_ {
-    let forms = forms(line.kind);
-    (0..forms.len())
-        .filter(move |&field| forms[field] == Form::Expression)
-        .map(|field| line.link(field))
 }
 
 /// Refuses the lowest label for which `faulty` holds.
@@ -40,14 +32,10 @@ fn refuse_if(
 fn check_links(sheet: &Sheet) -> Result<(), Refusal> {
     refuse_if(sheet, 8, |&label| {
         let line = sheet.line(label);
-        let faulty = |(field, form)| match form {
-            Form::Group => line.link(field) >= label || sheet.kind(line.link(field)) != Kind::Group,
-            Form::Expression => {
-                line.link(field) <= label || sheet.kind(line.link(field)).is_definition()
-            }
-            _ => false,
-        };
-        label > 1 && forms(line.kind).into_iter().enumerate().any(faulty)
+        let is_group = |group| group < label && sheet.kind(group) == Kind::Group;
+        let is_operand = |other| other > label && !sheet.kind(other).is_definition();
+        let is_member = label > 1 && line.kind.is_definition();
+        is_member && !is_group(line.link(0)) || !operands(line).all(is_operand)
     })
 }
 

@@ -1,7 +1,8 @@
 //! `cargo run --release -p checks -- SEED COUNT`: as many random trials as
 //! wanted. Status 1 and the seed where the library and the reference differ,
 //! and where many trials have not met every refusal, state and order, names in
-//! other letters than those that they are the same as, and every sort of tangle.
+//! other letters than those that they are the same as, names that are nearly the
+//! same, and every sort of tangle.
 
 use std::env;
 use std::process::ExitCode;

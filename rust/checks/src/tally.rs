@@ -2,7 +2,7 @@
 
 use std::fmt;
 
-use generator::Tangles;
+use generator::{NearNames, Tangles};
 
 use crate::calls::{MIXED, WHOLE};
 use crate::letters::Letters;
@@ -25,10 +25,18 @@ const TANGLES: [&str; Tangles::COUNT] = [
     "inside an opened Group",
 ];
 
+/// What `NearNames` tells, in words.
+const NEAR: [&str; NearNames::COUNT] = [
+    "in a Group",
+    "in a path",
+    "missed by a path",
+    "in other letters",
+];
+
 /// How the calls replied, what Plan and Run came to, how many labels Name was
 /// asked for and gave a part to, how many prints there was room for, how many
-/// sheets had names in other letters than those that they are the same as, and
-/// where mixed plans were tangled.
+/// sheets had names in other letters than those that they are the same as, or names
+/// that are nearly the same, and where mixed plans were tangled.
 #[derive(Debug, Default, Clone, PartialEq, Eq)]
 pub struct Tally {
     trials: u64,
@@ -45,6 +53,8 @@ pub struct Tally {
     /// Sheets with names in other letters: heads of paths, later names, names
     /// that clash.
     letters: [u64; 3],
+    /// Sheets by what is told in `NEAR`, of the first eight bytes and of those after.
+    near: [[u64; NearNames::COUNT]; 2],
     /// Mixed plans by what is told in `TANGLES`.
     tangles: [u64; Tangles::COUNT],
 }
@@ -70,6 +80,9 @@ impl Tally {
             &mut self.letters,
             &[heads, later_names, clash].map(u64::from),
         );
+        for (counts, more) in self.near.iter_mut().zip(outcome.near.counts()) {
+            add_all(counts, &more);
+        }
         add_all(&mut self.tangles, &outcome.tangles.counts());
     }
 
@@ -85,14 +98,17 @@ impl Tally {
         self.named += other.named;
         self.printed += other.printed;
         add_all(&mut self.letters, &other.letters);
+        for (counts, more) in self.near.iter_mut().zip(&other.near) {
+            add_all(counts, more);
+        }
         add_all(&mut self.tangles, &other.tangles);
     }
 
     /// Whether every call answered and refused by each of its rows, plans were
     /// whole and mixed, values came to every state, Name gave parts, empty ones
-    /// too, prints had room and had not, names were in other letters wherever they
-    /// are compared, and sheets were tangled wherever they can be; a short run need
-    /// not have met all of them.
+    /// too, prints had room and had not, names were in other letters and nearly the
+    /// same wherever they are compared, and sheets were tangled wherever they can be; a
+    /// short run need not have met all of them.
     pub fn is_complete(&self) -> bool {
         let mut calls = Call::ALL.into_iter().zip(&self.replies);
         let replies = calls.all(|(call, counts)| !counts[..=call.last_row()].contains(&0));
@@ -101,8 +117,10 @@ impl Tally {
         let prints = self.printed > 0 && self.printed < self.trials;
         let states = !self.states.contains(&0);
         let letters = !self.letters.contains(&0);
+        let near = !self.near.as_flattened().contains(&0);
         let tangles = !self.tangles.contains(&0);
-        let is_all = replies && orders && names && prints && states && letters && tangles;
+        let named = names && letters && near;
+        let is_all = replies && orders && named && prints && states && tangles;
         self.trials < ENOUGH || is_all
     }
 
@@ -154,6 +172,10 @@ impl fmt::Display for Tally {
             f,
             "other letters: {heads} sheets in heads, {later} in later names, {clashes} in names that clash"
         )?;
+        let [first, later] = &self.near;
+        let in_words = |counts| listed(&NEAR, counts);
+        writeln!(f, "near in the first eight bytes: {}", in_words(first))?;
+        writeln!(f, "near after the eighth byte: {}", in_words(later))?;
         write!(f, "names: {} of {} asked for", self.named, self.asked)
     }
 }

@@ -1,6 +1,6 @@
 //! One trial of all the calls.
 
-use generator::{Case, Tangles};
+use generator::{Case, NearNames, Tangles};
 use lindypo::raw::{Part, Printed, Reply};
 
 use crate::calls::{Call, Lent, MIXED};
@@ -46,6 +46,7 @@ pub struct Outcome {
     /// Whether there was room for the whole print.
     pub is_print_whole: bool,
     pub letters: Letters,
+    pub near: NearNames,
     pub tangles: Tangles,
 }
 
@@ -70,6 +71,7 @@ impl Outcome {
             named: names.iter().filter(is_named).count() as u64,
             is_print_whole: print.printed.length <= print.out.len() as u64,
             letters: Letters::of(text, &calls[0]),
+            near: near_names(text, &calls[0]),
             tangles: tangles(&calls[1]),
         }
     }
@@ -377,6 +379,16 @@ fn part_of(text: &[u8], part: &[u8]) -> Part {
     Part {
         start: start as u64,
         length: part.len() as u64,
+    }
+}
+
+/// The names of a text that are nearly one: where it reads, and where a path is
+/// refused since a name is not found.
+fn near_names(text: &[u8], read: &Wanted) -> NearNames {
+    match read.reply.refusal {
+        0 => NearNames::of(text, &read.buffers[0]),
+        13 | 14 => NearNames::of_missed(text, read.reply.place as usize),
+        _ => NearNames::default(),
     }
 }
 

@@ -1,6 +1,7 @@
 //! Sheets spoilt on purpose, so that every refusal from 1 to 16 is met.
 
 use crate::letters::recase;
+use crate::near::make_near;
 use crate::random;
 use crate::rng::Rng;
 use crate::rows::{self, Row};
@@ -278,7 +279,7 @@ fn deepen(rng: &mut Rng, rows: &mut Vec<Row>) {
 }
 
 /// Row 12 (or 13 to 15): a definition takes another's name, in the same letters
-/// or in others, or a new one.
+/// or in others, or nearly that, or a new one.
 fn change_name(rng: &mut Rng, rows: &mut [Row]) {
     let (Some(at), Some(other)) = (
         find_kind(rng, &rows[1..], b"GVF"),
@@ -292,6 +293,9 @@ fn change_name(rng: &mut Rng, rows: &mut [Row]) {
     }
     if rng.chance(40) {
         rows[at + 1][2] = rows[other + 1][2].clone();
+    }
+    if rng.chance(10) {
+        make_near(rng, &mut rows[at + 1][1]);
     }
     if rng.chance(10) {
         rows[at + 1][1] = b"fresh".to_vec();
@@ -310,7 +314,7 @@ fn change_path(rng: &mut Rng, rows: &mut [Row]) {
     let path = rows[at][1].clone();
     let mut names: Vec<Vec<u8>> = path.split(|&b| b == b'.').map(<[u8]>::to_vec).collect();
     let last = names.len() - 1;
-    match rng.below(11) {
+    match rng.below(12) {
         0 => names[0] = b"nobody".to_vec(),
         1 => names[last] = b"nobody".to_vec(),
         2 => names.push(name),
@@ -321,6 +325,10 @@ fn change_path(rng: &mut Rng, rows: &mut [Row]) {
         5 => names[last] = name,
         6 => names = vec![rows[other][1].clone()],
         7 => slip(rng, &mut names[last]),
+        8 => {
+            let any = rng.below(names.len());
+            make_near(rng, &mut names[any]);
+        }
         _ => names = vec![name],
     }
     rows[at][1] = names.join(&b'.');

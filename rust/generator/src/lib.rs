@@ -4,8 +4,9 @@
 //! `random` makes sheets that read, `damage` spoils them, `letters` writes their
 //! names in capitals and small letters, `rows` takes them apart, `lent` chooses
 //! buffer lengths and orders for Follow, `tangles` says where a sheet is tangled,
-//! `everyday`, `shapes`, `tangled` and `near` hold the fixed sheets, `slots` names
-//! that share a slot of the library's hash.
+//! `near` makes names that are nearly the same, `everyday`, `shapes`, `tangled` and
+//! `long_names` hold the fixed sheets, `slots` names that share a slot of the
+//! library's hash.
 
 #![forbid(unsafe_code)]
 
@@ -14,6 +15,7 @@ mod damage;
 mod everyday;
 mod lent;
 mod letters;
+mod long_names;
 mod near;
 mod random;
 mod rng;
@@ -27,7 +29,8 @@ pub use damage::{damage, damaged};
 pub use everyday::everyday;
 pub use lent::{buffer_length, order, planned, print_length, proper_order};
 pub use letters::{capital_paths, is_same_name, recase, recased, recased_name, OtherLetters};
-pub use near::{near_names, near_paths, one_hash, one_slot};
+pub use long_names::{near_names, near_paths, one_hash, one_slot};
+pub use near::{long_name, make_near, NearNames};
 pub use random::{sheet, sheet_within};
 pub use rng::Rng;
 pub use shapes::{

@@ -8,6 +8,7 @@
 use std::io::Write;
 
 use crate::letters::{is_same_name, recase};
+use crate::near::{long_name, make_near};
 use crate::rng::Rng;
 
 const OUTERMOST: usize = 0;
@@ -84,7 +85,7 @@ impl Manner {
             function_ranks: 3,
             spread: false,
             wild: rng.chance(6),
-            naming: rng.below(4),
+            naming: rng.below(5),
             recasing: *rng.pick(&[0, 0, 0, 0, 10, 50, 100]),
         };
         match rng.below(100) {
@@ -109,7 +110,7 @@ impl Manner {
                 reading: rng.range(0, 50),
                 shuffled: false,
                 tied_groups: rng.range(1, 3),
-                naming: *rng.pick(&[0, 1, 3, 3, 3]),
+                naming: *rng.pick(&[0, 1, 3, 3, 3, 4]),
                 ..manner
             },
             // Functions that call each other and take many steps.
@@ -280,7 +281,7 @@ impl Grower<'_> {
     /// A name that no member of the Group has yet.
     fn new_name(&mut self, group: usize) -> Vec<u8> {
         for _ in 0..4 {
-            let mut name = self.random_name();
+            let mut name = self.random_name(group);
             self.recase(&mut name);
             if self.find(group, &name).is_none() {
                 return name;
@@ -289,7 +290,7 @@ impl Grower<'_> {
         format!("n{}", self.nodes.len()).into_bytes()
     }
 
-    fn random_name(&mut self) -> Vec<u8> {
+    fn random_name(&mut self, group: usize) -> Vec<u8> {
         const SHORT: [&str; 6] = ["a", "b", "c", "A", "B", "x1"];
         const WORDS: [&str; 8] = [
             "sphere", "prism", "Right", "right", "left", "frame", "axis", "total",
@@ -304,9 +305,28 @@ impl Grower<'_> {
             0 => self.rng.pick(&SHORT).to_string(),
             1 => self.rng.pick(&WORDS).to_string(),
             2 => self.rng.pick(&LONG).to_string(),
-            _ => format!("v{}", self.rng.below(40)),
+            3 => format!("v{}", self.rng.below(40)),
+            _ => return self.near_name(group),
         };
         name.into_bytes()
+    }
+
+    /// A name that differs in one byte from that of another definition, most often of
+    /// the same Group; now and then a new one.
+    fn near_name(&mut self, group: usize) -> Vec<u8> {
+        let beside = &self.members[group];
+        let others = match self.rng.chance(70) {
+            true => beside.get(self.rng.below(beside.len().max(1))),
+            false => self.values.get(self.rng.below(self.values.len().max(1))),
+        };
+        match others.filter(|_| self.rng.chance(85)) {
+            Some(&other) => {
+                let mut name = self.nodes[other].name.clone();
+                make_near(self.rng, &mut name);
+                name
+            }
+            None => long_name(self.rng),
+        }
     }
 
     fn find(&self, group: usize, name: &[u8]) -> Option<usize> {

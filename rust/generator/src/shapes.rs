@@ -2,7 +2,7 @@
 
 use crate::builder::{Builder, MAX_LINES};
 use crate::letters::capital_paths;
-use crate::near::{near_names, near_paths, one_hash, one_slot};
+use crate::long_names::{near_names, near_paths, one_hash, one_slot};
 use crate::tangled::{
     every_second_in_ring, nested_tangle, ring, ring_among, rings, rings_in_every_second, tangled,
 };

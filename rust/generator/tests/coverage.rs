@@ -1,9 +1,10 @@
-//! The random trials meet every refusal, every state, both orders and names in
-//! other letters than their definitions, and a seed always gives the same trial.
+//! The random trials meet every refusal, every state, both orders, names in other
+//! letters than their definitions and names that are nearly the same, and a seed always
+//! gives the same trial.
 
 use generator::{
-    any_sheet, capital_paths, case, recased, sheet, tangled_blocks, Case, OtherLetters, Rng,
-    Tangles,
+    any_sheet, capital_paths, case, recased, sheet, tangled_blocks, Case, NearNames, OtherLetters,
+    Rng, Tangles,
 };
 use reference::{Order, Refusal};
 
@@ -157,6 +158,72 @@ fn paths_in_other_letters() {
     }
     println!("plain {plain}, heads {heads}, later names {later}, most paths {most}");
     assert!(plain > 2_000 && heads > 600 && later > 300 && most > 200);
+}
+
+/// Members and paths whose names differ in one byte alone from another member's, in
+/// the first eight bytes and after them, are in many sheets.
+#[test]
+fn near_names_in_sheets() {
+    let mut met = [[0; NearNames::COUNT]; 2];
+    for seed in 0..4_000 {
+        let text = sheet(&mut Rng::new(seed));
+        let mut table = vec![0; 8 * generator::line_count(&text)];
+        reference::read(&text, &mut table).expect("a sheet that reads");
+        let counts = NearNames::of(&text, &table).counts();
+        for (met, more) in met.iter_mut().zip(counts) {
+            met.iter_mut()
+                .zip(more)
+                .for_each(|(met, more)| *met += more);
+        }
+    }
+    for [members, paths, missed, recased] in met {
+        println!("members {members}, paths {paths}, in other letters {recased}");
+        assert!(members > 300 && paths > 300 && recased > 150);
+        assert_eq!(missed, 0);
+    }
+}
+
+/// What is near what, by hand.
+#[test]
+fn near_names_are_told() {
+    let text = b"kind name a b c
+G - 0 - -
+V abcdefghi 1 3 -
+R Zbcdefghi - - -
+V zbcdefghi 1 5 -
+N - 1 - -
+V zbcdefghj 1 7 -
+R zbcdefghI - - -
+";
+    let mut table = vec![0; 8 * 7];
+    reference::read(text, &mut table).expect("a sheet that reads");
+    let met = NearNames {
+        members: [true, true],
+        paths: [true, true],
+        missed: [false, false],
+        recased: [true, true],
+    };
+    assert_eq!(NearNames::of(text, &table), met);
+    let lost = String::from_utf8_lossy(text).replace("R Zbcdefghi", "R abcdefghk");
+    let met = NearNames {
+        missed: [false, true],
+        ..NearNames::default()
+    };
+    assert_eq!(NearNames::of_missed(lost.as_bytes(), 3), met);
+}
+
+#[test]
+fn names_made_near_are_other_names() {
+    let rng = &mut Rng::new(6);
+    for _ in 0..10_000 {
+        let name = generator::long_name(rng);
+        let mut near = name.clone();
+        generator::make_near(rng, &mut near);
+        let differ = |(a, b): &(&u8, &u8)| !a.eq_ignore_ascii_case(b);
+        assert_eq!(name.iter().zip(&near).filter(differ).count(), 1);
+        assert!((8..=16).contains(&near.len()) && near[0].is_ascii_alphabetic());
+        assert!(near.iter().all(u8::is_ascii_alphanumeric));
+    }
 }
 
 /// A text in other letters differs where names and paths stand, and nowhere

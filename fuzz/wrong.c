@@ -1,13 +1,14 @@
 /* Faults that the fuzzer has to find. Linked with `--wrap` for every export, so
  * that each of them comes here first; LINDYPO_WRONG says which fault is on. */
 #include <alloca.h>
+#include <ctype.h>
 #include <stdio.h>
 #include <stdlib.h>
 #include <string.h>
 
 #include "lindypo.h"
 
-#define FAULTS 25
+#define FAULTS 29
 
 static const char *const words[FAULTS + 1] = {
     "",
@@ -36,6 +37,10 @@ static const char *const words[FAULTS + 1] = {
     "The print puts names in small letters",
     "Plan opens every Group where one is tangled",
     "Plan says whole where no member of the outermost Group is tangled",
+    "Read takes names for one that differ after their eighth byte alone",
+    "Read takes names for one that differ in their first eight bytes alone",
+    "Read does not find a name of more than eight bytes in other letters",
+    "Read leads a path to a name that differs after its eighth byte",
 };
 
 static int fault;
@@ -58,15 +63,18 @@ __typeof__(lindypo_follow) __real_lindypo_follow, __wrap_lindypo_follow;
 __typeof__(lindypo_print) __real_lindypo_print, __wrap_lindypo_print;
 
 /* Whether the path at a label is in other letters than the definitions that it
- * leads to, which are the target and, name by name, the Groups around it. */
-static int has_other_letters(const uint8_t *text, const int64_t *table, uint64_t label)
+ * leads to, which are the target and, name by name, the Groups around it; of
+ * those, the ones whose names have so many bytes at least. */
+static int has_other_letters(const uint8_t *text, const int64_t *table, uint64_t label,
+                             int64_t least)
 {
     const int64_t *path = table + 8 * (label - 1);
     int64_t end = path[1] + path[2];
     for (int64_t at = path[7]; at > 0 && end > path[1];) {
         const int64_t *definition = table + 8 * (at - 1);
         end -= definition[2];
-        if (memcmp(text + end, text + definition[1], (size_t)definition[2]) != 0)
+        int is_other = memcmp(text + end, text + definition[1], (size_t)definition[2]) != 0;
+        if (is_other && definition[2] >= least)
             return 1;
         end--; /* the dot */
         at = definition[6];
@@ -83,15 +91,74 @@ static uint64_t line_count(const int64_t *table, size_t table_length)
     return lines;
 }
 
-/* The first label whose path is in other letters; 0 where none is. */
+/* The first label whose path is in other letters, in a name of so many bytes at
+ * least; 0 where none is. */
 static uint64_t first_other_letters(const uint8_t *text, const int64_t *table,
-                                    size_t table_length)
+                                    size_t table_length, int64_t least)
 {
     uint64_t lines = line_count(table, table_length);
     for (uint64_t label = 1; label <= lines; label++)
-        if (has_other_letters(text, table, label))
+        if (has_other_letters(text, table, label, least))
             return label;
     return 0;
+}
+
+/* What two names longer than a word of eight bytes agree in, but for case. */
+enum part { FIRST_WORD, REST };
+
+static int agree(const uint8_t *text, const int64_t *a, const int64_t *b, enum part part)
+{
+    if (a[2] != b[2] || a[2] <= 8)
+        return 0;
+    int64_t end = part == FIRST_WORD ? 8 : a[2];
+    for (int64_t at = part == FIRST_WORD ? 0 : 8; at < end; at++)
+        if (tolower(text[a[1] + at]) != tolower(text[b[1] + at]))
+            return 0;
+    return 1;
+}
+
+/* Another member, up to a label, of the Group of a definition whose name agrees
+ * with its in that part; 0 where there is none. */
+static uint64_t half_namesake(const uint8_t *text, const int64_t *table, uint64_t label,
+                              uint64_t last, enum part part)
+{
+    const int64_t *line = table + 8 * (label - 1);
+    for (uint64_t other = 2; other <= last; other++) {
+        const int64_t *beside = table + 8 * (other - 1);
+        int is_member = beside[0] <= LINDYPO_KIND_FUNCTION && beside[6] == line[6];
+        if (other != label && is_member && agree(text, line, beside, part))
+            return other;
+    }
+    return 0;
+}
+
+/* The first definition with such a member before it; 0 where none has. */
+static uint64_t first_half_namesake(const uint8_t *text, const int64_t *table,
+                                    size_t table_length, enum part part)
+{
+    uint64_t lines = line_count(table, table_length);
+    for (uint64_t label = 2; label <= lines; label++) {
+        int is_definition = table[8 * (label - 1)] <= LINDYPO_KIND_FUNCTION;
+        if (is_definition && half_namesake(text, table, label, label - 1, part) != 0)
+            return label;
+    }
+    return 0;
+}
+
+/* Leads the first path that it can to another of the same kind whose name begins
+ * as the target's. */
+static void lead_astray(const uint8_t *text, int64_t *table, size_t table_length)
+{
+    uint64_t lines = line_count(table, table_length);
+    for (int64_t *line = table; line < table + 8 * lines; line += 8) {
+        if (line[7] == 0)
+            continue;
+        uint64_t other = half_namesake(text, table, (uint64_t)line[7], lines, FIRST_WORD);
+        if (other != 0 && table[8 * (other - 1)] == table[8 * (line[7] - 1)]) {
+            line[7] = (int64_t)other;
+            return;
+        }
+    }
 }
 
 /* A field, from 0, of the line at a label, of a text whose lines have five. */
@@ -187,6 +254,29 @@ static int is_whole_outside(const int64_t *table, const int64_t *plan, uint64_t 
     return 1;
 }
 
+static lindypo_reply refused(uint64_t row, uint64_t label)
+{
+    return (lindypo_reply){.refusal = row, .place = label};
+}
+
+/* How Read refuses a sheet that it should answer; at place 0 where it does not. */
+static lindypo_reply wrong_refusal(const uint8_t *text, const int64_t *table,
+                                   size_t table_length)
+{
+    switch (fault) {
+    case 19:
+        return refused(13, first_other_letters(text, table, table_length, 1));
+    case 26:
+        return refused(12, first_half_namesake(text, table, table_length, FIRST_WORD));
+    case 27:
+        return refused(12, first_half_namesake(text, table, table_length, REST));
+    case 28:
+        return refused(13, first_other_letters(text, table, table_length, 9));
+    default:
+        return refused(0, 0);
+    }
+}
+
 lindypo_reply __wrap_lindypo_read(const uint8_t *text, size_t text_length,
                                   int64_t *table, size_t table_length)
 {
@@ -201,13 +291,15 @@ lindypo_reply __wrap_lindypo_read(const uint8_t *text, size_t text_length,
         table[table_length - 1] = last;
     if (fault == 4 && reply.refusal == 12)
         table[table_length - 1] = last;
-    uint64_t label = 0;
-    if (fault == 19 && is_answer)
-        label = first_other_letters(text, table, table_length);
-    if (label != 0) {
+    lindypo_reply wrong = {0};
+    if (is_answer)
+        wrong = wrong_refusal(text, table, table_length);
+    if (wrong.place != 0) {
         memset(table, 0, table_length * sizeof *table);
-        reply = (lindypo_reply){.refusal = 13, .place = label};
+        reply = wrong;
     }
+    if (fault == 29 && is_answer)
+        lead_astray(text, table, table_length);
     if (fault == 20 && reply.refusal == 12 && !clashes_in_same_letters(text, reply.place))
         reply = (lindypo_reply){.count = reply.place};
     return reply;
@@ -219,7 +311,7 @@ lindypo_part __wrap_lindypo_name(const uint8_t *text, size_t text_length,
     if (fault == 5)
         label = (int32_t)label;
     lindypo_part part = __real_lindypo_name(text, text_length, table, table_length, label);
-    if (fault == 21 && part.length > 0 && has_other_letters(text, table, (uint64_t)label)) {
+    if (fault == 21 && part.length > 0 && has_other_letters(text, table, (uint64_t)label, 1)) {
         const int64_t *target = table + 8 * (table[8 * (label - 1) + 7] - 1);
         part = (lindypo_part){.start = (uint64_t)target[1], .length = (uint64_t)target[2]};
     }
@@ -261,7 +353,7 @@ lindypo_reply __wrap_lindypo_run(const uint8_t *text, size_t text_length,
         __real_lindypo_read(text, text_length, table, table_length);
     uint64_t label = 0;
     if (fault == 22 && reply.refusal == 0)
-        label = first_other_letters(text, table, table_length);
+        label = first_other_letters(text, table, table_length, 1);
     if (label != 0)
         table[8 * (label - 1) + 7] = 0;
     return reply;

@@ -40,7 +40,7 @@ fn vary(rng: &mut Rng, text: Vec<u8>) -> Vec<u8> {
     let Some(mut rows) = rows::split(&text) else {
         return generator::damage(rng, text);
     };
-    match rng.below(11) {
+    match rng.below(13) {
         0 | 1 => swap_labels(rng, &mut rows),
         2 => grow(rng, &mut rows),
         3 => change_number(rng, &mut rows),
@@ -50,6 +50,8 @@ fn vary(rng: &mut Rng, text: Vec<u8>) -> Vec<u8> {
         7 => return generator::recased(rng, &text),
         8 => recase_one(rng, &mut rows),
         9 => tangle(rng, &mut rows),
+        10 => define_near(rng, &mut rows),
+        11 => make_near(rng, &mut rows),
         _ => define(rng, &mut rows),
     }
     rows::join(&rows)
@@ -170,6 +172,41 @@ fn recase_one(rng: &mut Rng, rows: &mut [Row]) {
     }
 }
 
+/// One byte changes in the name of a definition, or in some name of a path.
+fn make_near(rng: &mut Rng, rows: &mut [Row]) {
+    let kinds: &[u8] = if rng.chance(70) { b"GVF" } else { b"RC" };
+    if let Some(at) = find(rng, &rows[1..], kinds) {
+        let names = rows[at + 1][1].split_mut(|&byte| byte == b'.');
+        let mut names: Vec<&mut [u8]> = names.collect();
+        let any = rng.below(names.len());
+        generator::make_near(rng, names[any]);
+    }
+}
+
+/// One more value beside another, which it reads and from whose name its own differs
+/// in one byte; beside a new one with a long name where that has a short one.
+fn define_near(rng: &mut Rng, rows: &mut Vec<Row>) {
+    let Some(at) = find(rng, &rows[1..], b"V").map(|at| at + 1) else {
+        return;
+    };
+    let group = std::str::from_utf8(&rows[at][2]).ok();
+    let Some(group) = group.and_then(|word| word.parse::<usize>().ok()?.checked_sub(1)) else {
+        return;
+    };
+    let mut name = rows[at][1].clone();
+    if name.len() <= 8 {
+        name = generator::long_name(rng);
+        define_with(rows, "V", &name, group, row(SEVEN));
+    }
+    let mut read = row(["R", "-", "-", "-", "-"]);
+    read[1] = name.clone();
+    if rng.chance(30) {
+        generator::recase(rng, &mut read[1]);
+    }
+    generator::make_near(rng, &mut name);
+    define_with(rows, "V", &name, group, read);
+}
+
 /// A leaf becomes a read of some definition's name, by way of its Group's too,
 /// now and then in other letters.
 fn read_another(rng: &mut Rng, rows: &mut [Row]) {
@@ -210,7 +247,7 @@ fn tangle(rng: &mut Rng, rows: &mut Vec<Row>) {
     let bodies = [read(second, &value), read(first, &end), row(SEVEN)];
     let places = [(first, &value), (second, &value), (first, &end)];
     for ((group, name), body) in places.into_iter().zip(bodies) {
-        define_with(rows, "V", name, group, body);
+        define_with(rows, "V", name.as_bytes(), group, body);
     }
 }
 
@@ -226,14 +263,16 @@ fn define(rng: &mut Rng, rows: &mut Vec<Row>) {
     let name = format!("{}{}", rng.pick(&["n", "N"]), rng.below(30));
     match kind {
         "G" => rows.push(row([kind, &name, &(group + 1).to_string(), "-", "-"])),
-        _ => define_with(rows, kind, &name, group, row(SEVEN)),
+        _ => define_with(rows, kind, name.as_bytes(), group, row(SEVEN)),
     }
 }
 
 /// A definition of the Group that stands at `group`, from 0, and its body.
-fn define_with(rows: &mut Vec<Row>, kind: &str, name: &str, group: usize, body: Row) {
+fn define_with(rows: &mut Vec<Row>, kind: &str, name: &[u8], group: usize, body: Row) {
     let [group, label] = [group + 1, rows.len() + 2].map(|label| label.to_string());
-    rows.push(row([kind, name, &group, &label, "-"]));
+    let mut definition = row([kind, "-", &group, &label, "-"]);
+    definition[1] = name.to_vec();
+    rows.push(definition);
     rows.push(body);
 }
 
@@ -276,6 +315,33 @@ mod tests {
             met += usize::from(count.is_ok() && others.heads > 0);
         }
         assert!(met > 50, "{met} of 1,000");
+    }
+
+    /// Sheets that read with names that are nearly the same, members and paths, come
+    /// of sheets without.
+    #[test]
+    fn changed_sheets_have_near_names() {
+        let rng = &mut Rng::new(6);
+        let mut met = [[0; generator::NearNames::COUNT]; 2];
+        for seed in 0..1_000 {
+            let mut text = generator::everyday(40, seed);
+            for _ in 0..20 {
+                let varied = vary(rng, text.clone());
+                if checks::Trial::new(&varied, &[]).wanted()[0].reply.refusal == 0 {
+                    text = varied;
+                }
+            }
+            let wanted = checks::Trial::new(&text, &[]).wanted();
+            let near = generator::NearNames::of(&text, &wanted[0].buffers[0]);
+            for (met, more) in met.iter_mut().zip(near.counts()) {
+                met.iter_mut()
+                    .zip(more)
+                    .for_each(|(met, more)| *met += more);
+            }
+        }
+        for [members, paths, _, recased] in met {
+            assert!(members > 100 && paths > 100 && recased > 50, "{met:?}");
+        }
     }
 
     /// Sheets that plan and are tangled in every way come of sheets that are not,

@@ -194,50 +194,43 @@ fn compare_floor(call: Call, choice: &Choice) -> usize {
     let Some((_, bar)) = bar.filter(|_| choice.has_sheet("floor")) else {
         return 0;
     };
-    println!(
-        "{:<WIDTH$} {:>6} {:>7} {:>9} {:>9} {:>10} {:>9}",
-        format!("{}, multiples of the floor", call.name()),
-        "lines",
-        "bytes",
-        "floor",
-        "library",
-        "reference",
-        "earlier"
-    );
+    let name = call.name();
+    println!("{name}, multiples of the floor, which is in microseconds a call\n");
+    let sides = [Side::Floor, Side::Library, Side::Reference, Side::Earlier];
+    let sides = sides
+        .into_iter()
+        .filter(|&side| call.function(side).is_some());
+    print!("{:<WIDTH$} {:>6} {:>7}", "sheet", "lines", "bytes");
+    sides.for_each(|side| print!(" {:>10}", side.name()));
+    println!();
     let workloads = floored();
     let sheets: Vec<&Workload> = workloads.iter().collect();
     let times = measure(call, &sheets, &Side::ALL, PASSES);
     for (workload, times) in workloads.iter().zip(&times) {
         print_floor(workload, times);
     }
-    let longest = times
-        .last()
-        .and_then(|times| times.ratio(Side::Library, Side::Floor));
-    let is_within = longest.is_some_and(|ratio| ratio <= bar);
+    let longest = times.last();
+    let ratio = longest.and_then(|times| times.ratio(Side::Library, Side::Floor));
+    let is_within = ratio.is_some_and(|ratio| ratio <= bar);
     let said = if is_within { "within" } else { "above" };
-    println!(
-        "\n{}: {said} the bar of {bar} times the floor on the last\n",
-        call.name()
-    );
+    println!("\n{name}: {said} the bar of {bar} times the floor on the longest\n");
     workloads.len()
 }
 
 /// The floor's microseconds, and the others' times as multiples of that.
 fn print_floor(workload: &Workload, times: &Times) {
-    let multiple = |side| {
-        let ratio = times.ratio(side, Side::Floor);
-        ratio.map_or("-".to_string(), |ratio| format!("{ratio:.2}"))
-    };
-    println!(
-        "{:<WIDTH$} {:>6} {:>7} {:>9.2} {:>9} {:>10} {:>9}",
+    print!(
+        "{:<WIDTH$} {:>6} {:>7} {:>10.2}",
         workload.name,
         workload.lines(),
         workload.bytes(),
-        1e6 * times.of(Side::Floor),
-        multiple(Side::Library),
-        multiple(Side::Reference),
-        multiple(Side::Earlier)
+        1e6 * times.of(Side::Floor)
     );
+    let multiples = Side::WORKING.map(|side| times.ratio(side, Side::Floor));
+    for multiple in multiples.into_iter().flatten() {
+        print!(" {multiple:>10.2}");
+    }
+    println!();
 }
 
 /// Prints how the time of a call grows with the lines, for every shape chosen;

@@ -46,10 +46,11 @@ pub fn measure(call: Call, workloads: &[&Workload], sides: &[Side], passes: usiz
         .map(|work| Job::timed(call, work))
         .collect();
     let mut shortest = vec![Times::MAX; jobs.len()];
+    let mut ignored = Times::MAX;
     for _ in 0..passes {
         for (job, shortest) in jobs.iter_mut().zip(&mut shortest) {
             for _ in 0..WARM_UP {
-                job.round(sides, &mut Times::MAX.clone());
+                job.round(sides, &mut ignored);
             }
             for _ in 0..ROUNDS {
                 job.round(sides, shortest);

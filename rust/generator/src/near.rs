@@ -3,7 +3,7 @@
 //! none.
 
 use crate::rng::Rng;
-use crate::rows;
+use crate::rows::{self, Row};
 
 /// How many bytes are compared as one.
 const WORD: usize = 8;
@@ -100,13 +100,11 @@ impl NearNames {
     /// Those of a sheet whose path at this label leads nowhere.
     pub fn of_missed(text: &[u8], label: usize) -> Self {
         let rows = rows::split(text).expect("lines of five fields");
+        let is_definition = |row: &&Row| matches!(row[0][..], [b'G' | b'V' | b'F']);
         let mut met = NearNames::default();
-        for name in rows[label - 1][1].split(|&byte| byte == b'.') {
-            for row in rows
-                .iter()
-                .filter(|row| matches!(row[0][..], [b'G' | b'V' | b'F']))
-            {
-                add(&mut met.missed, near_at(name, &row[1]));
+        for definition in rows.iter().filter(is_definition) {
+            for name in rows[label - 1][1].split(|&byte| byte == b'.') {
+                add(&mut met.missed, near_at(name, &definition[1]));
             }
         }
         met

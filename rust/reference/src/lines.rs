@@ -105,59 +105,69 @@ pub fn split(text: &[u8], count: usize) -> Result<Vec<Line>, Refusal> {
     let mut lines = Vec::with_capacity(count);
     let mut start = FIRST_LINE.len();
     for label in 1..=count {
-        let line = cut(text, &mut start)
-            .ok_or(5)
-            .and_then(|spans| parse(text, spans, label, count))
-            .map_err(|number| Refusal::new(number, label))?;
-        lines.push(line);
+        let refusal = |number| Refusal::new(number, label);
+        let fields = Fields::cut(text, &mut start).ok_or(refusal(5))?;
+        let row = row_of(fields.parts[0]).ok_or(refusal(6))?;
+        let cells = fields.cells(row, label, count).ok_or(refusal(7))?;
+        lines.push(Line {
+            kind: row.kind,
+            name: fields.name(),
+            fields: cells,
+            owner: 0,
+            target: 0,
+        });
     }
     Ok(lines)
 }
 
-/// The fields of the line at `start`, if they are five and none is empty; `start`
-/// moves to the next line. Of the bytes that row 1 allows, a space and a line end are
-/// the smallest.
-fn cut(text: &[u8], start: &mut usize) -> Option<[Span; FIELDS]> {
-    let mut spans = [Span::default(); FIELDS];
-    for (field, span) in spans.iter_mut().enumerate() {
-        let rest = &text[*start..];
-        let length = rest.iter().position(|&byte| byte <= b' ')?;
-        let is_last = rest[length] == b'\n';
-        if length == 0 || is_last != (field == FIELDS - 1) {
-            return None;
-        }
-        *span = Span {
-            start: *start as u32,
-            length: length as u32,
-        };
-        *start += length + 1;
-    }
-    Some(spans)
+/// The five fields of a line, and where in the text the second begins.
+struct Fields<'a> {
+    parts: [&'a [u8]; FIELDS],
+    name_start: usize,
 }
 
-/// One line from its five fields, or the number of its refusal (6 or 7).
-fn parse(text: &[u8], spans: [Span; FIELDS], label: Label, count: usize) -> Result<Line, u64> {
-    let parts = spans.map(|span| &text[span.start as usize..][..span.length as usize]);
-    let [letter, name, fields @ ..] = parts;
-    let row = row_of(letter).ok_or(6u64)?;
-    let mut line = Line {
-        kind: row.kind,
-        name: Span::default(),
-        fields: [0; 3],
-        owner: 0,
-        target: 0,
-    };
-    if label == 1 {
-        return if parts == OUTERMOST { Ok(line) } else { Err(7) };
+impl<'a> Fields<'a> {
+    /// Those of the line at `start`, if they are five and none is empty; `start`
+    /// moves to the next line. Of the bytes that row 1 allows, a space and a line
+    /// end are the smallest.
+    fn cut(text: &'a [u8], start: &mut usize) -> Option<Self> {
+        let line = *start;
+        let mut parts: [&[u8]; FIELDS] = [&[]; FIELDS];
+        for (field, part) in parts.iter_mut().enumerate() {
+            let rest = &text[*start..];
+            let length = rest.iter().position(|&byte| byte <= b' ')?;
+            let is_last = rest[length] == b'\n';
+            if length == 0 || is_last != (field == FIELDS - 1) {
+                return None;
+            }
+            *part = &rest[..length];
+            *start += length + 1;
+        }
+        let name_start = line + parts[0].len() + 1;
+        Some(Fields { parts, name_start })
     }
-    cell_of(row.name, name, count).ok_or(7u64)?;
-    if row.name != Form::Missing {
-        line.name = spans[1];
+
+    /// The cells of fields a, b and c, if all fields have the forms of their kind.
+    fn cells(&self, row: &KindRow, label: Label, count: usize) -> Option<[i64; 3]> {
+        if label == 1 {
+            return (self.parts == OUTERMOST).then_some([0; 3]);
+        }
+        let [_, name, fields @ ..] = self.parts;
+        cell_of(row.name, name, count)?;
+        let cell = |field: usize| cell_of(row.fields[field], fields[field], count);
+        Some([cell(0)?, cell(1)?, cell(2)?])
     }
-    for ((cell, form), part) in line.fields.iter_mut().zip(row.fields).zip(fields) {
-        *cell = cell_of(form, part, count).ok_or(7u64)?;
+
+    /// Where the name or path stands; nowhere for `-`.
+    fn name(&self) -> Span {
+        match self.parts[1] {
+            b"-" => Span::default(),
+            name => Span {
+                start: self.name_start as u32,
+                length: name.len() as u32,
+            },
+        }
     }
-    Ok(line)
 }
 
 /// The cell for a field of this form (0 for names, paths and `-`), or `None`

@@ -58,14 +58,19 @@ fn check_uses(sheet: &Sheet) -> Result<(), Refusal> {
 fn fill_owners(sheet: &mut Sheet) -> Vec<u32> {
     let mut levels = vec![0; sheet.count() + 1];
     for label in sheet.labels() {
-        let line = *sheet.line(label);
-        let definition = line.kind.is_definition();
-        if definition {
-            sheet.lines[label - 1].owner = line.link(0) as u32;
+        let (below, above) = sheet.lines.split_at_mut(label);
+        let line = &mut below[label - 1];
+        let is_definition = line.kind.is_definition();
+        if is_definition {
+            line.owner = line.link(0) as u32;
         }
-        let owner = if definition { label as u32 } else { line.owner };
-        for operand in operands(&line) {
-            sheet.lines[operand - 1].owner = owner;
+        let owner = if is_definition {
+            label as u32
+        } else {
+            line.owner
+        };
+        for operand in operands(line) {
+            above[operand - label - 1].owner = owner;
             levels[operand] = levels[label] + 1;
         }
     }

@@ -29,7 +29,7 @@ pub fn near_names(groups: usize) -> Vec<u8> {
 
 /// Groups nested seven deep, each among others whose names differ in the last
 /// letter alone, and so many values that read those of the innermost one by paths
-/// of eight names. 360 fill the 65,536 bytes of a sheet.
+/// of eight names. 360 nearly fill the 65,536 bytes of a sheet.
 pub fn near_paths(readers: usize) -> Vec<u8> {
     let mut builder = Builder::new();
     let (mut group, mut path) = (1, String::new());

@@ -9,67 +9,50 @@ const CELLS: usize = 8;
 /// starts and how long it is, its numbers a, b and c, and twice 0. A field without
 /// digits is 0. Answers how many lines there are.
 pub fn floor(text: &[u8], table: &mut [i64]) -> usize {
-    let mut cursor = Cursor { text, at: 0 };
-    cursor.skip_line();
+    let mut at = line_one(text);
     let mut lines = 0;
     for cells in table.chunks_exact_mut(CELLS) {
-        let Some(&kind) = text.get(cursor.at) else {
+        let Some(&kind) = text.get(at) else {
             break;
         };
-        cursor.skip_field();
-        let start = cursor.at;
-        let length = cursor.skip_field();
-        let [a, b, c] = std::array::from_fn(|_| cursor.number());
-        let [start, length] = [start, length].map(|number| number as i64);
-        cells.copy_from_slice(&[i64::from(kind), start, length, a, b, c, 0, 0]);
+        let name = next_field(text, at);
+        let a = next_field(text, name);
+        let length = a - 1 - name;
+        let (a, b) = number(text, a);
+        let (b, c) = number(text, b);
+        let (c, next) = number(text, c);
+        let [name, length] = [name, length].map(|number| number as i64);
+        cells.copy_from_slice(&[i64::from(kind), name, length, a, b, c, 0, 0]);
+        at = next;
         lines += 1;
     }
     lines
 }
 
-struct Cursor<'a> {
-    text: &'a [u8],
-    at: usize,
+/// Where the line after the first begins.
+fn line_one(text: &[u8]) -> usize {
+    let end = text.iter().position(|&byte| byte == b'\n');
+    end.map_or(text.len(), |end| end + 1)
 }
 
-impl Cursor<'_> {
-    /// The byte at the cursor, which moves on; a line end past the text.
-    fn next(&mut self) -> u8 {
-        let byte = self.text.get(self.at).copied().unwrap_or(b'\n');
-        self.at += 1;
-        byte
+/// Where the field after that at `at` begins: past the next space or line end.
+fn next_field(text: &[u8], mut at: usize) -> usize {
+    while text[at] > b' ' {
+        at += 1;
     }
+    at + 1
+}
 
-    fn skip_line(&mut self) {
-        while self.next() != b'\n' {}
+/// The number that the field at `at` is in decimal, and where the next one begins.
+fn number(text: &[u8], mut at: usize) -> (i64, usize) {
+    let is_negative = text[at] == b'-';
+    at += usize::from(is_negative);
+    let mut number = 0;
+    while text[at] > b' ' {
+        number = 10 * number + i64::from(text[at].wrapping_sub(b'0'));
+        at += 1;
     }
-
-    /// Past the byte that ends the field, a space or a line end; gives the field's
-    /// length.
-    fn skip_field(&mut self) -> usize {
-        let start = self.at;
-        while self.next() > b' ' {}
-        self.at - 1 - start
-    }
-
-    /// The number that a field is in decimal, past the byte that ends it.
-    fn number(&mut self) -> i64 {
-        let mut byte = self.next();
-        let is_negative = byte == b'-';
-        if is_negative {
-            byte = self.next();
-        }
-        let mut number = 0;
-        while byte > b' ' {
-            number = 10 * number + i64::from(byte.wrapping_sub(b'0'));
-            byte = self.next();
-        }
-        if is_negative {
-            -number
-        } else {
-            number
-        }
-    }
+    (if is_negative { -number } else { number }, at + 1)
 }
 
 #[cfg(test)]

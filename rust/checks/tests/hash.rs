@@ -12,7 +12,7 @@ fn constant(name: &str) -> Option<u64> {
     let text = fs::read_to_string(file).expect("the crate's code");
     let number = |line: &str| {
         let line = line.trim_start_matches("pub ").strip_prefix("const ")?;
-        let rest = line.strip_prefix(name)?.strip_prefix(": u64 = ")?;
+        let rest = line.strip_prefix(name)?.strip_prefix(": usize = ")?;
         rest.trim_end_matches(';').parse().ok()
     };
     text.lines().find_map(number)

@@ -3,8 +3,8 @@
 //! constants of the crate `paths`.
 
 /// The factors of the low and of the high half of a word.
-pub const LOW_FACTOR: u64 = 1_567_704_423;
-pub const HIGH_FACTOR: u64 = 3_295_119_677;
+pub const LOW_FACTOR: u64 = 877_249_963;
+pub const HIGH_FACTOR: u64 = 1_567_245_785;
 
 /// The letters that all names in one slot begin with; four more make them 16 bytes
 /// long, and among the 36 to the fourth power of these a slot has enough.
@@ -12,8 +12,8 @@ const SHARED: &[u8] = b"decentration";
 const FREE: u32 = 4;
 const ALPHABET: &[u8; 36] = b"abcdefghijklmnopqrstuvwxyz0123456789";
 
-/// The hash of a name: eight bytes at a time, of each its low five bits, which
-/// both cases of a letter share.
+/// The hash of a name, of 16 bytes at most: eight bytes at a time, of each its low
+/// five bits, which both cases of a letter share.
 pub fn hash(name: &[u8]) -> u64 {
     name.chunks(8).fold(0, |hash, piece| {
         let word = word(piece);
@@ -22,11 +22,10 @@ pub fn hash(name: &[u8]) -> u64 {
     })
 }
 
-/// The low five bits of up to eight bytes as a number, the last byte topmost.
+/// The low five bits of up to eight bytes as a number, the first byte lowest.
 fn word(piece: &[u8]) -> u64 {
-    piece
-        .iter()
-        .fold(0, |word, byte| word >> 8 | u64::from(byte % 32) << 56)
+    let bits = piece.iter().rev().map(|byte| u64::from(byte % 32));
+    bits.fold(0, |word, bits| word << 8 | bits)
 }
 
 /// The slot of a hash in a Group with so many members, which has two for each.

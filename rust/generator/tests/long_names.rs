@@ -77,15 +77,14 @@ fn names_of_one_hash() {
     assert_eq!(hashes.len(), 1);
 }
 
-/// Worked out by hand: `b` is 2 in the top byte of a word; `abcdefgh` and `i`.
+/// Worked out by hand: `b` is 2 in the lowest byte of a word; `abcdefgh` and `i`.
 #[test]
 fn hashes() {
-    let high = |word: u64| word * slots::HIGH_FACTOR;
-    assert_eq!(slots::hash(b"b"), high(2 << 24) / 16 % (1 << 32));
+    let low = |word: u64| word * slots::LOW_FACTOR;
+    assert_eq!(slots::hash(b"b"), low(2) / 16 % (1 << 32));
     assert_eq!(slots::hash(b"B"), slots::hash(b"b"));
-    let first = 0x0403_0201 * slots::LOW_FACTOR + high(0x0807_0605);
+    let first = low(0x0403_0201) + 0x0807_0605 * slots::HIGH_FACTOR;
     let first = first / 16 % (1 << 32);
-    let second = first * slots::LOW_FACTOR + high(9 << 24);
-    assert_eq!(slots::hash(b"abcdefghi"), second / 16 % (1 << 32));
+    assert_eq!(slots::hash(b"abcdefghi"), low(first + 9) / 16 % (1 << 32));
     assert_eq!(slots::slot(u64::from(u32::MAX), 5), 9);
 }

@@ -68,8 +68,8 @@ pub words-same : (k x y : ℕ) {v w : List ℕ} → x < 256 ^ k → y < 256 ^ k 
 words-same k x y {v} {w} h g e f = words-decide k x y h g ∙ ap (λ (l : List ℕ). same l (bytesIn k y)) e ∙ ap (λ (l : List ℕ). same v l) f
 
 -- equal words say that the bytes are the same, and so are small letters for them
-pub words-equal : (k x y : ℕ) {v w : List ℕ} → bytesIn k x ≡ v → bytesIn k y ≡ w → x ≡ y → true ≡ same (lowercase v) (lowercase w)
-words-equal k x y {v} {w} e f q = sym (rw (sym e ∙ ap (bytesIn k) q ∙ f) (itself (lowercase w)))
+pub words-equal : (k x y : ℕ) → x ≡ y → true ≡ same (lowercase (bytesIn k x)) (lowercase (bytesIn k y))
+words-equal k x y q = sym (rw q (itself (lowercase (bytesIn k y))))
 
 -- ---- small letters for capitals, in one byte
 
@@ -81,6 +81,10 @@ abbrev byteTest : ℕ → Bool
 byteTest x =
     leb (x - bitAnd x 128) 127
     && (eqb (marked x 128 63 218 % 4) 0 && (eqb (x + marked x 128 63 218 / 4) (lowercaseByte x) && leb (lowercaseByte x) 255))
+
+-- case is one bit
+abbrev caseTest : ℕ → Bool
+caseTest x = eqb (bitAnd x 223) (bitAnd (lowercaseByte x) 223)
 
 abbrev pub each : (ℕ → Bool) → ℕ → Bool
 each p zero = true
@@ -97,6 +101,10 @@ each-at p (suc n) x e h = go (ℕ-discrete x n) (each-at p n x (and-right (p n) 
 all-bytes : each byteTest 256 ≡ true
 unfolding lowercaseByte
 all-bytes = refl
+
+all-cases : each caseTest 256 ≡ true
+unfolding lowercaseByte
+all-cases = refl
 
 pub record ByteFolds (x : ℕ) : Type 0 where
   pub low : x - bitAnd x 128 ≤ 127
@@ -196,3 +204,29 @@ folds zero w h =
 folds (suc k) w h =
     let split : w ≡ w / 256 * 256 + w % 256 = omega arith in
     subst (Folds (suc k)) (sym split) (folds-step k (w / 256) (w % 256) (omega arith) (folds k (w / 256) (omega (arith, pow-suc 256 k))))
+
+-- ---- words whose bytes are the same but for case have the same bits but for that of the case
+
+caseless-byte : (x y : ℕ) → x < 256 → y < 256 → lowercaseByte x ≡ lowercaseByte y → bitAnd x 223 ≡ bitAnd y 223
+caseless-byte x y h g e =
+    let bit : (z : ℕ) → z < 256 → bitAnd z 223 ≡ bitAnd (lowercaseByte z) 223 = λ z l. eqb-true (bitAnd z 223) (bitAnd (lowercaseByte z) 223) (each-at caseTest 256 z all-cases l) in
+    bit x h ∙ ap (λ (z : ℕ). bitAnd z 223) e ∙ sym (bit y g)
+
+caseless : (k x y : ℕ) → x < 256 ^ k → y < 256 ^ k → lowercase (bytesIn k x) ≡ lowercase (bytesIn k y) → bitAnd x (bytesOf k 223) ≡ bitAnd y (bytesOf k 223)
+caseless zero x y h g e = let p : x ≡ 0 = omega arith in let q : y ≡ 0 = omega arith in rw (p, q)
+caseless (suc k) x y h g e =
+    let first : lowercaseByte (x % 256) ≡ lowercaseByte (y % 256) = ap (λ (l : List ℕ). getD l 0 0) e in
+    let rest = caseless k (x / 256) (y / 256) (omega (arith, pow-suc 256 k)) (omega (arith, pow-suc 256 k)) (ap (drop 1) e) in
+    split x ∙ omega (arith, rest, caseless-byte (x % 256) (y % 256) (omega arith) (omega arith) first) ∙ sym (split y)
+  where
+    split : (z : ℕ) → bitAnd z (bytesOf (suc k) 223) ≡ bitAnd (z / 256) (bytesOf k 223) * 256 + bitAnd (z % 256) 223
+    split z =
+        let parts : z ≡ z / 256 * 256 + z % 256 = omega arith in
+        ap (λ (w : ℕ). bitAnd w (bytesOf k 223 * 256 + 223)) parts ∙ and-block 8 (z / 256) (bytesOf k 223) (z % 256) 223 (omega arith) (omega arith)
+
+pub words-differ : (k x y : ℕ) → x < 256 ^ k → y < 256 ^ k → (bitAnd x (bytesOf k 223) ≡ bitAnd y (bytesOf k 223) → ⊥) → false ≡ same (lowercase (bytesIn k x)) (lowercase (bytesIn k y))
+words-differ k x y h g f = go (same (lowercase (bytesIn k x)) (lowercase (bytesIn k y))) refl
+  where
+    go : (b : Bool) → same (lowercase (bytesIn k x)) (lowercase (bytesIn k y)) ≡ b → false ≡ b
+    go true e = absurd (f (caseless k x y h g (same-eq (lowercase (bytesIn k x)) (lowercase (bytesIn k y)) e)))
+    go false e = refl

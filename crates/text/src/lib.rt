@@ -219,17 +219,29 @@ fn fold_word(w: u64) -> u64
     w + capitals / 4
 }
 
-// Whether the eight bytes from `a` on and those from `b` on are the same but for case. Most that are compared are equal, so that is asked first.
+// In each byte all bits but that in which the two cases of a letter differ.
+const CASELESS: u64 = 0xdfdfdfdfdfdfdfdf;
+
+// Whether the bytes of two words are the same but for case. Most that are compared are equal, or differ in other bits than that of the case,
+// so these are asked for first.
+fn same_word(x: u64, y: u64) -> bool
+    ensures { λ r. ⌜ r ≡ same (lowercase (bytesIn 8 x)) (lowercase (bytesIn 8 y)) ⌝ }
+{
+    if x == y {
+        return true;
+    }
+    if x & CASELESS != y & CASELESS {
+        return false;
+    }
+    fold_word(x) == fold_word(y)
+}
+
+// Whether the eight bytes from `a` on and those from `b` on are the same but for case.
 pub fn same_eight(text: &[u8], a: usize, b: usize) -> bool
     requires { ⌜ (a + 8 ≤ length (now text)) × (b + 8 ≤ length (now text)) ⌝ }
     ensures { λ r. ⌜ r ≡ same (lowercase (slice a (a + 8) (now (text .entry)))) (lowercase (slice b (b + 8) (now (text .entry)))) ⌝ }
 {
-    let x = word_at(text, a);
-    let y = word_at(text, b);
-    if x == y {
-        return true;
-    }
-    fold_word(x) == fold_word(y)
+    same_word(word_at(text, a), word_at(text, b))
 }
 
 // An ASCII letter.

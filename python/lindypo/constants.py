@@ -2,7 +2,7 @@
 
 from enum import IntEnum
 
-VERSION = "0.4.0"
+VERSION = "0.4.1"
 
 # limits of a sheet
 TEXT_MOST = 65536

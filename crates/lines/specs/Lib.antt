@@ -1,4 +1,5 @@
 pub mod Fields
 pub mod Lines
 pub mod LineSteps
+pub mod Scanned
 pub mod Lined

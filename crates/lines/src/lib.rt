@@ -2,7 +2,7 @@
 
 ghost use mathlib.Core.Path.{_≡_};
 ghost use mathlib.Core.Bool.{true, cond};
-ghost use Prim.Native.Nat.{_+_, _-_, _*_, _≤_, _<_};
+ghost use Prim.Native.Nat.{ℕ, _+_, _-_, _*_, _≤_, _<_};
 ghost use lib.IntN.{pos};
 ghost use lib.ListN.{length};
 ghost use lib.Seq.{slice, sets};
@@ -10,10 +10,13 @@ ghost use Rattle.cells.specs.Limits.{labelLimit, sizeLimit};
 ghost use Rattle.kinds.specs.Kinds.{isKind};
 ghost use Rattle.text.specs.Bytes.{all, countBy, isAllowed, isNewline, endsLines, same};
 ghost use Rattle.text.specs.Forms.{labelOf};
+ghost use Rattle.text.specs.Scans.{EndsAt};
+ghost use Rattle.cells.specs.Characters.{space};
 ghost use Rattle.numbers.specs.Decimal.{numberOf};
 ghost use Rattle.refusals.specs.Refusal.{replyOf};
 ghost use Rattle.lines.specs.Fields.{dash, blankIf, fromLabel, fromNumber, fieldOf, kindCode};
 ghost use Rattle.lines.specs.Lines.{isText, line, firstLine, labels, headBad, linesBad};
+ghost use Rattle.lines.specs.Scanned.{Scanned, ScannedAll, QuickOf};
 ghost use Rattle.lines.specs.LineSteps.{FiveAt, SplitOf, operandsAt, eightCells, cellsByEnds, otherRead, rootRead, lineRead, stepOf, lineWritten, passed, linesWritten};
 use kinds::Fields;
 use kinds::Form;
@@ -283,8 +286,180 @@ fn read_five(text: &[u8], from: usize, e: Ends, n: usize, label: usize) -> LineJ
     read_cells(text, from, e, code, n)
 }
 
+// ---- a line in one scan
+
+// Where a field ends that is read in one scan, and what it holds for its cell. End 0 says nothing.
+pub struct Scan {
+    pub end: usize,
+    pub value: i64,
+}
+
+// A missing field.
+fn scan_missing(text: &[u8], from: usize, stop: u8) -> usize
+    requires { ⌜ (from < length (now text)) × endsLines (now text) ⌝ }
+    ensures { λ r. ⌜ ((r ≡ 0 → ⊥) → EndsAt (now (text .entry)) from stop r × (same (slice from r (now (text .entry))) dash ≡ true)) ⌝ }
+{
+    if text[from] != b'-' {
+        return 0;
+    }
+    if text[from + 1] != stop {
+        return 0;
+    }
+    from + 1
+}
+
+// A field that holds a label, 1 to n.
+fn label_cell(text: &[u8], from: usize, n: usize, stop: u8) -> Scan
+    requires { ⌜ (from < length (now text)) × endsLines (now text) × (n ≤ labelLimit) ⌝ }
+    ensures { λ r. ⌜ ((r .end ≡ 0 → ⊥) → EndsAt (now (text .entry)) from stop (r .end) × (fromLabel (labelOf n (slice from (r .end) (now (text .entry)))) ≡ Field.Holds (r .value))) ⌝ }
+{
+    let d = text::scan_label(text, from, n as u64, stop);
+    Scan {
+        end: d.end,
+        value: d.value as i64,
+    }
+}
+
+// A field that holds a number.
+fn number_cell(text: &[u8], from: usize, stop: u8) -> Scan
+    requires { ⌜ (from < length (now text)) × endsLines (now text) ⌝ }
+    ensures { λ r. ⌜ ((r .end ≡ 0 → ⊥) → EndsAt (now (text .entry)) from stop (r .end) × (fromNumber (numberOf (slice from (r .end) (now (text .entry)))) ≡ Field.Holds (r .value))) ⌝ }
+{
+    if text[from] == b'-' {
+        let d = text::scan_decimal(text, from + 1, numbers::LARGEST_SIZE, stop);
+        if d.value == 0 {
+            return Scan { end: 0, value: 0 }; // there is no `-0`
+        }
+        return Scan {
+            end: d.end,
+            value: cells::with_sign(true, d.value),
+        };
+    }
+    let d = text::scan_decimal(text, from, numbers::LARGEST_SIZE, stop);
+    Scan {
+        end: d.end,
+        value: cells::with_sign(false, d.value),
+    }
+}
+
+// The field a, b or c. No kind has a name or a path there, nor a number but in a: what this does not look for costs it nothing.
+fn scan_cell(text: &[u8], from: usize, form: Form, n: usize, stop: u8) -> Scan
+    requires { ⌜ (from < length (now text)) × endsLines (now text) × (n ≤ labelLimit) ⌝ }
+    ensures { λ r. ⌜ ((r .end ≡ 0 → ⊥) → Scanned form n (now (text .entry)) from stop (r .end) (r .value)) ⌝ }
+{
+    match form {
+        Form::Missing => Scan {
+            end: scan_missing(text, from, stop),
+            value: 0,
+        },
+        Form::Group => label_cell(text, from, n, stop),
+        Form::Operand => label_cell(text, from, n, stop),
+        _ => Scan { end: 0, value: 0 },
+    }
+}
+
+// The field a.
+fn scan_first(text: &[u8], from: usize, form: Form, n: usize) -> Scan
+    requires { ⌜ (from < length (now text)) × endsLines (now text) × (n ≤ labelLimit) ⌝ }
+    ensures { λ r. ⌜ ((r .end ≡ 0 → ⊥) → Scanned form n (now (text .entry)) from space (r .end) (r .value)) ⌝ }
+{
+    match form {
+        Form::Number => number_cell(text, from, b' '),
+        _ => scan_cell(text, from, form, n, b' '),
+    }
+}
+
+// The fields a, b and c in one scan: what is found where c has an end.
+pub struct Scans {
+    pub a: Scan,
+    pub b: Scan,
+    pub c: Scan,
+}
+
+fn scan_operands(text: &[u8], from: usize, kind: Fields, n: usize) -> Scans
+    requires { ⌜ (from < length (now text)) × endsLines (now text) × (n ≤ labelLimit) ⌝ }
+    ensures { λ r. ⌜ ((r .c .end ≡ 0 → ⊥) → ScannedAll kind n (now (text .entry)) from r) ⌝ }
+{
+    let form_a = kind.a;
+    let form_b = kind.b;
+    let form_c = kind.c;
+    let none = Scan { end: 0, value: 0 };
+    let a = scan_first(text, from, form_a, n);
+    if a.end == 0 {
+        return Scans {
+            a,
+            b: none,
+            c: none,
+        };
+    }
+    let b = scan_cell(text, a.end + 1, form_b, n, b' ');
+    if b.end == 0 {
+        return Scans { a, b, c: none };
+    }
+    let c = scan_cell(text, b.end + 1, form_c, n, b'\n');
+    Scans { a, b, c }
+}
+
+// The name field.
+fn scan_called(text: &[u8], from: usize, form: Form) -> usize
+    requires { ⌜ (from < length (now text)) × endsLines (now text) ⌝ }
+    ensures { λ r. ⌜ ((r ≡ 0 → ⊥) → (n : ℕ) → Scanned form n (now (text .entry)) from space r (pos 0)) ⌝ }
+{
+    match form {
+        Form::Missing => scan_missing(text, from, b' '),
+        Form::Name => text::scan_name(text, from, b' '),
+        Form::Path => text::scan_path(text, from, b' '),
+        _ => 0,
+    }
+}
+
+// A line that one scan finds to pass rows 5 to 7, or one that it says nothing of.
+pub enum Quick {
+    Line(LineCells),
+    Slow,
+}
+
+// The line that begins at `from`, in one scan. What refuses a line, and label 1, are left to the functions above.
+fn quick_line(text: &[u8], from: usize, n: usize, label: usize) -> Quick
+    requires { ⌜ (from < length (now text)) × (n ≤ labelLimit) × (length (now text) ≤ sizeLimit) × endsLines (now text) × (all isAllowed (now text) ≡ true) ⌝ }
+    ensures { λ r. ⌜ QuickOf n label (now (text .entry)) from r ⌝ }
+{
+    if label == 1 {
+        return Quick::Slow;
+    }
+    let code = kinds::code_of(text[from]);
+    if code == 0 {
+        return Quick::Slow;
+    }
+    let kind = from + 1;
+    if text[kind] != b' ' {
+        return Quick::Slow;
+    }
+    let fields = kinds::fields_of(code);
+    let form = fields.name;
+    let name = scan_called(text, kind + 1, form);
+    if name == 0 {
+        return Quick::Slow;
+    }
+    let r = scan_operands(text, name + 1, fields, n);
+    let a = r.a;
+    let b = r.b;
+    let c = r.c;
+    if c.end == 0 {
+        return Quick::Slow;
+    }
+    let e = Ends {
+        kind,
+        name,
+        a: a.end,
+        b: b.end,
+        c: c.end,
+    };
+    Quick::Line(cells_of(text, e, code, a.value, b.value, c.value))
+}
+
 // The line that begins at `from`: rows 5 to 7, lowest number first.
-fn read_line(text: &[u8], from: usize, n: usize, label: usize) -> LineJudged
+fn read_split(text: &[u8], from: usize, n: usize, label: usize) -> LineJudged
     requires { ⌜ (from < length (now text)) × (n ≤ labelLimit) × (length (now text) ≤ sizeLimit) × endsLines (now text) × (all isAllowed (now text) ≡ true) ⌝ }
     ensures { λ r. ⌜ r ≡ lineRead n label (now (text .entry)) from ⌝ }
 {
@@ -292,6 +467,17 @@ fn read_line(text: &[u8], from: usize, n: usize, label: usize) -> LineJudged
         Split::Five(e) => read_five(text, from, e, n, label),
         Split::Other => LineJudged::Fails(refusals::FIELDS),
     }
+}
+
+// The line that begins at `from`, in one scan where that finds it to pass; any other line is split first.
+fn read_line(text: &[u8], from: usize, n: usize, label: usize) -> LineJudged
+    requires { ⌜ (from < length (now text)) × (n ≤ labelLimit) × (length (now text) ≤ sizeLimit) × endsLines (now text) × (all isAllowed (now text) ≡ true) ⌝ }
+    ensures { λ r. ⌜ r ≡ lineRead n label (now (text .entry)) from ⌝ }
+{
+    let Quick::Line(row) = quick_line(text, from, n, label) else {
+        return read_split(text, from, n, label);
+    };
+    LineJudged::Passes(row)
 }
 
 // ---- the pass down the lines

@@ -180,6 +180,13 @@ first-digit c f = go (leb digitZero c) refl
     go true a e = leb-true digitZero c a
     go false a e = clash (sym e)
 
+-- a first digit other than 0 makes it 1 at least
+pub decimal-some : (max c : ℕ) (f : List ℕ) (v : ℕ) → decimalOf max (c ∷ f) ≡ decimal.Is v → (c ≡ digitZero → ⊥) → 1 ≤ v
+unfolding digitsValue
+decimal-some max c f v e h =
+    let w = written max (c ∷ f) v e in
+    omega (arith, w .is, first-digit c f (w .digits), grows (10 * 0 + (c - digitZero)) f, h)
+
 pub decimal-number : (max : ℕ) (f : List ℕ) (v : ℕ) → max ≤ numberLimit → decimalOf max f ≡ decimal.Is v → numberOf f ≡ number.Is (pos v)
 unfolding numberOf
 decimal-number max [] v h e = clash (sym (written max [] v e .plain))

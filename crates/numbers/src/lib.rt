@@ -19,7 +19,7 @@ const SMALLEST: i64 = -1000000000;
 const LARGEST: i64 = 1000000000;
 
 // The size of both.
-const LARGEST_SIZE: u64 = 1000000000;
+pub const LARGEST_SIZE: u64 = 1000000000;
 
 // ---- rounding
 

@@ -1,5 +1,4 @@
 pub mod Bytes
-pub mod Letters
 pub mod Lines
 pub mod Sheets
 pub mod Tables

@@ -4,6 +4,8 @@ pub mod Cuts
 pub mod Joined
 pub mod Fields
 pub mod Names
+pub mod Printed
 pub mod Labels
+pub mod Scanned
 pub mod Lowercase
 pub mod Words

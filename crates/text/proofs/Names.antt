@@ -148,7 +148,7 @@ module _ (s : List ℕ) (from to : ℕ) (h : from < to) (k : to ≤ length s) wh
       go true false e f = inr (refl, inr (leb-false r nameLimit f))
       go false y e f = inr (refl, inl refl)
 
-  letter-run : isLetter (getD s from 0) ≡ true → 1 ≤ r
+  pub letter-run : isLetter (getD s from 0) ≡ true → 1 ≤ r
   letter-run e = rw (slice-at s from to h k, letter-alphanumeric (getD s from 0) e) (omega arith)
 
   -- `is_name`: the run is the whole field

@@ -2,12 +2,14 @@
 use mathlib.Core.Path.{_≡_}
 use mathlib.Core.Bool.{Bool, true, false, cond, not, _&&_}
 use mathlib.Core.List.{List, [], _∷_}
-use Prim.Native.Nat.{ℕ, suc, _+_, _-_, _≤_}
+use Prim.Native.Nat.{ℕ, suc, _+_, _-_, _≤_, _<_}
 use lib.Dec.{leb, ltb, eqb}
 use lib.ListN.{length, getD, drop}
 use lib.Seq.{slice}
 use Rattle.cells.specs.Limits.{nameLimit}
 use Rattle.cells.specs.Characters.{newline, space}
+use Rattle.numbers.specs.Decimal.{digitsOf}
+use Rattle.numbers.specs.declared.Decimal.the-variants as decimal
 use Rattle.text.specs.Bytes.{countBy, isAllowed, isLetter, isAlphanumeric}
 use Rattle.text.specs.Pieces.{cut, firstOf}
 
@@ -67,3 +69,29 @@ unfoldable pub nameEnd : List ℕ → ℕ → ℕ → ℕ
 nameEnd s from to =
     let end = runEnd isAlphanumeric s from to in
     cond (isLetter (getD s from 0) && leb (end - from) nameLimit) end 0
+
+-- ---- what one scan finds from `from` on, up to e
+
+-- a field that the byte `stop` ends
+pub record EndsAt (s : List ℕ) (from stop e : ℕ) : Type 0 where
+  pub wide : from < e
+  pub inside : e < length s
+  pub by : getD s e 0 ≡ stop
+
+-- letters and digits, however much of the text after them is looked at
+pub record LettersTo (s : List ℕ) (from e : ℕ) : Type 0 where
+  pub low : from ≤ e
+  pub inside : e < length s
+  pub ends : (t : ℕ) → e ≤ t → t ≤ length s → runEnd isAlphanumeric s from t ≡ e
+
+-- a name
+pub record NameTo (s : List ℕ) (from e : ℕ) : Type 0 where
+  pub wide : from < e
+  pub inside : e < length s
+  pub ends : (t : ℕ) → e ≤ t → t ≤ length s → nameEnd s from t ≡ e
+
+-- digits of the value v, or none, which have the value 0
+pub record DigitsTo (max : ℕ) (s : List ℕ) (from e v : ℕ) : Type 0 where
+  pub low : from ≤ e
+  pub inside : e < length s
+  pub value : digitsOf max 0 (slice from e s) ≡ decimal.Is v

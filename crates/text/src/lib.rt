@@ -6,11 +6,13 @@ ghost use Prim.Native.Nat.{_+_, _^_, _≤_, _<_};
 ghost use lib.Dec.{eqb};
 ghost use lib.ListN.{length};
 ghost use lib.Seq.{slice};
-ghost use Rattle.cells.specs.Limits.{labelLimit, sizeLimit};
+ghost use mathlib.Core.Bool.{true};
+ghost use Rattle.cells.specs.Limits.{labelLimit, numberLimit, sizeLimit};
+ghost use Rattle.numbers.specs.Decimal.{digitsOf, decimalOf};
 ghost use Rattle.text.specs.Bytes.{one, countBy, isNewline, isLetter, isAlphanumeric, lowercaseByte, lowercase, isTwoCases, same, endsLines};
 ghost use Rattle.text.specs.Words.{bytesIn};
 ghost use Rattle.text.specs.Forms.{isName, isPath, labelOf};
-ghost use Rattle.text.specs.Scans.{blockSize, Counted, runEnd, fieldEnd, nameEnd, isBad, isGraphic};
+ghost use Rattle.text.specs.Scans.{blockSize, Counted, runEnd, fieldEnd, nameEnd, isBad, isGraphic, EndsAt, LettersTo, NameTo, DigitsTo};
 use numbers::Decimal;
 
 // ---- the bytes of a text
@@ -349,4 +351,149 @@ pub fn read_label(text: &[u8], from: usize, to: usize, n: u64) -> Decimal
         return Decimal::Not;
     }
     Decimal::Is(v)
+}
+
+// ---- fields in one scan: read until a byte that they cannot hold, and taken where the byte `stop` stands there. End 0 says nothing.
+
+// Where the letters and digits end that begin at `from`. The newline that ends the text stops them.
+fn letters_end(text: &[u8], from: usize) -> usize
+    requires { ⌜ (from < length (now text)) × endsLines (now text) ⌝ }
+    ensures { λ r. ⌜ LettersTo (now (text .entry)) from r ⌝ }
+{
+    let mut i = from;
+    while is_alphanumeric(text[i]) {
+        i += 1;
+    }
+    i
+}
+
+// Where the name ends that begins at `from`, whatever stands there.
+fn next_name(text: &[u8], from: usize) -> usize
+    requires { ⌜ (from < length (now text)) × endsLines (now text) ⌝ }
+    ensures { λ r. ⌜ ((r ≡ 0 → ⊥) → NameTo (now (text .entry)) from r) ⌝ }
+{
+    if is_letter(text[from]) {
+        let end = letters_end(text, from);
+        if end - from <= cells::NAME_LIMIT {
+            return end;
+        }
+    }
+    0
+}
+
+// Where the name ends that begins at `from`.
+pub fn scan_name(text: &[u8], from: usize, stop: u8) -> usize
+    requires { ⌜ (from < length (now text)) × endsLines (now text) ⌝ }
+    ensures { λ r. ⌜ ((r ≡ 0 → ⊥) → EndsAt (now (text .entry)) from stop r × (isName (slice from r (now (text .entry))) ≡ true)) ⌝ }
+{
+    let end = next_name(text, from);
+    if end == 0 {
+        return 0;
+    }
+    if text[end] != stop {
+        return 0;
+    }
+    end
+}
+
+// Where the path ends that begins at `from`.
+pub fn scan_path(text: &[u8], from: usize, stop: u8) -> usize
+    requires { ⌜ (from < length (now text)) × endsLines (now text) ⌝ }
+    ensures { λ r. ⌜ ((r ≡ 0 → ⊥) → EndsAt (now (text .entry)) from stop r × (isPath (slice from r (now (text .entry))) ≡ true)) ⌝ }
+{
+    let mut at = from;
+    let mut names: usize = 0;
+    while names < cells::PATH_LIMIT {
+        let end = next_name(text, at);
+        if end == 0 {
+            return 0;
+        }
+        if text[end] == stop {
+            return end;
+        }
+        if text[end] != b'.' {
+            return 0;
+        }
+        at = end + 1;
+        names += 1;
+    }
+    0
+}
+
+// Where digits end, and their value.
+pub struct Digits {
+    pub end: usize,
+    pub value: u64,
+}
+
+// The digits that begin at `from`, whatever stands after them, if their value is at most max.
+fn digits_end(text: &[u8], from: usize, max: u64) -> Digits
+    requires { ⌜ (from < length (now text)) × endsLines (now text) × (max ≤ numberLimit) ⌝ }
+    ensures { λ r. ⌜ r .value ≤ max ⌝ }
+    ensures { λ r. ⌜ ((r .end ≡ 0 → ⊥) → DigitsTo max (now (text .entry)) from (r .end) (r .value)) ⌝ }
+{
+    let mut v: u64 = 0;
+    let mut i = from;
+    loop {
+        let c = text[i];
+        if c < b'0' {
+            return Digits { end: i, value: v };
+        }
+        if b'9' < c {
+            return Digits { end: i, value: v };
+        }
+        let more = 10 * v + ((c - b'0') as u64);
+        if max < more {
+            return Digits { end: 0, value: 0 };
+        }
+        v = more;
+        i += 1;
+    }
+}
+
+// The digits that begin at `from`, one at least, if their value is at most max.
+fn scan_digits(text: &[u8], from: usize, max: u64, stop: u8) -> Digits
+    requires { ⌜ (from < length (now text)) × endsLines (now text) × (max ≤ numberLimit) ⌝ }
+    ensures { λ r. ⌜ r .value ≤ max ⌝ }
+    ensures { λ r. ⌜ ((r .end ≡ 0 → ⊥) → EndsAt (now (text .entry)) from stop (r .end) × (digitsOf max 0 (slice from (r .end) (now (text .entry))) ≡ Decimal.Is (r .value))) ⌝ }
+{
+    let d = digits_end(text, from, max);
+    let end = d.end;
+    if end <= from {
+        return Digits { end: 0, value: 0 };
+    }
+    if text[end] != stop {
+        return Digits { end: 0, value: 0 };
+    }
+    d
+}
+
+// The label field that begins at `from`.
+pub fn scan_label(text: &[u8], from: usize, n: u64, stop: u8) -> Digits
+    requires { ⌜ (from < length (now text)) × endsLines (now text) × (n ≤ labelLimit) ⌝ }
+    ensures { λ r. ⌜ r .value ≤ n ⌝ }
+    ensures { λ r. ⌜ ((r .end ≡ 0 → ⊥) → EndsAt (now (text .entry)) from stop (r .end) × (labelOf n (slice from (r .end) (now (text .entry))) ≡ Decimal.Is (r .value))) ⌝ }
+{
+    if text[from] == b'0' {
+        return Digits { end: 0, value: 0 };
+    }
+    scan_digits(text, from, n, stop)
+}
+
+// The decimal that begins at `from`, if it is at most max.
+pub fn scan_decimal(text: &[u8], from: usize, max: u64, stop: u8) -> Digits
+    requires { ⌜ (from < length (now text)) × endsLines (now text) × (max ≤ numberLimit) ⌝ }
+    ensures { λ r. ⌜ r .value ≤ max ⌝ }
+    ensures { λ r. ⌜ ((r .end ≡ 0 → ⊥) → EndsAt (now (text .entry)) from stop (r .end) × (decimalOf max (slice from (r .end) (now (text .entry))) ≡ Decimal.Is (r .value))) ⌝ }
+{
+    if text[from] == b'0' {
+        if text[from + 1] != stop {
+            return Digits { end: 0, value: 0 };
+        }
+        return Digits {
+            end: from + 1,
+            value: 0,
+        };
+    }
+    scan_digits(text, from, max, stop)
 }

@@ -1,36 +1,31 @@
--- Row 5 by what the split says.
+-- The line in one scan, or split.
 use mathlib.Core.Path.{subst}
 use borrow.Author.Needs.{needs}
-use Rattle.lines.specs.LineSteps.{SplitOf}
-use Rattle.lines.proofs.Rows.{line-fields}
+use Rattle.lines.specs.Scanned.{QuickOf}
 use Rattle.lines.proofs.read_line.Statement.{statement}
 use Rattle.lines.proofs.read_line.Tie as tie
 
-split-line-requires : tie.Need-split-line-requires
-split-line-requires c κs = search needs
+quick-line-requires : tie.Need-quick-line-requires
+quick-line-requires c κs = search needs
 
-enum-known-e : tie.Need-enum-known-e
-enum-known-e c = search needs
-
-read-five-requires : tie.Need-read-five-requires
-read-five-requires c κs =
-    let entry = c .before .before .before .before .before in
-    let split-line = c .before .before .before .split-line in
-    (subst (SplitOf (entry .args .text .now) (entry .args .from)) (c .before .e .given .1) (split-line .ensures), entry .pre .1, entry .pre .2)
+enum-known-row : tie.Need-enum-known-row
+enum-known-row c = search needs
 
 enum-told : tie.Need-enum-told
 enum-told c = search needs
 
+read-split-requires : tie.Need-read-split-requires
+read-split-requires c κs = search needs
+
 returns : tie.Need-returns
-returns c = search needs
+returns c = c .read-split .ensures
 
 returns-2 : tie.Need-returns-2
 returns-2 c =
-    let entry = c .before .before .before .before in
-    line-fields (entry .args .n) (entry .args .label) (entry .args .text .now) (entry .args .from)
-    (subst (SplitOf (entry .args .text .now) (entry .args .from)) (c .enum-told .given .1) (c .before .before .split-line .ensures))
+    let args = c .before .before .before .before .before .args in
+    subst (QuickOf (args .n) (args .label) (args .text .now) (args .from)) (c .before .row .given .1) (c .before .before .before .quick-line .ensures)
 
 pub read-line-spec : {M : Type 1} → statement M
 read-line-spec =
     tie.close
-    (tie.spec split-line-requires enum-known-e read-five-requires enum-told returns returns-2)
+    (tie.spec quick-line-requires enum-known-row enum-told read-split-requires returns returns-2)

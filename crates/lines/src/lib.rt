@@ -424,7 +424,7 @@ fn quick_line(text: &[u8], from: usize, n: usize, label: usize) -> Quick
     requires { ⌜ (from < length (now text)) × (n ≤ labelLimit) × (length (now text) ≤ sizeLimit) × endsLines (now text) × (all isAllowed (now text) ≡ true) ⌝ }
     ensures { λ r. ⌜ QuickOf n label (now (text .entry)) from r ⌝ }
 {
-    if label == 1 {
+    if label < 2 {
         return Quick::Slow;
     }
     let code = kinds::code_of(text[from]);

@@ -374,9 +374,10 @@ fn next_name(text: &[u8], from: usize) -> usize
 {
     if is_letter(text[from]) {
         let end = letters_end(text, from);
-        if end - from <= cells::NAME_LIMIT {
-            return end;
+        if cells::NAME_LIMIT < end - from {
+            return 0;
         }
+        return end;
     }
     0
 }
@@ -390,10 +391,10 @@ pub fn scan_name(text: &[u8], from: usize, stop: u8) -> usize
     if end == 0 {
         return 0;
     }
-    if text[end] != stop {
-        return 0;
+    if text[end] == stop {
+        return end;
     }
-    end
+    0
 }
 
 // Where the path ends that begins at `from`.
@@ -486,14 +487,14 @@ pub fn scan_decimal(text: &[u8], from: usize, max: u64, stop: u8) -> Digits
     ensures { λ r. ⌜ r .value ≤ max ⌝ }
     ensures { λ r. ⌜ ((r .end ≡ 0 → ⊥) → EndsAt (now (text .entry)) from stop (r .end) × (decimalOf max (slice from (r .end) (now (text .entry))) ≡ Decimal.Is (r .value))) ⌝ }
 {
-    if text[from] == b'0' {
-        if text[from + 1] != stop {
-            return Digits { end: 0, value: 0 };
-        }
-        return Digits {
-            end: from + 1,
-            value: 0,
-        };
+    if text[from] != b'0' {
+        return scan_digits(text, from, max, stop);
     }
-    scan_digits(text, from, max, stop)
+    if text[from + 1] != stop {
+        return Digits { end: 0, value: 0 };
+    }
+    Digits {
+        end: from + 1,
+        value: 0,
+    }
 }

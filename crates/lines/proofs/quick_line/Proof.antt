@@ -122,7 +122,7 @@ returns-6 c =
     let if1 = else2 .before .before .before .if1 in
     line-right (entry .args .text .now) (entry .pre .3) (entry .pre .4) (entry .args .from) (next-kind else2) (named else2) (if3 .left)
     (fields-of .result) (entry .args .n) (scan-called .result) (scan-operands .result) (scan-called .ensures (else4 .if4 .left) (entry .args .n)) (scan-operands .ensures (if5 .left))
-    (entry .args .label) (else2 .before .code-of .result) (c .cells-of .result) (if1 .left) (else2 .before .code-of .ensures) (fields-of .ensures)
+    (entry .args .label) (else2 .before .code-of .result) (c .cells-of .result) (λ q. omega (arith, if1 .left)) (else2 .before .code-of .ensures) (fields-of .ensures)
     (c .cells-of .ensures ∙ simp (
       whole (scan-operands .result .a .value) (c .before .before .before .struct-told .given .1 .0 .1),
       whole (scan-operands .result .b .value) (c .before .before .struct-told2 .given .1 .0 .1),

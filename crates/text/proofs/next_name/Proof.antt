@@ -18,14 +18,14 @@ sub-if2 : tie.Need-sub-if2
 sub-if2 c = c .letters-end .ensures .low
 
 returns : tie.Need-returns
-returns c =
+returns c = λ h. absurd (h refl)
+
+returns-2 : tie.Need-returns-2
+returns-2 c =
     let entry = c .before .before .before .before .before .before in
     let is-letter = c .before .before .before .is-letter in
     λ h. name-to (entry .args .text .now) (entry .args .from) (c .before .letters-end .result) (entry .pre .0)
-    (sym (is-letter .ensures) ∙ c .before .before .if1 .taken) (c .before .letters-end .ensures) (c .if2 .taken)
-
-returns-2 : tie.Need-returns-2
-returns-2 c = λ h. absurd (h refl)
+    (sym (is-letter .ensures) ∙ c .before .before .if1 .taken) (c .before .letters-end .ensures) (c .if2 .left)
 
 returns-3 : tie.Need-returns-3
 returns-3 c = λ h. absurd (h refl)

@@ -342,7 +342,7 @@ fn number_cell(text: &[u8], from: usize, stop: u8) -> Scan
     }
 }
 
-// The field a, b or c. No kind has a name or a path there, nor a number but in a: what this does not look for costs it nothing.
+// The field a, b or c. No kind has a name or a path there, and only a may hold a number: what is not looked for costs no time.
 fn scan_cell(text: &[u8], from: usize, form: Form, n: usize, stop: u8) -> Scan
     requires { ⌜ (from < length (now text)) × endsLines (now text) × (n ≤ labelLimit) ⌝ }
     ensures { λ r. ⌜ ((r .end ≡ 0 → ⊥) → Scanned form n (now (text .entry)) from stop (r .end) (r .value)) ⌝ }
@@ -369,13 +369,14 @@ fn scan_first(text: &[u8], from: usize, form: Form, n: usize) -> Scan
     }
 }
 
-// The fields a, b and c in one scan: what is found where c has an end.
+// The fields a, b and c in one scan. They are found where c has an end.
 pub struct Scans {
     pub a: Scan,
     pub b: Scan,
     pub c: Scan,
 }
 
+// They are read one after the other, up to the first that is not found.
 fn scan_operands(text: &[u8], from: usize, kind: Fields, n: usize) -> Scans
     requires { ⌜ (from < length (now text)) × endsLines (now text) × (n ≤ labelLimit) ⌝ }
     ensures { λ r. ⌜ ((r .c .end ≡ 0 → ⊥) → ScannedAll kind n (now (text .entry)) from r) ⌝ }
@@ -419,7 +420,7 @@ pub enum Quick {
     Slow,
 }
 
-// The line that begins at `from`, in one scan. What refuses a line, and label 1, are left to the functions above.
+// The line that begins at `from`, in one scan. Label 1 and whatever a row refuses are left to the functions above.
 fn quick_line(text: &[u8], from: usize, n: usize, label: usize) -> Quick
     requires { ⌜ (from < length (now text)) × (n ≤ labelLimit) × (length (now text) ≤ sizeLimit) × endsLines (now text) × (all isAllowed (now text) ≡ true) ⌝ }
     ensures { λ r. ⌜ QuickOf n label (now (text .entry)) from r ⌝ }
@@ -458,7 +459,7 @@ fn quick_line(text: &[u8], from: usize, n: usize, label: usize) -> Quick
     Quick::Line(cells_of(text, e, code, a.value, b.value, c.value))
 }
 
-// The line that begins at `from`: rows 5 to 7, lowest number first.
+// The line that begins at `from`, split into fields first: rows 5 to 7, lowest number first.
 fn read_split(text: &[u8], from: usize, n: usize, label: usize) -> LineJudged
     requires { ⌜ (from < length (now text)) × (n ≤ labelLimit) × (length (now text) ≤ sizeLimit) × endsLines (now text) × (all isAllowed (now text) ≡ true) ⌝ }
     ensures { λ r. ⌜ r ≡ lineRead n label (now (text .entry)) from ⌝ }
@@ -469,7 +470,7 @@ fn read_split(text: &[u8], from: usize, n: usize, label: usize) -> LineJudged
     }
 }
 
-// The line that begins at `from`, in one scan where that finds it to pass; any other line is split first.
+// The line that begins at `from`: in one scan where that finds it to pass, and split where it says nothing.
 fn read_line(text: &[u8], from: usize, n: usize, label: usize) -> LineJudged
     requires { ⌜ (from < length (now text)) × (n ≤ labelLimit) × (length (now text) ≤ sizeLimit) × endsLines (now text) × (all isAllowed (now text) ≡ true) ⌝ }
     ensures { λ r. ⌜ r ≡ lineRead n label (now (text .entry)) from ⌝ }

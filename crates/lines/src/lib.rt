@@ -309,7 +309,7 @@ fn scan_missing(text: &[u8], from: usize, stop: u8) -> usize
 }
 
 // A field that holds a label, 1 to n.
-fn label_cell(text: &[u8], from: usize, n: usize, stop: u8) -> Scan
+fn label_scan(text: &[u8], from: usize, n: usize, stop: u8) -> Scan
     requires { ⌜ (from < length (now text)) × endsLines (now text) × (n ≤ labelLimit) ⌝ }
     ensures { λ r. ⌜ ((r .end ≡ 0 → ⊥) → EndsAt (now (text .entry)) from stop (r .end) × (fromLabel (labelOf n (slice from (r .end) (now (text .entry)))) ≡ Field.Holds (r .value))) ⌝ }
 {
@@ -321,7 +321,7 @@ fn label_cell(text: &[u8], from: usize, n: usize, stop: u8) -> Scan
 }
 
 // A field that holds a number.
-fn number_cell(text: &[u8], from: usize, stop: u8) -> Scan
+fn number_scan(text: &[u8], from: usize, stop: u8) -> Scan
     requires { ⌜ (from < length (now text)) × endsLines (now text) ⌝ }
     ensures { λ r. ⌜ ((r .end ≡ 0 → ⊥) → EndsAt (now (text .entry)) from stop (r .end) × (fromNumber (numberOf (slice from (r .end) (now (text .entry)))) ≡ Field.Holds (r .value))) ⌝ }
 {
@@ -352,8 +352,8 @@ fn scan_cell(text: &[u8], from: usize, form: Form, n: usize, stop: u8) -> Scan
             end: scan_missing(text, from, stop),
             value: 0,
         },
-        Form::Group => label_cell(text, from, n, stop),
-        Form::Operand => label_cell(text, from, n, stop),
+        Form::Group => label_scan(text, from, n, stop),
+        Form::Operand => label_scan(text, from, n, stop),
         _ => Scan { end: 0, value: 0 },
     }
 }
@@ -364,7 +364,7 @@ fn scan_first(text: &[u8], from: usize, form: Form, n: usize) -> Scan
     ensures { λ r. ⌜ ((r .end ≡ 0 → ⊥) → Scanned form n (now (text .entry)) from space (r .end) (r .value)) ⌝ }
 {
     match form {
-        Form::Number => number_cell(text, from, b' '),
+        Form::Number => number_scan(text, from, b' '),
         _ => scan_cell(text, from, form, n, b' '),
     }
 }

@@ -14,14 +14,14 @@ scan-missing-requires c κs = search needs
 enum-told-2 : tie.Need-enum-told-2
 enum-told-2 c = search needs
 
-label-cell-requires : tie.Need-label-cell-requires
-label-cell-requires c κs = search needs
+label-scan-requires : tie.Need-label-scan-requires
+label-scan-requires c κs = search needs
 
 enum-told-3 : tie.Need-enum-told-3
 enum-told-3 c = search needs
 
-label-cell-requires-2 : tie.Need-label-cell-requires-2
-label-cell-requires-2 c κs = search needs
+label-scan-requires-2 : tie.Need-label-scan-requires-2
+label-scan-requires-2 c κs = search needs
 
 returns : tie.Need-returns
 unfolding fieldOf
@@ -32,13 +32,13 @@ returns c =
 returns-2 : tie.Need-returns-2
 unfolding fieldOf
 returns-2 c =
-    λ h. let f = c .label-cell .ensures h in
+    λ h. let f = c .label-scan .ensures h in
     record { at = f .0; holds = rw (c .before .enum-told2 .given .1) (f .1) }
 
 returns-3 : tie.Need-returns-3
 unfolding fieldOf
 returns-3 c =
-    λ h. let f = c .label-cell2 .ensures h in
+    λ h. let f = c .label-scan2 .ensures h in
     record { at = f .0; holds = rw (c .before .enum-told3 .given .1) (f .1) }
 
 returns-4 : tie.Need-returns-4
@@ -51,9 +51,9 @@ scan-cell-spec =
     enum-told
     scan-missing-requires
     enum-told-2
-    label-cell-requires
+    label-scan-requires
     enum-told-3
-    label-cell-requires-2
+    label-scan-requires-2
     returns
     returns-2
     returns-3

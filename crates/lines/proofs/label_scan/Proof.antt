@@ -5,8 +5,8 @@ use mir.Facts.{toZ-pos}
 use mir.Syntax.{w64}
 use borrow.Author.Needs.{needs}
 use Rattle.lines.specs.declared.Field.the-variants.{Holds}
-use Rattle.lines.proofs.label_cell.Statement.{statement}
-use Rattle.lines.proofs.label_cell.Tie as tie
+use Rattle.lines.proofs.label_scan.Statement.{statement}
+use Rattle.lines.proofs.label_scan.Tie as tie
 
 scan-label-requires : tie.Need-scan-label-requires
 scan-label-requires c κs = search needs
@@ -20,5 +20,5 @@ returns c =
     λ h. let f = c .before .scan-label .ensures .1 h in
     (f .0, rw (f .1) (ap Holds (sym (toZ-pos w64 {n = r .value} (omega (arith, c .before .scan-label .ensures .0))))))
 
-pub label-cell-spec : {M : Type 1} → statement M
-label-cell-spec = tie.close (tie.spec scan-label-requires cast-t7 returns)
+pub label-scan-spec : {M : Type 1} → statement M
+label-scan-spec = tie.close (tie.spec scan-label-requires cast-t7 returns)

@@ -10,8 +10,8 @@ use borrow.Author.Tests.{ne-eqb}
 use Rattle.numbers.proofs.Decimals.{number-negative, number-plain}
 use Rattle.text.proofs.Scanned.{inside-next}
 use Rattle.lines.specs.declared.Field.the-variants.{Holds}
-use Rattle.lines.proofs.number_cell.Statement.{statement}
-use Rattle.lines.proofs.number_cell.Tie as tie
+use Rattle.lines.proofs.number_scan.Statement.{statement}
+use Rattle.lines.proofs.number_scan.Tie as tie
 
 shared-slice-read-if1 : tie.Need-shared-slice-read-if1
 shared-slice-read-if1 c = search needs
@@ -67,8 +67,8 @@ returns-3 c =
           (ap Holds (sym (toZ-ofZ (sfits-of {w = w64} {z = c .with-sign2 .result} (c .with-sign2 .ok)) ∙ c .with-sign2 .ensures))),
     )
 
-pub number-cell-spec : {M : Type 1} → statement M
-number-cell-spec =
+pub number-scan-spec : {M : Type 1} → statement M
+number-scan-spec =
     tie.close
     (tie.spec
     shared-slice-read-if1

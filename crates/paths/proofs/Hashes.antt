@@ -18,7 +18,7 @@ use Rattle.text.proofs.Bytes.{and-left, and-right}
 use Rattle.text.proofs.Words.{each-at}
 use Rattle.text.proofs.Slices.{slice-at, slice-none, take-slice, drop-slice}
 use Rattle.text.proofs.Lowercase.{low-bits, lowercase-length}
-use Rattle.paths.specs.Buckets.{hashes, bitsOf, addWord, hashBytes, hashOf}
+use Rattle.paths.specs.Buckets.{hashes, bitsOf, addWord, hashOf}
 
 -- ---- a hash is below 2 ^ 32
 

@@ -177,9 +177,10 @@ fn has_name(text: &[u8], table: &[i64], m: usize, from: usize, to: usize) -> boo
 
 // Whether the line is a definition.
 fn is_definition(table: &[i64], label: usize) -> bool
+    requires { ⌜ (1 ≤ label) × (8 * label ≤ length (now table)) ⌝ }
     ensures { λ r. ⌜ r ≡ isDefinition (now (table .entry)) label ⌝ }
 {
-    kinds::is_definition(cells::cell_at(table, label, cells::KIND))
+    kinds::is_definition(cells::label_cell(table, label, cells::KIND))
 }
 
 // ---- buckets: starts[g] is the first bucket of Group g; links[x] is what follows x in its chain, and x is a label or, behind the labels, a
@@ -208,18 +209,18 @@ fn first_in(starts: &[u16], links: &[u16], group: usize, hash: usize) -> usize
 
 // A definition counts for two buckets of its Group.
 fn count_label(table: &[i64], label: usize, starts: &mut [u16])
-    requires { ⌜ (owner (now table) label + 1 < length (now starts)) × (getD (now starts) (owner (now table) label + 1) 0 ≤ 4096) ⌝ }
+    requires { ⌜ (owner (now table) label + 1 < length (now starts)) × (getD (now starts) (owner (now table) label + 1) 0 ≤ 4096) × (1 ≤ label) × (8 * label ≤ length (now table)) ⌝ }
     ensures { λ _. ⌜ now (starts .exit) ≡ countedAt (now (table .entry)) label (now (starts .entry)) ⌝ }
 {
     if is_definition(table, label) {
-        let group = cells::cell_at(table, label, cells::OWNER);
+        let group = cells::label_cell(table, label, cells::OWNER);
         starts[group + 1] += 2;
     }
 }
 
 // Each Group's buckets are counted, at the place behind its own.
 fn count_buckets(table: &[i64], n: usize, starts: &mut [u16])
-    requires { ⌜ (n ≤ labelLimit) × ((l : ℕ) → 1 ≤ l → l ≤ n → owner (now table) l < l) × MembersCounted (now table) n 1 (now starts) ⌝ }
+    requires { ⌜ (n ≤ labelLimit) × ((l : ℕ) → 1 ≤ l → l ≤ n → owner (now table) l < l) × MembersCounted (now table) n 1 (now starts) × (8 * n ≤ length (now table)) ⌝ }
     ensures { λ _. ⌜ MembersCounted (now (table .entry)) n (n + 1) (now (starts .exit)) ⌝ }
 {
     let mut label: usize = 1;
@@ -243,7 +244,7 @@ fn add_up(n: usize, starts: &mut [u16])
 
 // Each Group gets two buckets for each of its members, numbered from n + 1 on.
 fn allot(table: &[i64], n: usize, starts: &mut [u16])
-    requires { ⌜ (n ≤ labelLimit) × ((l : ℕ) → 1 ≤ l → l ≤ n → owner (now table) l < l) ⌝ }
+    requires { ⌜ (n ≤ labelLimit) × ((l : ℕ) → 1 ≤ l → l ≤ n → owner (now table) l < l) × (8 * n ≤ length (now table)) ⌝ }
     requires { ⌜ (n + 1 < length (now starts)) × ((i : ℕ) → getD (now starts) i 0 ≡ 0) ⌝ }
     ensures { λ _. ⌜ Allotted (now (table .entry)) n (now (starts .exit)) ⌝ }
 {
@@ -302,10 +303,10 @@ fn link_definition(
     ensures { λ r. ⌜ r ≡ lastBelow (isNamed (now (text .entry)) (now (table .entry)) (owner (now (table .entry)) label) (nameOf (now (text .entry)) (now (table .entry)) label)) label ⌝ }
     ensures { λ _. ⌜ LinkedBelow (now (text .entry)) (now (table .entry)) n (label + 1) (now (starts .entry)) (now (links .exit)) ⌝ }
 {
-    let from = cells::cell_at(table, label, cells::NAME_START);
-    let to = from + cells::cell_at(table, label, cells::NAME_LENGTH);
+    let from = cells::label_cell(table, label, cells::NAME_START);
+    let to = from + cells::label_cell(table, label, cells::NAME_LENGTH);
     let hash = hash_name(text, from, to);
-    let group = cells::cell_at(table, label, cells::OWNER);
+    let group = cells::label_cell(table, label, cells::OWNER);
     let found = member_in(text, table, starts, links, group, hash, from, to);
     push(links, bucket(starts, group, hash), label);
     found
@@ -416,9 +417,10 @@ fn descend(
 
 // Whether the line has a path: R or C.
 fn has_path(table: &[i64], label: usize) -> bool
+    requires { ⌜ (1 ≤ label) × (8 * label ≤ length (now table)) ⌝ }
     ensures { λ r. ⌜ r ≡ hasPath (now (table .entry)) label ⌝ }
 {
-    kinds::has_path(cells::cell_at(table, label, cells::KIND))
+    kinds::has_path(cells::label_cell(table, label, cells::KIND))
 }
 
 // Where the head of a line's path is settled; 0 where it is settled nowhere, and of a line that has no path.
@@ -435,15 +437,15 @@ fn head_at(
     ensures { λ r. ⌜ (r ≡ headCell (now (text .entry)) (now (table .entry)) n label) × (r ≤ n) ⌝ }
 {
     if has_path(table, label) {
-        let from = cells::cell_at(table, label, cells::NAME_START);
+        let from = cells::label_cell(table, label, cells::NAME_START);
         let to = name_stop(
             text,
             from,
-            from + cells::cell_at(table, label, cells::NAME_LENGTH),
+            from + cells::label_cell(table, label, cells::NAME_LENGTH),
         );
         let group = cells::cell_at(
             table,
-            cells::cell_at(table, label, cells::OWNER),
+            cells::label_cell(table, label, cells::OWNER),
             cells::OWNER,
         );
         return search(text, table, n, starts, links, group, from, to);
@@ -462,11 +464,11 @@ fn target_at(
     head: usize,
 ) -> usize
     requires { ⌜ Searchable (now text) (now table) n × AllLinked (now text) (now table) n (now starts) (now links) ⌝ }
-    requires { ⌜ (head ≤ n) ⌝ }
+    requires { ⌜ (1 ≤ label) × (label ≤ n) × (head ≤ n) ⌝ }
     ensures { λ r. ⌜ (r ≡ targetBy (now (text .entry)) (now (table .entry)) n label head) × (r ≤ n) ⌝ }
 {
     if has_path(table, label) {
-        let from = cells::cell_at(table, label, cells::NAME_START);
+        let from = cells::label_cell(table, label, cells::NAME_START);
         return descend(
             text,
             table,
@@ -475,7 +477,7 @@ fn target_at(
             links,
             head,
             from,
-            from + cells::cell_at(table, label, cells::NAME_LENGTH),
+            from + cells::label_cell(table, label, cells::NAME_LENGTH),
         );
     }
     0
@@ -483,11 +485,12 @@ fn target_at(
 
 // Row 15 at one label, whose target is in its cell.
 fn wrong_target_at(table: &[i64], label: usize) -> u64
+    requires { ⌜ (1 ≤ label) × (8 * label ≤ length (now table)) ⌝ }
     ensures { λ r. ⌜ r ≡ wrongTarget (now (table .entry)) label ⌝ }
 {
-    let code = cells::cell_at(table, label, cells::KIND);
+    let code = cells::label_cell(table, label, cells::KIND);
     if kinds::has_path(code) {
-        let target = cells::cell_at(table, label, cells::TARGET);
+        let target = cells::label_cell(table, label, cells::TARGET);
         if cells::cell_at(table, target, cells::KIND) != kinds::wanted_by(code) {
             return refusals::TARGET;
         }
@@ -530,7 +533,7 @@ fn settle_target(
     ensures { λ r. ⌜ r ≡ targetBy (now (text .entry)) (now (table .entry)) n label (target (now (table .entry)) label) ⌝ }
     ensures { λ _. ⌜ now (table .exit) ≡ set (now (table .entry)) (8 * (label - 1) + 7) (pos (targetBy (now (text .entry)) (now (table .entry)) n label (target (now (table .entry)) label))) ⌝ }
 {
-    let head = cells::cell_at(table, label, cells::TARGET);
+    let head = cells::label_cell(table, label, cells::TARGET);
     let end = target_at(text, table, n, starts, links, label, head);
     cells::put_cell(table, label, cells::TARGET, end);
     end
@@ -538,6 +541,7 @@ fn settle_target(
 
 // Whether a line that has a path has come to nothing.
 fn is_unresolved(table: &[i64], label: usize, found: usize) -> bool
+    requires { ⌜ (1 ≤ label) × (8 * label ≤ length (now table)) ⌝ }
     ensures { λ r. ⌜ r ≡ (hasPath (now (table .entry)) label && eqb found 0) ⌝ }
 {
     if has_path(table, label) {
@@ -589,7 +593,7 @@ fn settle_targets(
 
 // Row 15.
 fn check_targets(table: &[i64], n: usize) -> Verdict
-    requires { ⌜ n ≤ labelLimit ⌝ }
+    requires { ⌜ (n ≤ labelLimit) × (8 * n ≤ length (now table)) ⌝ }
     ensures { λ r. ⌜ r ≡ firstBad (wrongTarget (now (table .entry))) 1 n ⌝ }
 {
     let mut label: usize = 1;

@@ -21,7 +21,7 @@ count-buckets-requires c κs =
     let e = c .before .before in
     let a = e .args in
     let p = e .pre in
-    (p .0 .0, p .0 .1, count-start (a .table .now) (a .n) (a .starts .now) (p .1 .0) (p .1 .1))
+    (p .0 .0, p .0 .1, count-start (a .table .now) (a .n) (a .starts .now) (p .1 .0) (p .1 .1), p .0 .2)
 
 add-up-requires : tie.Need-add-up-requires
 add-up-requires c κs =

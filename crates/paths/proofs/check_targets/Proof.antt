@@ -3,7 +3,6 @@ use Prim.Native.Nat.{_+_, _-_}
 use Rattle.paths.specs.TargetCells.{wrongTarget}
 use Rattle.paths.proofs.Passes.{Pass, pass-start, pass-turn, pass-stop, pass-done}
 use native.Mathlib.Omega.{arith}
-use borrow.Author.Needs.{needs}
 use Rattle.paths.proofs.check_targets.Statement.{statement}
 use Rattle.paths.proofs.check_targets.Tie as tie
 
@@ -17,7 +16,7 @@ loop-holds : tie.Need-loop-holds Inv-loop μ-loop
 loop-holds c = pass-start (wrongTarget (c .args .table .now)) (c .args .n)
 
 wrong-target-at-requires : tie.Need-wrong-target-at-requires Inv-loop μ-loop
-wrong-target-at-requires c κs = search needs
+wrong-target-at-requires c κs = (c .before .loop .inv .low, omega arith)
 
 returns : tie.Need-returns Inv-loop μ-loop
 returns c =

@@ -19,7 +19,7 @@ count-label-requires c κs =
     let l = c .before .before .loop in
     let h = l .inv in
     let falls = p .1 (l .label) (h .low) (omega arith) in
-    (count-room _ _ (h .counts) (omega arith) falls, count-small _ _ (h .counts) (omega arith) falls (p .0))
+    (count-room _ _ (h .counts) (omega arith) falls, count-small _ _ (h .counts) (omega arith) falls (p .0), h .low, omega (arith, p .3))
 
 add-label : tie.Need-add-label Inv-loop μ-loop
 add-label c =

@@ -9,24 +9,24 @@ use Rattle.paths.proofs.link_definition.Statement.{statement}
 use Rattle.paths.proofs.link_definition.Tie as tie
 
 -- the name field lies in the text
-inside : (c : tie.After-cell-at2) → let a = c .before .before .before .before .before .args in c .before .cell-at .result + c .cell-at2 .result ≤ length (a .text .now)
+inside : (c : tie.After-label-cell2) → let a = c .before .before .before .before .before .args in c .before .label-cell .result + c .label-cell2 .result ≤ length (a .text .now)
 inside c =
     let e = c .before .before .before .before .before in
-    omega (arith, c .before .cell-at .ensures, c .cell-at2 .ensures, e .pre .0 .0 .names (e .args .label))
+    omega (arith, c .before .label-cell .ensures, c .label-cell2 .ensures, e .pre .0 .0 .names (e .args .label))
 
 -- what is read of the definition
-own : (c : tie.After-cell-at3) → let a = c .before .before .before .before .before .before .before .args in let f = c .before .before .before .cell-at .result in
-    Own (a .text .now) (a .table .now) (a .label) f (f + c .before .before .cell-at2 .result) (c .before .hash-name .result) (c .cell-at3 .result)
+own : (c : tie.After-label-cell3) → let a = c .before .before .before .before .before .before .before .args in let f = c .before .before .before .label-cell .result in
+    Own (a .text .now) (a .table .now) (a .label) f (f + c .before .before .label-cell2 .result) (c .before .hash-name .result) (c .label-cell3 .result)
 own c =
     let a = c .before .before .before .before .before .before .before .args in
-    let start = c .before .before .before .cell-at .ensures in
-    own-read (a .text .now) (a .table .now) (a .label) start (c .before .before .cell-at2 .ensures) (c .before .hash-name .ensures) (c .cell-at3 .ensures)
+    let start = c .before .before .before .label-cell .ensures in
+    own-read (a .text .now) (a .table .now) (a .label) start (c .before .before .label-cell2 .ensures) (c .before .hash-name .ensures) (c .label-cell3 .ensures)
 
-cell-at-requires : tie.Need-cell-at-requires
-cell-at-requires c κs = search needs
+label-cell-requires : tie.Need-label-cell-requires
+label-cell-requires c κs = search needs
 
-cell-at-requires-2 : tie.Need-cell-at-requires-2
-cell-at-requires-2 c κs = search needs
+label-cell-requires-2 : tie.Need-label-cell-requires-2
+label-cell-requires-2 c κs = search needs
 
 add-to : tie.Need-add-to
 add-to c = omega (arith, inside c)
@@ -34,8 +34,8 @@ add-to c = omega (arith, inside c)
 hash-name-requires : tie.Need-hash-name-requires
 hash-name-requires c κs = (omega arith, inside c)
 
-cell-at-requires-3 : tie.Need-cell-at-requires-3
-cell-at-requires-3 c κs = search needs
+label-cell-requires-3 : tie.Need-label-cell-requires-3
+label-cell-requires-3 c κs = search needs
 
 member-in-requires : tie.Need-member-in-requires
 member-in-requires c κs =
@@ -44,7 +44,7 @@ member-in-requires c κs =
     let named = c .before .before .before in
     let o = own read in
     let group = own-group (p .0 .0) (p .0 .1) (p .1 .0) (p .1 .1) o in
-    let walks = walkable (p .0 .0) (p .0 .1) (p .1 .0) (read .cell-at3 .result) group in
+    let walks = walkable (p .0 .0) (p .0 .1) (p .1 .0) (read .label-cell3 .result) group in
     ((walks, rw (o .hashed) (hash-small _)), (omega arith, inside named, p .0 .0 .names))
 
 bucket-requires : tie.Need-bucket-requires
@@ -53,7 +53,7 @@ bucket-requires c κs =
     let read = c .before .before .before in
     let o = own read in
     let group = own-group (p .0 .0) (p .0 .1) (p .1 .0) (p .1 .1) o in
-    (stretch (p .0 .1 .allotted) (read .cell-at3 .result) group (p .0 .0 .few), rw (o .hashed) (hash-small _))
+    (stretch (p .0 .1 .allotted) (read .label-cell3 .result) group (p .0 .0 .few), rw (o .hashed) (hash-small _))
 
 push-requires : tie.Need-push-requires
 push-requires c κs =
@@ -82,11 +82,11 @@ pub link-definition-spec : {M : Type 1} → statement M
 link-definition-spec =
     tie.close
     (tie.spec
-    cell-at-requires
-    cell-at-requires-2
+    label-cell-requires
+    label-cell-requires-2
     add-to
     hash-name-requires
-    cell-at-requires-3
+    label-cell-requires-3
     member-in-requires
     bucket-requires
     push-requires

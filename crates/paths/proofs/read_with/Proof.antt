@@ -6,7 +6,7 @@ use Rattle.paths.proofs.read_with.Tie as tie
 allot-requires : tie.Need-allot-requires
 allot-requires c κs =
     let p = c .before .before .before .before .before .pre in
-    ((p .0 .few, p .0 .falls), (p .1 .long, λ i. p .1 .clear i .0))
+    ((p .0 .few, p .0 .falls, p .0 .room), (p .1 .long, λ i. p .1 .clear i .0))
 
 resolve-requires : tie.Need-resolve-requires
 resolve-requires c κs =

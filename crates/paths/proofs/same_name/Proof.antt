@@ -1,8 +1,7 @@
 -- Eight bytes are compared as one part; what is left below eight is `same_tail`'s.
 use mathlib.Core.Path.{_∙_}
-use Prim.Native.Nat.{_+_, _-_}
+use Prim.Native.Nat.{_-_}
 use native.Mathlib.Omega.{arith}
-use lib.Seq.{slice}
 use Rattle.paths.proofs.SameName.{Comparing, compare-start, lowered-same, compare-turn, compare-miss, compare-rest}
 use Rattle.paths.proofs.same_name.Statement.{statement}
 use Rattle.paths.proofs.same_name.Tie as tie

@@ -7,7 +7,6 @@ use Rattle.paths.proofs.Alike.{head-cell-alike, rows-alike, linked-alik
 use Rattle.paths.proofs.Passes.{Settling, settle-start, settle-size, settle-alike, settle-all, settle-kept}
 use Rattle.paths.proofs.Passes.{settle-turn, settle-stop, pass-done, head-rule, not-fine}
 use native.Mathlib.Omega.{arith}
-use borrow.Author.Needs.{needs}
 use Rattle.paths.proofs.settle_heads.Statement.{statement}
 use Rattle.paths.proofs.settle_heads.Tie as tie
 
@@ -42,7 +41,10 @@ settle-head-requires c κs =
     ((rows, linked-alike (a .text .now) (a .table .now) (l .table) al (e .pre .1)), (g .pass .low, omega arith))
 
 is-unresolved-requires : tie.Need-is-unresolved-requires Inv-loop μ-loop
-is-unresolved-requires c κs = search needs
+is-unresolved-requires c κs =
+    let e = c .before .before .before .before .before .before .before .before .before in
+    let l = c .before .before .before .before .before .loop in
+    (l .inv .pass .low, omega (arith, c .before .before .settle-head .kept .1 .0, settle-size (l .inv), e .pre .0 .room))
 
 same-length : tie.Need-same-length Inv-loop μ-loop
 same-length c =

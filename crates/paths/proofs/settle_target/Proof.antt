@@ -7,8 +7,8 @@ use borrow.Author.Needs.{needs}
 use Rattle.paths.proofs.settle_target.Statement.{statement}
 use Rattle.paths.proofs.settle_target.Tie as tie
 
-cell-at-requires : tie.Need-cell-at-requires
-cell-at-requires c κs = search needs
+label-cell-requires : tie.Need-label-cell-requires
+label-cell-requires c κs = search needs
 
 target-at-requires : tie.Need-target-at-requires
 target-at-requires c κs = search needs
@@ -21,17 +21,17 @@ same-length c = search needs
 
 returns : tie.Need-returns
 returns c =
-    let cell-at = c .before .before .before .before .before .cell-at in
+    let label-cell = c .before .before .before .before .before .label-cell in
     let target-at = c .before .before .before .target-at in
     let a = c .before .before .before .before .before .before .before .before .before .before .args in
-    let e = target-at .ensures .0 ∙ ap (targetBy (a .text .now) (a .table .now) (a .n) (a .label)) (cell-at .ensures) in
+    let e = target-at .ensures .0 ∙ ap (targetBy (a .text .now) (a .table .now) (a .n) (a .label)) (label-cell .ensures) in
     (e, c .before .put-cell .ensures ∙ ap (λ v. set (a .table .now) (8 * (a .label - 1) + 7) (pos v)) e)
 
 pub settle-target-spec : {M : Type 1} → statement M
 settle-target-spec =
     tie.close
     (tie.spec
-    cell-at-requires
+    label-cell-requires
     target-at-requires
     put-cell-requires
     same-length

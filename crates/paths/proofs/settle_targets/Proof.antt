@@ -8,7 +8,6 @@ use Rattle.paths.proofs.Alike.{rows-alike, linked-alike}
 use Rattle.paths.proofs.Passes.{Settling, settle-start, settle-size, settle-alike, settle-later, settle-all, settle-kept}
 use Rattle.paths.proofs.Passes.{settle-turn, settle-stop, pass-done, later-rule, head-cell-high, target-now, not-fine}
 use native.Mathlib.Omega.{arith}
-use borrow.Author.Needs.{needs}
 use Rattle.paths.proofs.settle_targets.Statement.{statement}
 use Rattle.paths.proofs.settle_targets.Tie as tie
 
@@ -48,7 +47,10 @@ settle-target-requires c κs =
     ((rows, linked-alike (a .text .now) (a .table .now) (l .table) al (e .pre .0 .1)), (g .pass .low, omega arith, omega (arith, head)))
 
 is-unresolved-requires : tie.Need-is-unresolved-requires Inv-loop μ-loop
-is-unresolved-requires c κs = search needs
+is-unresolved-requires c κs =
+    let e = c .before .before .before .before .before .before .before .before .before in
+    let l = c .before .before .before .before .before .loop in
+    (l .inv .pass .low, omega (arith, c .before .before .settle-target .kept .1 .0, settle-size (l .inv), e .pre .0 .0 .room))
 
 same-length : tie.Need-same-length Inv-loop μ-loop
 same-length c =

@@ -214,7 +214,7 @@ first-go : (b : Bool) (v m : ℕ) → v < m → cond b 0 v < m
 first-go true v m l = omega arith
 first-go false v m l = l
 
-pub walking-start : (s : List ℕ) (t : List ℤ) (w : List ℕ) {starts links : List ℕ} {g x : ℕ} (hash : ℕ) → Walkable starts links g → x ≡ firstIn starts links g hash
+pub walking-start : (s : List ℕ) (t : List ℤ) (w : List ℕ) {starts links : List ℕ} {g x : ℕ} (hash : ℕ) → Walkable t starts links g → x ≡ firstIn starts links g hash
     → Walking s t links w (startOf starts 0) (linkedMember s t starts links g hash w) x
 walking-start s t w {starts} {links} {g} {x} hash h e =
     let some = h .heads (bucketOf starts g hash) (omega (arith, h .base)) in
@@ -228,7 +228,7 @@ walking-start s t w {starts} {links} {g} {x} hash h e =
 -- ---- what a lookup in Group g finds: the last member with the name, of the labels that are linked
 
 module _ {s : List ℕ} {t : List ℤ} {n k : ℕ} {starts links : List ℕ} (rows : Searchable s t n) (h : LinkedBelow s t n k starts links) (low : 1 ≤ k) (g : ℕ) (in-table : g ≤ n) where
-  pub walkable : Walkable starts links g
+  pub walkable : Walkable t starts links g
   walkable =
       let a = h .allotted in
       let base = a .base in
@@ -238,6 +238,7 @@ module _ {s : List ℕ} {t : List ℤ} {n k : ℕ} {starts links : List ℕ} (ro
         room = omega (arith, a .rising (g + 1) (n + 1) (omega arith) (omega arith), a .few, h .room);
         heads = λ b u. rw (h .heads b (omega arith)) (omega (arith, last-small (inBucket s t starts b) k low, h .most));
         falls = λ l u v. h .falls l u (omega arith);
+        rows = λ l v. omega (arith, rows .room);
       }
 
   module _ (w : List ℕ) where
@@ -340,7 +341,7 @@ module _ {s : List ℕ} {t : List ℤ} {n l : ℕ} {starts links : List ℕ} (ro
 
 -- all are linked, and names are apart: the member
 module _ {s : List ℕ} {t : List ℤ} {n : ℕ} {starts links : List ℕ} (rows : Searchable s t n) (h : AllLinked s t n starts links) (g : ℕ) (in-table : g ≤ n) where
-  pub linked-walkable : Walkable starts links g
+  pub linked-walkable : Walkable t starts links g
   linked-walkable = walkable rows (h .all) (omega arith) g in-table
 
   pub linked-stretch : Stretch starts g

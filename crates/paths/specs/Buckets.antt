@@ -143,13 +143,14 @@ pub record Fresh (n : ℕ) (starts links : List ℕ) : Type 0 where
 abbrev pub firstIn : List ℕ → List ℕ → ℕ → ℕ → ℕ
 firstIn starts links g hash = cond (eqb (startOf starts g) (startOf starts (g + 1))) 0 (getD links (bucketOf starts g hash) 0)
 
--- the chains of Group g lie in the links; they go from a bucket to a label, then to smaller labels
-pub record Walkable (starts links : List ℕ) (g : ℕ) : Type 0 where
+-- the chains of Group g lie in the links; they go from a bucket to a label, then to smaller labels, all of which the table has
+pub record Walkable (t : List ℤ) (starts links : List ℕ) (g : ℕ) : Type 0 where
   pub stretch : Stretch starts g
   pub base : startOf starts 0 ≤ startOf starts g
   pub room : startOf starts (g + 1) ≤ length links
   pub heads : (b : ℕ) → startOf starts 0 ≤ b → getD links b 0 < startOf starts 0
   pub falls : (l : ℕ) → 1 ≤ l → l < startOf starts 0 → getD links l 0 < l
+  pub rows : (l : ℕ) → l < startOf starts 0 → 8 * l ≤ length t
 
 -- the first of a chain, from x on, with the name w; 0 where none has it. At most f labels are looked at: x are enough, as chains fall
 abbrev pub walkBy : List ℕ → List ℤ → List ℕ → List ℕ → ℕ → ℕ → ℕ

@@ -160,16 +160,16 @@ fn same_name(text: &[u8], a: usize, b: usize, size: usize) -> bool
 
 // Whether definition m has the name text[from..to].
 fn has_name(text: &[u8], table: &[i64], m: usize, from: usize, to: usize) -> bool
-    requires { ⌜ (from ≤ to) × (to ≤ length (now text)) × NameInText (now text) (now table) m ⌝ }
+    requires { ⌜ (from ≤ to) × (to ≤ length (now text)) × NameInText (now text) (now table) m × (1 ≤ m) × (8 * m ≤ length (now table)) ⌝ }
     ensures { λ r. ⌜ r ≡ sameName (nameOf (now (text .entry)) (now (table .entry)) m) (slice from to (now (text .entry))) ⌝ }
 {
-    let size = cells::cell_at(table, m, cells::NAME_LENGTH);
+    let size = cells::label_cell(table, m, cells::NAME_LENGTH);
     if size != to - from {
         return false;
     }
     same_name(
         text,
-        cells::cell_at(table, m, cells::NAME_START),
+        cells::label_cell(table, m, cells::NAME_START),
         from,
         size,
     )
@@ -266,7 +266,7 @@ fn member_in(
     from: usize,
     to: usize,
 ) -> usize
-    requires { ⌜ Walkable (now starts) (now links) group × (hash < hashes) ⌝ }
+    requires { ⌜ Walkable (now table) (now starts) (now links) group × (hash < hashes) ⌝ }
     requires { ⌜ (from ≤ to) × (to ≤ length (now text)) × ((l : ℕ) → NameInText (now text) (now table) l) ⌝ }
     ensures { λ r. ⌜ r ≡ linkedMember (now (text .entry)) (now (table .entry)) (now (starts .entry)) (now (links .entry)) group hash (slice from to (now (text .entry))) ⌝ }
 {

@@ -29,8 +29,8 @@ loop-holds c =
 has-name-requires : tie.Need-has-name-requires Inv-loop μ-loop
 has-name-requires c κs =
     let p = c .before .before .before .before .before .before .pre in
-    let p = p .1 in
-    (p .0, p .1, p .2 (c .before .loop .m))
+    let l = c .before .loop in
+    (p .1 .0, p .1 .1, p .1 .2 (l .m), omega arith, p .0 .0 .rows (l .m) (l .inv .inside))
 
 returns : tie.Need-returns Inv-loop μ-loop
 returns c =

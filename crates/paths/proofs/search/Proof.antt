@@ -54,7 +54,9 @@ loop-holds c =
 has-name-requires : tie.Need-has-name-requires Inv-loop μ-loop Inv-groups μ-groups
 has-name-requires c κs =
     let p = c .before .before .before .before .before .before .before .before .before .pre in
-    (omega arith, omega arith, p .0 .0 .names (c .before .loop .m))
+    let l = c .before .loop in
+    let base = p .0 .1 .all .allotted .base in
+    (omega arith, omega arith, p .0 .0 .names (l .m), omega arith, omega (arith, l .inv .1 .inside, p .0 .0 .room))
 
 mul-m : tie.Need-mul-m Inv-loop μ-loop Inv-groups μ-groups
 mul-m c =

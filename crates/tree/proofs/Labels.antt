@@ -18,12 +18,15 @@ use Rattle.kinds.specs.declared.Fields.{Fields}
 use Rattle.kinds.specs.declared.Form.{Form}
 use Rattle.tree.specs.Tree.{operandIn, parts, partRight, structureBad, notOnce, argumentIn, aboveLevels}
 use Rattle.tree.specs.Treed.{Formed}
-use Rattle.tree.specs.TreeSteps.{partIn, nodeAt, Readable, groupFits, partFits, counted, assigned, assignedAll, propagated}
+use Rattle.tree.specs.TreeSteps.{partIn, nodeAt, Known, Readable, groupFits, partFits, counted, assigned, assignedAll, propagated}
 use Rattle.tree.specs.declared.Node.{Node}
 use Rattle.tree.proofs.Parts.{count-parts, all-parts}
 
+pub known : (t : List ℤ) (n l : ℕ) → Formed t n → 1 ≤ l → l ≤ n → Known t l
+known t n l s h g = record { cells = (h, omega (arith, s .room)); known = s .kinds l h g }
+
 pub readable : (t : List ℤ) (n l : ℕ) → Formed t n → 1 ≤ l → l ≤ n → Readable t l
-readable t n l s h g = record { known = s .kinds l h g; labels = s .labels l h g }
+readable t n l s h g = record { line = known t n l s h g; labels = s .labels l h g }
 
 -- ---- what the table of kinds says of the line
 

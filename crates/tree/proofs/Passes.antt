@@ -20,14 +20,14 @@ use Rattle.cells.proofs.Signed.{clash}
 use Rattle.cells.proofs.Table.{cell-put, cell-other}
 use Rattle.tree.specs.Tree.{parts, uses, IsPart, userOf, ownerOf, levelOf}
 use Rattle.tree.specs.Treed.{Plain}
-use Rattle.tree.specs.TreeSteps.{nodeAt, counted, countedAll, assigned, assignedAll, propagated, Inside, Countable, Propagable, Structured, UsedOnce, Natural, Over}
+use Rattle.tree.specs.TreeSteps.{nodeAt, counted, countedAll, assigned, assignedAll, propagated, Known, Inside, Countable, Propagable, Structured, UsedOnce, Natural, Over}
 use Rattle.tree.specs.TreeSteps.{UsesCounted, turnOf, Propagated, Cleared}
 use Rattle.tree.specs.declared.Node.{Node}
 use Rattle.tree.proofs.Codes.{expression-kind, label-high}
 use Rattle.tree.proofs.Users.{user-some, uses-most}
-use Rattle.tree.proofs.Labels.{node-definition, node-count, propagated-definition, propagated-expression}
+use Rattle.tree.proofs.Labels.{known, node-definition, node-count, propagated-definition, propagated-expression}
 use Rattle.tree.proofs.Owners as own
-use Rattle.tree.proofs.Writes.{plain-natural, over-start, over-alike, alike-node, none-or-some, over-set, counted-length, counted-target, over-counted, assigned-length}
+use Rattle.tree.proofs.Writes.{plain-natural, over-start, over-alike, alike-node, alike-formed, none-or-some, over-set, counted-length, counted-target, over-counted, assigned-length}
 use Rattle.tree.proofs.Writes.{assigned-other, assigned-owner, assigned-level, over-assigned}
 
 -- ---- the parts of a line are labels
@@ -64,8 +64,8 @@ module _ (t : List ℤ) (n : ℕ) (s : Structured t n) where
         let r : 8 * n ≤ length w = omega (arith, o .size, s .formed .room) in
         record { a = omega (arith, m .0); b = omega (arith, m .1); c = omega (arith, m .2) }
 
-    pub kind-over : kind w l ≡ kind t l
-    kind-over = over-alike t w n o l 0 (omega arith)
+    pub line-over : 1 ≤ l → l ≤ n → Known w l
+    line-over h g = known w n l (alike-formed t w (over-alike t w n o) n (o .size) (s .formed)) h g
 
 -- ---- counting
 
@@ -87,10 +87,9 @@ module _ (t : List ℤ) (n : ℕ) (s : Structured t n) (w : List ℤ) (l : ℕ) 
   pub count-ready : Countable w l
   count-ready =
       let e = node-over t n s w (r .over) l in
-      let k = kind-over t n s w (r .over) l in
       let m = node-most t n s l in
       record {
-        known = rw k (s .formed .kinds l h g);
+        line = line-over t n s w (r .over) l h g;
         inside = rw e (inside t n s w (r .over) l);
         a = rw e (few-uses (nodeAt t l .a) (m .0));
         b = rw e (few-uses (nodeAt t l .b) (m .1));
@@ -192,12 +191,10 @@ module _ (t : List ℤ) (n : ℕ) (s : UsedOnce t n) (w : List ℤ) (l : ℕ) (h
 
   pub propagate-ready : Propagable w l
   propagate-ready =
-      let k = kind-over t n (s .structure) w (r .over) l in
       let f = s .structure .formed .few in
       record {
-        known = rw k line-kind;
+        line = line-over t n (s .structure) w (r .over) l h g;
         inside = rw (node-over t n (s .structure) w (r .over) l) (inside t n (s .structure) w (r .over) l);
-        room = omega (arith, r .over .size, s .structure .formed .room);
         few = omega arith;
         group = λ e. omega (arith, group-over, group-few (sym definition-over ∙ e));
         owner = λ e.

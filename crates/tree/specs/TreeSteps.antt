@@ -21,6 +21,10 @@ use Rattle.tree.specs.declared.Rule.the-variants as rule
 
 -- ---- one label
 
+-- l is a label that the table has
+abbrev pub HasCells : List ℤ → ℕ → Type 0
+HasCells t l = (1 ≤ l) × (8 * l ≤ length t)
+
 -- what a field holds as a body or operand, else 0
 abbrev pub partIn : Form → ℕ → ℕ
 partIn f x = cond (isOperandForm f) x 0
@@ -33,9 +37,14 @@ nodeAt t l = record {
   c = partIn (fieldsAt (kind t l) .c) (fieldC t l);
 }
 
--- a line of known kind whose body or operands are labels
-pub record Readable (t : List ℤ) (l : ℕ) : Type 0 where
+-- a line of known kind
+pub record Known (t : List ℤ) (l : ℕ) : Type 0 where
+  pub cells : HasCells t l
   pub known : isKind (kind t l) ≡ true
+
+-- whose body or operands are labels
+pub record Readable (t : List ℤ) (l : ℕ) : Type 0 where
+  pub line : Known t l
   pub labels : count 0 (parts t l) ≡ 0
 
 -- row 8 by the node: a definition's Group, from label 2, and what may be a body or operand
@@ -80,16 +89,15 @@ pub record Inside (t : List ℤ) (p : Node) : Type 0 where
   pub c : 8 * p .c ≤ length t
 
 pub record Countable (t : List ℤ) (l : ℕ) : Type 0 where
-  pub known : isKind (kind t l) ≡ true
+  pub line : Known t l
   pub inside : Inside t (nodeAt t l)
   pub a : target t (nodeAt t l .a) ≤ 3 * labelLimit
   pub b : target t (nodeAt t l .b) ≤ 3 * labelLimit
   pub c : target t (nodeAt t l .c) ≤ 3 * labelLimit
 
 pub record Propagable (t : List ℤ) (l : ℕ) : Type 0 where
-  pub known : isKind (kind t l) ≡ true
+  pub line : Known t l
   pub inside : Inside t (nodeAt t l)
-  pub room : 8 * l ≤ length t
   pub few : l ≤ labelLimit
   pub group : nodeAt t l .definition ≡ true → fieldA t l ≤ labelLimit
   pub owner : nodeAt t l .definition ≡ false → owner t l ≤ labelLimit

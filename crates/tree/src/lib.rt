@@ -2,17 +2,15 @@
 // it uses, so that one pass upward through the labels propagates owners and levels; uses and levels stand in the target cells meanwhile.
 
 ghost use mathlib.Core.Path.{_≡_};
-ghost use mathlib.Core.Bool.{true};
 ghost use Prim.Native.Nat.{_+_, _*_, _≤_, _<_};
 ghost use lib.ListN.{length};
 ghost use Rattle.cells.specs.Limits.{labelLimit};
 ghost use Rattle.cells.specs.Lists.{all};
-ghost use Rattle.kinds.specs.Kinds.{isKind};
-ghost use Rattle.cells.specs.Table.{cell, kind, isExpression, target};
+ghost use Rattle.cells.specs.Table.{cell, isExpression, target};
 ghost use Rattle.refusals.specs.Refusal.{firstBad, orElse};
 ghost use Rattle.tree.specs.Tree.{partRight, parts, structureBad, usesBad, argumentBad, levelBad, treeBad};
 ghost use Rattle.tree.specs.Treed.{Formed, Plain, Written};
-ghost use Rattle.tree.specs.TreeSteps.{partIn, nodeAt, Readable, groupFits, partFits, cellBad, counted, countedAll, assigned, assignedAll};
+ghost use Rattle.tree.specs.TreeSteps.{HasCells, partIn, nodeAt, Known, Readable, groupFits, partFits, cellBad, counted, countedAll, assigned, assignedAll};
 ghost use Rattle.tree.specs.TreeSteps.{propagated, Inside, Countable, Propagable, Structured, UsedOnce, Natural, UsesCounted, Propagated, Cleared, Owning};
 use kinds::Form;
 use refusals::Verdict;
@@ -29,21 +27,21 @@ pub struct Node {
 
 // What field j of a label holds as a body or operand, else 0.
 fn part_at(table: &[i64], label: usize, j: usize, form: Form) -> usize
-    requires { ⌜ j < 8 ⌝ }
+    requires { ⌜ HasCells (now table) label × (j < 8) ⌝ }
     ensures { λ r. ⌜ r ≡ partIn form (cell (now (table .entry)) label j) ⌝ }
 {
     match form {
-        Form::Operand => cells::cell_at(table, label, j),
+        Form::Operand => cells::label_cell(table, label, j),
         _ => 0,
     }
 }
 
 // The line as a node, by the table of kinds.
 fn node_at(table: &[i64], label: usize) -> Node
-    requires { ⌜ isKind (kind (now table) label) ≡ true ⌝ }
+    requires { ⌜ Known (now table) label ⌝ }
     ensures { λ r. ⌜ r ≡ nodeAt (now (table .entry)) label ⌝ }
 {
-    let code = cells::cell_at(table, label, cells::KIND);
+    let code = cells::label_cell(table, label, cells::KIND);
     let definition = kinds::is_definition(code);
     let fields = kinds::fields_of(code);
     let form_a = fields.a;
@@ -71,13 +69,14 @@ fn is_expression(table: &[i64], label: usize) -> bool
 
 // Whether the Group of a definition is a G with a smaller label; label 1's is not judged.
 fn group_right(table: &[i64], label: usize, definition: bool) -> bool
+    requires { ⌜ HasCells (now table) label ⌝ }
     ensures { λ r. ⌜ r ≡ groupFits (now (table .entry)) label definition ⌝ }
 {
     if label < 2 {
         return true;
     }
     if definition {
-        let group = cells::cell_at(table, label, cells::A);
+        let group = cells::label_cell(table, label, cells::A);
         if group < label {
             return cells::cell_at(table, group, cells::KIND) == kinds::GROUP;
         }
@@ -136,10 +135,11 @@ pub enum Rule {
 
 // Row 9, by the uses in the target cell: an expression is used by one field, once.
 fn uses_bad(table: &[i64], label: usize) -> u64
+    requires { ⌜ HasCells (now table) label ⌝ }
     ensures { λ r. ⌜ r ≡ cellBad Rule.Uses (now (table .entry)) label ⌝ }
 {
-    if is_expression(table, label) {
-        if cells::cell_at(table, label, cells::TARGET) != 1 {
+    if kinds::is_expression(cells::label_cell(table, label, cells::KIND)) {
+        if cells::label_cell(table, label, cells::TARGET) != 1 {
             return refusals::USES;
         }
     }
@@ -148,13 +148,14 @@ fn uses_bad(table: &[i64], label: usize) -> u64
 
 // Row 10: the body of its owner is given the argument that a line stands for.
 fn argument_bad(table: &[i64], label: usize) -> u64
+    requires { ⌜ HasCells (now table) label ⌝ }
     ensures { λ r. ⌜ r ≡ cellBad Rule.Argument (now (table .entry)) label ⌝ }
 {
-    let place = kinds::argument_place(cells::cell_at(table, label, cells::KIND));
+    let place = kinds::argument_place(cells::label_cell(table, label, cells::KIND));
     if place == 0 {
         return 0;
     }
-    let owner = cells::cell_at(table, label, cells::OWNER);
+    let owner = cells::label_cell(table, label, cells::OWNER);
     if kinds::takes(cells::cell_at(table, owner, cells::KIND)) < place {
         return refusals::ARGUMENT;
     }
@@ -163,9 +164,10 @@ fn argument_bad(table: &[i64], label: usize) -> u64
 
 // Row 11, by the level in the target cell: at most 32.
 fn level_bad(table: &[i64], label: usize) -> u64
+    requires { ⌜ HasCells (now table) label ⌝ }
     ensures { λ r. ⌜ r ≡ cellBad Rule.Level (now (table .entry)) label ⌝ }
 {
-    if cells::LEVEL_LIMIT < cells::cell_at(table, label, cells::TARGET) {
+    if cells::LEVEL_LIMIT < cells::label_cell(table, label, cells::TARGET) {
         return refusals::LEVEL;
     }
     0
@@ -208,7 +210,7 @@ fn count_part(table: &mut [i64], x: usize)
     ensures { λ _. ⌜ now (table .exit) ≡ counted x (now (table .entry)) ⌝ }
 {
     if x != 0 {
-        let uses = cells::cell_at(table, x, cells::TARGET);
+        let uses = cells::label_cell(table, x, cells::TARGET);
         cells::put_cell(table, x, cells::TARGET, uses + 1);
     }
 }
@@ -266,13 +268,13 @@ fn propagate(table: &mut [i64], label: usize)
 {
     let node = node_at(table, label);
     if node.definition {
-        let group = cells::cell_at(table, label, cells::A);
+        let group = cells::label_cell(table, label, cells::A);
         assign(table, label, group, 0);
         assign_parts(table, node, label, 1);
         return;
     }
-    let owner = cells::cell_at(table, label, cells::OWNER);
-    let level = cells::cell_at(table, label, cells::TARGET);
+    let owner = cells::label_cell(table, label, cells::OWNER);
+    let level = cells::label_cell(table, label, cells::TARGET);
     assign_parts(table, node, owner, level + 1);
 }
 

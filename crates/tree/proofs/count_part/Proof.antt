@@ -8,8 +8,8 @@ use borrow.Author.Needs.{needs}
 use Rattle.tree.proofs.count_part.Statement.{statement}
 use Rattle.tree.proofs.count_part.Tie as tie
 
-cell-at-requires : tie.Need-cell-at-requires
-cell-at-requires c κs = search needs
+label-cell-requires : tie.Need-label-cell-requires
+label-cell-requires c κs = search needs
 
 add-put-cell : tie.Need-add-put-cell
 add-put-cell c = search needs
@@ -23,9 +23,9 @@ same-length c = search needs
 returns : tie.Need-returns
 returns c =
     let if1 = c .before .before .before .before .before .if1 in
-    let cell-at = c .before .before .before .cell-at in
+    let label-cell = c .before .before .before .label-cell in
     let entry = c .before .before .before .before .before .before in
-    c .before .put-cell .ensures ∙ ap (λ v. set (entry .args .table .now) (8 * (entry .args .x - 1) + 7) (pos (v + 1))) (cell-at .ensures)
+    c .before .put-cell .ensures ∙ ap (λ v. set (entry .args .table .now) (8 * (entry .args .x - 1) + 7) (pos (v + 1))) (label-cell .ensures)
     ∙ sym (counted-some (entry .args .x) (entry .args .table .now) (if1 .taken))
 
 returns-2 : tie.Need-returns-2
@@ -34,4 +34,4 @@ returns-2 c = sym (counted-none (c .before .args .x) (c .before .args .table .no
 pub count-part-spec : {M : Type 1} → statement M
 count-part-spec =
     tie.close
-    (tie.spec cell-at-requires add-put-cell put-cell-requires same-length returns returns-2)
+    (tie.spec label-cell-requires add-put-cell put-cell-requires same-length returns returns-2)

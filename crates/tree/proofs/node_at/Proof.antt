@@ -4,14 +4,14 @@ use borrow.Author.Needs.{needs}
 use Rattle.tree.proofs.node_at.Statement.{statement}
 use Rattle.tree.proofs.node_at.Tie as tie
 
-cell-at-requires : tie.Need-cell-at-requires
-cell-at-requires c κs = search needs
+label-cell-requires : tie.Need-label-cell-requires
+label-cell-requires c κs = search needs
 
 is-definition-requires : tie.Need-is-definition-requires
 is-definition-requires c κs = search needs
 
 fields-of-requires : tie.Need-fields-of-requires
-fields-of-requires c κs = rw (c .before .cell-at .ensures) (c .before .before .pre)
+fields-of-requires c κs = rw (c .before .label-cell .ensures) (c .before .before .pre .known)
 
 part-at-requires : tie.Need-part-at-requires
 part-at-requires c κs = search needs
@@ -25,7 +25,7 @@ part-at-requires-3 c κs = search needs
 returns : tie.Need-returns
 returns c =
     let entry = c .before .before .before .before .before .before in
-    let code = c .before .before .before .before .before .cell-at in
+    let code = c .before .before .before .before .before .label-cell in
     let fields = c .before .before .before .fields-of in
     let definition = c .before .before .before .before .is-definition in
     node-is (entry .args .table .now) (entry .args .label) (code .result) (fields .result) (code .ensures) (fields .ensures) (definition .result) (c .before .before .part-at .result)
@@ -35,7 +35,7 @@ pub node-at-spec : {M : Type 1} → statement M
 node-at-spec =
     tie.close
     (tie.spec
-    cell-at-requires
+    label-cell-requires
     is-definition-requires
     fields-of-requires
     part-at-requires

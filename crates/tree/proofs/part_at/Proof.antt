@@ -7,14 +7,14 @@ use Rattle.tree.proofs.part_at.Tie as tie
 enum-told : tie.Need-enum-told
 enum-told c = search needs
 
-cell-at-requires : tie.Need-cell-at-requires
-cell-at-requires c κs = search needs
+label-cell-requires : tie.Need-label-cell-requires
+label-cell-requires c κs = search needs
 
 returns : tie.Need-returns
-returns c = rw (c .before .enum-told .given .1) (c .cell-at .ensures)
+returns c = rw (c .before .enum-told .given .1) (c .label-cell .ensures)
 
 returns-2 : tie.Need-returns-2
 returns-2 c = rw (no-operand (c .before .args .form) (c .match .keys2))
 
 pub part-at-spec : {M : Type 1} → statement M
-part-at-spec = tie.close (tie.spec enum-told cell-at-requires returns returns-2)
+part-at-spec = tie.close (tie.spec enum-told label-cell-requires returns returns-2)

@@ -17,7 +17,7 @@ abbrev after-node-at-from-else2 : tie.Else2 → tie.After-node-at
 after-node-at-from-else2 c = c .before .before .before .before
 
 node-at-requires : tie.Need-node-at-requires
-node-at-requires c κs = c .pre .known
+node-at-requires c κs = c .pre .line
 
 group-right-requires : tie.Need-group-right-requires
 group-right-requires c κs = search needs

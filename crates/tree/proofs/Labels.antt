@@ -1,24 +1,23 @@
 -- One label, case by case, as the code finds it.
-use mathlib.Core.Path.{_≡_, refl, sym}
+use mathlib.Core.Path.{_≡_, refl, sym, _∙_}
 use mathlib.Core.Bool.{Bool, true, false, cond, _&&_, and-true}
 use mathlib.Core.List.{List, [], _∷_}
 use Prim.Native.Nat.{ℕ, _+_, _-_, _*_, _≤_, _<_}
 use native.Mathlib.Omega.{arith}
 use borrow.Author.Tests.{le-leb, lt-leb, lt-ltb, le-ltb, eqb-false, ne-eqb}
-use lib.Dec.{eqb}
+use lib.Dec.{ltb, eqb}
 use lib.IntN.{ℤ, pos}
 use lib.ListN.{set}
-use Rattle.cells.specs.Limits.{levelLimit}
 use Rattle.cells.specs.Lists.{one, count, all}
 use Rattle.cells.specs.Table.{kind, isDefinition, isExpression, fieldA, fieldB, fieldC, owner, target}
-use Rattle.refusals.specs.Rows.{structureRow, usesRow, argumentRow, levelRow}
+use Rattle.refusals.specs.Rows.{structureRow}
 use Rattle.kinds.specs.Kinds as kinds
 use Rattle.kinds.specs.Kinds.{groupCode, fieldsAt, isOperandForm, takes, argumentPlace}
 use Rattle.kinds.specs.declared.Fields.{Fields}
 use Rattle.kinds.specs.declared.Form.{Form}
-use Rattle.tree.specs.Tree.{operandIn, parts, partRight, structureBad, notOnce, argumentIn, aboveLevels}
+use Rattle.tree.specs.Tree.{operandIn, parts, partRight, structureRight, structureBad}
 use Rattle.tree.specs.Treed.{Formed}
-use Rattle.tree.specs.TreeSteps.{partIn, nodeAt, Known, Readable, groupFits, partFits, counted, assigned, assignedAll, propagated}
+use Rattle.tree.specs.TreeSteps.{partIn, nodeAt, Known, Readable, groupFits, partFits, twice, assigned, claimed, claimedAll, propagated}
 use Rattle.tree.specs.declared.Node.{Node}
 use Rattle.tree.proofs.Parts.{count-parts, all-parts}
 
@@ -114,61 +113,43 @@ module _ (t : List ℤ) (l : ℕ) where
   parts-right w p e x y z f g h = rw (f, g, h, e) (parts-fit w)
 
   -- the row, by its two tests
-  pub structure-is : (d : Bool) (p q : Bool) → d ≡ isDefinition t l → p ≡ groupFits t l d → q ≡ all (partRight t l) (parts t l) → structureBad t l ≡ cond (p && q) 0 structureRow
-  unfolding structureBad
+  pub structure-is : (d : Bool) (p q : Bool) → d ≡ isDefinition t l → p ≡ groupFits t l d → q ≡ all (partRight t l) (parts t l) → structureRight t l ≡ (p && q)
   structure-is d p q e f g = rw (← e, f, g)
 
--- ---- rows 9 to 11
+  pub structure-number : (b : Bool) → structureRight t l ≡ b → structureBad t l ≡ cond b 0 structureRow
+  unfolding structureBad
+  structure-number b e = rw e
 
-module _ (e : Bool) (u : ℕ) where
-  pub uses-once : u ≡ 1 → notOnce e u ≡ 0
-  uses-once h = rw h (go e)
-    where
-      go : (b : Bool) → _≡_ {A = ℕ} (cond (b && false) usesRow 0) 0
-      go true = refl
-      go false = refl
+-- ---- row 10
 
-  pub uses-wrong : e ≡ true → (u ≡ 1 → ⊥) → notOnce e u ≡ usesRow
-  uses-wrong h d = rw (h, ne-eqb u 1 d)
-
-module _ (k d : ℕ) where
-  pub argument-none : argumentPlace k ≡ 0 → argumentIn k d ≡ 0
-  argument-none h = rw (h, le-ltb (takes d) 0 (omega arith))
-
-  pub argument-fine : argumentPlace k ≤ takes d → argumentIn k d ≡ 0
-  argument-fine h = rw (le-ltb (takes d) (argumentPlace k) h)
-
-  pub argument-wrong : takes d < argumentPlace k → argumentIn k d ≡ argumentRow
-  argument-wrong h = rw (lt-ltb (takes d) (argumentPlace k) h)
-
-module _ (v : ℕ) where
-  pub level-wrong : levelLimit < v → aboveLevels v ≡ levelRow
-  level-wrong h = rw (lt-ltb levelLimit v h)
-
-  pub level-fine : v ≤ levelLimit → aboveLevels v ≡ 0
-  level-fine h = rw (le-ltb levelLimit v h)
+pub argument-none : (k d : ℕ) → argumentPlace k ≡ 0 → ltb (takes d) (argumentPlace k) ≡ false
+argument-none k d h = rw (h, le-ltb (takes d) 0 (omega arith))
 
 -- ---- what is written
 
-module _ (x : ℕ) (t : List ℤ) where
-  pub counted-none : x ≡ 0 → counted x t ≡ t
-  counted-none e = rw e
+module _ (x : ℕ) (t : List ℤ) (d v : ℕ) where
+  pub assigned-none : x ≡ 0 → assigned x d v t ≡ t
+  assigned-none e = rw e
 
-  pub counted-some : (x ≡ 0 → ⊥) → counted x t ≡ set t (8 * (x - 1) + 7) (pos (target t x + 1))
-  counted-some d = rw (ne-eqb x 0 d)
+  pub assigned-some : (x ≡ 0 → ⊥) → assigned x d v t ≡ set (set t (8 * (x - 1) + 6) (pos d)) (8 * (x - 1) + 7) (pos v)
+  assigned-some e = rw (ne-eqb x 0 e)
 
-  module _ (d v : ℕ) where
-    pub assigned-none : x ≡ 0 → assigned x d v t ≡ t
-    assigned-none e = rw e
+  pub claimed-first : owner t x ≡ 0 → claimed x d v t ≡ assigned x d v t
+  unfolding claimed
+  claimed-first e = rw e
 
-    pub assigned-some : (x ≡ 0 → ⊥) → assigned x d v t ≡ set (set t (8 * (x - 1) + 6) (pos d)) (8 * (x - 1) + 7) (pos v)
-    assigned-some e = rw (ne-eqb x 0 e)
+  pub claimed-again : (owner t x ≡ 0 → ⊥) → claimed x d v t ≡ set t (8 * (x - 1) + 6) (pos twice)
+  unfolding claimed
+  claimed-again e = rw (ne-eqb (owner t x) 0 e)
+
+  pub claimed-none : x ≡ 0 → claimed x d v t ≡ t
+  claimed-none e = claimed-first (rw e) ∙ assigned-none e
 
 module _ (l : ℕ) (t : List ℤ) where
-  pub propagated-definition : nodeAt t l .definition ≡ true → propagated l t ≡ assignedAll (nodeAt t l) l 1 (assigned l (fieldA t l) 0 t)
+  pub propagated-definition : nodeAt t l .definition ≡ true → propagated l t ≡ claimedAll (nodeAt t l) l 1 (assigned l (fieldA t l) 0 t)
   unfolding propagated
   propagated-definition e = rw e
 
-  pub propagated-expression : nodeAt t l .definition ≡ false → propagated l t ≡ assignedAll (nodeAt t l) (owner t l) (target t l + 1) t
+  pub propagated-expression : nodeAt t l .definition ≡ false → propagated l t ≡ claimedAll (nodeAt t l) (owner t l) (target t l + 1) t
   unfolding propagated
   propagated-expression e = rw e

@@ -14,7 +14,7 @@ use Rattle.kinds.proofs.Codes.{number-expression}
 use Rattle.cells.specs.Table.{kind, isDefinition, fieldA}
 use Rattle.cells.proofs.Signed.{clash}
 use Rattle.refusals.proofs.FirstBad.{first-same}
-use Rattle.tree.specs.Tree.{parts, groupRight, partRight, structureBad, usesBad, ownerOf, argumentBad, levelBad, treeBad}
+use Rattle.tree.specs.Tree.{parts, groupRight, partRight, structureRight, structureBad, usesBad, ownerOf, argumentBad, levelBad, treeBad}
 use Rattle.tree.proofs.Parts.{Like, like-expression, like-definition, like-parts}
 use Rattle.tree.proofs.Users.{like-uses}
 use Rattle.tree.proofs.Owners.{like-level, like-owner}
@@ -35,15 +35,18 @@ module _ (t w : List ℤ) (same : Like t w) where
   group-like l true h = rw (same .a l (definition-other l (h refl)), same .kinds (fieldA t l))
   group-like l false h = refl
 
-  structure-like : (l : ℕ) → structureBad w l ≡ structureBad t l
-  unfolding structureBad
-  structure-like l =
+  pub right-like : (l : ℕ) → structureRight w l ≡ structureRight t l
+  right-like l =
       rw (
         like-definition t w same l,
         like-parts t w same l,
         group-like l (leb 2 l && isDefinition t l) (and-right (leb 2 l) (isDefinition t l)),
         all-same (partRight w l) (partRight t l) (part-like l) (parts t l),
       )
+
+  pub structure-like : (l : ℕ) → structureBad w l ≡ structureBad t l
+  unfolding structureBad
+  structure-like l = rw (right-like l)
 
   module _ (n : ℕ) where
     uses-like : (x : ℕ) → usesBad w n x ≡ usesBad t n x

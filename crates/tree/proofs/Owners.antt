@@ -16,7 +16,7 @@ use Rattle.cells.proofs.Signed.{clash}
 use Rattle.tree.specs.Tree.{IsPart, Owned, Level, userOf, climb, lastOf, definitionOf, ownerOf, levelOf}
 use Rattle.tree.specs.TreeSteps.{UsedOnce}
 use Rattle.tree.proofs.Codes.{part-kind, part-body, label-low, label-high}
-use Rattle.tree.proofs.Parts.{Like, Alike, like, like-expression}
+use Rattle.tree.proofs.Parts.{Like, like-expression}
 use Rattle.tree.proofs.Users.{User, user-some, user-only, like-user}
 
 -- ---- climbing
@@ -25,18 +25,6 @@ module _ (t : List ℤ) (n : ℕ) where
   climb-none : (m x : ℕ) → isExpression t x ≡ false → climb t n m x ≡ []
   climb-none zero x e = refl
   climb-none (suc m) x e = rw e
-
-  climb-length : (m x : ℕ) → length (climb t n m x) ≤ m
-  climb-length zero x = omega arith
-  climb-length (suc m) x = go (isExpression t x) (climb-length m (userOf t n x))
-    where
-      go : (b : Bool) → length (climb t n m (userOf t n x)) ≤ m → length (cond b (userOf t n x ∷ climb t n m (userOf t n x)) []) ≤ suc m
-      go true h = omega arith
-      go false h = omega arith
-
-  pub level-most : (x : ℕ) → levelOf t n x ≤ x
-  unfolding levelOf
-  level-most x = climb-length x x
 
   module _ (x : ℕ) (e : isExpression t x ≡ false) where
     pub definition-own : definitionOf t n x ≡ x
@@ -193,10 +181,3 @@ module _ (t w : List ℤ) (n : ℕ) (same : Like t w) where
       go : (b : Bool) → isExpression t x ≡ b → cond b (lastOf x (climb t n x x)) (fieldA w x) ≡ cond b (lastOf x (climb t n x x)) (fieldA t x)
       go true e = refl
       go false e = same .a x (λ q. clash (sym (ap kinds.isExpression q ∙ number-expression) ∙ e))
-
-module _ (t w : List ℤ) (n : ℕ) (same : Alike t w) where
-  pub alike-level : (x : ℕ) → levelOf w n x ≡ levelOf t n x
-  alike-level = like-level t w n (like t w same)
-
-  pub alike-owner : (x : ℕ) → ownerOf w n x ≡ ownerOf t n x
-  alike-owner = like-owner t w n (like t w same)

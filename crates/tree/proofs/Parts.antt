@@ -8,7 +8,6 @@ use borrow.Author.Tests.{ltb-true, eqb-true, eqb-false, le-leb, eq-eqb, ne-eqb}
 use lib.Dec.{leb, ltb, eqb}
 use lib.IntN.{ℤ}
 use Rattle.cells.specs.Lists.{one, count, all}
-use Rattle.cells.proofs.Tests.{one-le}
 use Rattle.cells.proofs.Lists.{count-append}
 use Rattle.kinds.specs.Kinds.{groupCode, numberCode, fieldsAt, isOperandForm}
 use Rattle.kinds.specs.declared.Form.{Form}
@@ -60,13 +59,6 @@ module _ (t : List ℤ) (l : ℕ) where
   all-parts test =
       all-append test (listA ++ listB) listC ∙ ap (λ (b : Bool). b && all test listC) (all-append test listA listB)
 
-pub field-most : (f : Form) (x y : ℕ) → count x (operandIn f y) ≤ 1
-field-most f x y = go (isOperandForm f)
-  where
-    go : (b : Bool) → count x (cond b (y ∷ []) []) ≤ 1
-    go true = omega (arith, one-le (eqb x y))
-    go false = omega arith
-
 -- a field that is an operand holds a part
 pub field-part : (f : Form) (y : ℕ) → isOperandForm f ≡ true → 1 ≤ count y (operandIn f y)
 field-part f y e = rw (e, eq-eqb y y refl) (omega arith)
@@ -86,8 +78,28 @@ parts-zero t l a b c =
 
 -- ---- row 8
 
+module _ (t : List ℤ) (l : ℕ) (right : structureRight t l ≡ true) where
+  abbrev group-test : Bool
+  group-test = cond (leb 2 l && isDefinition t l) (groupRight t l (fieldA t l)) true
+
+  abbrev part-test : Bool
+  part-test = all (partRight t l) (parts t l)
+
+  pub right-group : 2 ≤ l → isDefinition t l ≡ true → (fieldA t l < l) × (kind t (fieldA t l) ≡ groupCode)
+  right-group h d =
+      let e : (leb 2 l && isDefinition t l) ≡ true = rw (le-leb 2 l h, d) in
+      let g : groupRight t l (fieldA t l) ≡ true = rw e at (and-left group-test part-test right) in
+      let below = ltb (fieldA t l) l in
+      let group = eqb (kind t (fieldA t l)) groupCode in
+      (ltb-true (fieldA t l) l (and-left below group g), eqb-true (kind t (fieldA t l)) groupCode (and-right below group g))
+
+  pub right-part : (x : ℕ) → IsPart t l x → (l < x) × (isExpression t x ≡ true)
+  right-part x p =
+      let g : partRight t l x ≡ true = all-has (partRight t l) (parts t l) x (and-right group-test part-test right) p in
+      (ltb-true l x (and-left (ltb l x) (isExpression t x) g), and-right (ltb l x) (isExpression t x) g)
+
 module _ (t : List ℤ) (n : ℕ) (s : Formed t n) (fine : firstBad (structureBad t) 1 n ≡ Fine) where
-  right-line : (l : ℕ) → 1 ≤ l → l ≤ n → structureRight t l ≡ true
+  pub right-line : (l : ℕ) → 1 ≤ l → l ≤ n → structureRight t l ≡ true
   unfolding structureBad
   right-line l h g = go (structureRight t l) (first-none (structureBad t) n 1 fine l h (omega arith))
     where
@@ -95,27 +107,13 @@ module _ (t : List ℤ) (n : ℕ) (s : Formed t n) (fine : firstBad (structureBa
       go true e = refl
       go false e = absurd (omega arith)
 
-  right-group : (l : ℕ) → 2 ≤ l → l ≤ n → isDefinition t l ≡ true → groupRight t l (fieldA t l) ≡ true
-  right-group l h g d =
-      let e : (leb 2 l && isDefinition t l) ≡ true = rw (le-leb 2 l h, d) in
-      rw e at (and-left (cond (leb 2 l && isDefinition t l) (groupRight t l (fieldA t l)) true) (all (partRight t l) (parts t l)) (right-line l (omega arith) g))
-
-  right-part : (l x : ℕ) → IsPart t l x → partRight t l x ≡ true
-  right-part l x p =
-      let k : 1 ≤ kind t l = kind-low (kind t l) (part-kind t l x p) in
-      all-has (partRight t l) (parts t l) x
-      (and-right (cond (leb 2 l && isDefinition t l) (groupRight t l (fieldA t l)) true) (all (partRight t l) (parts t l)) (right-line l (label-low t l n s k) (label-high t l n s k))) p
-
   pub structured : Structured t n
   structured = record {
     formed = s;
-    group = λ l h g d. (
-      ltb-true (fieldA t l) l (and-left (ltb (fieldA t l) l) (eqb (kind t (fieldA t l)) groupCode) (right-group l h g d)),
-      eqb-true (kind t (fieldA t l)) groupCode
-          (and-right (ltb (fieldA t l) l) (eqb (kind t (fieldA t l)) groupCode) (right-group l h g d)),
-    );
+    group = λ l h g d. right-group t l (right-line l (omega arith) g) h d;
     part = λ l x p.
-        (ltb-true l x (and-left (ltb l x) (isExpression t x) (right-part l x p)), and-right (ltb l x) (isExpression t x) (right-part l x p));
+        let k : 1 ≤ kind t l = kind-low (kind t l) (part-kind t l x p) in
+        right-part t l (right-line l (label-low t l n s k) (label-high t l n s k)) x p;
   }
 
 -- ---- the tree reads the kinds and the fields a, b and c alone, and of an N line no field

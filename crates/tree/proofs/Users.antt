@@ -3,15 +3,14 @@ use mathlib.Core.Path.{_≡_, refl, sym}
 use mathlib.Core.Logic.{⊎-elim}
 use mathlib.Core.Bool.{Bool, true, false, cond}
 use mathlib.Core.List.{List}
-use Prim.Native.Nat.{ℕ, zero, suc, _*_, _≤_}
+use Prim.Native.Nat.{ℕ, zero, suc, _≤_, _<_}
 use native.Mathlib.Omega.{arith}
 use native.Mathlib.Nat.{eq-or-lt-of-le}
 use borrow.Author.Tests.{leb-true, leb-false, eqb-true}
 use lib.Dec.{leb, eqb}
 use lib.IntN.{ℤ}
 use Rattle.cells.specs.Lists.{count}
-use Rattle.cells.specs.Table.{kind, isExpression, fieldA, fieldB, fieldC}
-use Rattle.kinds.specs.Kinds.{fieldsAt}
+use Rattle.cells.specs.Table.{kind, isExpression}
 use Rattle.refusals.specs.Rows.{usesRow}
 use Rattle.refusals.specs.declared.Verdict.the-variants.{Fine}
 use Rattle.refusals.specs.Refusal.{firstBad}
@@ -19,17 +18,9 @@ use Rattle.refusals.proofs.FirstBad.{first-none}
 use Rattle.tree.specs.Tree.{parts, uses, usesBad, IsPart, userOf}
 use Rattle.tree.specs.TreeSteps.{Structured, UsedOnce}
 use Rattle.tree.proofs.Codes.{expression-kind, label-low, label-high}
-use Rattle.tree.proofs.Parts.{Like, Alike, like, count-parts, field-most, like-parts}
+use Rattle.tree.proofs.Parts.{Like, like-parts}
 
 module _ (t : List ℤ) (x : ℕ) where
-  pub line-most : (l : ℕ) → count x (parts t l) ≤ 3
-  line-most l =
-      omega (arith, count-parts t l x, field-most (fieldsAt (kind t l) .a) x (fieldA t l), field-most (fieldsAt (kind t l) .b) x (fieldB t l), field-most (fieldsAt (kind t l) .c) x (fieldC t l))
-
-  pub uses-most : (k : ℕ) → uses t k x ≤ 3 * k
-  uses-most zero = omega arith
-  uses-most (suc k) = omega (arith, uses-most k, line-most (suc k))
-
   -- a user counts
   pub part-used : (k l : ℕ) → 1 ≤ l → l ≤ k → IsPart t l x → 1 ≤ uses t k x
   part-used zero l h g p = absurd (omega arith)
@@ -40,6 +31,26 @@ module _ (t : List ℤ) (x : ℕ) where
 
       older : 1 ≤ uses t k x → 1 ≤ uses t (suc k) x
       older r = omega arith
+
+  -- labels that do not use it change nothing
+  pub uses-still : (k m : ℕ) → k ≤ m → ((l : ℕ) → k < l → l ≤ m → count x (parts t l) ≡ 0) → uses t m x ≡ uses t k x
+  uses-still k zero h none = let e : k ≡ 0 = omega arith in rw e
+  uses-still k (suc m) h none =
+      ⊎-elim (λ e. rw e)
+      (λ g.
+      let i : k ≤ m = omega arith in
+      let older : uses t m x ≡ uses t k x = uses-still k m i (λ l a b. none l a (omega arith)) in
+      omega (arith, none (suc m) g (omega arith)))
+      (eq-or-lt-of-le h)
+
+  pub uses-grow : (k m : ℕ) → k ≤ m → uses t k x ≤ uses t m x
+  uses-grow k zero h = let e : k ≡ 0 = omega arith in rw e (omega arith)
+  uses-grow k (suc m) h =
+      ⊎-elim (λ e. rw e (omega arith))
+      (λ g.
+      let i : k ≤ m = omega arith in
+      omega (arith, uses-grow k m i))
+      (eq-or-lt-of-le h)
 
   -- what is used has a user
   pub record User (k u : ℕ) : Type 0 where
@@ -93,6 +104,3 @@ module _ (t w : List ℤ) (same : Like t w) (x : ℕ) where
   pub like-user : (k : ℕ) → userOf w k x ≡ userOf t k x
   like-user zero = refl
   like-user (suc k) = rw (like-user k, like-parts t w same (suc k))
-
-pub alike-uses : (t w : List ℤ) → Alike t w → (x k : ℕ) → uses w k x ≡ uses t k x
-alike-uses t w same = like-uses t w (like t w same)

@@ -1,23 +1,21 @@
--- What the code reads and writes at one label, and what each of its passes has done. Until the last pass has cleared it, the target cell
--- holds how often a label is used, and then its level.
+-- What the code reads and writes at one label, and what its pass has done. Until the pass has cleared it, the target cell holds the level of a
+-- label.
 use mathlib.Core.Path.{_≡_}
 use mathlib.Core.Bool.{Bool, true, false, cond, _&&_}
 use mathlib.Core.List.{List}
 use Prim.Native.Nat.{ℕ, suc, _+_, _-_, _*_, _%_, _≤_, _<_}
-use lib.Dec.{leb, eqb}
+use lib.Dec.{leb, ltb, eqb}
 use lib.IntN.{ℤ, pos}
 use lib.ListN.{length, set}
-use Rattle.cells.specs.Limits.{labelLimit}
+use Rattle.cells.specs.Limits.{labelLimit, levelLimit}
 use Rattle.cells.specs.Cells.{intAt}
 use Rattle.cells.specs.Lists.{count}
 use Rattle.cells.specs.Table.{cell, kind, isDefinition, isExpression, fieldA, fieldB, fieldC, owner, target}
-use Rattle.kinds.specs.Kinds.{groupCode, fieldsAt, isKind, isOperandForm}
+use Rattle.kinds.specs.Kinds.{groupCode, fieldsAt, isKind, isOperandForm, takes, argumentPlace}
 use Rattle.kinds.specs.declared.Form.{Form}
-use Rattle.tree.specs.Tree.{parts, groupRight, partRight, structureBad, uses, notOnce, IsPart, userOf, ownerOf, levelOf, argumentIn, aboveLevels}
+use Rattle.tree.specs.Tree.{parts, groupRight, partRight, uses, IsPart, userOf, ownerOf, levelOf}
 use Rattle.tree.specs.Treed.{Formed}
 use Rattle.tree.specs.declared.Node.{Node}
-use Rattle.tree.specs.declared.Rule.{Rule}
-use Rattle.tree.specs.declared.Rule.the-variants as rule
 
 -- ---- one label
 
@@ -54,33 +52,40 @@ groupFits t l definition = cond (leb 2 l && definition) (groupRight t l (fieldA 
 abbrev pub partFits : List ℤ → ℕ → ℕ → Bool
 partFits t l x = cond (eqb x 0) true (partRight t l x)
 
--- the rows by the cells
-abbrev pub cellBad : Rule → List ℤ → ℕ → ℕ
-cellBad rule.Structure t l = structureBad t l
-cellBad rule.Uses t l = notOnce (isExpression t l) (target t l)
-cellBad rule.Argument t l = argumentIn (kind t l) (kind t (owner t l))
-cellBad rule.Level t l = aboveLevels (target t l)
+-- row 9 by the owner cell, which is 0 of an expression that is not used, and no label where it is used more than once
+abbrev pub twice : ℕ
+twice = labelLimit + 1
 
--- the table in which x, if it is a label, is used once more
-abbrev pub counted : ℕ → List ℤ → List ℤ
-counted x t = cond (eqb x 0) t (set t (8 * (x - 1) + 7) (pos (target t x + 1)))
+abbrev pub ownedOnce : ℕ → Bool
+ownedOnce d = ltb 0 d && ltb d twice
 
-abbrev pub countedAll : Node → List ℤ → List ℤ
-countedAll p t = counted (p .c) (counted (p .b) (counted (p .a) t))
+abbrev pub usedRight : List ℤ → ℕ → Bool
+usedRight t l = cond (nodeAt t l .definition) true (ownedOnce (owner t l))
+
+-- rows 10 and 11 by the cells
+abbrev pub argumentWrong : List ℤ → ℕ → Bool
+argumentWrong t l = ltb (takes (kind t (owner t l))) (argumentPlace (kind t l))
+
+abbrev pub levelWrong : List ℤ → ℕ → Bool
+levelWrong t l = ltb levelLimit (target t l)
 
 -- the table in which x, if it is a label, has this owner and level
 abbrev pub assigned : ℕ → ℕ → ℕ → List ℤ → List ℤ
 assigned x d v t = cond (eqb x 0) t (set (set t (8 * (x - 1) + 6) (pos d)) (8 * (x - 1) + 7) (pos v))
 
-abbrev pub assignedAll : Node → ℕ → ℕ → List ℤ → List ℤ
-assignedAll p d v t = assigned (p .c) d v (assigned (p .b) d v (assigned (p .a) d v t))
+-- the table in which x, if it is a label, is used once more, by a line that gives it this owner and level
+unfoldable pub claimed : ℕ → ℕ → ℕ → List ℤ → List ℤ
+claimed x d v t = cond (eqb (owner t x) 0) (assigned x d v t) (set t (8 * (x - 1) + 6) (pos twice))
+
+abbrev pub claimedAll : Node → ℕ → ℕ → List ℤ → List ℤ
+claimedAll p d v t = claimed (p .c) d v (claimed (p .b) d v (claimed (p .a) d v t))
 
 -- the table in which line l has propagated its owner and level to its parts
 unfoldable pub propagated : ℕ → List ℤ → List ℤ
 propagated l t =
     cond (nodeAt t l .definition)
-    (assignedAll (nodeAt t l) l 1 (assigned l (fieldA t l) 0 t))
-    (assignedAll (nodeAt t l) (owner t l) (target t l + 1) t)
+    (claimedAll (nodeAt t l) l 1 (assigned l (fieldA t l) 0 t))
+    (claimedAll (nodeAt t l) (owner t l) (target t l + 1) t)
 
 -- what these writes ask: the parts have cells in the table, and what is written fits
 pub record Inside (t : List ℤ) (p : Node) : Type 0 where
@@ -88,19 +93,11 @@ pub record Inside (t : List ℤ) (p : Node) : Type 0 where
   pub b : 8 * p .b ≤ length t
   pub c : 8 * p .c ≤ length t
 
-pub record Countable (t : List ℤ) (l : ℕ) : Type 0 where
-  pub line : Known t l
-  pub inside : Inside t (nodeAt t l)
-  pub a : target t (nodeAt t l .a) ≤ 3 * labelLimit
-  pub b : target t (nodeAt t l .b) ≤ 3 * labelLimit
-  pub c : target t (nodeAt t l .c) ≤ 3 * labelLimit
-
 pub record Propagable (t : List ℤ) (l : ℕ) : Type 0 where
   pub line : Known t l
   pub inside : Inside t (nodeAt t l)
   pub few : l ≤ labelLimit
   pub group : nodeAt t l .definition ≡ true → fieldA t l ≤ labelLimit
-  pub owner : nodeAt t l .definition ≡ false → owner t l ≤ labelLimit
   pub level : nodeAt t l .definition ≡ false → target t l ≤ labelLimit
 
 -- ---- tables that passed rows 8 and 9
@@ -114,7 +111,7 @@ pub record UsedOnce (t : List ℤ) (n : ℕ) : Type 0 where
   pub structure : Structured t n
   pub once : (x : ℕ) → isExpression t x ≡ true → uses t n x ≡ 1
 
--- ---- the passes
+-- ---- the pass
 
 -- owner and target cells of the labels 1 to n are no negative numbers
 abbrev pub Natural : List ℤ → ℕ → Type 0
@@ -127,29 +124,16 @@ pub record Over (t : List ℤ) (n : ℕ) (w : List ℤ) : Type 0 where
   pub beyond : (i : ℕ) → 8 * n ≤ i → intAt w i ≡ intAt t i
   pub natural : Natural w n
 
--- the parts of labels 1 to k are counted
-pub record UsesCounted (t : List ℤ) (n k : ℕ) (w : List ℤ) : Type 0 where
-  pub over : Over t n w
-  pub uses : (x : ℕ) → 1 ≤ x → x ≤ n → target w x ≡ uses t k x
-
 -- the label at which the owner of x is written: its own for a definition, its user's for an expression
 abbrev pub turnOf : List ℤ → ℕ → ℕ → ℕ
 turnOf t n x = cond (isExpression t x) (userOf t n x) x
 
--- the owners and levels that labels 1 to k write are written
-pub record Propagated (t : List ℤ) (n k : ℕ) (w : List ℤ) : Type 0 where
+-- the level of x that stands in its target cell when the labels 1 to j are cleared
+abbrev pub levelLeft : List ℤ → ℕ → ℕ → ℕ → ℕ
+levelLeft t n j x = cond (leb x j) 0 (levelOf t n x)
+
+-- the owners and levels that labels 1 to k write are written, and the targets of labels 1 to j cleared
+pub record Propagated (t : List ℤ) (n k j : ℕ) (w : List ℤ) : Type 0 where
   pub over : Over t n w
   pub owners : (x : ℕ) → 1 ≤ x → x ≤ n → turnOf t n x ≤ k → owner w x ≡ ownerOf t n x
-  pub levels : (x : ℕ) → 1 ≤ x → x ≤ n → turnOf t n x ≤ k → target w x ≡ levelOf t n x
-
--- the targets of labels 1 to k are 0
-pub record Cleared (t : List ℤ) (n k : ℕ) (w : List ℤ) : Type 0 where
-  pub over : Over t n w
-  pub owners : (x : ℕ) → owner w x ≡ owner t x
-  pub targets : (x : ℕ) → 1 ≤ x → x ≤ k → target w x ≡ 0
-
--- owners are written, and targets are 0
-pub record Owning (t : List ℤ) (n : ℕ) (w : List ℤ) : Type 0 where
-  pub over : Over t n w
-  pub owners : (x : ℕ) → 1 ≤ x → x ≤ n → owner w x ≡ ownerOf t n x
-  pub targets : (x : ℕ) → 1 ≤ x → x ≤ n → target w x ≡ 0
+  pub levels : (x : ℕ) → 1 ≤ x → x ≤ n → turnOf t n x ≤ k → target w x ≡ levelLeft t n j x

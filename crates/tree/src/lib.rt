@@ -1,17 +1,20 @@
 // The tree of a table: rows 8 to 11 of document 01's table of refusals, and the owner of each label. A user's label is below that of what
-// it uses, so that one pass upward through the labels propagates owners and levels; uses and levels stand in the target cells meanwhile.
+// it uses, so that one pass upward through the labels does it all; levels stand in the target cells meanwhile.
 
 ghost use mathlib.Core.Path.{_≡_};
+ghost use mathlib.Core.Bool.{true, cond, _&&_};
 ghost use Prim.Native.Nat.{_+_, _*_, _≤_, _<_};
 ghost use lib.ListN.{length};
 ghost use Rattle.cells.specs.Limits.{labelLimit};
-ghost use Rattle.cells.specs.Lists.{all};
-ghost use Rattle.cells.specs.Table.{cell, isExpression, target};
-ghost use Rattle.refusals.specs.Refusal.{firstBad, orElse};
-ghost use Rattle.tree.specs.Tree.{partRight, parts, structureBad, usesBad, argumentBad, levelBad, treeBad};
+ghost use Rattle.cells.specs.Lists.{all, orIfZero};
+ghost use Rattle.cells.specs.Table.{cell, isExpression};
+ghost use Rattle.refusals.specs.Refusal.{firstBad, orElse, foundAt};
+ghost use Rattle.refusals.specs.Rows.{usesRow, argumentRow, levelRow};
+ghost use Rattle.refusals.specs.declared.Verdict.the-variants.{Refused};
+ghost use Rattle.tree.specs.Tree.{partRight, parts, structureRight, structureBad, treeBad};
 ghost use Rattle.tree.specs.Treed.{Formed, Plain, Written};
-ghost use Rattle.tree.specs.TreeSteps.{HasCells, partIn, nodeAt, Known, Readable, groupFits, partFits, cellBad, counted, countedAll, assigned, assignedAll};
-ghost use Rattle.tree.specs.TreeSteps.{propagated, Inside, Countable, Propagable, Structured, UsedOnce, Natural, UsesCounted, Propagated, Cleared, Owning};
+ghost use Rattle.tree.specs.TreeSteps.{HasCells, partIn, nodeAt, Known, Readable, groupFits, partFits, ownedOnce, usedRight, argumentWrong, levelWrong};
+ghost use Rattle.tree.specs.TreeSteps.{assigned, claimed, claimedAll, propagated, Inside, Propagable};
 use kinds::Form;
 use refusals::Verdict;
 
@@ -65,7 +68,7 @@ fn is_expression(table: &[i64], label: usize) -> bool
     kinds::is_expression(cells::cell_at(table, label, cells::KIND))
 }
 
-// ---- rows 8 to 11, a label at a time
+// ---- the rows, a label at a time
 
 // Whether the Group of a definition is a G with a smaller label; label 1's is not judged.
 fn group_right(table: &[i64], label: usize, definition: bool) -> bool
@@ -112,88 +115,36 @@ fn parts_right(table: &[i64], label: usize, node: Node) -> bool
 }
 
 // Row 8: the Group of a definition, and the body or operands of a line.
+fn structure_right(table: &[i64], label: usize, node: Node) -> bool
+    requires { ⌜ Readable (now table) label × (node ≡ nodeAt (now table) label) ⌝ }
+    ensures { λ r. ⌜ r ≡ structureRight (now (table .entry)) label ⌝ }
+{
+    if group_right(table, label, node.definition) {
+        return parts_right(table, label, node);
+    }
+    false
+}
+
+// The number of row 8, if it refuses the label, else 0.
 fn structure_bad(table: &[i64], label: usize) -> u64
     requires { ⌜ Readable (now table) label ⌝ }
     ensures { λ r. ⌜ r ≡ structureBad (now (table .entry)) label ⌝ }
 {
     let node = node_at(table, label);
-    if group_right(table, label, node.definition) {
-        if parts_right(table, label, node) {
-            return 0;
-        }
+    if structure_right(table, label, node) {
+        return 0;
     }
     refusals::STRUCTURE
 }
 
-// The rows of the tree, in the order of their passes.
-pub enum Rule {
-    Structure,
-    Uses,
-    Argument,
-    Level,
-}
-
-// Row 9, by the uses in the target cell: an expression is used by one field, once.
-fn uses_bad(table: &[i64], label: usize) -> u64
-    requires { ⌜ HasCells (now table) label ⌝ }
-    ensures { λ r. ⌜ r ≡ cellBad Rule.Uses (now (table .entry)) label ⌝ }
-{
-    if kinds::is_expression(cells::label_cell(table, label, cells::KIND)) {
-        if cells::label_cell(table, label, cells::TARGET) != 1 {
-            return refusals::USES;
-        }
-    }
-    0
-}
-
-// Row 10: the body of its owner is given the argument that a line stands for.
-fn argument_bad(table: &[i64], label: usize) -> u64
-    requires { ⌜ HasCells (now table) label ⌝ }
-    ensures { λ r. ⌜ r ≡ cellBad Rule.Argument (now (table .entry)) label ⌝ }
-{
-    let place = kinds::argument_place(cells::label_cell(table, label, cells::KIND));
-    if place == 0 {
-        return 0;
-    }
-    let owner = cells::label_cell(table, label, cells::OWNER);
-    if kinds::takes(cells::cell_at(table, owner, cells::KIND)) < place {
-        return refusals::ARGUMENT;
-    }
-    0
-}
-
-// Row 11, by the level in the target cell: at most 32.
-fn level_bad(table: &[i64], label: usize) -> u64
-    requires { ⌜ HasCells (now table) label ⌝ }
-    ensures { λ r. ⌜ r ≡ cellBad Rule.Level (now (table .entry)) label ⌝ }
-{
-    if cells::LEVEL_LIMIT < cells::label_cell(table, label, cells::TARGET) {
-        return refusals::LEVEL;
-    }
-    0
-}
-
-// The number of the row, if it refuses the label, else 0.
-fn check(table: &[i64], label: usize, rule: Rule) -> u64
-    requires { ⌜ Readable (now table) label ⌝ }
-    ensures { λ r. ⌜ r ≡ cellBad rule (now (table .entry)) label ⌝ }
-{
-    match rule {
-        Rule::Structure => structure_bad(table, label),
-        Rule::Uses => uses_bad(table, label),
-        Rule::Argument => argument_bad(table, label),
-        Rule::Level => level_bad(table, label),
-    }
-}
-
-// One row's pass upward through the labels.
-fn first_bad(table: &[i64], n: usize, rule: Rule) -> Verdict
+// Row 8 alone, upward through the labels.
+fn first_bad(table: &[i64], n: usize) -> Verdict
     requires { ⌜ Formed (now table) n ⌝ }
-    ensures { λ r. ⌜ r ≡ firstBad (cellBad rule (now (table .entry))) 1 n ⌝ }
+    ensures { λ r. ⌜ r ≡ firstBad (structureBad (now (table .entry))) 1 n ⌝ }
 {
     let mut label: usize = 1;
     while label <= n {
-        let row = check(table, label, rule);
+        let row = structure_bad(table, label);
         if row != 0 {
             return Verdict::Refused(row, label as u64);
         }
@@ -202,43 +153,41 @@ fn first_bad(table: &[i64], n: usize, rule: Rule) -> Verdict
     Verdict::Fine
 }
 
-// ---- how often each label is used
-
-// One use of x more, if it is a label.
-fn count_part(table: &mut [i64], x: usize)
-    requires { ⌜ (8 * x ≤ length (now table)) × (target (now table) x < 65536) ⌝ }
-    ensures { λ _. ⌜ now (table .exit) ≡ counted x (now (table .entry)) ⌝ }
+// Row 9, by the owner cell: an expression is used by one field, once.
+fn used_once(owner: usize) -> bool
+    ensures { λ r. ⌜ r ≡ ownedOnce owner ⌝ }
 {
-    if x != 0 {
-        let uses = cells::label_cell(table, x, cells::TARGET);
-        cells::put_cell(table, x, cells::TARGET, uses + 1);
+    if 0 < owner {
+        return owner < TWICE;
     }
+    false
 }
 
-// One use more of each part of a line.
-fn count_parts(table: &mut [i64], label: usize)
-    requires { ⌜ Countable (now table) label ⌝ }
-    ensures { λ _. ⌜ now (table .exit) ≡ countedAll (nodeAt (now (table .entry)) label) (now (table .entry)) ⌝ }
+// Row 10: the body of its owner is not given the argument that a line stands for.
+fn argument_bad(table: &[i64], label: usize) -> bool
+    requires { ⌜ HasCells (now table) label ⌝ }
+    ensures { λ r. ⌜ r ≡ argumentWrong (now (table .entry)) label ⌝ }
 {
-    let node = node_at(table, label);
-    count_part(table, node.a);
-    count_part(table, node.b);
-    count_part(table, node.c);
+    let place = kinds::argument_place(cells::label_cell(table, label, cells::KIND));
+    if place == 0 {
+        return false;
+    }
+    let owner = cells::label_cell(table, label, cells::OWNER);
+    kinds::takes(cells::cell_at(table, owner, cells::KIND)) < place
 }
 
-// How often each label is used, in its target cell.
-fn count_uses(table: &mut [i64], n: usize)
-    requires { ⌜ Plain (now table) n × Structured (now table) n ⌝ }
-    ensures { λ _. ⌜ UsesCounted (now (table .entry)) n n (now (table .exit)) ⌝ }
+// Row 11, by the level in the target cell: above 32.
+fn level_bad(table: &[i64], label: usize) -> bool
+    requires { ⌜ HasCells (now table) label ⌝ }
+    ensures { λ r. ⌜ r ≡ levelWrong (now (table .entry)) label ⌝ }
 {
-    let mut label: usize = 1;
-    while label <= n {
-        count_parts(table, label);
-        label += 1;
-    }
+    cells::LEVEL_LIMIT < cells::label_cell(table, label, cells::TARGET)
 }
 
 // ---- owners and levels
+
+// No label: the owner of an expression that is used more than once.
+const TWICE: usize = 1025;
 
 // Owner and level of x, if it is a label.
 fn assign(table: &mut [i64], x: usize, owner: usize, level: usize)
@@ -251,106 +200,124 @@ fn assign(table: &mut [i64], x: usize, owner: usize, level: usize)
     }
 }
 
-// Owner and level of the parts of a line.
-fn assign_parts(table: &mut [i64], node: Node, owner: usize, level: usize)
-    requires { ⌜ Inside (now table) node × (owner ≤ labelLimit) × (level ≤ labelLimit + 1) ⌝ }
-    ensures { λ _. ⌜ now (table .exit) ≡ assignedAll node owner level (now (table .entry)) ⌝ }
+// A use of x, if it is a label: the first gives it its owner and level.
+fn claim(table: &mut [i64], x: usize, owner: usize, level: usize)
+    requires { ⌜ (8 * x ≤ length (now table)) × (owner ≤ labelLimit) × (level ≤ labelLimit + 1) ⌝ }
+    ensures { λ _. ⌜ now (table .exit) ≡ claimed x owner level (now (table .entry)) ⌝ }
 {
-    assign(table, node.a, owner, level);
-    assign(table, node.b, owner, level);
-    assign(table, node.c, owner, level);
+    if x != 0 {
+        if cells::label_cell(table, x, cells::OWNER) != 0 {
+            cells::put_cell(table, x, cells::OWNER, TWICE);
+            return;
+        }
+        assign(table, x, owner, level);
+    }
 }
 
-// A definition owns its body, at level 1, and has its Group as owner; an expression propagates its owner to its operands, one level deeper.
-fn propagate(table: &mut [i64], label: usize)
-    requires { ⌜ Propagable (now table) label ⌝ }
-    ensures { λ _. ⌜ now (table .exit) ≡ propagated label (now (table .entry)) ⌝ }
+// A use of each part of a line.
+fn claim_parts(table: &mut [i64], node: Node, owner: usize, level: usize)
+    requires { ⌜ Inside (now table) node × (owner ≤ labelLimit) × (level ≤ labelLimit + 1) ⌝ }
+    ensures { λ _. ⌜ now (table .exit) ≡ claimedAll node owner level (now (table .entry)) ⌝ }
 {
-    let node = node_at(table, label);
+    claim(table, node.a, owner, level);
+    claim(table, node.b, owner, level);
+    claim(table, node.c, owner, level);
+}
+
+// Row 9 at a label; if it is right, a definition owns its body, at level 1, and has its Group as owner, and an expression propagates its
+// owner to its operands, one level deeper.
+fn propagate(table: &mut [i64], label: usize, node: Node) -> bool
+    requires { ⌜ Propagable (now table) label × (node ≡ nodeAt (now table) label) ⌝ }
+    ensures { λ r. ⌜ r ≡ usedRight (now (table .entry)) label ⌝ }
+    ensures { λ r. ⌜ now (table .exit) ≡ cond r (propagated label (now (table .entry))) (now (table .entry)) ⌝ }
+{
     if node.definition {
         let group = cells::label_cell(table, label, cells::A);
         assign(table, label, group, 0);
-        assign_parts(table, node, label, 1);
-        return;
+        claim_parts(table, node, label, 1);
+        return true;
     }
     let owner = cells::label_cell(table, label, cells::OWNER);
-    let level = cells::label_cell(table, label, cells::TARGET);
-    assign_parts(table, node, owner, level + 1);
+    if used_once(owner) {
+        let level = cells::label_cell(table, label, cells::TARGET);
+        claim_parts(table, node, owner, level + 1);
+        return true;
+    }
+    false
 }
 
-// The owner of each label, and the level of each expression in its target cell.
-fn propagate_all(table: &mut [i64], n: usize)
-    requires { ⌜ UsedOnce (now table) n × Natural (now table) n ⌝ }
-    ensures { λ _. ⌜ Propagated (now (table .entry)) n n (now (table .exit)) ⌝ }
+// Rows 8 and 9 at a label; if both are right, its parts have their owner and level.
+fn settle(table: &mut [i64], label: usize) -> bool
+    requires { ⌜ Readable (now table) label × (structureRight (now table) label ≡ true → Propagable (now table) label) ⌝ }
+    ensures { λ r. ⌜ r ≡ (structureRight (now (table .entry)) label && usedRight (now (table .entry)) label) ⌝ }
+    ensures { λ r. ⌜ now (table .exit) ≡ cond r (propagated label (now (table .entry))) (now (table .entry)) ⌝ }
 {
-    let mut label: usize = 1;
-    while label <= n {
-        propagate(table, label);
-        label += 1;
+    let node = node_at(table, label);
+    if structure_right(table, label, node) {
+        return propagate(table, label, node);
     }
-}
-
-// The target cells are 0 again, for the paths to come.
-fn clear_targets(table: &mut [i64], n: usize)
-    requires { ⌜ (8 * n ≤ length (now table)) × Natural (now table) n ⌝ }
-    ensures { λ _. ⌜ Cleared (now (table .entry)) n n (now (table .exit)) ⌝ }
-{
-    let mut label: usize = 1;
-    while label <= n {
-        cells::put_cell(table, label, cells::TARGET, 0);
-        label += 1;
-    }
+    false
 }
 
 // ---- rows 8 to 11
 
-// Rows 10 and 11, by owners and levels in the table.
-fn late_rows(table: &[i64], n: usize) -> Verdict
+// The first label found, or else this one, if it is wrong.
+fn first_of(found: usize, wrong: bool, label: usize) -> usize
+    ensures { λ r. ⌜ r ≡ orIfZero found (cond wrong label 0) ⌝ }
+{
+    if found != 0 {
+        return found;
+    }
+    if wrong {
+        return label;
+    }
+    0
+}
+
+// A label fails row 8 or 9. Row 8 comes first, wherever it fails.
+fn early_verdict(table: &[i64], n: usize, label: usize) -> Verdict
     requires { ⌜ Formed (now table) n ⌝ }
-    ensures { λ r. ⌜ r ≡ orElse (firstBad (cellBad Rule.Argument (now (table .entry))) 1 n) (firstBad (cellBad Rule.Level (now (table .entry))) 1 n) ⌝ }
+    ensures { λ r. ⌜ r ≡ orElse (firstBad (structureBad (now (table .entry))) 1 n) (Refused usesRow label) ⌝ }
 {
-    let verdict = first_bad(table, n, Rule::Argument);
+    let verdict = first_bad(table, n);
     match verdict {
-        Verdict::Fine => first_bad(table, n, Rule::Level),
+        Verdict::Fine => Verdict::Refused(refusals::USES, label as u64),
         Verdict::Refused(_, _) => verdict,
     }
 }
 
-// A table that passed rows 8 and 9: its owners are written, and rows 10 and 11 judged.
-fn read_owners(table: &mut [i64], n: usize) -> Verdict
-    requires { ⌜ UsedOnce (now table) n × Natural (now table) n ⌝ }
-    ensures { λ r. ⌜ r ≡ orElse (firstBad (argumentBad (now (table .entry)) n) 1 n) (firstBad (levelBad (now (table .entry)) n) 1 n) ⌝ }
-    ensures { λ _. ⌜ Owning (now (table .entry)) n (now (table .exit)) ⌝ }
+// Rows 10 and 11 by the first label that fails each, 0 for none.
+fn late_verdict(argument: usize, level: usize) -> Verdict
+    ensures { λ r. ⌜ r ≡ orElse (foundAt argumentRow argument) (foundAt levelRow level) ⌝ }
 {
-    propagate_all(table, n);
-    let verdict = late_rows(table, n);
-    clear_targets(table, n);
-    verdict
-}
-
-// A table that passed row 8.
-fn read_uses(table: &mut [i64], n: usize) -> Verdict
-    requires { ⌜ Plain (now table) n × Structured (now table) n ⌝ }
-    ensures { λ r. ⌜ r ≡ orElse (firstBad (usesBad (now (table .entry)) n) 1 n) (orElse (firstBad (argumentBad (now (table .entry)) n) 1 n) (firstBad (levelBad (now (table .entry)) n) 1 n)) ⌝ }
-    ensures { λ r. ⌜ Written r (now (table .entry)) n (now (table .exit)) ⌝ }
-{
-    count_uses(table, n);
-    let verdict = first_bad(table, n, Rule::Uses);
-    match verdict {
-        Verdict::Fine => read_owners(table, n),
-        Verdict::Refused(_, _) => verdict,
+    if argument != 0 {
+        return Verdict::Refused(refusals::ARGUMENT, argument as u64);
     }
+    if level != 0 {
+        return Verdict::Refused(refusals::LEVEL, level as u64);
+    }
+    Verdict::Fine
 }
 
-// Rows 8 to 11, and the owner of each label.
+// Rows 8 to 11, and the owner of each label. What uses a label has a smaller one, so that its uses, owner and level are final when the
+// pass comes to it.
 pub fn read_tree(table: &mut [i64], n: usize) -> Verdict
     requires { ⌜ Plain (now table) n ⌝ }
     ensures { λ r. ⌜ r ≡ treeBad (now (table .entry)) n ⌝ }
     ensures { λ r. ⌜ Written r (now (table .entry)) n (now (table .exit)) ⌝ }
 {
-    let verdict = first_bad(table, n, Rule::Structure);
-    match verdict {
-        Verdict::Fine => read_uses(table, n),
-        Verdict::Refused(_, _) => verdict,
+    let mut argument: usize = 0;
+    let mut level: usize = 0;
+    let mut label: usize = 1;
+    while label <= n {
+        if settle(table, label) {
+            argument = first_of(argument, argument_bad(table, label), label);
+            level = first_of(level, level_bad(table, label), label);
+            cells::put_cell(table, label, cells::TARGET, 0);
+            label += 1;
+        } else {
+            return early_verdict(table, n, label);
+        }
     }
+    late_verdict(argument, level)
 }

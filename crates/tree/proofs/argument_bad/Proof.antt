@@ -1,18 +1,9 @@
 -- Row 10 by the owner cell.
 use mathlib.Core.Path.{_∙_, sym}
-use native.Mathlib.Omega.{arith}
-use Rattle.tree.proofs.Labels.{argument-none, argument-fine, argument-wrong}
+use Rattle.tree.proofs.Labels.{argument-none}
 use borrow.Author.Needs.{needs}
 use Rattle.tree.proofs.argument_bad.Statement.{statement}
 use Rattle.tree.proofs.argument_bad.Tie as tie
-
--- ---- earlier places, by later ones
-
-abbrev after-argument-place : tie.Then2 → tie.After-argument-place
-after-argument-place c = c .before .before .before .before .before
-
-abbrev after-argument-place-from-else2 : tie.Else2 → tie.After-argument-place
-after-argument-place-from-else2 c = c .before .before .before .before .before
 
 label-cell-requires : tie.Need-label-cell-requires
 label-cell-requires c κs = search needs
@@ -34,21 +25,10 @@ takes-requires c κs = search needs
 
 returns-2 : tie.Need-returns-2
 returns-2 c =
-    let argument-place = after-argument-place c .argument-place in
-    let label-cell2 = c .before .before .before .label-cell2 in
-    let label-cell = after-argument-place c .before .label-cell in
-    let cell-at = c .before .before .cell-at in
-    rw (← label-cell .ensures, ← label-cell2 .ensures, ← cell-at .ensures)
-    (sym (argument-wrong (label-cell .result) (cell-at .result) (omega (arith, c .if2 .taken, c .before .takes .ensures, argument-place .ensures))))
-
-returns-3 : tie.Need-returns-3
-returns-3 c =
-    let argument-place = after-argument-place-from-else2 c .argument-place in
-    let label-cell2 = c .before .before .before .label-cell2 in
-    let label-cell = after-argument-place-from-else2 c .before .label-cell in
-    let cell-at = c .before .before .cell-at in
-    rw (← label-cell .ensures, ← label-cell2 .ensures, ← cell-at .ensures)
-    (sym (argument-fine (label-cell .result) (cell-at .result) (omega (arith, c .if2 .left, c .before .takes .ensures, argument-place .ensures))))
+    let code = c .before .before .before .before .before .label-cell in
+    let place = c .before .before .before .before .argument-place in
+    let owner = c .before .before .label-cell2 in
+    rw (← code .ensures, ← owner .ensures, ← c .before .cell-at .ensures, ← c .takes .ensures, ← place .ensures)
 
 pub argument-bad-spec : {M : Type 1} → statement M
 argument-bad-spec =
@@ -60,5 +40,4 @@ argument-bad-spec =
     label-cell-requires-2
     cell-at-requires
     takes-requires
-    returns-2
-    returns-3)
+    returns-2)

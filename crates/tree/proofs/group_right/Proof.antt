@@ -34,7 +34,8 @@ returns-3 : tie.Need-returns-3
 returns-3 c =
     let if1 = else1-of c .if1 in
     let s = else1-of c .before in
-    sym (fits-above (s .args .table .now) (s .args .label) (s .args .definition) (if1 .left) (c .before .before .if2 .taken) (c .before .label-cell .result) (c .before .label-cell .ensures) (c .if3 .left))
+    let group = c .before .label-cell in
+    sym (fits-above (s .args .table .now) (s .args .label) (s .args .definition) (if1 .left) (c .before .before .if2 .taken) (group .result) (group .ensures) (c .if3 .left))
 
 returns-4 : tie.Need-returns-4
 returns-4 c = sym (fits-expression (c .before .before .args .table .now) (c .before .before .args .label) (c .before .before .args .definition) (c .before .if1 .left) (c .if2 .left))

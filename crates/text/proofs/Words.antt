@@ -7,10 +7,10 @@ use native.Mathlib.Nat.{suc-add, pow-suc, mul-comm, mul-assoc}
 use native.Mathlib.Decide.{ℕ-discrete}
 use native.Mathlib.Omega.{arith}
 use lib.Bits.{bitAnd, and-block, and-le-l, and-le-r}
-use lib.Dec.{leb, ltb, eqb}
-use lib.ListN.{length, getD, drop}
+use lib.Dec.{leb, eqb}
+use lib.ListN.{getD, drop}
 use lib.Seq.{slice}
-use borrow.Author.Tests.{leb-true, eqb-true, ltb-true, eq-eqb, ne-eqb}
+use borrow.Author.Tests.{leb-true, eqb-true, eq-eqb, ne-eqb}
 use Rattle.text.specs.Bytes.{same, lowercaseByte, lowercase}
 use Rattle.text.specs.Words.{bytesIn}
 use Rattle.text.proofs.Bytes.{and-left, and-right, same-eq}
@@ -207,10 +207,12 @@ folds (suc k) w h =
 
 -- ---- words whose bytes are the same but for case have the same bits but for that of the case
 
+case-kept : (z : ℕ) → z < 256 → bitAnd z 223 ≡ bitAnd (lowercaseByte z) 223
+case-kept z h = eqb-true (bitAnd z 223) (bitAnd (lowercaseByte z) 223) (each-at caseTest 256 z all-cases h)
+
 caseless-byte : (x y : ℕ) → x < 256 → y < 256 → lowercaseByte x ≡ lowercaseByte y → bitAnd x 223 ≡ bitAnd y 223
 caseless-byte x y h g e =
-    let bit : (z : ℕ) → z < 256 → bitAnd z 223 ≡ bitAnd (lowercaseByte z) 223 = λ z l. eqb-true (bitAnd z 223) (bitAnd (lowercaseByte z) 223) (each-at caseTest 256 z all-cases l) in
-    bit x h ∙ ap (λ (z : ℕ). bitAnd z 223) e ∙ sym (bit y g)
+    case-kept x h ∙ ap (λ (z : ℕ). bitAnd z 223) e ∙ sym (case-kept y g)
 
 caseless : (k x y : ℕ) → x < 256 ^ k → y < 256 ^ k → lowercase (bytesIn k x) ≡ lowercase (bytesIn k y) → bitAnd x (bytesOf k 223) ≡ bitAnd y (bytesOf k 223)
 caseless zero x y h g e = let p : x ≡ 0 = omega arith in let q : y ≡ 0 = omega arith in rw (p, q)
@@ -224,7 +226,8 @@ caseless (suc k) x y h g e =
         let parts : z ≡ z / 256 * 256 + z % 256 = omega arith in
         ap (λ (w : ℕ). bitAnd w (bytesOf k 223 * 256 + 223)) parts ∙ and-block 8 (z / 256) (bytesOf k 223) (z % 256) 223 (omega arith) (omega arith)
 
-pub words-differ : (k x y : ℕ) → x < 256 ^ k → y < 256 ^ k → (bitAnd x (bytesOf k 223) ≡ bitAnd y (bytesOf k 223) → ⊥) → false ≡ same (lowercase (bytesIn k x)) (lowercase (bytesIn k y))
+pub words-differ : (k x y : ℕ) → x < 256 ^ k → y < 256 ^ k → (bitAnd x (bytesOf k 223) ≡ bitAnd y (bytesOf k 223) → ⊥)
+    → false ≡ same (lowercase (bytesIn k x)) (lowercase (bytesIn k y))
 words-differ k x y h g f = go (same (lowercase (bytesIn k x)) (lowercase (bytesIn k y))) refl
   where
     go : (b : Bool) → same (lowercase (bytesIn k x)) (lowercase (bytesIn k y)) ≡ b → false ≡ b

@@ -1,9 +1,8 @@
 use mathlib.Core.Path.{_≡_, refl, _∙_, sym, ap}
-use mathlib.Core.List.{List, [], _∷_}
+use mathlib.Core.List.{List, _∷_}
 use Prim.Native.Nat.{ℕ, _+_, _%_, _<_}
 use native.Mathlib.Omega.{arith}
 use lib.ListN.{getD}
-use lib.Seq.{slice}
 use borrow.Author.Needs.{needs}
 use Rattle.text.proofs.Slices.{slice-at, slice-none}
 use Rattle.text.proofs.byte_at.Statement.{statement}

@@ -22,7 +22,9 @@ add-result c = search needs
 returns : tie.Need-returns
 returns c =
     let entry = c .before .before .before in
-    (parts-join (entry .args .text .now) (entry .args .from) 2 2 (c .before .pair-at .result) (c .pair-at2 .result) (c .before .pair-at .ensures .1) (c .before .pair-at .ensures .0) (c .pair-at2 .ensures .0), omega (arith, c .before .pair-at .ensures .1, c .pair-at2 .ensures .1))
+    let low = c .before .pair-at in
+    let high = c .pair-at2 in
+    (parts-join (entry .args .text .now) (entry .args .from) 2 2 (low .result) (high .result) (low .ensures .1) (low .ensures .0) (high .ensures .0), omega (arith, low .ensures .1, high .ensures .1))
 
 pub half-at-spec : {M : Type 1} → statement M
 half-at-spec =

@@ -22,7 +22,9 @@ add-result c = search needs
 returns : tie.Need-returns
 returns c =
     let entry = c .before .before .before in
-    (parts-join (entry .args .text .now) (entry .args .from) 1 1 (c .before .byte-at .result) (c .byte-at2 .result) (c .before .byte-at .ensures .1) (c .before .byte-at .ensures .0) (c .byte-at2 .ensures .0), omega (arith, c .before .byte-at .ensures .1, c .byte-at2 .ensures .1))
+    let low = c .before .byte-at in
+    let high = c .byte-at2 in
+    (parts-join (entry .args .text .now) (entry .args .from) 1 1 (low .result) (high .result) (low .ensures .1) (low .ensures .0) (high .ensures .0), omega (arith, low .ensures .1, high .ensures .1))
 
 pub pair-at-spec : {M : Type 1} → statement M
 pair-at-spec =

@@ -7,7 +7,7 @@ use borrow.Author.Needs.{needs}
 use Rattle.text.specs.Bytes.{countBy, isNewline}
 use Rattle.text.specs.Scans.{isBad}
 use Rattle.cells.proofs.Tests.{one-le}
-use Rattle.text.proofs.Bytes.{count-step, count-end}
+use Rattle.text.proofs.Bytes.{count-step}
 use Rattle.text.proofs.survey_block.Statement.{statement}
 use Rattle.text.proofs.survey_block.Tie as tie
 

@@ -21,7 +21,9 @@ add-result c = search needs
 returns : tie.Need-returns
 returns c =
     let entry = c .before .before .before in
-    parts-join (entry .args .text .now) (entry .args .from) 4 4 (c .before .half-at .result) (c .half-at2 .result) (c .before .half-at .ensures .1) (c .before .half-at .ensures .0) (c .half-at2 .ensures .0)
+    let low = c .before .half-at in
+    let high = c .half-at2 in
+    parts-join (entry .args .text .now) (entry .args .from) 4 4 (low .result) (high .result) (low .ensures .1) (low .ensures .0) (high .ensures .0)
 
 pub word-at-spec : {M : Type 1} → statement M
 word-at-spec =

@@ -1,5 +1,5 @@
--- What the code reads and writes at one label, and what its pass has done. Until the pass has cleared it, the target cell holds the level of a
--- label.
+-- What the code reads and writes at one label, and what its pass has done. Until the pass has cleared it, the target cell of a label holds its
+-- level.
 use mathlib.Core.Path.{_≡_}
 use mathlib.Core.Bool.{Bool, true, false, cond, _&&_}
 use mathlib.Core.List.{List}

@@ -153,6 +153,9 @@ fn first_bad(table: &[i64], n: usize) -> Verdict
     Verdict::Fine
 }
 
+// No label: the owner of an expression that is used more than once.
+const TWICE: usize = 1025;
+
 // Row 9, by the owner cell: an expression is used by one field, once.
 fn used_once(owner: usize) -> bool
     ensures { λ r. ⌜ r ≡ ownedOnce owner ⌝ }
@@ -185,9 +188,6 @@ fn level_bad(table: &[i64], label: usize) -> bool
 }
 
 // ---- owners and levels
-
-// No label: the owner of an expression that is used more than once.
-const TWICE: usize = 1025;
 
 // Owner and level of x, if it is a label.
 fn assign(table: &mut [i64], x: usize, owner: usize, level: usize)

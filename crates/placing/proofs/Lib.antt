@@ -1,3 +1,4 @@
 pub mod Lists
 mod Counts
 mod Going
+mod Ordered

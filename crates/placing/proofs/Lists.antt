@@ -26,7 +26,7 @@ in-at (x ∷ l) (suc i) h = in-there (getD l i 0) x l (in-at l i (omega arith))
 pub in-take : (l : List ℕ) (m i : ℕ) → i < m → m ≤ length l → getD l i 0 ∈ take m l
 in-take l m i h g = subst (λ (x : ℕ). x ∈ take m l) (getD-take m l i 0 h) (in-at (take m l) i (omega (arith, length-take-le m l g)))
 
-take-more : (l : List ℕ) (i : ℕ) → i < length l → take (i + 1) l ≡ take i l ++ getD l i 0 ∷ []
+pub take-more : (l : List ℕ) (i : ℕ) → i < length l → take (i + 1) l ≡ take i l ++ getD l i 0 ∷ []
 take-more l i h = rw add-one (take-suc l i 0 h)
 
 pub count-more : (p : ℕ) (l : List ℕ) (i : ℕ) → i < length l → count p (take (i + 1) l) ≡ count p (take i l) + one (eqb p (getD l i 0))

@@ -56,6 +56,10 @@ pub record Fits (items square mask unmet : List ℕ) (w : ℕ) : Type 0 where
   pub few : length items < 65536
   pub counted : AllBelow items (length unmet)
 
+-- what needs an item stands behind it
+abbrev pub Ordered : (ℕ → ℕ → Bool) → List ℕ → Type 0
+Ordered R items = (p q : ℕ) → q ∈ items → R p q ≡ true → q < p
+
 -- p needs q, and q is not done
 abbrev pub blocks : (ℕ → ℕ → Bool) → List ℕ → ℕ → ℕ → Bool
 blocks R done p q = R p q && not (mem q done)

@@ -1,15 +1,16 @@
 // The rule of placing: of some items, repeatedly the smallest not yet placed whose needed items are all placed. How many needs of each item
-// are unmet is counted once; each placing lowers the counts of those that need what is placed.
+// are unmet is counted once; each placing lowers the counts of those that need what is placed. Items that need only earlier ones are
+// placed as they stand.
 
 ghost use mathlib.Core.Path.{_≡_};
 ghost use mathlib.Core.Bool.{true, false};
 ghost use mathlib.Core.List.{[]};
 ghost use mathlib.Core.Logic.{_↔_};
 ghost use Prim.Native.Nat.{ℕ, _+_, _*_, _≤_, _<_};
-ghost use lib.ListN.{length, getD};
+ghost use lib.ListN.{length, getD, take};
 ghost use Rattle.order.specs.LabelLists.{one, count, _∈_, filter};
 ghost use Rattle.marks.specs.Marks.{mark, places};
-ghost use Rattle.placing.specs.UnmetCounts.{needed, AllBelow, Row, Raisable, RaisedBy, LoweredBy, Fits, State, Placed};
+ghost use Rattle.placing.specs.UnmetCounts.{needed, AllBelow, Row, Raisable, RaisedBy, LoweredBy, InRows, Fits, Ordered, State, Placed};
 
 // One unmet need more for each mark of a word, counted on from `base`.
 fn raise_word(word: u64, base: usize, unmet: &mut [u16])
@@ -138,8 +139,8 @@ fn start(
     mark_ready(items, w, unmet, ready);
 }
 
-// Places the items in the order. Answers how many; fewer than there are if it gets stuck.
-pub fn place(
+// Places the items by their counts. Answers how many; fewer than there are if it gets stuck.
+fn place_counted(
     items: &[u16],
     square: &[u64],
     w: usize,
@@ -165,4 +166,76 @@ pub fn place(
         lower(square, w, mask, q, unmet, ready);
     }
     k
+}
+
+// ---- items that are in order as they stand
+
+// Below where the answer says, nothing needs q. It is past q where nothing up to q does.
+fn first_needing(square: &[u64], w: usize, mask: &[u64], q: usize) -> usize
+    requires { ⌜ (w ≤ 1000) × (q < 64 * w) × (q * w + w ≤ length (now square)) × (w ≤ length (now mask)) ⌝ }
+    ensures { λ r. ⌜ ((p : ℕ) → p < r → needed (now (square .entry)) (now (mask .entry)) w p q ≡ false) ⌝ }
+{
+    if !marks::has_mark(mask, w, 0, q) {
+        return q + 1;
+    }
+    let a = q * w;
+    let mut j = 0;
+    while 64 * j <= q {
+        let x = square[a + j] & mask[j];
+        if x != 0 {
+            return 64 * j + u64::trailing_zeros(x) as usize;
+        }
+        j += 1;
+    }
+    64 * j
+}
+
+// Whether every item is known to need only such as stand before it.
+fn are_in_order(items: &[u16], square: &[u64], w: usize, mask: &[u64]) -> bool
+    requires { ⌜ InRows (now items) (now square) (now mask) w ⌝ }
+    ensures { λ r. ⌜ (r ≡ true → Ordered (needed (now (square .entry)) (now (mask .entry)) w) (now (items .entry))) ⌝ }
+{
+    let mut i = 0;
+    while i < items.len() {
+        let q = marks::widen(items[i]);
+        if first_needing(square, w, mask, q) <= q {
+            return false;
+        }
+        i += 1;
+    }
+    true
+}
+
+// The items as they stand. Answers how many.
+fn copy_items(items: &[u16], order: &mut [u16]) -> usize
+    requires { ⌜ length (now items) ≤ length (now order) ⌝ }
+    ensures { λ r. ⌜ (take r (now (order .exit)) ≡ now (items .entry)) × (r ≤ length (now (items .entry))) ⌝ }
+{
+    let mut k = 0;
+    while k < items.len() {
+        order[k] = items[k];
+        k += 1;
+    }
+    k
+}
+
+// Places the items in the order. Answers how many; fewer than there are if it gets stuck. In most sheets items need only earlier ones:
+// then nothing is counted.
+pub fn place(
+    items: &[u16],
+    square: &[u64],
+    w: usize,
+    mask: &[u64],
+    unmet: &mut [u16],
+    ready: &mut [u64],
+    order: &mut [u16],
+) -> usize
+    requires { ⌜ Fits (now items) (now square) (now mask) (now unmet) w ⌝ }
+    requires { ⌜ (w ≤ length (now ready)) × (length (now items) ≤ length (now order)) ⌝ }
+    ensures { λ r. ⌜ Placed (needed (now (square .entry)) (now (mask .entry)) w) (now (items .entry)) (now (order .exit)) r ⌝ }
+{
+    if are_in_order(items, square, w, mask) {
+        return copy_items(items, order);
+    }
+    place_counted(items, square, w, mask, unmet, ready, order)
 }

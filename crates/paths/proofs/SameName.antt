@@ -8,11 +8,10 @@ use native.Mathlib.Omega.{arith}
 use lib.Dec.{eqb}
 use lib.ListN.{length, getD}
 use lib.Seq.{slice, ext-getD, length-slice}
-use borrow.Author.Tests.{eq-eqb}
 use Rattle.text.specs.Bytes.{same, lowercaseByte, lowercase}
 use Rattle.text.proofs.Slices.{slice-at, slice-none}
 use Rattle.text.proofs.Fields.{slice-join}
-use Rattle.text.proofs.Bytes.{same-eq}
+use Rattle.text.proofs.Bytes.{same-eq, same-itself}
 use Rattle.text.proofs.Lowercase.{lowercase-at, lowercase-length, case-same, same-case}
 use Rattle.paths.specs.Names.{sameName, NamesButCase}
 use Rattle.paths.specs.Buckets.{hashBytes, hashOf}
@@ -23,16 +22,12 @@ same-is x y = refl
 
 -- ---- an equivalence
 
-itself : (w : List ℕ) → same w w ≡ true
-itself [] = refl
-itself (x ∷ w) = rw (eq-eqb x x refl) (itself w)
-
 module _ (x y : List ℕ) where
   to-equal : sameName x y ≡ true → lowercase x ≡ lowercase y
   to-equal e = same-eq (lowercase x) (lowercase y) (sym (same-is x y) ∙ e)
 
   from-equal : lowercase x ≡ lowercase y → sameName x y ≡ true
-  from-equal e = same-is x y ∙ rw e (itself (lowercase y))
+  from-equal e = same-is x y ∙ rw e (same-itself (lowercase y))
 
 pub same-self : (w : List ℕ) → sameName w w ≡ true
 same-self w = from-equal w w refl

@@ -83,6 +83,10 @@ same-eq [] (y ∷ ys) e = absurd (true-false (sym e))
 same-eq (x ∷ xs) [] e = absurd (true-false (sym e))
 same-eq (x ∷ xs) (y ∷ ys) e = same-go x y xs ys (same-eq xs ys) (eqb x y) refl e
 
+pub same-itself : (xs : List ℕ) → same xs xs ≡ true
+same-itself [] = refl
+same-itself (x ∷ xs) = rw (eq-eqb x x refl) (same-itself xs)
+
 -- ---- runs
 
 module _ (p : ℕ → Bool) (s : List ℕ) (i t : ℕ) where

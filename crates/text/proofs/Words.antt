@@ -1,7 +1,7 @@
 -- Words: their bytes joined, what equal bytes say of two words, and small letters for capitals in all bytes at once.
 use mathlib.Core.Path.{_≡_, refl, ap, sym, subst, _∙_}
 use mathlib.Core.Bool.{Bool, true, false, _&&_}
-use mathlib.Core.List.{List, [], _∷_, _++_}
+use mathlib.Core.List.{List, _∷_, _++_}
 use Prim.Native.Nat.{ℕ, zero, suc, _+_, _-_, _*_, _/_, _%_, _^_, _≤_, _<_}
 use native.Mathlib.Nat.{suc-add, pow-suc, mul-comm, mul-assoc}
 use native.Mathlib.Decide.{ℕ-discrete}
@@ -13,7 +13,7 @@ use lib.Seq.{slice}
 use borrow.Author.Tests.{leb-true, eqb-true, eq-eqb, ne-eqb}
 use Rattle.text.specs.Bytes.{same, lowercaseByte, lowercase}
 use Rattle.text.specs.Words.{bytesIn}
-use Rattle.text.proofs.Bytes.{and-left, and-right, same-eq}
+use Rattle.text.proofs.Bytes.{and-left, and-right, same-eq, same-itself}
 use Rattle.text.proofs.Fields.{slice-join}
 
 -- ---- the bytes of two numbers, one behind the other
@@ -49,10 +49,6 @@ bytes-word (suc k) x y h g e =
     let rest = bytes-word k (x / 256) (y / 256) (omega (arith, pow-suc 256 k)) (omega (arith, pow-suc 256 k)) (ap (drop 1) e) in
     omega (arith, first, rest)
 
-itself : (l : List ℕ) → same l l ≡ true
-itself [] = refl
-itself (x ∷ l) = rw (eq-eqb x x refl) (itself l)
-
 words-decide : (k x y : ℕ) → x < 256 ^ k → y < 256 ^ k → eqb x y ≡ same (bytesIn k x) (bytesIn k y)
 words-decide k x y h g = go (ℕ-discrete x y)
   where
@@ -61,7 +57,7 @@ words-decide k x y h g = go (ℕ-discrete x y)
     apart false e f = refl
 
     go : Dec (x ≡ y) → eqb x y ≡ same (bytesIn k x) (bytesIn k y)
-    go (yes e) = eq-eqb x y e ∙ sym (rw e (itself (bytesIn k y)))
+    go (yes e) = eq-eqb x y e ∙ sym (rw e (same-itself (bytesIn k y)))
     go (no f) = ne-eqb x y f ∙ apart (same (bytesIn k x) (bytesIn k y)) refl f
 
 pub words-same : (k x y : ℕ) {v w : List ℕ} → x < 256 ^ k → y < 256 ^ k → bytesIn k x ≡ v → bytesIn k y ≡ w → eqb x y ≡ same v w
@@ -69,7 +65,7 @@ words-same k x y {v} {w} h g e f = words-decide k x y h g ∙ ap (λ (l : List �
 
 -- equal words say that the bytes are the same, and so are small letters for them
 pub words-equal : (k x y : ℕ) → x ≡ y → true ≡ same (lowercase (bytesIn k x)) (lowercase (bytesIn k y))
-words-equal k x y q = sym (rw q (itself (lowercase (bytesIn k y))))
+words-equal k x y q = sym (rw q (same-itself (lowercase (bytesIn k y))))
 
 -- ---- small letters for capitals, in one byte
 

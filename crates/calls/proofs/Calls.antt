@@ -22,8 +22,8 @@ use Rattle.reading.specs.ReadStages.{Passed}
 use Rattle.reading.proofs.Accepted.{reads, read-accepted}
 use Rattle.figures.specs.Figures.{resultCells}
 use Rattle.calls.specs.Buffers.{planShort, resultsShort, planBuffers, runBuffers}
-use Rattle.calls.specs.Plan.{plannedBad, planOf, answerBy, listedBy, lengthOf, planBad, planReply, planTable, planCells, isAnswer}
-use Rattle.calls.specs.Run.{resultsBy, runBad, runReply, runTable, runPlan, runResults}
+use Rattle.calls.specs.Plan.{plannedBad, planOf, answerBy, listedBy, lengthOf, planBad, planReply, planTable, planCells, planRefusal, planPlace, isAnswer}
+use Rattle.calls.specs.Run.{runBad, runReply, runTable, runPlan, runResults}
 use Rattle.calls.specs.Demand.{PlanKept}
 use Rattle.calls.specs.Leaves.{PlanLeaves, RunLeaves}
 use Rattle.calls.specs.CallStages.{headReply, sheetPlanned, cellsTo, PlanBy, RunBy, SheetPlans, SheetRuns}
@@ -45,10 +45,10 @@ module _ (s : List ℕ) (m : ℕ) (w : Verdict) (x : Reply) (e : x ≡ headReply
 -- ---- a call in whose buffers row 4 finds b; rows 1 to 4 replied x
 
 module _ (s : List ℕ) (b : Verdict) (x : Reply) (e : x ≡ headReply s b) where
-  rows-sheet : (k : ℕ) → x ≡ head.Answered k → plannedBad s b ≡ sheetPlanned s
+  pub rows-sheet : (k : ℕ) → x ≡ head.Answered k → plannedBad s b ≡ sheetPlanned s
   rows-sheet k f = let h = opened s b x e k f in rows-open s b (h .0 .head) (h .1)
 
-  rows-head : (i l : ℕ) → x ≡ head.Refused i l → plannedBad s b ≡ Refused i l
+  pub rows-head : (i l : ℕ) → x ≡ head.Refused i l → plannedBad s b ≡ Refused i l
   rows-head i l f = rows-shut s b i l (shut s b x e i l f)
 
 -- ---- Plan
@@ -80,7 +80,7 @@ module _ (s : List ℕ) (m p : ℕ) where
 
 -- after rows 5 to 16 of a sheet whose table and plan stand
 module _ (s : List ℕ) (m p n : ℕ) (r : PlanReply) (t o : List ℤ) (h : Passed s n) (st : SheetPlans s m p r t o) where
-  sheet-fine : sheetPlanned s ≡ Fine → Reads s × (cycleBad (sheetTable s) (labels s) ≡ Fine)
+  pub sheet-fine : sheetPlanned s ≡ Fine → Reads s × (cycleBad (sheetTable s) (labels s) ≡ Fine)
   unfolding sheetPlanned
   sheet-fine e =
       let c = both-fine (sheetBad s) (cycleBad (sheetTable s) (labels s)) e in
@@ -88,14 +88,14 @@ module _ (s : List ℕ) (m p n : ℕ) (r : PlanReply) (t o : List ℤ) (h : Pass
 
   -- an answer x, of length k
   module _ (x : PlanReply) (is : r ≡ x) (a : isAnswer x ≡ true) (k : ℕ) (l : lengthOf x ≡ k) where
-    fine : sheetPlanned s ≡ Fine
+    pub fine : sheetPlanned s ≡ Fine
     fine = answers-fine (sheetPlanned s) (planOf s) (ap isAnswer (sym (st .reply) ∙ is) ∙ a)
 
     -- by row 16 alone
     by-cycle : (x ≡ answerBy (cycleBad (sheetTable s) (labels s)) (planOf s)) × (o ≡ listedBy (cycleBad (sheetTable s) (labels s)) (planOf s) p)
     by-cycle = rw (sheet-fine fine .1) (sym is ∙ (rw fine at (st .reply)), rw fine at (st .plan))
 
-    rows-sheets : cellsTo n t ≡ sheetTable s
+    pub rows-sheets : cellsTo n t ≡ sheetTable s
     rows-sheets = rows-taken s m n t (sheet-fine fine .0) (h .count) (rw fine at (st .table))
 
     pub run-down-ready : n ≤ p → Accepted (cellsTo n t) n × (k ≤ p) × ProperList (cellsTo n t) (take k o)
@@ -113,20 +113,24 @@ module _ (s : List ℕ) (m p n : ℕ) (r : PlanReply) (t o : List ℤ) (h : Pass
       results = rw fine (e ∙ rw (rows-sheets, h .count));
     }
 
-  pub results-cleared : (i l q : ℕ) (u : List ℤ) → r ≡ reply.Refused i l → u ≡ zeros q → SheetRuns s m p q (reply.Refused i l) t o u
+  -- a refusal is that of rows 5 to 16
+  pub sheet-shut : (i l : ℕ) → r ≡ reply.Refused i l → sheetPlanned s ≡ Refused i l
   unfolding planOf
-  results-cleared i l q u e f = record {
-    planned = record { reply = sym e ∙ st .reply; table = st .table; plan = st .plan };
-    results = go (sheetPlanned s) refl;
-  }
+  sheet-shut i l e = go (sheetPlanned s) refl
     where
-      go : (v : Verdict) → sheetPlanned s ≡ v → u ≡ resultsBy (sheetPlanned s) s q
-      go (Refused y z) g = rw g f
+      go : (v : Verdict) → sheetPlanned s ≡ v → sheetPlanned s ≡ Refused i l
+      go (Refused y z) g = let q = sym (rw g at (st .reply)) ∙ e in g ∙ (λ j. Refused (planRefusal (q j)) (planPlace (q j)))
       go Fine g =
           let c = sheet-fine g in
           let w : isAnswer r ≡ true = rw (st .reply, g, ← c .1) (fine-answers (sheetTable s) (labels s) (read-accepted s (c .0)) (c .1)) in
           let z : _≡_ {A = Bool} true false = sym w ∙ ap isAnswer e in
           let y : _≡_ {A = ℕ} 0 1 = cc in absurd (omega arith)
+
+  pub results-cleared : (i l q : ℕ) (u : List ℤ) → r ≡ reply.Refused i l → u ≡ zeros q → SheetRuns s m p q (reply.Refused i l) t o u
+  results-cleared i l q u e f = record {
+    planned = record { reply = sym e ∙ st .reply; table = st .table; plan = st .plan };
+    results = rw (sheet-shut i l e) f;
+  }
 
 module _ (s : List ℕ) (m p q : ℕ) where
   run-leaves : (v : Verdict) (r : PlanReply) (t o u : List ℤ) → plannedBad s (runBuffers s m p q) ≡ v → RunBy v s m p q r t o u → RunLeaves s m p q r t o u

@@ -1,7 +1,7 @@
 pub mod Rooms
 pub mod Answers
 pub mod Sheets
-mod Calls
+pub mod Calls
 pub mod Followed
 pub mod Early
 pub mod Demand

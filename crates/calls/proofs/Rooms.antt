@@ -29,7 +29,7 @@ room-short least cells place n h = rw (lt-leb least cells h)
 pub room-long : (least cells place n : ℕ) → least ≤ cells → reply.Answered n ≡ replyOf (shortBy least cells place) n
 room-long least cells place n h = rw (le-leb least cells h)
 
-long : (least cells place : ℕ) → shortBy least cells place ≡ Fine → least ≤ cells
+pub long : (least cells place : ℕ) → shortBy least cells place ≡ Fine → least ≤ cells
 long least cells place = go (leb least cells) refl
   where
     go : (b : Bool) → leb least cells ≡ b → shortBy least cells place ≡ Fine → least ≤ cells

@@ -25,7 +25,7 @@ pub enum PlanReply {
 // ---- rows 1 to 4: the number of labels where they find nothing. A call looks at the buffers that it is lent, lowest place first.
 
 // Row 4 of one buffer, which is to have at least so many cells.
-fn with_room(n: u64, cells: usize, least: usize, place: u64) -> Reply
+pub fn with_room(n: u64, cells: usize, least: usize, place: u64) -> Reply
     ensures { λ r. ⌜ r ≡ replyOf (shortBy least cells place) n ⌝ }
 {
     if cells < least {
@@ -55,7 +55,7 @@ fn head_plan(text: &[u8], table: usize, plan: usize) -> Reply
 }
 
 // Rows 1 to 4 of Run: a table, a plan and results.
-fn head_run(text: &[u8], table: usize, plan: usize, results: usize) -> Reply
+pub fn head_run(text: &[u8], table: usize, plan: usize, results: usize) -> Reply
     ensures { λ r. ⌜ r ≡ headReply (now (text .entry)) (runBuffers (now (text .entry)) table plan results) ⌝ }
 {
     match head_plan(text, table, plan) {
@@ -77,7 +77,7 @@ fn head_follow(text: &[u8], table: usize, results: usize) -> Reply
 // ---- a refusal leaves zeros
 
 // Every cell of both buffers becomes 0.
-fn clear_both(first: &mut [i64], second: &mut [i64])
+pub fn clear_both(first: &mut [i64], second: &mut [i64])
     ensures { λ _. ⌜ now (first .exit) ≡ zeros (length (now (first .entry))) ⌝ }
     ensures { λ _. ⌜ now (second .exit) ≡ zeros (length (now (second .entry))) ⌝ }
 {
@@ -140,7 +140,7 @@ pub fn plan(text: &[u8], table: &mut [i64], plan: &mut [i64]) -> PlanReply
 // ---- Run
 
 // The plan of a text that rows 1 to 4 let pass, and the results down it.
-fn run_sheet(
+pub fn run_sheet(
     text: &[u8],
     n: usize,
     table: &mut [i64],

@@ -1,13 +1,13 @@
 -- What reads see after stores, and of zeros.
-use mathlib.Core.Path.{_≡_, refl, _∙_}
-use mathlib.Core.List.{List, [], _∷_}
+use mathlib.Core.Path.{_≡_, refl, ap, _∙_}
+use mathlib.Core.List.{List, [], _∷_, _++_}
 use mathlib.Core.Logic.{_≢_}
 use Prim.Native.Nat.{ℕ, suc, zero, _+_, _<_, _≤_}
 use native.Mathlib.Omega.{arith}
 use native.Mathlib.Nat.{not-suc-le-zero, le-of-suc-le-suc, add-zero, add-suc, suc-add}
 use lib.IntN.{ℤ, pos}
-use lib.ListN.{length, length-set, set}
-use lib.Seq.{getD-set-same, getD-set-other, sets}
+use lib.ListN.{length, length-set, set, take, drop, length-append, length-drop}
+use lib.Seq.{getD-set-same, getD-set-other, sets, sets-eq, take-at, drop-append-add, drop-drop}
 use Rattle.cells.specs.Cells.{intAt, zeros}
 
 pub intAt-put : (t : List ℤ) (i : ℕ) (z : ℤ) → i < length t → intAt (set t i z) i ≡ z
@@ -39,3 +39,13 @@ sets-in (a ∷ vs) t i zero h g =
     rw add-zero (sets-before vs (set t i a) (suc i) i (omega arith) ∙ intAt-put t i a (omega arith))
 sets-in (a ∷ vs) t i (suc k) h g =
     rw (add-suc, ← suc-add) (sets-in vs (set t i a) (suc i) k (le-of-suc-le-suc h) (rw length-set (omega arith)))
+
+-- cells stored behind a, which stands where the first i cells of t stood
+pub sets-next : (a v t : List ℤ) (i : ℕ) → length a ≡ i → i + length v ≤ length t → sets (a ++ drop i t) i v ≡ (a ++ v) ++ drop (i + length v) t
+sets-next a v t i e h =
+    let w = a ++ drop i t in
+    let long : length w ≡ length t = omega (arith, length-append a (drop i t), length-drop i t) in
+    let front : take i w ≡ a = take-at a (drop i t) i e in
+    let m : i + length v ≡ length a + length v = omega arith in
+    let back : drop (i + length v) w ≡ drop (i + length v) t = ap (λ (j : ℕ). drop j w) m ∙ drop-append-add a (drop i t) (length v) ∙ drop-drop (length v) i t in
+    sets-eq v w i (omega (arith, long)) ∙ rw (front, back) refl

@@ -1,4 +1,4 @@
--- The limits of document 01, "The sheet", and of row 11, each said here alone.
+-- The limits of document 01, "The sheet", and of rows 11 and 19, each said here alone.
 use Prim.Native.Nat.{ℕ}
 
 -- "A sheet is 1 to 65,536 bytes"
@@ -24,3 +24,7 @@ numberLimit = 1000000000
 -- "level above 32" is refused
 abbrev pub levelLimit : ℕ
 levelLimit = 32
+
+-- order 4: a list "above 1,024 pairs" is refused
+abbrev pub pairLimit : ℕ
+pairLimit = 1024

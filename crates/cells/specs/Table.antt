@@ -68,3 +68,8 @@ lineNumber t l = entry t l 3
 abbrev pub withColumn : ℕ → (ℕ → ℕ) → ℕ → List ℤ → List ℤ
 withColumn j f zero t = t
 withColumn j f (suc k) t = set (withColumn j f k t) (8 * k + j) (pos (f (suc k)))
+
+-- the table t with z in cell a of label l, an N line's number; label 0 has none
+abbrev pub withNumber : ℕ → ℤ → List ℤ → List ℤ
+withNumber zero z t = t
+withNumber (suc k) z t = set t (8 * k + 3) z

@@ -2,8 +2,10 @@
 // usize, u64 and bool and passes an i64 on whole. Readers are total: past the end there is a 0.
 
 ghost use mathlib.Core.Path.{_≡_};
+ghost use mathlib.Core.List.{[], _∷_};
 ghost use Prim.Native.Nat.{_+_, _-_, _*_, _^_, _≤_, _<_};
 ghost use lib.ListN.{length, set};
+ghost use lib.Seq.{sets};
 ghost use lib.IntN.{pos, natAbs};
 ghost use Rattle.cells.specs.Limits.{sizeLimit};
 ghost use Rattle.cells.specs.Cells.{isNegative, natOf, withSign, intAt, natAt, zeros};
@@ -42,6 +44,9 @@ pub const NAME_LIMIT: usize = 16;
 pub const PATH_LIMIT: usize = 8;
 
 pub const LEVEL_LIMIT: usize = 32;
+
+// The pairs of a list of new numbers.
+pub const PAIR_LIMIT: usize = 1024;
 
 // ---- the sign and the size of a cell
 
@@ -98,6 +103,16 @@ pub fn put_nat(t: &mut [i64], i: usize, v: usize)
     ensures { λ _. ⌜ now (t .exit) ≡ set (now (t .entry)) i (pos v) ⌝ }
 {
     t[i] = v as i64;
+}
+
+// Three cells from index i on become x, y and z.
+pub fn put_three(t: &mut [i64], i: usize, x: i64, y: i64, z: i64)
+    requires { ⌜ i + 3 ≤ length (now t) ⌝ }
+    ensures { λ _. ⌜ now (t .exit) ≡ sets (now (t .entry)) i (x ∷ y ∷ z ∷ []) ⌝ }
+{
+    t[i] = x;
+    t[i + 1] = y;
+    t[i + 2] = z;
 }
 
 // Every cell from index start on becomes 0.

@@ -48,7 +48,7 @@ branch-other t l y e p = rw e p
 
 -- ---- a stored answer
 
-state-at : (r : List ℤ) (l : ℕ) → 1 ≤ l → natOf (intAt r (3 * (l - 1))) ≡ stateAt r l
+pub state-at : (r : List ℤ) (l : ℕ) → 1 ≤ l → natOf (intAt r (3 * (l - 1))) ≡ stateAt r l
 state-at r zero h = absurd (omega arith)
 state-at r (suc k) h = let e : suc k - 1 ≡ k = omega arith in rw e
 
@@ -84,9 +84,3 @@ outcome-range s e q = rw e q
 pub outcome-zero : {c : Calculated} {o : Outcome} (s : ℕ) → c ≡ calculation.ZeroDivisor → o ≡ fails zeroDivisor s → o ≡ outcomeOf c s
 unfolding outcomeOf
 outcome-zero s e q = rw e q
-
--- ---- three cells stored
-
-pub stores : (r : List ℤ) (at : ℕ) {a a′ b b′ c c′ : ℤ} → a ≡ a′ → b ≡ b′ → c ≡ c′
-    → set (set (set r at a) (at + 1) b) (at + 2) c ≡ sets r at (a′ ∷ b′ ∷ c′ ∷ [])
-stores r at p q e = simp (towards-suc, p, q, e)

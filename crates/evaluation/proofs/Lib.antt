@@ -3,6 +3,6 @@ pub mod Closure
 pub mod Range
 pub mod Local
 pub mod Stored
-mod Leaves
-mod Entries
+pub mod Leaves
+pub mod Entries
 mod Answers

@@ -29,9 +29,13 @@ store-length r zero v = refl
 store-length r (suc k) v = length-sets r (3 * k) (pos (v .state) ∷ v .number ∷ pos (v .steps) ∷ [])
 
 -- where the code stores them
-pub store-at : (r : List ℤ) (l : ℕ) (v : Value) → 1 ≤ l → store r l v ≡ sets r (3 * (l - 1)) (pos (v .state) ∷ v .number ∷ pos (v .steps) ∷ [])
+store-at : (r : List ℤ) (l : ℕ) (v : Value) → 1 ≤ l → store r l v ≡ sets r (3 * (l - 1)) (pos (v .state) ∷ v .number ∷ pos (v .steps) ∷ [])
 store-at r zero v h = absurd (omega arith)
 store-at r (suc k) v h = let e : k ≡ suc k - 1 = omega arith in ap (λ (j : ℕ). sets r (3 * j) (pos (v .state) ∷ v .number ∷ pos (v .steps) ∷ [])) e
+
+pub three-stored : (r : List ℤ) (l : ℕ) (v : Value) → 1 ≤ l → {a b c : ℤ} {r′ : List ℤ} → a ≡ pos (v .state) → b ≡ v .number → c ≡ pos (v .steps)
+    → r′ ≡ sets r (3 * (l - 1)) (a ∷ b ∷ c ∷ []) → r′ ≡ store r l v
+three-stored r l v h p q e s = s ∙ (λ i. sets r (3 * (l - 1)) (p i ∷ q i ∷ e i ∷ [])) ∙ sym (store-at r l v h)
 
 module _ (r : List ℤ) (k : ℕ) (v : Value) where
   cell-other : (m j : ℕ) → suc m ≢ suc k → j < 3 → intAt (store r (suc k) v) (3 * m + j) ≡ intAt r (3 * m + j)

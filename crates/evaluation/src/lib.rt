@@ -309,13 +309,10 @@ pub fn put_value(results: &mut [i64], label: usize, v: Value)
     requires { ⌜ ResultsRoom (now results) label ⌝ }
     ensures { λ _. ⌜ now (results .exit) ≡ store (now (results .entry)) label v ⌝ }
 {
-    let at = 3 * (label - 1);
     let state = v.state as i64;
     let number = v.number;
     let steps = v.steps as i64;
-    results[at] = state;
-    results[at + 1] = number;
-    results[at + 2] = steps;
+    cells::put_three(results, 3 * (label - 1), state, number, steps);
 }
 
 // Evaluates a value and stores its results.

@@ -55,7 +55,7 @@ module _ (t : List ℤ) (n : ℕ) (ok : Accepted t n) (v : ℕ) where
   entered-own r x (branch l e f i) o = entered-own r x i (leading clause.Choice l e o .1 (firstOutcome t r l _ _ _ .number))
 
   -- so an R that is entered reads a value that v reaches
-  entered-read : (r : List ℤ) (x : ℕ) → kind t v ≡ valueCode → EntersRead t r v x → (kind t (target t x) ≡ valueCode) × Reaches t v (target t x)
+  pub entered-read : (r : List ℤ) (x : ℕ) → kind t v ≡ valueCode → EntersRead t r v x → (kind t (target t x) ≡ valueCode) × Reaches t v (target t x)
   unfolding Leads
   entered-read r x k e =
       leading clause.Read x (e .read) (entered-own r x (e .entered) (body-within t n ok (From t v) (Reaches t v) (from-closed t v) v (rw k value-body) (inl refl)))

@@ -33,11 +33,11 @@ labels-append : (a b : List ℤ) → labelsOf (a ++ b) ≡ labelsOf a ++ labelsO
 labels-append [] b = refl
 labels-append (z ∷ a) b = ap (λ (l : List ℕ). natOf z ∷ l) (labels-append a b)
 
-abbrev left : List ℤ → ℕ → ℕ → List ℕ
+abbrev pub left : List ℤ → ℕ → ℕ → List ℕ
 left order k i = labelsOf (drop i (take k order))
 
 module _ (order : List ℤ) (k i : ℕ) (h : k ≤ length order) (j : i < k) where
-  next : left order k i ≡ natAt order i ∷ left order k (i + 1)
+  pub next : left order k i ≡ natAt order i ∷ left order k (i + 1)
   next =
       let long : i < length (take k order) = omega (arith, length-take-le k order h) in
       rw (add-one, drop-cons (take k order) i (pos 0) long) (ap (λ (z : ℤ). natOf z ∷ left order k (suc i)) (getD-take k order i (pos 0) j))

@@ -56,6 +56,8 @@ pub const VALUE: usize = 2;
 
 pub const FUNCTION: usize = 3;
 
+pub const NUMBER: usize = 4;
+
 // How many kinds there are.
 const COUNT: usize = 12;
 

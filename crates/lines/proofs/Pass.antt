@@ -8,8 +8,9 @@ use native.Mathlib.Omega.{arith}
 use lib.Dec.{eqb, ltb}
 use lib.IntN.{ℤ}
 use lib.ListN.{length, getD, drop, take, length-append, length-drop, drop-of-length-le}
-use lib.Seq.{sets, sets-eq, take-at, drop-append-add, drop-drop}
+use lib.Seq.{sets}
 use borrow.Author.Tests.{ltb-true, ltb-false}
+use Rattle.cells.proofs.Stores.{sets-next}
 use Rattle.cells.specs.Characters.{newline, space}
 use Rattle.refusals.specs.Refusal.{firstBad}
 use Rattle.refusals.specs.declared.Verdict.the-variants.{Fine, Refused}
@@ -120,17 +121,10 @@ pub row-written : (s : List ℕ) (n k : ℕ) (t : List ℤ) → 8 * k + 8 ≤ le
     → sets (linesWritten s n k t) (8 * k) (lineCells n (k + 1) (pieceStart (cut newline s) (k + 1)) (cut space (line s (k + 1)))) ≡ linesWritten s n (k + 1) t
 row-written s n k t h =
     let v = lineCells n (k + 1) (pieceStart (cut newline s) (k + 1)) (cut space (line s (k + 1))) in
-    let w = linesWritten s n k t in
-    let r = rows-length s n k in
     let e = row-length n (k + 1) (pieceStart (cut newline s) (k + 1)) (cut space (line s (k + 1))) in
-    let l : length w ≡ length t = written-length s n k t (omega arith) in
-    let front : take (8 * k) w ≡ linesCells s n k = take-at (linesCells s n k) (drop (8 * k) t) (8 * k) r in
-    let m : 8 * k + length v ≡ length (linesCells s n k) + 8 = omega arith in
-    let more-cells : 8 * k + 8 ≡ 8 * (k + 1) = omega arith in
-    let back : drop (8 * k + length v) w ≡ drop (8 * (k + 1)) t =
-    ap (λ (i : ℕ). drop i w) m ∙ drop-append-add (linesCells s n k) (drop (8 * k) t) 8 ∙ drop-drop 8 (8 * k) t ∙ ap (λ (i : ℕ). drop i t) more-cells in
+    let more-cells : 8 * k + length v ≡ 8 * (k + 1) = omega (arith, e) in
     let more : linesCells s n (k + 1) ≡ linesCells s n k ++ v = rw (add-one k) in
-    sets-eq v w (8 * k) (omega arith) ∙ rw (front, back, more)
+    sets-next (linesCells s n k) v t (8 * k) (rows-length s n k) (omega (arith, e)) ∙ rw (more-cells, more)
 
 -- ---- what the loop keeps at a label whose line begins at `at`, with the table t, which was t₀
 

@@ -1,5 +1,5 @@
 -- Laws of the four operations: every result fits a cell, the range test, and one proof of the code's arms over the operation.
-use mathlib.Core.Path.{_≡_, refl, sym, subst}
+use mathlib.Core.Path.{_≡_, refl, sym, ap, subst}
 use mathlib.Core.Bool.{Bool, true, false, cond}
 use Prim.Native.Nat.{suc, _-_, _*_, _≤_}
 use native.Mathlib.Omega.{arith}
@@ -35,20 +35,25 @@ result-fits tie op a b ha hb = fits-by (result tie op a b) (numberLimit * number
 
 -- ---- the range test, as the code makes it
 
-pub range-low : (x : ℤ) → ltZ x (negsuc (numberLimit - 1)) ≡ true → OutOfRange ≡ rangedOf x
-unfolding rangedOf
+pub range-low : (x : ℤ) → ltZ x (negsuc (numberLimit - 1)) ≡ true → false ≡ inRange x
 range-low (pos n) e = clash (sym e)
 range-low (negsuc n) e = rw (lt-leb (suc n) numberLimit (omega (arith, ltb-true (numberLimit - 1) n e)))
 
-pub range-high : (x : ℤ) → ltZ (pos numberLimit) x ≡ true → OutOfRange ≡ rangedOf x
-unfolding rangedOf
+pub range-high : (x : ℤ) → ltZ (pos numberLimit) x ≡ true → false ≡ inRange x
 range-high (pos n) e = rw (lt-leb n numberLimit (ltb-true numberLimit n e))
 range-high (negsuc n) e = clash (sym e)
 
-pub range-in : (x : ℤ) → ltZ x (negsuc (numberLimit - 1)) ≡ false → ltZ (pos numberLimit) x ≡ false → Number x ≡ rangedOf x
-unfolding rangedOf
+pub range-in : (x : ℤ) → ltZ x (negsuc (numberLimit - 1)) ≡ false → ltZ (pos numberLimit) x ≡ false → true ≡ inRange x
 range-in (pos n) e f = rw (le-leb n numberLimit (ltb-false numberLimit n f))
 range-in (negsuc n) e f = rw (le-leb (suc n) numberLimit (omega (arith, ltb-false (numberLimit - 1) n e)))
+
+pub in-number : (x : ℤ) → inRange x ≡ true → Number x ≡ rangedOf x
+unfolding rangedOf
+in-number x e = ap (λ b. cond b (Number x) OutOfRange) (sym e)
+
+pub out-of-range : (x : ℤ) → inRange x ≡ false → OutOfRange ≡ rangedOf x
+unfolding rangedOf
+out-of-range x e = ap (λ b. cond b (Number x) OutOfRange) (sym e)
 
 -- ---- a calculated number is in range
 

@@ -6,6 +6,7 @@ ghost use lib.ListN.{length};
 ghost use lib.Seq.{slice};
 ghost use lib.IntN.{natAbs};
 ghost use Rattle.cells.specs.Limits.{numberLimit};
+ghost use Rattle.numbers.specs.Range.{inRange};
 ghost use Rattle.numbers.specs.Rounding.{roundUp, quotient};
 ghost use Rattle.numbers.specs.Arithmetic.{rangedOf, calculated};
 ghost use Rattle.numbers.specs.Decimal.{digitsOf, decimalOf, signedOf, numberOf};
@@ -20,6 +21,19 @@ const LARGEST: i64 = 1000000000;
 
 // The size of both.
 pub const LARGEST_SIZE: u64 = 1000000000;
+
+// Whether x is a number of a sheet.
+pub fn in_range(x: i64) -> bool
+    ensures { λ r. ⌜ r ≡ inRange x ⌝ }
+{
+    if x < SMALLEST {
+        return false;
+    }
+    if LARGEST < x {
+        return false;
+    }
+    true
+}
 
 // ---- rounding
 
@@ -72,13 +86,10 @@ pub enum Calculated {
 fn ranged(x: i64) -> Calculated
     ensures { λ r. ⌜ r ≡ rangedOf x ⌝ }
 {
-    if x < SMALLEST {
-        return Calculated::OutOfRange;
+    if in_range(x) {
+        return Calculated::Number(x);
     }
-    if LARGEST < x {
-        return Calculated::OutOfRange;
-    }
-    Calculated::Number(x)
+    Calculated::OutOfRange
 }
 
 // a and b under an operation. A zero divisor comes before the range.

@@ -4,5 +4,5 @@ pub mod Scratch
 mod Chains
 mod Raise
 mod Spread
-mod Visits
+pub mod Visits
 mod Cycle

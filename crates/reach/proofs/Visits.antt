@@ -188,15 +188,16 @@ module _ (t : List ℤ) (n : ℕ) (ok : Accepted t n) (j : ℕ) where
     blank = λ d f. b d;
   }
 
+  -- from states that were all 0: what is begun has its row
+  pub row-made : (state₀ state square : List ℕ) → ((d : ℕ) → getD state₀ d 0 ≡ 0) → Since state₀ state → MarkRows t n j state square
+      → (d : ℕ) → (getD state d 0 ≡ 0 → ⊥) → MarkRow t n j square d
+  row-made state₀ state square z s r d f =
+      let c : getD state d 0 ≡ 1 → ⊥ = λ y. omega (arith, z d, s .unmade d y) in
+      r .made d (omega (arith, r .small d, f, c))
+
   pub rows-all : (state₀ state square : List ℕ) → ((d : ℕ) → getD state₀ d 0 ≡ 0) → Since state₀ state → MarkRows t n j state square
       → ((v : ℕ) → 1 ≤ v → v ≤ n → kind t v ≡ valueCode → getD state v 0 ≡ 0 → ⊥) → AllMarkRows t n j square
   rows-all state₀ state square z s r all = record {
-    values = λ v k. r .made v (two v (body-label t n ok v (rw k value-body)) k);
+    values = λ v k. let b = body-label t n ok v (rw k value-body) in row-made state₀ state square z s r v (all v (b .0) (b .1) k);
     groups = λ g k. r .blank g (λ y. body-group t n ok g (r .begun g (λ x. omega arith)) k);
   }
-    where
-      two : (v : ℕ) → (1 ≤ v) × (v ≤ n) → kind t v ≡ valueCode → getD state v 0 ≡ 2
-      two v b k =
-          let a : getD state v 0 ≡ 0 → ⊥ = all v (b .0) (b .1) k in
-          let c : getD state v 0 ≡ 1 → ⊥ = λ y. omega (arith, z v, s .unmade v y) in
-          omega (arith, r .small v)

@@ -67,7 +67,7 @@ pub fn gives_values(table: &[i64], n: usize, label: usize) -> bool
 // ---- chains of lines
 
 // The chains by which links by column j are followed.
-fn link(table: &[i64], n: usize, j: usize, chains: &mut [u16])
+pub fn link(table: &[i64], n: usize, j: usize, chains: &mut [u16])
     requires { ⌜ Accepted (now table) n ⌝ }
     requires { ⌜ Column j ⌝ }
     requires { ⌜ 2 * n < length (now chains) ⌝ }
@@ -229,7 +229,7 @@ fn share_row(n: usize, state: &[u8], square: &mut [u64], d: usize, e: usize) -> 
 }
 
 // Makes row d after the rows of what d links to, unless d is begun.
-fn visit(
+pub fn visit(
     table: &[i64],
     n: usize,
     j: usize,

@@ -1,4 +1,4 @@
--- The numbers of document 01's table "Where each refusal is found", in its order, with its words.
+-- The numbers of document 01's table "Where each refusal is found", in its order, with its words; then those of document 02's orders.
 use Prim.Native.Nat.{ℕ}
 
 -- length, last byte or a byte not allowed
@@ -73,3 +73,15 @@ listedRow = 17
 -- an order list: a position whose label reaches a V not listed earlier
 abbrev pub earlyRow : ℕ
 earlyRow = 18
+
+-- order 4, a list of pairs: "an odd list or above 1,024 pairs"
+abbrev pub pairsRow : ℕ
+pairsRow = 19
+
+-- "a label that is no N line"
+abbrev pub pairLabelRow : ℕ
+pairLabelRow = 20
+
+-- "a number out of range"
+abbrev pub pairNumberRow : ℕ
+pairNumberRow = 21

@@ -1,4 +1,4 @@
-// Refusals: the numbers of document 01's table "Where each refusal is found", and the answers that carry one.
+// Refusals: the numbers of document 01's table "Where each refusal is found" and of document 02's orders, and the answers that carry one.
 
 // Rows of the table, in its order. The paper's words stand in specs/Rows.antt.
 pub const TEXT: u64 = 1;
@@ -36,6 +36,13 @@ pub const CYCLE: u64 = 16;
 pub const LISTED: u64 = 17;
 
 pub const EARLY: u64 = 18;
+
+// Order 4's: a list of pairs, the label of one, its number.
+pub const PAIRS: u64 = 19;
+
+pub const PAIR_LABEL: u64 = 20;
+
+pub const PAIR_NUMBER: u64 = 21;
 
 // What a pass finds: nothing, or a refusal, which is a number and a place.
 pub enum Verdict {

@@ -1,10 +1,10 @@
 -- A sheet, a text and a table with another number in one N line.
 use mathlib.Core.Path.{_≡_}
 use mathlib.Core.List.{List}
-use Prim.Native.Nat.{ℕ, zero, suc, _+_, _*_}
+use Prim.Native.Nat.{ℕ, zero, suc}
 use lib.IntN.{ℤ}
 use lib.ListN.{getD, set}
-use Rattle.cells.specs.Table.{nameStart, withColumn}
+use Rattle.cells.specs.Table.{nameStart, withColumn, withNumber}
 use Rattle.lines.specs.Lines.{labels}
 use Rattle.order.specs.Order.{plan}
 use Rattle.reading.specs.Read.{sheetTable}
@@ -24,11 +24,6 @@ putNumber (suc k) z x = record { first = x .first; lines = set (x .lines) k (wit
 -- "the sheet with the number put in", as a text
 unfoldable pub numberPut : List ℕ → ℕ → ℤ → List ℕ
 numberPut s l z = serialize (putNumber l z (parse s))
-
--- the table with z in cell a of label l; label 0 has none
-abbrev pub withNumber : ℕ → ℤ → List ℤ → List ℤ
-withNumber zero z t = t
-withNumber (suc k) z t = set t (8 * k + 3) z
 
 -- what holds of a text r that is s with z put in the N line of label l
 pub record NumberPut (s : List ℕ) (l : ℕ) (z : ℤ) (r : List ℕ) : Type 0 where

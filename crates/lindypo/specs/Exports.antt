@@ -13,6 +13,7 @@ use Rattle.calls.specs.Plan as plans
 use Rattle.calls.specs.Run.{runReply, runTable, runPlan, runResults}
 use Rattle.calls.specs.Follow.{followReply, followTable, followResults}
 use Rattle.calls.specs.declared.PlanReply.{PlanReply}
+use Rattle.retouching.specs.Retouch.{retouchReply, retouchTable, retouchPlan, retouchResults, retouchChanges}
 use Rattle.lindypo.specs.declared.CReply.{CReply}
 
 -- ---- a reply as C sees it
@@ -24,7 +25,7 @@ pub record Answers (r : Reply) (a : CReply) : Type 0 where
   pub count : a .count ≡ countOf r
   pub order : a .order ≡ 0
 
--- of Plan and Run
+-- of Plan, Run and Retouch
 pub record PlanAnswers (r : PlanReply) (a : CReply) : Type 0 where
   pub refusal : a .refusal ≡ plans.planRefusal r
   pub place : a .place ≡ plans.planPlace r
@@ -53,3 +54,11 @@ pub record FollowExport (s : List ℕ) (l : List ℤ) (m q : ℕ) (a : CReply) (
   pub answer : Answers (followReply s l m q) a
   pub table : t ≡ followTable s l m q
   pub results : u ≡ followResults s l m q
+
+-- of a list of pairs ps; the changes c are lent with w cells
+pub record RetouchExport (s : List ℕ) (ps : List ℤ) (m p q w : ℕ) (a : CReply) (t o u c : List ℤ) : Type 0 where
+  pub answer : PlanAnswers (retouchReply s ps m p q w) a
+  pub table : t ≡ retouchTable s ps m p q w
+  pub plan : o ≡ retouchPlan s ps m p q w
+  pub results : u ≡ retouchResults s ps m p q w
+  pub changes : c ≡ retouchChanges s ps m p q w

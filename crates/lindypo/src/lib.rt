@@ -4,7 +4,7 @@ ghost use mathlib.Core.Path.{_≡_};
 ghost use lib.ListN.{length};
 ghost use Rattle.reading.specs.Name.{PartLeaves};
 ghost use Rattle.printing.specs.Print.{PrintLeaves};
-ghost use Rattle.lindypo.specs.Exports.{Answers, PlanAnswers, ReadExport, PlanExport, RunExport, FollowExport};
+ghost use Rattle.lindypo.specs.Exports.{Answers, PlanAnswers, ReadExport, PlanExport, RunExport, FollowExport, RetouchExport};
 use calls::PlanReply;
 use printing::Printed;
 use reading::TextPart;
@@ -113,6 +113,22 @@ pub extern "C" fn lindypo_follow(
     ensures { λ r. ⌜ FollowExport (now (text .entry)) (now (order .entry)) (length (now (table .entry))) (length (now (results .entry))) r (now (table .exit)) (now (results .exit)) ⌝ }
 {
     answer_of(calls::follow(text, order, table, results))
+}
+
+// Retouch, document 02's order 4.
+#[no_mangle]
+pub extern "C" fn lindypo_retouch(
+    text: &[u8],
+    pairs: &[i64],
+    table: &mut [i64],
+    plan: &mut [i64],
+    results: &mut [i64],
+    changes: &mut [i64],
+) -> CReply
+    ensures { λ r. ⌜ RetouchExport (now (text .entry)) (now (pairs .entry)) (length (now (table .entry))) (length (now (plan .entry))) (length (now (results .entry)))
+        (length (now (changes .entry))) r (now (table .exit)) (now (plan .exit)) (now (results .exit)) (now (changes .exit)) ⌝ }
+{
+    plan_answer(retouching::retouch(text, pairs, table, plan, results, changes))
 }
 
 // The program's print: no call of document 01, so a refusal is printed too.

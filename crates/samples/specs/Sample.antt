@@ -9,7 +9,7 @@ use lib.ListN.{length}
 use Rattle.kinds.specs.Kinds.{isDefinition, hasBody, hasPath, wantedBy, takes}
 use Rattle.cells.specs.Quoted.{bytesOf, textOf}
 use Rattle.cells.specs.Cells.{zeros}
-use Rattle.cells.specs.Table.{kind, owner, target}
+use Rattle.cells.specs.Table.{kind, owner, target, lineNumber}
 use Rattle.refusals.specs.declared.Reply.{Reply}
 use Rattle.refusals.specs.declared.Reply.the-variants.{Answered, Refused}
 use Rattle.lines.specs.Lines.{labels}
@@ -22,6 +22,7 @@ use Rattle.calls.specs.Follow.{followReply, followResults}
 use Rattle.calls.specs.declared.PlanReply.{PlanReply}
 use Rattle.calls.specs.declared.PlanReply.the-variants as planned
 use Rattle.printing.specs.Print.{printOf}
+use Rattle.retouching.specs.Retouch.{retouchReply, retouchTable, retouchPlan, retouchResults, retouchChanges}
 
 -- ---- a sample
 
@@ -172,3 +173,66 @@ saidOf x n ls = record {
 -- every line of the sheet but the first has a label
 abbrev pub said : Sample → Given
 said x = saidOf x (length (x .sheet) - 1) (printLinesOf (x .outcome))
+
+-- ---- order 4: a sheet retouched
+
+-- a pair of the list, and what it brings about
+pub record PairSaid : Type 0 where
+  pub label : ℕ
+  pub number : ℤ
+  pub redone : ℕ
+  pub failing : ℕ
+  pub steps : ℕ
+
+-- a line and the number in its cell a
+pub record NumberSaid : Type 0 where
+  pub line : ℕ
+  pub shows : ℤ
+
+pub record Retouched : Type 0 where
+  pub sheet : List String
+  pub pairs : List PairSaid
+  -- once all pairs are applied: what Retouch comes to, and what the table shows
+  pub outcome : Expected
+  pub numbers : List NumberSaid
+
+abbrev pub pairCells : List PairSaid → List ℤ
+pairCells [] = []
+pairCells (x ∷ ps) = pos (x .label) ∷ x .number ∷ pairCells ps
+
+abbrev pub changeCells : List PairSaid → List ℤ
+changeCells [] = []
+changeCells (x ∷ ps) = pos (x .redone) ∷ pos (x .failing) ∷ pos (x .steps) ∷ changeCells ps
+
+-- what the definitions of Retouch give: the reply, the plan, the results, the changes, and cell a of the lines that the sample says
+pub record RetouchGiven : Type 0 where
+  pub reply : PlanReply
+  pub plan : List ℤ
+  pub results : List ℤ
+  pub changes : List ℤ
+  pub numbers : List ℤ
+
+-- of a text s with n labels, where the call is lent just enough
+abbrev pub retouchFor : List ℕ → ℕ → List PairSaid → List NumberSaid → RetouchGiven
+retouchFor s n ps ns = record {
+  reply = retouchReply s (pairCells ps) (8 * n) n (3 * n) (3 * length ps);
+  plan = retouchPlan s (pairCells ps) (8 * n) n (3 * n) (3 * length ps);
+  results = retouchResults s (pairCells ps) (8 * n) n (3 * n) (3 * length ps);
+  changes = retouchChanges s (pairCells ps) (8 * n) n (3 * n) (3 * length ps);
+  numbers = map (λ x. lineNumber (retouchTable s (pairCells ps) (8 * n) n (3 * n) (3 * length ps)) (x .line)) ns;
+}
+
+abbrev pub retouchGiven : Retouched → RetouchGiven
+retouchGiven x = retouchFor (textOf (x .sheet)) (labels (textOf (x .sheet))) (x .pairs) (x .numbers)
+
+abbrev pub retouchSaidOf : Retouched → ℕ → List PrintLine → RetouchGiven
+retouchSaidOf x n ls = record {
+  reply = planReplyBy (x .outcome);
+  plan = planBy n ls;
+  results = resultsSaid (3 * n) ls;
+  changes = changeCells (x .pairs);
+  numbers = map (λ y. y .shows) (x .numbers);
+}
+
+abbrev pub retouchSaid : Retouched → RetouchGiven
+retouchSaid x = retouchSaidOf x (length (x .sheet) - 1) (printLinesOf (x .outcome))

@@ -5,7 +5,7 @@ use Prim.Native.Nat.{ℕ}
 use Prim.Native.String.{String}
 use lib.IntN.{ℤ, pos, negℤ}
 use Rattle.refusals.specs.declared.Reply.the-variants.{Answered, Refused}
-use Rattle.samples.specs.Sample.{group, value, function, reads, calls, PrintLine, refusal, whole, mixed, Sample}
+use Rattle.samples.specs.Sample.{group, value, function, reads, calls, PrintLine, refusal, whole, mixed, Sample, Retouched}
 
 abbrev printLine : ℕ → String → ℕ → ℤ → ℕ → PrintLine
 printLine label name state number steps = record { label = label; name = name; state = state; number = number; steps = steps }
@@ -320,3 +320,55 @@ samples =
     ∷ capitalClash
     ∷ frameAndLeft
     ∷ []
+
+-- document 02, order 4: the sheet of the layout bench. The first pair puts in the number that stands there: its owner `pd` is worked out
+-- again, and nothing changes. The second is owned by the function `prism`, which `base` calls: 250 / 10 is 25
+abbrev pub bench : Retouched
+bench = record {
+  sheet =
+      "kind name a b c"
+      ∷ "G - 0 - -"
+      ∷ "G right 1 - -"
+      ∷ "F prism 1 7 -"
+      ∷ "V dec 2 10 -"
+      ∷ "V pd 2 11 -"
+      ∷ "V base 2 12 -"
+      ∷ "D - 8 9 -"
+      ∷ "P - - - -"
+      ∷ "N - 100 - -"
+      ∷ "N - 250 - -"
+      ∷ "N - 3100 - -"
+      ∷ "C prism 13 - -"
+      ∷ "R dec - - -"
+      ∷ [];
+  pairs =
+      record { label = 11; number = pos 3100; redone = 1; failing = 0; steps = 7 }
+      ∷ record { label = 9; number = pos 10; redone = 1; failing = 0; steps = 7 }
+      ∷ [];
+  outcome = whole
+      (printLine 4 "dec" 1 (pos 250) 1
+      ∷ printLine 5 "pd" 1 (pos 3100) 1
+      ∷ printLine 6 "base" 1 (pos 25) 5
+      ∷ []);
+  numbers = record { line = 9; shows = pos 10 } ∷ record { line = 10; shows = pos 250 } ∷ record { line = 11; shows = pos 3100 } ∷ [];
+}
+
+-- the same sheet: a divisor of 0 put into `prism` fails `base`; the next pair mends it, and the last is owned by `dec`, which `base` reads
+abbrev pub benchMended : Retouched
+benchMended = record {
+  sheet = bench .sheet;
+  pairs =
+      record { label = 9; number = pos 0; redone = 1; failing = 1; steps = 7 }
+      ∷ record { label = 9; number = minus 100; redone = 1; failing = 0; steps = 7 }
+      ∷ record { label = 10; number = pos 350; redone = 2; failing = 0; steps = 7 }
+      ∷ [];
+  outcome = whole
+      (printLine 4 "dec" 1 (pos 350) 1
+      ∷ printLine 5 "pd" 1 (pos 3100) 1
+      ∷ printLine 6 "base" 1 (minus 4) 5
+      ∷ []);
+  numbers = record { line = 9; shows = minus 100 } ∷ record { line = 10; shows = pos 350 } ∷ record { line = 11; shows = pos 3100 } ∷ [];
+}
+
+unfoldable pub retouches : List Retouched
+retouches = bench ∷ benchMended ∷ []

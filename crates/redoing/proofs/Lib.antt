@@ -1,0 +1,8 @@
+pub mod Sums
+pub mod Numbers
+pub mod Structure
+pub mod Redone
+pub mod Dependents
+mod Owners
+mod Down
+pub mod Applied

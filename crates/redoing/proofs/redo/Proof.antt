@@ -1,0 +1,90 @@
+use mathlib.Core.Path.{refl}
+use native.Mathlib.Omega.{arith}
+use Rattle.evaluation.specs.Results.{stored}
+use Rattle.evaluation.proofs.Entries.{value-room}
+use Rattle.redoing.proofs.Sums.{took-few, room-still, failing-moves, steps-move, redone-tally, failing-few, steps-few}
+use borrow.Author.Needs.{needs}
+use Rattle.redoing.proofs.redo.Statement.{statement}
+use Rattle.redoing.proofs.redo.Tie as tie
+
+failed-requires : tie.Need-failed-requires
+failed-requires c κs = value-room (c .before .pre .0 .0)
+
+sub-failing : tie.Need-sub-failing
+sub-failing c =
+    let entry = c .before .before .before in
+    omega (
+      arith,
+      c .before .failed .ensures .0,
+      entry .pre .1 .0 .failed,
+      failing-moves (entry .args .table .now) (entry .args .results .now) (entry .args .label) (entry .args .n) (value-room (entry .pre .0 .0)) (entry .pre .0 .1) .0,
+    )
+
+steps-of-requires : tie.Need-steps-of-requires
+steps-of-requires c κs = value-room (c .before .before .before .before .pre .0 .0)
+
+sub-steps : tie.Need-sub-steps
+sub-steps c =
+    let entry = c .before .before .before .before .before .before in
+    omega (
+      arith,
+      c .before .steps-of .ensures,
+      entry .pre .1 .0 .taken,
+      steps-move (entry .args .table .now) (entry .args .results .now) (entry .args .label) (entry .args .n) (value-room (entry .pre .0 .0)) (entry .pre .0 .1) .0,
+    )
+
+evaluate-into-requires : tie.Need-evaluate-into-requires
+evaluate-into-requires c κs = search needs
+
+add-t8 : tie.Need-add-t8
+add-t8 c = search needs
+
+failed-requires-2 : tie.Need-failed-requires-2
+failed-requires-2 c κs = room-still (value-room (c .before .before .before .before .before .before .before .before .before .before .before .pre .0 .0)) (c .before .before .before .evaluate-into .kept .1 .0)
+
+add-t19 : tie.Need-add-t19
+add-t19 c =
+    let entry = c .before .before .before .before .before .before .before .before .before .before .before .before in
+    omega (arith, c .failed2 .ensures .1, entry .pre .1 .0 .failed, failing-few (stored (entry .args .results .now)) (entry .args .n), entry .pre .0 .2)
+
+steps-of-requires-2 : tie.Need-steps-of-requires-2
+steps-of-requires-2 c κs = room-still (value-room (c .before .before .before .before .before .before .before .before .before .before .before .before .before .pre .0 .0)) (c .before .before .before .before .before .evaluate-into .kept .1 .0)
+
+add-t23 : tie.Need-add-t23
+add-t23 c =
+    let entry = c .before .before .before .before .before .before .before .before .before .before .before .before .before .before in
+    let took = took-few (entry .args .table .now) (entry .args .results .now) (entry .args .label) (entry .args .n) (value-room (entry .pre .0 .0)) (entry .pre .0 .1)
+    (entry .pre .1 .0 .short) (c .before .before .before .before .before .before .evaluate-into .ensures) (c .steps-of2 .ensures) in
+    omega (arith, took, entry .pre .1 .0 .taken, steps-few (stored (entry .args .results .now)) (entry .args .n) (entry .pre .1 .0 .short), entry .pre .0 .2)
+
+same-length : tie.Need-same-length
+same-length c = search needs
+
+returns : tie.Need-returns
+returns c =
+    let entry = c .before .before .before .before .before .before .before .before .before .before .before .before .before .before in (
+      c .before .before .before .before .before .before .evaluate-into .ensures,
+      (
+        refl,
+        redone-tally (entry .args .table .now) (entry .args .results .now) (entry .args .label) (entry .args .n)
+            (value-room (entry .pre .0 .0)) (entry .pre .0 .1) (entry .args .before) (entry .pre .1 .0) (c .before .before .before .before .before .before .evaluate-into .ensures)
+            (c .before .before .before .before .before .before .before .before .before .before .before .before .failed .ensures .0) (c .before .before .before .before .before .before .before .before .before .steps-of .ensures) (c .before .before .failed2 .ensures .0) (c .steps-of2 .ensures),
+      ),
+    )
+
+pub redo-spec : {M : Type 1} → statement M
+redo-spec =
+    tie.close
+    (tie.spec
+    failed-requires
+    sub-failing
+    steps-of-requires
+    sub-steps
+    evaluate-into-requires
+    add-t8
+    failed-requires-2
+    add-t19
+    steps-of-requires-2
+    add-t23
+    same-length
+    returns)

@@ -1,0 +1,88 @@
+-- What the functions between a pair and its values promise. The table t has n labels; r are results.
+use mathlib.Core.Path.{_≡_}
+use mathlib.Core.Bool.{Bool, true, false, _||_}
+use mathlib.Core.List.{List, _++_}
+use Prim.Native.Nat.{ℕ, _+_, _-_, _*_, _≤_, _<_}
+use lib.Dec.{eqb}
+use lib.IntN.{ℤ}
+use lib.ListN.{length, take, drop}
+use lib.Seq.{sets}
+use Rattle.kinds.specs.Kinds.{valueCode}
+use Rattle.cells.specs.Cells.{natAt}
+use Rattle.cells.specs.Table.{kind, owner, withNumber}
+use Rattle.cells.specs.Accepted.{Accepted, HasBody}
+use Rattle.order.specs.Following.{ProperList, labelsOf}
+use Rattle.order.specs.Evaluating.{down}
+use Rattle.marks.specs.Marks.{mark}
+use Rattle.reach.specs.MarkRows.{width, MarkRow}
+use Rattle.evaluation.specs.Results.{stateAt, stepsAt, stored}
+use Rattle.evaluation.specs.Evaluation.{stepLimit}
+use Rattle.evaluation.specs.Ready.{Ready}
+use Rattle.figures.specs.Figures.{resultCells, evaluateInto}
+use Rattle.redoing.specs.Pairs.{pairLabel, pairNumber, withPairs}
+use Rattle.redoing.specs.Redone.{redoneOf, failing, stepSum, changeCells, changesOf}
+use Rattle.redoing.specs.declared.Change.{Change}
+
+-- the stored figures are sums over the results r
+pub record Tallied (n : ℕ) (r : List ℤ) (c : Change) : Type 0 where
+  pub failed : c .failing ≡ failing (stored r) n
+  pub taken : c .steps ≡ stepSum (stored r) n
+  pub short : (l : ℕ) → stepsAt r l ≤ stepLimit
+
+-- ---- down the plan
+
+-- v is evaluated again, and counted, where the test says so
+abbrev pub Turned : Bool → List ℤ → ℕ → ℕ → List ℤ → Change → List ℤ → Change → Type 0
+Turned true t n v r c r′ c′ = (r′ ≡ evaluateInto t r v) × (c′ .redone ≡ c .redone + 1) × Tallied n r′ c′
+Turned false t n v r c r′ c′ = (r′ ≡ r) × (c′ ≡ c)
+
+-- row d of the square has what reaches d: the test of a value v
+abbrev pub turns : List ℕ → ℕ → ℕ → ℕ → Bool
+turns square n d v = eqb v d || mark square (width n) d v
+
+-- what going down the first k cells of a plan asks
+pub record Redoable (t : List ℤ) (n : ℕ) (r plan : List ℤ) (k : ℕ) (square : List ℕ) (d : ℕ) : Type 0 where
+  pub accepted : Accepted t n
+  pub results : 3 * n ≤ length r
+  pub ready : Ready t r
+  -- every value has been evaluated
+  pub evaluated : (v : ℕ) → kind t v ≡ valueCode → 1 ≤ stateAt r v
+  pub room : k ≤ length plan
+  pub few : k ≤ n
+  pub values : (i : ℕ) → i < k → kind t (natAt plan i) ≡ valueCode
+  pub body : HasBody t d
+  pub rows : (n + 1) * width n ≤ length square
+  pub row : MarkRow t n 6 square d
+
+-- what it leaves: those that depend on d evaluated again, in turn, and counted
+pub record Redid (t : List ℤ) (n : ℕ) (r plan : List ℤ) (k d : ℕ) (c : Change) (r′ : List ℤ) (c′ : Change) : Type 0 where
+  pub results : r′ ≡ down (evaluateInto t) (redoneOf t n d (labelsOf (take k plan))) r
+  pub redone : c′ .redone ≡ c .redone + length (redoneOf t n d (labelsOf (take k plan)))
+  pub tallied : Tallied n r′ c′
+
+-- ---- down the list of pairs
+
+-- the rows of the owners of the first k pairs
+abbrev pub OwnersMarked : List ℤ → ℕ → List ℤ → ℕ → List ℕ → Type 0
+OwnersMarked t n ps k square = (i : ℕ) → 1 ≤ i → i ≤ k → MarkRow t n 6 square (owner t (pairLabel ps i))
+
+-- a table of n labels whose plan, in the first k cells of a list, and whose results stand
+pub record Standing (t : List ℤ) (n : ℕ) (plan : List ℤ) (k : ℕ) (r : List ℤ) : Type 0 where
+  pub accepted : Accepted t n
+  pub plans : k ≤ length plan
+  pub proper : ProperList t (take k plan)
+  pub fit : 3 * n ≤ length r
+  pub results : r ≡ resultCells t n (length r)
+
+-- what pair i, from 1, leaves of table t, results r and changes w: the table u, and its plan is t's
+pub record PairApplied (t : List ℤ) (n : ℕ) (ps : List ℤ) (i : ℕ) (r w u r′ w′ : List ℤ) (c : Change) : Type 0 where
+  pub table : u ≡ withNumber (pairLabel ps i) (pairNumber ps i) t
+  pub results : r′ ≡ resultCells u n (length r)
+  pub changes : w′ ≡ sets w (3 * (i - 1)) (changeCells u n (owner t (pairLabel ps i)))
+  pub tallied : Tallied n r′ c
+
+-- what the first i pairs leave
+pub record PairsApplied (t : List ℤ) (n : ℕ) (ps : List ℤ) (i : ℕ) (r w u r′ w′ : List ℤ) : Type 0 where
+  pub table : u ≡ withPairs ps i t
+  pub results : r′ ≡ resultCells (withPairs ps i t) n (length r)
+  pub changes : w′ ≡ changesOf t n ps i ++ drop (3 * i) w

@@ -29,6 +29,9 @@ static const char *const refusals[] = {
     "a value that reaches itself",
     "an order with a label that is no value's, with one twice, or without a value",
     "an order with a value before one that it reaches",
+    "an odd list of pairs, or more than 1,024 pairs",
+    "a pair with a label that is no N line",
+    "a pair with a number out of range",
 };
 
 const char *lindypo_refusal_words(uint64_t refusal)

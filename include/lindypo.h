@@ -1,10 +1,10 @@
 /* Lindypo: order sheets for a lens laboratory, read, planned and evaluated by
  * proved code.
  *
- * Every text, every order list, every label, every length and whatever the
- * buffers hold beforehand is fine: a call answers or refuses, and never ends
- * the process. It allocates nothing, keeps nothing between calls, and may be
- * made from several threads at once. A thread stack of 2 MiB is enough for all
+ * Every text, every order list, every list of pairs, every label, every length
+ * and whatever the buffers hold beforehand is fine: a call answers or refuses,
+ * and never ends the process. It allocates nothing, keeps nothing between calls,
+ * and may be made from several threads at once. A thread stack of 2 MiB is enough for all
  * of them; LINDYPO_READ_STACK and its like say how much each takes.
  *
  * What a caller sees to: a pointer is not null, even where the length is 0; as
@@ -52,14 +52,23 @@ extern "C" {
 #define LINDYPO_STEPS_MOST 20000
 #define LINDYPO_DEPTH_MOST 64
 
+/* Limit of a list of pairs. */
+#define LINDYPO_PAIRS_MOST 1024
+
 /* Cells for each label in the table and in the results; the plan has one. */
 #define LINDYPO_TABLE_CELLS 8
 #define LINDYPO_RESULT_CELLS 3
 
-/* Cells that are enough for every sheet. */
+/* Cells for each pair in the list of pairs and in the changes. */
+#define LINDYPO_PAIR_CELLS 2
+#define LINDYPO_CHANGE_CELLS 3
+
+/* Cells that are enough for every sheet, and changes for every list of pairs that
+ * is not refused. */
 #define LINDYPO_TABLE_MOST (LINDYPO_TABLE_CELLS * LINDYPO_LABELS_MOST)
 #define LINDYPO_PLAN_MOST LINDYPO_LABELS_MOST
 #define LINDYPO_RESULTS_MOST (LINDYPO_RESULT_CELLS * LINDYPO_LABELS_MOST)
+#define LINDYPO_CHANGES_MOST (LINDYPO_CHANGE_CELLS * LINDYPO_PAIRS_MOST)
 
 /* Bytes of stack that are enough for a call, the frame that makes it included:
  * measured on the sheets that take most, rounded up. */
@@ -68,6 +77,7 @@ extern "C" {
 #define LINDYPO_PLAN_STACK 327680
 #define LINDYPO_RUN_STACK 327680
 #define LINDYPO_FOLLOW_STACK 425984
+#define LINDYPO_RETOUCH_STACK 425984
 #define LINDYPO_PRINT_STACK 425984
 
 /* The kind of a line, by its letter's code. G, V and F lines are definitions,
@@ -106,6 +116,14 @@ enum lindypo_result {
     LINDYPO_RESULT_STEPS = 2   /* steps taken */
 };
 
+/* The cells of a pair in the changes: what it brought about. */
+enum lindypo_change {
+    LINDYPO_CHANGE_REDONE = 0,  /* values evaluated again */
+    LINDYPO_CHANGE_FAILING = 1, /* values of the sheet that then have another state than
+                                   LINDYPO_STATE_NUMBER */
+    LINDYPO_CHANGE_STEPS = 2    /* the sum of the steps of all values then */
+};
+
 /* What evaluating a value ends in; a line that is no value has state 0. */
 enum lindypo_state {
     LINDYPO_STATE_NUMBER = 1,
@@ -122,12 +140,13 @@ enum lindypo_order {
 };
 
 /* Refusals. A call gives the first that applies; Read looks at 1 to 15, Plan
- * and Run at 1 to 16, Follow at all. The place is 0 for the text, one of
- * lindypo_place for the buffers, a position in the order list for the order,
- * and else a label.
+ * and Run at 1 to 16, Follow at 1 to 18, Retouch at 1 to 16 and 19 to 21. The
+ * place is 0 for the text and for the list of pairs as a whole, one of
+ * lindypo_place for the buffers, a position in the order list for the order, a
+ * pair of the list for that pair, and else a label.
  *
  * Positions in the order list count from 1; where a V is missing and nothing
- * else is wrong, the place is the list's length + 1. */
+ * else is wrong, the place is the list's length + 1. Pairs count from 1. */
 enum lindypo_refusal {
     /* the text */
     LINDYPO_REFUSAL_TEXT = 1,       /* its length, its last byte or a byte is not allowed */
@@ -154,7 +173,11 @@ enum lindypo_refusal {
     LINDYPO_REFUSAL_CYCLE = 16, /* a value that reaches itself */
     /* the order list */
     LINDYPO_REFUSAL_LISTED = 17, /* no V label, or one listed before; or a V is missing */
-    LINDYPO_REFUSAL_EARLY = 18   /* reaches a value that is not listed earlier */
+    LINDYPO_REFUSAL_EARLY = 18,  /* reaches a value that is not listed earlier */
+    /* the list of pairs */
+    LINDYPO_REFUSAL_PAIRS = 19,      /* an odd list, or one of more than 1,024 pairs */
+    LINDYPO_REFUSAL_PAIR_LABEL = 20, /* a label that is no N line */
+    LINDYPO_REFUSAL_PAIR_NUMBER = 21 /* a number out of range */
 };
 
 /* The place of LINDYPO_REFUSAL_BUFFERS: the lowest, of the buffers that the
@@ -162,7 +185,8 @@ enum lindypo_refusal {
 enum lindypo_place {
     LINDYPO_PLACE_TABLE = 1,
     LINDYPO_PLACE_PLAN = 2,
-    LINDYPO_PLACE_RESULTS = 3
+    LINDYPO_PLACE_RESULTS = 3,
+    LINDYPO_PLACE_CHANGES = 4
 };
 
 typedef struct {
@@ -172,11 +196,11 @@ typedef struct {
     /* Where the refusal was found; 0 in an answer. */
     uint64_t place;
     /* The number n of labels, 1 to 1,024, from Read; the length of the plan,
-     * which is the number of values, from Plan and Run; the length of the order
-     * list, which is then the same, from Follow. 0 in a refusal. */
+     * which is the number of values, from Plan, Run and Retouch; the length of
+     * the order list, which is then the same, from Follow. 0 in a refusal. */
     uint64_t count;
-    /* Of the plan, from Plan and Run: one of lindypo_order. 0 in a refusal and
-     * from Read and Follow. */
+    /* Of the plan, from Plan, Run and Retouch: one of lindypo_order. 0 in a
+     * refusal and from Read and Follow. */
     uint64_t order;
 } lindypo_reply;
 
@@ -228,6 +252,31 @@ lindypo_reply lindypo_follow(const uint8_t *text, size_t text_length,
                              const int64_t *order, size_t order_length,
                              int64_t *table, size_t table_length,
                              int64_t *results, size_t results_length);
+
+/* Retouch: writes table, plan and results as Run does, then puts new numbers
+ * into N lines, one after the other, and evaluates again what depends on them.
+ *
+ * The list is label, number, label, number, and so on. Each pair in turn puts its
+ * number into its N line, which is then cell a of that label in the table. Then
+ * the value that owns the line and all values that reach its owner are
+ * evaluated again, even where the number stays as it was, and no others. So the
+ * results are those of Run on the sheet with all numbers put in, whatever the
+ * length of its text. An empty list changes nothing: Retouch is then Run.
+ *
+ * The changes need 3 cells for each whole pair of the list; an odd last cell is
+ * not counted here, and refused later. In an answer the cells of pair k are
+ * those from 3(k - 1) on, by lindypo_change, as they stood after that pair and
+ * before the next. All cells after these are then 0.
+ *
+ * Refusals 19 to 21 come after those of Run, and all pairs are judged before any
+ * is applied: first the list as a whole, then pair by pair, the label before the
+ * number. The same line may be in several pairs, and the last of them stays. */
+lindypo_reply lindypo_retouch(const uint8_t *text, size_t text_length,
+                              const int64_t *pairs, size_t pairs_length,
+                              int64_t *table, size_t table_length,
+                              int64_t *plan, size_t plan_length,
+                              int64_t *results, size_t results_length,
+                              int64_t *changes, size_t changes_length);
 
 /* The program's print of a sheet: one line of column names, then one line per
  * value in the order of the plan; of a refusal, `refusal place` and one line of

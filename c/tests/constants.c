@@ -1,6 +1,6 @@
 /* Holds the constants of include/lindypo.h to what the library does: for each
  * limit what just keeps it and what does not, for each kind, column, state,
- * order and refusal a sheet that has it. Prints what is wrong and how many
+ * order, change and refusal a sheet that has it. Prints what is wrong and how many
  * facts were looked at; status 1 where one fails. */
 #include <inttypes.h>
 #include <stdarg.h>
@@ -14,6 +14,7 @@
 static char text[2 * LINDYPO_TEXT_MOST];
 static size_t length;
 static int64_t table[LINDYPO_TABLE_MOST], plan[LINDYPO_PLAN_MOST], results[LINDYPO_RESULTS_MOST];
+static int64_t pairs[LINDYPO_PAIR_CELLS * (LINDYPO_PAIRS_MOST + 1)], changes[LINDYPO_CHANGES_MOST + 3];
 static int facts, failures;
 
 static void check(int holds, const char *fact)
@@ -62,6 +63,13 @@ static lindypo_reply run_sheet(void)
 {
     return lindypo_run(bytes(), length, table, CELLS(table), plan, CELLS(plan), results,
                        CELLS(results));
+}
+
+/* Retouch with the first so many cells of the list of pairs. */
+static lindypo_reply retouch_sheet(size_t pairs_length)
+{
+    return lindypo_retouch(bytes(), length, pairs, pairs_length, table, CELLS(table), plan,
+                           CELLS(plan), results, CELLS(results), changes, CELLS(changes));
 }
 
 static uint64_t refusal(void)
@@ -228,6 +236,21 @@ static void lengths_of_buffers(void)
     CHECK(is_short(run_in(cells, 2, result_cells - 1), LINDYPO_PLACE_RESULTS));
 }
 
+/* Retouch lent so many cells for the changes of two pairs and a half. */
+static lindypo_reply retouch_in(size_t change_cells)
+{
+    return lindypo_retouch(bytes(), length, pairs, 5, table, CELLS(table), plan, CELLS(plan),
+                           results, CELLS(results), changes, change_cells);
+}
+
+static void lengths_of_changes(void)
+{
+    sheet("V x 1 3 -\nN - 7 - -\n");
+    memset(pairs, 0, sizeof pairs);
+    CHECK(retouch_in(2 * LINDYPO_CHANGE_CELLS).refusal == LINDYPO_REFUSAL_PAIRS);
+    CHECK(is_short(retouch_in(2 * LINDYPO_CHANGE_CELLS - 1), LINDYPO_PLACE_CHANGES));
+}
+
 /* The print of as many values as a sheet has room for, with the longest names and
  * numbers; it needs all but a part of what is enough for every print. */
 static void length_of_a_print(void)
@@ -289,6 +312,63 @@ static void orders(void)
     CHECK(run_sheet().order == LINDYPO_ORDER_MIXED);
 }
 
+/* ---- pairs and changes */
+
+static int64_t change(int pair, enum lindypo_change column)
+{
+    return changes[LINDYPO_CHANGE_CELLS * (pair - 1) + column];
+}
+
+static void put(int pair, int64_t label, int64_t number)
+{
+    pairs[LINDYPO_PAIR_CELLS * (pair - 1)] = label;
+    pairs[LINDYPO_PAIR_CELLS * (pair - 1) + 1] = number;
+}
+
+/* 100 / y, y and z, of which the first pair makes y 0 and the second z 8. */
+static void pairs_and_changes(void)
+{
+    sheet("V x 1 5 -\nV y 1 8 -\nV z 1 9 -\nD - 6 7 -\nN - 100 - -\nR y - - -\nN - 5 - -\n"
+          "N - 7 - -\n");
+    put(1, 8, 0);
+    put(2, 9, 8);
+    CHECK(retouch_sheet(2 * LINDYPO_PAIR_CELLS).refusal == 0);
+    CHECK(cell(8, LINDYPO_COLUMN_A) == 0 && cell(9, LINDYPO_COLUMN_A) == 8);
+    CHECK(result(2, LINDYPO_RESULT_STATE) == LINDYPO_STATE_ZERO_DIVISOR);
+    CHECK(result(4, LINDYPO_RESULT_NUMBER) == 8);
+    CHECK(change(1, LINDYPO_CHANGE_REDONE) == 2 && change(2, LINDYPO_CHANGE_REDONE) == 1);
+    CHECK(change(1, LINDYPO_CHANGE_FAILING) == 1 && change(2, LINDYPO_CHANGE_FAILING) == 1);
+    CHECK(change(1, LINDYPO_CHANGE_STEPS) == 5 && change(2, LINDYPO_CHANGE_STEPS) == 5);
+    CHECK(changes[2 * LINDYPO_CHANGE_CELLS] == 0);
+}
+
+static lindypo_reply retouched(int64_t label, int64_t number)
+{
+    put(1, label, number);
+    return retouch_sheet(LINDYPO_PAIR_CELLS);
+}
+
+static void refusals_of_pairs(void)
+{
+    sheet("V x 1 3 -\nN - 7 - -\n");
+    for (int pair = 1; pair <= LINDYPO_PAIRS_MOST + 1; pair++)
+        put(pair, 3, pair);
+    CHECK(retouch_sheet(LINDYPO_PAIR_CELLS * LINDYPO_PAIRS_MOST).refusal == 0);
+    CHECK(result(2, LINDYPO_RESULT_NUMBER) == LINDYPO_PAIRS_MOST);
+    CHECK(change(LINDYPO_PAIRS_MOST, LINDYPO_CHANGE_REDONE) == 1);
+    CHECK(retouch_sheet(LINDYPO_PAIR_CELLS * (LINDYPO_PAIRS_MOST + 1)).refusal == LINDYPO_REFUSAL_PAIRS);
+    CHECK(retouch_sheet(3).refusal == LINDYPO_REFUSAL_PAIRS && retouch_sheet(3).place == 0);
+    CHECK(retouched(3, LINDYPO_NUMBER_MOST).refusal == 0);
+    CHECK(retouched(3, -LINDYPO_NUMBER_MOST).refusal == 0);
+    CHECK(retouched(3, LINDYPO_NUMBER_MOST + (int64_t)1).refusal == LINDYPO_REFUSAL_PAIR_NUMBER);
+    CHECK(retouched(3, -LINDYPO_NUMBER_MOST - (int64_t)1).refusal == LINDYPO_REFUSAL_PAIR_NUMBER);
+    CHECK(retouched(2, INT64_MAX).refusal == LINDYPO_REFUSAL_PAIR_LABEL);
+    CHECK(retouched(4, 7).refusal == LINDYPO_REFUSAL_PAIR_LABEL && retouched(4, 7).place == 1);
+    put(1, 3, 7);
+    put(2, 0, 7);
+    CHECK(retouch_sheet(2 * LINDYPO_PAIR_CELLS).place == 2);
+}
+
 /* ---- refusals */
 
 static uint64_t refusal_of(const char *lines)
@@ -334,10 +414,13 @@ int main(void)
     limits_of_a_sheet();
     limits_of_evaluating();
     lengths_of_buffers();
+    lengths_of_changes();
     length_of_a_print();
     kinds();
     columns();
     orders();
+    pairs_and_changes();
+    refusals_of_pairs();
     refusals();
     printf("%d facts, %d fail\n", facts, failures);
     return failures != 0;

@@ -22,6 +22,8 @@ static size_t length;
 static int64_t table[LINDYPO_TABLE_MOST], plan[LINDYPO_PLAN_MOST], results[LINDYPO_RESULTS_MOST];
 static int64_t order[LINDYPO_PLAN_MOST];
 static size_t order_length;
+static int64_t pairs[LINDYPO_PAIR_CELLS * LINDYPO_PAIRS_MOST], changes[LINDYPO_CHANGES_MOST];
+static size_t pairs_length;
 static uint8_t out[LINDYPO_PRINT_MOST];
 
 static void *make_read(void *unused)
@@ -59,6 +61,14 @@ static void *make_follow(void *unused)
     return unused;
 }
 
+/* the pairs are all N lines with the numbers that they have */
+static void *make_retouch(void *unused)
+{
+    lindypo_retouch(text, length, pairs, pairs_length, table, CELLS(table), plan, CELLS(plan),
+                    results, CELLS(results), changes, CELLS(changes));
+    return unused;
+}
+
 static void *make_print(void *unused)
 {
     lindypo_print(text, length, out, sizeof out);
@@ -77,6 +87,7 @@ static struct call {
     {"Plan", make_plan, LINDYPO_PLAN_STACK, 0, ""},
     {"Run", make_run, LINDYPO_RUN_STACK, 0, ""},
     {"Follow", make_follow, LINDYPO_FOLLOW_STACK, 0, ""},
+    {"Retouch", make_retouch, LINDYPO_RETOUCH_STACK, 0, ""},
     {"print", make_print, LINDYPO_PRINT_STACK, 0, ""},
 };
 
@@ -113,9 +124,23 @@ static void read_file(const char *name)
     fclose(file);
 }
 
+static void list_pairs(void)
+{
+    uint64_t labels = lindypo_read(text, length, table, CELLS(table)).count;
+    pairs_length = 0;
+    for (uint64_t label = 1; label <= labels; label++) {
+        const int64_t *line = table + LINDYPO_TABLE_CELLS * (label - 1);
+        if (line[LINDYPO_COLUMN_KIND] == LINDYPO_KIND_NUMBER) {
+            pairs[pairs_length++] = (int64_t)label;
+            pairs[pairs_length++] = line[LINDYPO_COLUMN_A];
+        }
+    }
+}
+
 static void measure_file(uint8_t *stack, const char *name)
 {
     read_file(name);
+    list_pairs();
     for (struct call *call = calls; call < calls + CELLS(calls); call++) {
         size_t used = measure(stack, call->make);
         if (used > call->most) {
@@ -137,7 +162,7 @@ int main(int count, char **words)
     for (int at = 1; at < count; at++)
         measure_file(stack, words[at]);
     for (const struct call *call = calls; call < calls + CELLS(calls); call++) {
-        printf("%-6s %6zu of %6zu bytes: %s\n", call->name, call->most, call->enough, call->file);
+        printf("%-7s %6zu of %6zu bytes: %s\n", call->name, call->most, call->enough, call->file);
         over |= call->most > call->enough;
     }
     return over;

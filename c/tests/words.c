@@ -45,7 +45,7 @@ static int64_t find(const char *text, const int64_t *table, size_t cells, const 
 static void print_words(void)
 {
     printf("version %s\n", lindypo_version());
-    for (uint64_t refusal = 0; refusal <= LINDYPO_REFUSAL_EARLY + 1; refusal++)
+    for (uint64_t refusal = 0; refusal <= LINDYPO_REFUSAL_PAIR_NUMBER + 1; refusal++)
         printf("refusal %" PRIu64 ": %s\n", refusal, lindypo_refusal_words(refusal));
     printf("refusal %" PRIu64 ": %s\n", UINT64_MAX, lindypo_refusal_words(UINT64_MAX));
     for (int64_t state = -1; state <= LINDYPO_STATE_TOO_DEEP + 1; state++)

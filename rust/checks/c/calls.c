@@ -17,6 +17,7 @@ static size_t length;
 
 static int64_t table[8 * LABELS], plan[LABELS];
 static int64_t results[3 * LABELS], followed[3 * LABELS];
+static int64_t changes[3 * LABELS];
 
 static void print_reply(const char *call, lindypo_reply reply)
 {
@@ -73,6 +74,37 @@ static void follow_both_ways(size_t count)
     follow("follow it from the end", reversed, count);
 }
 
+/* A list of so many cells: what it answers, the changes of its pairs, and what
+ * the values then come to. */
+static void retouch(const int64_t *pairs, size_t cells)
+{
+    memset(changes, -1, sizeof changes);
+    lindypo_reply reply =
+        lindypo_retouch(text, length, pairs, cells, table, CELLS(table), plan,
+                        CELLS(plan), results, CELLS(results), changes, CELLS(changes));
+    print_reply("retouch", reply);
+    for (size_t pair = 0; pair < cells / 2; pair++)
+        printf("pair %zu: redone %" PRId64 ", failing %" PRId64 ", steps %" PRId64 "\n",
+               pair + 1, changes[3 * pair], changes[3 * pair + 1], changes[3 * pair + 2]);
+    for (size_t at = 0; at < reply.count; at++)
+        print_value(plan[at]);
+}
+
+/* The last two N lines with new numbers, the second list with one that is too
+ * large, the third without its last cell. */
+static void retouch_in_turn(void)
+{
+    int64_t pairs[4] = {0, -400, 0, 7};
+    size_t found = 0;
+    for (int64_t label = LABELS; label >= 1 && found < 2; label--)
+        if (table[8 * (label - 1)] == LINDYPO_KIND_NUMBER)
+            pairs[2 * found++] = label;
+    retouch(pairs, 2 * found);
+    pairs[3] = LINDYPO_NUMBER_MOST + (int64_t)1;
+    retouch(pairs, 2 * found);
+    retouch(pairs, 1);
+}
+
 /* The print in a buffer of so many bytes: what it answers, how many zeros are
  * behind it, and the print as far as it goes. */
 static void print_in(size_t room)
@@ -105,6 +137,8 @@ int main(int count, char **words)
     fclose(file);
     read_and_name(strtoll(words[2], NULL, 10));
     follow_both_ways(plan_and_run());
+    lindypo_read(text, length, table, CELLS(table));
+    retouch_in_turn();
     print_in(LINDYPO_PRINT_MOST);
     print_in(5);
     return 0;

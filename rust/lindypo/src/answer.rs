@@ -145,6 +145,39 @@ pub struct Run {
     pub results: Results,
 }
 
+/// What one pair of a list brought about, as it stood before the next.
+#[derive(Debug, Clone, Copy, PartialEq, Eq, Hash)]
+pub struct Change {
+    /// Values that were evaluated again.
+    pub redone: usize,
+    /// Values of the sheet that then have no number.
+    pub failing: usize,
+    /// The sum of the steps of all values then.
+    pub steps: u64,
+}
+
+impl Change {
+    /// Three cells for each pair: redone, failing and steps.
+    pub(crate) fn of_cells(cells: &[i64]) -> Vec<Self> {
+        let change = |cells: &[i64]| Change {
+            redone: cells[0] as usize,
+            failing: cells[1] as usize,
+            steps: cells[2] as u64,
+        };
+        cells.chunks_exact(3).map(change).collect()
+    }
+}
+
+/// What comes of new numbers: the sheet run with all of them put in, and what
+/// each pair brought about.
+#[derive(Debug, Clone, PartialEq, Eq, Hash)]
+pub struct Retouched {
+    /// The plan, which numbers do not change, and what the values come to.
+    pub run: Run,
+    /// One for each pair, in the sequence of the list.
+    pub changes: Vec<Change>,
+}
+
 impl Run {
     /// Every value with its outcome, in the order of the plan.
     pub fn values(&self) -> impl Iterator<Item = (Label, Outcome)> + '_ {

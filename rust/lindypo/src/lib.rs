@@ -4,7 +4,8 @@
 //! A sheet is a small program: values and functions in nested Groups that name
 //! each other by dotted paths, in capitals or small letters. [`Sheet::read`]
 //! judges its text; the sheet then gives its lines and names, its [`Plan`], and
-//! its results, by the plan or by an order of the caller's.
+//! its results, by the plan or by an order of the caller's, or with new numbers
+//! put in.
 //!
 //! ```
 //! use lindypo::{Order, Sheet, State};
@@ -65,8 +66,9 @@ mod refusal;
 mod sheet;
 pub mod why;
 
-pub use answer::{Order, Outcome, Plan, Results, Run, State};
+pub use answer::{Change, Order, Outcome, Plan, Results, Retouched, Run, State};
 pub use diagnosis::bytes::MOST_BYTES;
+pub use diagnosis::numbers::typed as typed_number;
 pub use faults::faults;
 pub use line::{Kind, Line};
 pub use names::same_name;

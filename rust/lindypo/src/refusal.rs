@@ -3,9 +3,9 @@
 use std::error::Error;
 use std::fmt;
 
-/// Why a sheet or an order is refused: one case for each refusal of the paper's
-/// table, top to bottom; the first that applies is given. Refusal 4 has none: it
-/// is about buffers, and `Sheet` lends those that are long enough.
+/// Why a sheet, an order or a list of pairs is refused: one case for each refusal
+/// of the papers, top to bottom; the first that applies is given. Refusal 4 has
+/// none: it is about buffers, and `Sheet` lends those that are long enough.
 #[derive(Debug, Clone, PartialEq, Eq, Hash)]
 pub enum Refusal {
     /// 1: the text's length, its last byte, or a byte that is not allowed.
@@ -43,13 +43,20 @@ pub enum Refusal {
     Listed(Fault),
     /// 18: an order with a value before one that it reaches.
     Early(Fault),
+    /// 19: an odd list of pairs, or more than 1,024 pairs.
+    Pairs(Fault),
+    /// 20: a pair with a label that is no N line.
+    PairLabel(Fault),
+    /// 21: a pair with a number out of range.
+    PairNumber(Fault),
 }
 
 /// Where a refusal was found, and what is wrong.
 #[derive(Debug, Clone, PartialEq, Eq, Hash)]
 pub struct Fault {
-    /// The paper's place: 0 for the text as a whole (1 to 3), a label (5 to 16),
-    /// a position in the order, from 1 (17 and 18).
+    /// The paper's place: 0 for the text as a whole (1 to 3) and for a list of
+    /// pairs as a whole (19), a label (5 to 16), a position in the order, from 1
+    /// (17 and 18), a pair of the list, from 1 (20 and 21).
     pub place: u64,
     /// What to look at in the text, where it is in the text.
     pub mark: Option<Mark>,
@@ -97,6 +104,9 @@ impl Refusal {
             16 => Refusal::Cycle,
             17 => Refusal::Listed,
             18 => Refusal::Early,
+            19 => Refusal::Pairs,
+            20 => Refusal::PairLabel,
+            21 => Refusal::PairNumber,
             _ => unreachable!("refusal {number}"),
         };
         case(fault)
@@ -122,10 +132,13 @@ impl Refusal {
             Refusal::Cycle(fault) => (16, fault),
             Refusal::Listed(fault) => (17, fault),
             Refusal::Early(fault) => (18, fault),
+            Refusal::Pairs(fault) => (19, fault),
+            Refusal::PairLabel(fault) => (20, fault),
+            Refusal::PairNumber(fault) => (21, fault),
         }
     }
 
-    /// The paper's number, 1 to 18 without 4.
+    /// The paper's number, 1 to 21 without 4.
     pub fn number(&self) -> u64 {
         self.parts().0
     }
@@ -178,7 +191,7 @@ impl Refusal {
     }
 }
 
-/// Number, line and column or position, and the sentence.
+/// Number, line and column, position or pair, and the sentence.
 impl fmt::Display for Refusal {
     fn fmt(&self, f: &mut fmt::Formatter) -> fmt::Result {
         let (number, fault) = self.parts();
@@ -186,8 +199,14 @@ impl fmt::Display for Refusal {
         if let Some(Mark { line, column, .. }) = fault.mark {
             write!(f, ", line {line}, column {column}")?;
         }
-        if number >= 17 {
-            write!(f, ", position {} of the order", fault.place)?;
+        match self {
+            Refusal::Listed(_) | Refusal::Early(_) => {
+                write!(f, ", position {} of the order", fault.place)?;
+            }
+            Refusal::PairLabel(_) | Refusal::PairNumber(_) => {
+                write!(f, ", pair {} of the list", fault.place)?;
+            }
+            _ => (),
         }
         write!(f, ": {}", fault.sentence)
     }

@@ -1,14 +1,18 @@
 //! A sheet that reads.
 
+use std::borrow::Cow;
 use std::str;
 
 use crate::diagnosis;
+use crate::diagnosis::forms::NUMBER;
 use crate::raw;
-use crate::{same_name, Kind, Label, Line, Plan, Refusal, Results, Run};
+use crate::{same_name, Change, Kind, Label, Line, Plan, Refusal, Results, Retouched, Run};
 
-/// Cells for each label in the table and in the results.
+/// Cells for each label in the table and in the results, and for each pair in the
+/// changes.
 const TABLE_CELLS: usize = 8;
 const RESULT_CELLS: usize = 3;
+const CHANGE_CELLS: usize = 3;
 
 /// The most labels that a sheet may have.
 const LABELS: usize = 1024;
@@ -117,6 +121,24 @@ impl<'text> Sheet<'text> {
             .try_fold(1, |group, name| self.member(group, name))
     }
 
+    /// The N line that is the body of the value with this full name, in capitals
+    /// or small letters: what to name for it in a list of pairs. `None` where
+    /// there is no such value, or its body is another expression.
+    ///
+    /// ```
+    /// let sheet = lindypo::Sheet::read(
+    ///     b"kind name a b c\nG - 0 - -\nV size 1 4 -\nV copy 1 5 -\nN - 7 - -\nR size - - -\n",
+    /// )?;
+    /// assert_eq!(sheet.find_number("Size"), Some(4));
+    /// assert_eq!(sheet.find_number("copy"), None);
+    /// # Ok::<(), lindypo::Refusal>(())
+    /// ```
+    pub fn find_number(&self, full_name: &str) -> Option<Label> {
+        let value = self.line(self.find(full_name)?)?;
+        let body = self.line(value.b as Label)?;
+        (value.kind == Kind::Value && body.kind == Kind::Number).then_some(body.label)
+    }
+
     /// The members of a Group, upward through the labels.
     pub fn members(&self, group: Label) -> impl Iterator<Item = Line<'text>> + '_ {
         let is_member = move |line: &Line| line.kind.is_definition() && line.owner == Some(group);
@@ -202,6 +224,101 @@ impl<'text> Sheet<'text> {
         raw::follow(self.text, &list, &mut self.spare_table(), &mut results)
             .map_err(|refusal| diagnosis::of_order(self, order, refusal))?;
         Ok(Results::of_cells(&results))
+    }
+
+    /// Retouch: runs the sheet, then puts new numbers into N lines, one after the
+    /// other. After each pair of an N line's label and its new number, the value
+    /// that owns the line and all values that reach its owner are evaluated again,
+    /// and no others.
+    ///
+    /// The results are those of `run` on the sheet with all numbers put in, which
+    /// `with_numbers` writes. A line may be in several pairs; an empty list
+    /// changes nothing.
+    ///
+    /// ```
+    /// use lindypo::{Change, Sheet, State};
+    ///
+    /// let sheet = Sheet::read(
+    ///     b"kind name a b c\n\
+    ///       G - 0 - -\n\
+    ///       V prism 1 5 -\n\
+    ///       V decentration 1 8 -\n\
+    ///       V size 1 9 -\n\
+    ///       D - 6 7 -\n\
+    ///       R decentration - - -\n\
+    ///       N - 10 - -\n\
+    ///       N - 350 - -\n\
+    ///       N - 5200 - -\n",
+    /// )?;
+    /// let decentration = sheet.find_number("decentration").unwrap();
+    /// let retouched = sheet.retouch(&[(decentration, 250), (7, 0)])?;
+    ///
+    /// // prism and decentration, then prism alone, which now fails
+    /// assert_eq!(retouched.changes[0], Change { redone: 2, failing: 0, steps: 5 });
+    /// assert_eq!(retouched.changes[1], Change { redone: 1, failing: 1, steps: 5 });
+    /// assert_eq!(retouched.run.results.of(3).unwrap().state, State::Number(250));
+    /// assert_eq!(retouched.run.results.of(2).unwrap().state, State::ZeroDivisor);
+    ///
+    /// let refusal = sheet.retouch(&[(decentration, 250), (2, 5)]).unwrap_err();
+    /// assert_eq!(
+    ///     refusal.to_string(),
+    ///     "refusal 20, line 6, column 1, pair 2 of the list: \
+    ///      the body of `prism` is not a number: line 6 is a quotient (D)"
+    /// );
+    /// assert_eq!(refusal.help()[0].sentence, "label 7");
+    /// assert_eq!(refusal.help()[1].sentence, "name an N line; the one in it is label 7");
+    /// # Ok::<(), lindypo::Refusal>(())
+    /// ```
+    pub fn retouch(&self, pairs: &[(Label, i64)]) -> Result<Retouched, Refusal> {
+        // a label that no cell can hold is no N line's, and neither is 0
+        let cells = |&(label, number): &(Label, i64)| [i64::try_from(label).unwrap_or(0), number];
+        let list: Vec<i64> = pairs.iter().flat_map(cells).collect();
+        let (mut table, mut plan) = (self.spare_table(), vec![0; self.labels()]);
+        let mut results = vec![0; RESULT_CELLS * self.labels()];
+        let mut changes = vec![0; CHANGE_CELLS * pairs.len()];
+        let (length, order) = raw::retouch(
+            self.text,
+            &list,
+            &mut table,
+            &mut plan,
+            &mut results,
+            &mut changes,
+        )
+        .map_err(|refusal| diagnosis::of_pairs(self, pairs, refusal))?;
+        Ok(Retouched {
+            run: Run {
+                plan: Plan::of_cells(&plan[..length], order),
+                results: Results::of_cells(&results),
+            },
+            changes: Change::of_cells(&changes),
+        })
+    }
+
+    /// The text with new numbers in N lines, one pair after the other; pairs that
+    /// `retouch` would refuse are left out. It may be longer than a sheet may be.
+    ///
+    /// ```
+    /// let text = b"kind name a b c\nG - 0 - -\nV x 1 3 -\nN - 7 - -\n";
+    /// let sheet = lindypo::Sheet::read(text)?;
+    /// let retouched = sheet.with_numbers(&[(3, -40)]);
+    /// assert_eq!(retouched, b"kind name a b c\nG - 0 - -\nV x 1 3 -\nN - -40 - -\n");
+    /// let again = lindypo::Sheet::read(&retouched)?;
+    /// assert_eq!(again.run()?, sheet.retouch(&[(3, -40)])?.run);
+    /// # Ok::<(), lindypo::Refusal>(())
+    /// ```
+    pub fn with_numbers(&self, pairs: &[(Label, i64)]) -> Vec<u8> {
+        let mut lines: Vec<Cow<[u8]>> = self
+            .text
+            .split_inclusive(|&byte| byte == b'\n')
+            .map(Cow::from)
+            .collect();
+        for &(label, number) in pairs {
+            let is_number = |line: Line| line.kind == Kind::Number;
+            if self.line(label).is_some_and(is_number) && (-NUMBER..=NUMBER).contains(&number) {
+                lines[label] = format!("N - {number} - -\n").into_bytes().into();
+            }
+        }
+        lines.concat()
     }
 
     fn cells(&self, label: Label) -> Option<&[i64]> {

@@ -14,8 +14,9 @@ mod letters;
 pub(crate) mod lines;
 pub(crate) mod named;
 pub(crate) mod near;
-mod numbers;
+pub(crate) mod numbers;
 pub(crate) mod order;
+mod pairs;
 pub(crate) mod paths;
 mod rewrite;
 pub(crate) mod rows;
@@ -57,6 +58,20 @@ fn of_line(rows: &Rows, number: u64, label: Label) -> Finding {
         14 => named::member(rows, label),
         _ => named::wrong_target(rows, label),
     }
+}
+
+/// The refusal by Retouch of a sheet that reads.
+pub fn of_pairs(sheet: &Sheet, pairs: &[(Label, i64)], refusal: raw::Refusal) -> Refusal {
+    let raw::Refusal { number, place } = refusal;
+    let rows = Rows::new(sheet.text());
+    let pair = |place: u64| pairs.get(place as usize - 1).copied().unwrap_or((0, 0));
+    let finding = match number {
+        19 => pairs::list(pairs.len()),
+        20 => pairs::label(&rows, pair(place).0),
+        21 => pairs::number(&rows, pair(place)),
+        _ => return of_order(sheet, &[], refusal),
+    };
+    finding.refusal(number, place)
 }
 
 /// The refusal by Plan, Run or Follow of a sheet that reads.

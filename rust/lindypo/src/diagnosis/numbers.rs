@@ -8,6 +8,35 @@ pub fn read(field: &str) -> Option<i64> {
     number.filter(|number| (-NUMBER..=NUMBER).contains(number))
 }
 
+/// A number as somebody types it, in the form that it has in a sheet; one out of
+/// range is for Retouch to refuse, and one that no cell can hold becomes the
+/// largest or smallest that can. Else what to write in its place.
+///
+/// ```
+/// use lindypo::typed_number;
+///
+/// assert_eq!(typed_number("-325"), Ok(-325));
+/// assert_eq!(typed_number("2000000000"), Ok(2_000_000_000));
+/// assert_eq!(typed_number("99999999999999999999"), Ok(i64::MAX));
+/// assert_eq!(
+///     typed_number("-3.25"),
+///     Err("numbers are whole: in hundredths it is `-325`".to_string())
+/// );
+/// assert_eq!(typed_number("x"), Err("a number is digits, with `-` before them below 0".to_string()));
+/// ```
+pub fn typed(word: &str) -> Result<i64, String> {
+    let (sign, digits) = split_sign(word);
+    let is_plain = is_digits(digits) && !digits.starts_with('0') && !word.starts_with('+');
+    match word.parse::<i64>() {
+        Ok(number) if is_plain || word == "0" => Ok(number),
+        Err(_) if is_plain && sign == "-" => Ok(i64::MIN),
+        Err(_) if is_plain => Ok(i64::MAX),
+        _ => Err(instead(word).unwrap_or_else(|| PLAIN.to_string())),
+    }
+}
+
+const PLAIN: &str = "a number is digits, with `-` before them below 0";
+
 /// What to write in place of a field that is no number.
 pub fn instead(field: &str) -> Option<String> {
     if let Some(number) = read(field) {

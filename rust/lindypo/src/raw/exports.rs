@@ -52,6 +52,21 @@ extern "C" {
         results_length: usize,
     ) -> Reply;
 
+    pub fn lindypo_retouch(
+        text: *const u8,
+        text_length: usize,
+        pairs: *const i64,
+        pairs_length: usize,
+        table: *mut i64,
+        table_length: usize,
+        plan: *mut i64,
+        plan_length: usize,
+        results: *mut i64,
+        results_length: usize,
+        changes: *mut i64,
+        changes_length: usize,
+    ) -> Reply;
+
     pub fn lindypo_print(
         text: *const u8,
         text_length: usize,

@@ -1,11 +1,12 @@
 //! The calls as the C interface has them: every buffer is the caller's, and
 //! cells are numbers.
 //!
-//! A call takes every text, order list, label and length of buffer, and writes
-//! every cell of the buffers: what an answer does not use is 0, and a refusal
-//! leaves zeros throughout. It allocates nothing and runs in a thread stack of
-//! 2 MiB. For n labels the table needs 8n cells, a plan n, results 3n; 1,024
-//! labels at most.
+//! A call takes every text, order list, list of pairs, label and length of
+//! buffer, and writes every cell of the buffers: what an answer does not use is
+//! 0, and a refusal leaves zeros throughout. It allocates nothing and runs in a
+//! thread stack of 2 MiB. For n labels the table needs 8n cells, a plan n,
+//! results 3n; 1,024 labels at most. For k pairs the changes need 3k; 1,024
+//! pairs at most.
 //!
 //! Each call is here twice: with its answer as a `Result`, and with its reply
 //! as the C interface gives it. The program's print, which is no call of
@@ -249,6 +250,99 @@ pub fn follow_reply(text: &[u8], order: &[i64], table: &mut [i64], results: &mut
             table.len(),
             results.as_mut_ptr(),
             results.len(),
+        )
+    }
+}
+
+/// Retouch: writes table, plan and results as `run` does, then puts new numbers
+/// into N lines, one after the other, and evaluates again what depends on them.
+/// Answers as `run` does.
+///
+/// The pairs are label, number, label, number, and so on. After each pair the
+/// value that owns the line and all values that reach its owner are evaluated
+/// again, and no others. The results are those of `run` on the sheet with all
+/// numbers put in, and cell a of the table has each new number.
+///
+/// The changes then hold three cells for each pair: how many values were
+/// evaluated again, how many values of the sheet then fail, and the sum of the
+/// steps of all; and zeros after these.
+///
+/// ```
+/// use lindypo::raw::{retouch, Refusal};
+/// use lindypo::Order;
+///
+/// let sheet = b"kind name a b c\n\
+///     G - 0 - -\n\
+///     V total 1 4 -\n\
+///     V part 1 7 -\n\
+///     D - 5 6 -\n\
+///     R part - - -\n\
+///     N - 2 - -\n\
+///     N - 7 - -\n";
+/// let (mut table, mut plan, mut results) = ([0; 56], [0; 7], [0; 21]);
+/// let mut changes = [-1; 7];
+/// let pairs = [7, 12, 6, 0];
+/// let answer = retouch(sheet, &pairs, &mut table, &mut plan, &mut results, &mut changes);
+/// assert_eq!(answer, Ok((2, Order::Whole)));
+/// assert_eq!(changes, [2, 0, 4, 1, 1, 4, 0]);
+/// assert_eq!(results[3..9], [3, 0, 3, 1, 12, 1]);
+/// assert_eq!((table[43], table[51]), (0, 12));
+///
+/// let no_number = Refusal { number: 20, place: 2 };
+/// let pairs = [7, 12, 3, 12];
+/// let answer = retouch(sheet, &pairs, &mut table, &mut plan, &mut results, &mut changes);
+/// assert_eq!(answer, Err(no_number));
+/// assert_eq!(changes, [0; 7]);
+/// ```
+pub fn retouch(
+    text: &[u8],
+    pairs: &[i64],
+    table: &mut [i64],
+    plan: &mut [i64],
+    results: &mut [i64],
+    changes: &mut [i64],
+) -> Result<(usize, Order), Refusal> {
+    retouch_reply(text, pairs, table, plan, results, changes).planned()
+}
+
+/// `retouch` with its reply as the C interface gives it.
+///
+/// ```
+/// use lindypo::raw::{retouch_reply, Reply};
+///
+/// let sheet = b"kind name a b c\nG - 0 - -\n";
+/// let (table, plan, results) = (&mut [0; 8], &mut [0; 1], &mut [0; 3]);
+/// let reply = retouch_reply(sheet, &[1, 7], table, plan, results, &mut [0; 2]);
+/// let too_short = Reply { refusal: 4, place: 4, count: 0, order: 0 };
+/// assert_eq!(reply, too_short);
+///
+/// let reply = retouch_reply(sheet, &[1], table, plan, results, &mut []);
+/// let odd = Reply { refusal: 19, place: 0, count: 0, order: 0 };
+/// assert_eq!(reply, odd);
+/// ```
+pub fn retouch_reply(
+    text: &[u8],
+    pairs: &[i64],
+    table: &mut [i64],
+    plan: &mut [i64],
+    results: &mut [i64],
+    changes: &mut [i64],
+) -> Reply {
+    // SAFETY: as for `run_reply`, with one slice more; the pairs are read only.
+    unsafe {
+        exports::lindypo_retouch(
+            text.as_ptr(),
+            text.len(),
+            pairs.as_ptr(),
+            pairs.len(),
+            table.as_mut_ptr(),
+            table.len(),
+            plan.as_mut_ptr(),
+            plan.len(),
+            results.as_mut_ptr(),
+            results.len(),
+            changes.as_mut_ptr(),
+            changes.len(),
         )
     }
 }

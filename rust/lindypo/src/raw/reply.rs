@@ -2,14 +2,16 @@
 
 use crate::Order;
 
-/// A refusal: its number and its place in document 01's table.
+/// A refusal: its number and its place in document 01's table and those of
+/// document 02's orders.
 #[derive(Debug, Clone, Copy, PartialEq, Eq)]
 pub struct Refusal {
-    /// 1 to 18.
+    /// 1 to 21.
     pub number: u64,
-    /// 0 for the text as a whole (1 to 3); the buffer that is too short (4): 1
-    /// table, 2 plan, 3 results; a label (5 to 16); a position in the order
-    /// list, counted from 1 (17 and 18).
+    /// 0 for the text as a whole (1 to 3) and for a list of pairs as a whole
+    /// (19); the buffer that is too short (4): 1 table, 2 plan, 3 results, 4
+    /// changes; a label (5 to 16); a position in the order list, counted from 1
+    /// (17 and 18); a pair of the list, counted from 1 (20 and 21).
     pub place: u64,
 }
 
@@ -20,8 +22,8 @@ pub struct Reply {
     /// 0 where the call answered.
     pub refusal: u64,
     pub place: u64,
-    /// The number of labels from Read, the length of the plan from Plan and
-    /// Run, that of the order list from Follow; 0 where the call refused.
+    /// The number of labels from Read, the length of the plan from Plan, Run
+    /// and Retouch, that of the order list from Follow; 0 where the call refused.
     pub count: u64,
     /// 1 whole, 2 mixed; 0 where the call refused or plans nothing.
     pub order: u64,

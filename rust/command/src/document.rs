@@ -18,14 +18,13 @@ use crate::status::Status;
 const FILE: &str = "-o";
 const FORCE: &str = "--force";
 
-pub const OPTIONS: [Opt; 2] = [
-    FILED,
-    Opt {
-        name: FORCE,
-        value: None,
-        meaning: "write over a file that is there already",
-    },
-];
+pub const OPTIONS: [Opt; 2] = [FILED, FORCED];
+
+pub const FORCED: Opt = Opt {
+    name: FORCE,
+    value: None,
+    meaning: "write over a file that is there already",
+};
 
 pub const FILED: Opt = Opt {
     name: FILE,
@@ -67,6 +66,15 @@ pub fn refused(text: &[u8], source: &Source, refusal: &Refusal) -> Failure {
         message: message.trim_end().to_string(),
         status: Status::Failed,
         fields: Object::new().with("refusal", sheets::refusal_object(refusal)),
+    }
+}
+
+/// Words that the sheet does not know, or a text that cannot be made of it.
+pub fn wrong(message: String) -> Failure {
+    Failure {
+        fields: Object::new().with("error", message.as_str()),
+        message,
+        status: Status::Unreadable,
     }
 }
 

@@ -52,18 +52,24 @@ fn note(margin: &str, word: &str, sentence: &str, paint: Paint) -> String {
     format!("{margin} = {}: {sentence}\n", paint.strong(word))
 }
 
-/// Where to look: in the file, or in the order.
+/// Where to look: in the file, in the order, in the list of pairs.
 fn place(file: &str, refusal: &Refusal) -> String {
-    match (refusal, refusal.mark()) {
-        (Refusal::Listed(fault) | Refusal::Early(fault), _) => {
-            format!("{file}, position {} of the order", fault.place)
-        }
-        (_, Some(Mark { line, column, .. })) => {
+    let in_file = match refusal.mark() {
+        Some(Mark { line, column, .. }) => {
             let label = line.checked_sub(2).map(|above| above + 1);
             let label = label.map_or(String::new(), |label| format!(" (label {label})"));
             format!("{file}:{line}:{column}{label}")
         }
-        _ => file.to_string(),
+        None => file.to_string(),
+    };
+    match refusal {
+        Refusal::Listed(fault) | Refusal::Early(fault) => {
+            format!("{in_file}, position {} of the order", fault.place)
+        }
+        Refusal::PairLabel(fault) | Refusal::PairNumber(fault) => {
+            format!("{in_file}, pair {} of the list", fault.place)
+        }
+        _ => in_file,
     }
 }
 

@@ -87,7 +87,7 @@ fn call(call: &Call, out: &mut Output) -> Result<Status, String> {
     let [svg, focus, fold] = [picture::SVG, picture::FOCUS, picture::FOLD].map(|opt| opt.name);
     match call.value(svg) {
         Some(_) if is_list || call.wants_json() => Err(format!("{svg} draws, and writes no words")),
-        Some(file) => picture::draw(file, call, out),
+        Some(file) => picture::draw_sheet(file, call, out),
         None if call.is_set(focus) || call.is_set(fold) => Err(format!(
             "{focus} and {fold} are for pictures: {svg} draws one"
         )),

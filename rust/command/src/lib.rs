@@ -27,6 +27,7 @@ mod outline;
 pub mod output;
 pub mod picture;
 mod plan;
+pub mod retouch;
 mod rules;
 mod run;
 pub mod sheets;

@@ -92,6 +92,14 @@ impl Call {
         Ok(())
     }
 
+    /// The same options with other operands.
+    pub fn with_operands(&self, operands: Vec<OsString>) -> Call {
+        Call {
+            operands,
+            ..self.clone()
+        }
+    }
+
     pub fn is_set(&self, name: &str) -> bool {
         self.value(name).is_some()
     }

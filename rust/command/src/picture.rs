@@ -1,10 +1,10 @@
-//! `lindypo explain --svg`: pictures of sheets.
+//! `--svg` of `lindypo explain` and `lindypo retouch`: pictures of sheets.
 
 use std::cell::Cell;
-use std::collections::BTreeSet;
+use std::collections::{BTreeMap, BTreeSet};
 use std::ffi::OsStr;
 
-use lindypo::{same_name, Kind, Label, Refusal, Sheet};
+use lindypo::{same_name, Kind, Label, Refusal, Sheet, State};
 
 use crate::document::{self, Document, Failure, Maker};
 use crate::input::{self, Source};
@@ -43,14 +43,39 @@ const NONE: &str = "none";
 /// The most definitions that a message names.
 const NAMED: usize = 3;
 
-/// Draws the one sheet that the words name into a file.
-pub fn draw(file: &OsStr, call: &Call, out: &mut Output) -> Result<Status, String> {
+/// What is drawn of a file that is read.
+pub struct Subject {
+    pub text: Vec<u8>,
+    pub caption: String,
+    /// What the values were that have changed.
+    pub before: BTreeMap<Label, State>,
+}
+
+/// What a word draws of a file.
+pub type Draws<'f> = &'f dyn Fn(&[u8], &Source) -> Result<Subject, Failure>;
+
+/// Draws the one sheet that the words name, as it is, into a file.
+pub fn draw_sheet(file: &OsStr, call: &Call, out: &mut Output) -> Result<Status, String> {
+    draw(file, call, out, &|text: &[u8], source: &Source| {
+        Ok(Subject {
+            text: text.to_vec(),
+            caption: source.file_name(),
+            before: BTreeMap::new(),
+        })
+    })
+}
+
+/// Draws what comes of the one sheet that the words name into a file.
+pub fn draw(file: &OsStr, call: &Call, out: &mut Output, draws: Draws) -> Result<Status, String> {
     let folded = Cell::new(0);
     let make = |text: &[u8], source: &Source| {
+        let subject = draws(text, source)?;
+        let text = &subject.text[..];
         let ran = sheets::ran(text);
         let (sheet, run) = ran.map_err(|refusal| document::refused(text, source, &refusal))?;
-        let wanted = wanted(&sheet, call).map_err(wrong)?;
-        let (svg, count) = svg::picture(&sheet, &run, &wanted, &source.file_name());
+        let mut wanted = wanted(&sheet, call).map_err(document::wrong)?;
+        wanted.before = subject.before;
+        let (svg, count) = svg::picture(&sheet, &run, &wanted, &subject.caption);
         folded.set(count);
         Ok(Document {
             text: svg.into_bytes(),
@@ -72,15 +97,6 @@ pub fn draw(file: &OsStr, call: &Call, out: &mut Output) -> Result<Status, Strin
         ));
     }
     Ok(status)
-}
-
-/// Words that the sheet does not know.
-fn wrong(message: String) -> Failure {
-    Failure {
-        fields: Object::new().with("error", message.as_str()),
-        message,
-        status: Status::Unreadable,
-    }
 }
 
 /// The picture of a text that runs, with a caption.
@@ -107,7 +123,11 @@ fn wanted(sheet: &Sheet, call: &Call) -> Result<Wanted, String> {
             Some(groups.collect::<Result<_, _>>()?)
         }
     };
-    Ok(Wanted { focus, folded })
+    Ok(Wanted {
+        focus,
+        folded,
+        ..Wanted::default()
+    })
 }
 
 fn group(sheet: &Sheet, name: &OsStr) -> Result<Label, String> {

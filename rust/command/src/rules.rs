@@ -8,8 +8,8 @@ pub struct Rule {
 }
 
 /// The rule of refusal k stands at k - 1. Refusal 4 is about buffers, 17 and 18
-/// about orders: no sheet is refused by them.
-pub const RULES: [Rule; 18] = [
+/// about orders, 19 to 21 about lists of pairs: no sheet is refused by them.
+pub const RULES: [Rule; 21] = [
     rule(
         "bytes of the text",
         "a sheet is 1 to 65,536 bytes, printable ASCII in lines that each end with \
@@ -74,13 +74,22 @@ pub const RULES: [Rule; 18] = [
         "sequence of an order",
         "an order lists a value after all that it reaches",
     ),
+    rule("length of a list", "a list has at most 1,024 pairs"),
+    rule(
+        "label of a pair",
+        "a pair of the list puts its number into an N line",
+    ),
+    rule(
+        "number of a pair",
+        "a number is from -1,000,000,000 to 1,000,000,000",
+    ),
 ];
 
 const fn rule(name: &'static str, rule: &'static str) -> Rule {
     Rule { name, rule }
 }
 
-/// The rule of the refusal with this number, 1 to 18.
+/// The rule of the refusal with this number, 1 to 21.
 pub fn of(number: u64) -> &'static Rule {
     &RULES[number as usize - 1]
 }

@@ -60,10 +60,10 @@ pub const FIELDS: [Field; 16] = [
         "why the file cannot be read, or what is wrong with the words",
     ),
     ("refusal", "why the sheet is refused:"),
-    ("refusal.number", "the number of the refusal, 1 to 18"),
+    ("refusal.number", "the number of the refusal, 1 to 21"),
     (
         "refusal.place",
-        "a label, 0 for the text as a whole, a position in the order (17, 18)",
+        "a label, 0 for the whole, a position in the order (17, 18), a pair (20, 21)",
     ),
     ("refusal.line", "the line to look at, from 1"),
     (

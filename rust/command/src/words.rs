@@ -12,13 +12,14 @@ use crate::input;
 use crate::options::{Call, Opt};
 use crate::output::{Output, NAME};
 use crate::status::Status;
-use crate::{check, explain, follow, plan, run, show, slip, why, write};
+use crate::{check, explain, follow, plan, retouch, run, show, slip, why, write};
 
 /// The words, as `lindypo --help` lists them.
 pub const WORDS: &[&Word] = &[
     &run::WORD,
     &plan::WORD,
     &follow::WORD,
+    &retouch::WORD,
     &explain::WORD,
     &why::WORD,
     &check::WORD,

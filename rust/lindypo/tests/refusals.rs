@@ -516,3 +516,157 @@ fn refusal_18() {
         ],
     );
 }
+
+/// `prism` = dec * 3 / 100 reads `right.dec`; `copy` has no number in it, and
+/// `five` is a function whose body is one.
+const PAIRED: &str = "G - 0 - -\n\
+    G right 1 - -\n\
+    V prism 1 8 -\n\
+    V dec 2 7 -\n\
+    V copy 1 13 -\n\
+    F five 1 14 -\n\
+    N - 350 - -\n\
+    D - 9 12 -\n\
+    M - 10 11 -\n\
+    R right.dec - - -\n\
+    N - 3 - -\n\
+    N - 100 - -\n\
+    R right.dec - - -\n\
+    N - 5 - -";
+
+/// What is said of a list of pairs for that sheet, and the hints.
+#[track_caller]
+fn pairs_say(pairs: &[(Label, i64)], words: &str, wanted: &[&str]) {
+    let text = sheet(PAIRED);
+    let sheet = Sheet::read(&text).expect("a sheet that reads");
+    let refusal = sheet.retouch(pairs).expect_err("a refusal");
+    assert_eq!(refusal.to_string(), words);
+    helps(&refusal, wanted);
+}
+
+#[test]
+fn refusal_19() {
+    let most = [(7, 1); 1024];
+    let text = sheet(PAIRED);
+    let sheet = Sheet::read(&text).expect("a sheet that reads");
+    let retouched = sheet.retouch(&most).expect("an answer");
+    assert_eq!(retouched.changes.len(), 1024);
+    pairs_say(
+        &[(1, 2_000_000_000); 1025],
+        "refusal 19: the list has 1025 pairs, and may have 1024 at most",
+        &["put the first 1024 numbers into the sheet, and retouch that with the others"],
+    );
+}
+
+#[test]
+fn refusal_20_expressions() {
+    pairs_say(
+        &[(7, 250), (9, 1)],
+        "refusal 20, line 10, column 1, pair 2 of the list: \
+         label 9 is a product (M), not a number",
+        &[
+            "line 12: label 11",
+            "name an N line; the one in it is label 11",
+        ],
+    );
+    pairs_say(
+        &[(10, 1)],
+        "refusal 20, line 11, column 1, pair 1 of the list: label 10 is a read (R), not a number",
+        &["line 8: label 7", "name an N line; it depends on label 7"],
+    );
+    let all = "name an N line; they are labels 7, 11, 12 and 14";
+    for label in [0, 15, Label::MAX] {
+        let words = format!("refusal 20, pair 1 of the list: there is no label {label}");
+        pairs_say(&[(label, 1)], &words, &[all]);
+    }
+    let text = sheet("G - 0 - -");
+    let none = Sheet::read(&text).expect("a sheet that reads");
+    let refusal = none.retouch(&[(2, 1)]).expect_err("a refusal");
+    helps(
+        &refusal,
+        &["the sheet has no N lines, so no number can be changed"],
+    );
+    let refusal = none.retouch(&[(1, 1)]).expect_err("a refusal");
+    helps(
+        &refusal,
+        &["it depends on no N line, so no number changes it"],
+    );
+}
+
+#[test]
+fn refusal_20_definitions() {
+    pairs_say(
+        &[(4, 250)],
+        "refusal 20, line 5, column 3, pair 1 of the list: \
+         label 4 is the value `right.dec`, not its number",
+        &["line 8: label 7 is its number", "name label 7"],
+    );
+    pairs_say(
+        &[(6, 250)],
+        "refusal 20, line 7, column 3, pair 1 of the list: \
+         label 6 is the function `five`, not its number",
+        &["line 15: label 14 is its number", "name label 14"],
+    );
+    pairs_say(
+        &[(3, 250)],
+        "refusal 20, line 9, column 1, pair 1 of the list: \
+         the body of `prism` is not a number: line 9 is a quotient (D)",
+        &[
+            "line 12: label 11",
+            "line 13: label 12",
+            "name an N line; those in it are labels 11 and 12",
+        ],
+    );
+    pairs_say(
+        &[(5, 250)],
+        "refusal 20, line 14, column 1, pair 1 of the list: \
+         the body of `copy` is not a number: line 14 is a read (R)",
+        &["line 8: label 7", "name an N line; it depends on label 7"],
+    );
+    pairs_say(
+        &[(2, 250)],
+        "refusal 20, line 3, column 3, pair 1 of the list: the Group `right` is not a number",
+        &[
+            "line 8: label 7",
+            "name an N line; the one in it is label 7",
+        ],
+    );
+    pairs_say(
+        &[(1, 250)],
+        "refusal 20, line 2, column 1, pair 1 of the list: the outermost Group is not a number",
+        &[
+            "line 8: label 7",
+            "line 12: label 11",
+            "line 13: label 12",
+            "name an N line; those in it are labels 7, 11, 12 and 14",
+        ],
+    );
+}
+
+#[test]
+fn refusal_21() {
+    let range = "a number is from -1000000000 to 1000000000";
+    pairs_say(
+        &[(7, 1_000_000_000), (7, 1_000_000_001), (3, 1)],
+        "refusal 21, line 8, column 5, pair 2 of the list: \
+         1000000001 is above 1000000000, the largest number",
+        &[range],
+    );
+    pairs_say(
+        &[(7, i64::MIN)],
+        "refusal 21, line 8, column 5, pair 1 of the list: \
+         -9223372036854775808 is below -1000000000, the smallest number",
+        &[range],
+    );
+}
+
+/// Refusals of Run come first, whatever the list is.
+#[test]
+fn refusals_before_the_list() {
+    let text = sheet("G - 0 - -\nV x 1 3 -\nR x - - -");
+    let cycle = Sheet::read(&text).expect("a sheet that reads");
+    for pairs in [&[(0, 0); 1025][..], &[]] {
+        let refusal = cycle.retouch(pairs).expect_err("a refusal");
+        assert_eq!(Err(refusal), cycle.run());
+    }
+}

@@ -1,7 +1,9 @@
 //! The values and functions, top to bottom: each has a row of its own. So has a
 //! folded Group.
 
-use lindypo::{Sheet, State};
+use std::collections::BTreeMap;
+
+use lindypo::{Label, Sheet, State};
 
 use super::titles;
 use super::view::{Counts, View};
@@ -14,6 +16,10 @@ pub struct Card<'a> {
     pub view: &'a View<'a>,
     /// How many Groups it stands in.
     pub depth: usize,
+    /// What a value was before, where it has changed.
+    before: Option<State>,
+    /// How many of its values have changed.
+    pub changed: usize,
 }
 
 pub struct Cards<'a> {
@@ -22,9 +28,9 @@ pub struct Cards<'a> {
 
 impl<'a> Cards<'a> {
     /// In the sequence of the tree.
-    pub fn new(outermost: &'a View) -> Self {
+    pub fn new(outermost: &'a View, before: &BTreeMap<Label, State>) -> Self {
         let mut list = vec![];
-        add(&mut list, outermost, 0);
+        add(&mut list, outermost, 0, before);
         Cards { list }
     }
 
@@ -41,13 +47,25 @@ impl<'a> Cards<'a> {
     }
 }
 
-fn add<'a>(list: &mut Vec<Card<'a>>, view: &'a View<'a>, depth: usize) {
+fn add<'a>(
+    list: &mut Vec<Card<'a>>,
+    view: &'a View<'a>,
+    depth: usize,
+    before: &BTreeMap<Label, State>,
+) {
     if view.is_card() {
-        list.push(Card { view, depth });
+        let labels = view.labels();
+        let changed = labels.iter().filter(|label| before.contains_key(label));
+        list.push(Card {
+            view,
+            depth,
+            before: before.get(&view.label()).copied(),
+            changed: changed.count(),
+        });
         return;
     }
     for member in &view.members {
-        add(list, member, depth + 1);
+        add(list, member, depth + 1, before);
     }
 }
 
@@ -79,10 +97,14 @@ impl<'a> Card<'a> {
         }
     }
 
-    /// The number, or in words why there is none.
+    /// The number, or in words why there is none; of a value that has changed,
+    /// after what it was.
     pub fn state(&self) -> String {
         match (self.node().outcome, self.failures()) {
-            (Some(outcome), _) => outcome.state.to_string(),
+            (Some(outcome), _) => {
+                let before = self.before.map(|before| format!("{before} \u{2192} "));
+                format!("{}{}", before.unwrap_or_default(), outcome.state)
+            }
             (None, 0) => String::new(),
             (None, failures) => format!("{failures} without a number"),
         }
@@ -92,6 +114,9 @@ impl<'a> Card<'a> {
     pub fn note(&self) -> String {
         match self.node().outcome {
             Some(outcome) => counted(u64::from(outcome.steps), "step"),
+            None if self.view.is_folded && self.changed > 0 => {
+                format!("{}, {} changed", contents(self.view), self.changed)
+            }
             None if self.view.is_folded => contents(self.view),
             None => "function".to_string(),
         }
@@ -99,10 +124,13 @@ impl<'a> Card<'a> {
 
     /// What is said where the pointer rests on it, line by line.
     pub fn title(&self, sheet: &Sheet) -> Vec<String> {
-        match self.view.is_folded {
+        let mut lines = match self.view.is_folded {
             true => titles::group(sheet, self.view),
             false => titles::definition(sheet, self.node()),
-        }
+        };
+        let before = self.before.map(|before| format!("before: {before}"));
+        lines.extend(before);
+        lines
     }
 }
 

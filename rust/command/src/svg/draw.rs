@@ -98,7 +98,8 @@ impl Drawing<'_> {
         } else {
             ""
         };
-        let class = format!("{}{focus}", card.class());
+        let changed = if card.changed > 0 { " changed" } else { "" };
+        let class = format!("{}{changed}{focus}", card.class());
         together(&class, &card.title(self.sheet), &elements.concat())
     }
 

@@ -30,10 +30,12 @@ const STYLE: &str = "\
 .function .card{fill:#fff4d6;stroke:#a97908}
 .function .badge{fill:#a97908}
 .card,.stack{stroke-width:1.2}
+.changed .card,.change{stroke:#6d28d9;stroke-width:3}
+.changed .state{fill:#6d28d9}
 .focus .card,.group.focus,.ring{stroke:#1b2733;stroke-width:3}
 .arrow{fill:none;stroke-width:1.7}
 .head,.tail{stroke:none}
-.sign,.ring{fill:none}
+.sign,.ring,.change{fill:none}
 ";
 
 /// The colours of arrows, in turn.

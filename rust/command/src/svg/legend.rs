@@ -19,6 +19,7 @@ enum Sign {
     Mixed,
     Block,
     Folded,
+    Changed,
     Focus,
 }
 
@@ -31,6 +32,7 @@ impl Sign {
             Sign::Mixed => "values of others stand between",
             Sign::Block => "members that need each other",
             Sign::Folded => "Group, folded",
+            Sign::Changed => "changed, before \u{2192} now",
             Sign::Focus => "in focus",
         }
     }
@@ -54,6 +56,7 @@ impl Sign {
             Sign::Mixed => rect("sign mixed", plate, 4.0),
             Sign::Block => rect("sign block", plate, 4.0),
             Sign::Folded => together("folded", &[], &stacked("card sign", plate, 4.0)),
+            Sign::Changed => rect("change", plate, 4.0),
             Sign::Focus => rect("ring", plate, 4.0),
         }
     }
@@ -91,6 +94,7 @@ impl Legend {
             (Sign::Mixed, is_mixed),
             (Sign::Block, !drawing.plates.blocks.is_empty()),
             (Sign::Folded, folded().next().is_some()),
+            (Sign::Changed, cards().any(|card| card.changed > 0)),
             (Sign::Focus, drawing.focus.is_some()),
         ];
         let occurs = |(sign, occurs): (Sign, bool)| occurs.then_some(sign);

@@ -21,9 +21,9 @@ mod titles;
 mod view;
 mod wires;
 
-use std::collections::BTreeSet;
+use std::collections::{BTreeMap, BTreeSet};
 
-use lindypo::{Label, Run, Sheet};
+use lindypo::{Label, Run, Sheet, State};
 
 use crate::blocks;
 use crate::files::Sort;
@@ -51,6 +51,8 @@ pub struct Wanted {
     pub focus: Option<Label>,
     /// These Groups folded; where nothing is said, as many as it takes.
     pub folded: Option<BTreeSet<Label>>,
+    /// What these values were before they changed.
+    pub before: BTreeMap<Label, State>,
 }
 
 /// A picture in SVG that needs nothing else; `caption` stands above it. Answers
@@ -70,7 +72,7 @@ pub fn picture(sheet: &Sheet, run: &Run, wanted: &Wanted, caption: &str) -> (Str
     let parts = [caption, focus.as_deref().unwrap_or("")];
     let parts: Vec<&str> = parts.into_iter().filter(|part| !part.is_empty()).collect();
     let caption = parts.join(": ");
-    let svg = drawn(sheet, run, &view, wanted.focus, (&caption, &summary));
+    let svg = drawn(sheet, run, &view, wanted, (&caption, &summary));
     let unasked = if wanted.folded.is_none() {
         folded.len()
     } else {
@@ -98,10 +100,10 @@ fn drawn(
     sheet: &Sheet,
     run: &Run,
     view: &View,
-    focus: Option<Label>,
+    wanted: &Wanted,
     (caption, summary): (&str, &str),
 ) -> String {
-    let (cards, tangles) = (Cards::new(view), blocks::of_run(sheet, run));
+    let (cards, tangles) = (Cards::new(view, &wanted.before), blocks::of_run(sheet, run));
     let left = Wires::new(Side::Left, &cards, sheet);
     let right = Wires::new(Side::Right, &cards, sheet);
     let heading = CAPTION.width(caption) + 30.0 + SUMMARY.width(summary);
@@ -113,7 +115,7 @@ fn drawn(
         caption,
         summary,
         order: run.plan.order,
-        focus,
+        focus: wanted.focus,
         cards,
         left,
         right,

@@ -97,8 +97,8 @@ fn keep_apart(arrows: &[Arrow]) {
 /// Everything, nothing folded.
 fn all() -> Wanted {
     Wanted {
-        focus: None,
         folded: Some(BTreeSet::new()),
+        ..Wanted::default()
     }
 }
 
@@ -339,8 +339,8 @@ fn random_folds() {
         let folded: BTreeSet<Label> = folded.collect();
         drawn += usize::from(!folded.is_empty());
         let wanted = Wanted {
-            focus: None,
             folded: Some(folded),
+            ..Wanted::default()
         };
         check(&text, &wanted, None).expect("a picture");
     }
@@ -387,8 +387,8 @@ fn automatic_folds() {
             let (svg, _) = picture::picture(
                 &text,
                 &Wanted {
-                    focus: None,
                     folded: Some(fewer.clone()),
+                    ..Wanted::default()
                 },
                 "",
             )

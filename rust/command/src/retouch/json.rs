@@ -1,0 +1,76 @@
+//! What each pair of a list changed, for programs.
+
+use lindypo::Sheet;
+
+use super::stages::{Redone, Stage, Stages};
+use crate::json::{Json, Object};
+use crate::values::{self, STATES};
+use crate::words::Field;
+
+pub const FIELDS: [Field; 23] = [
+    ("pairs", "the pairs, as they were applied:"),
+    ("pairs.label", "the label of the N line"),
+    ("pairs.line", "that line, from 1"),
+    (
+        "pairs.owner",
+        "the full name of the value or function that it stands in",
+    ),
+    ("pairs.before", "its number before this pair"),
+    ("pairs.number", "its number after it"),
+    ("pairs.redone", "how many values were evaluated again"),
+    ("pairs.failing", "how many values then have no number"),
+    ("pairs.steps", "the sum of the steps of all values then"),
+    (
+        "pairs.values",
+        "the values that were evaluated again, in the order of the plan:",
+    ),
+    ("pairs.values.label", "its label"),
+    ("pairs.values.name", "its full name"),
+    ("pairs.values.line", "the line that it stands in, from 1"),
+    ("pairs.values.state", STATES),
+    ("pairs.values.number", "the number, in state 1"),
+    (
+        "pairs.values.failure",
+        "why there is no number, in every other state",
+    ),
+    ("pairs.values.steps", "the steps that it took"),
+    (
+        "pairs.values.changed",
+        "whether it came to another number or state",
+    ),
+    ("pairs.values.before", "what it came to before:"),
+    ("pairs.values.before.state", ""),
+    ("pairs.values.before.number", ""),
+    ("pairs.values.before.failure", ""),
+    ("pairs.values.before.steps", ""),
+];
+
+pub fn of(sheet: &Sheet, stages: &Stages) -> Object {
+    let pairs = stages.list.iter().map(|stage| pair(sheet, stage));
+    let values = values::json(&values::of_run(sheet, &stages.run));
+    Object::new()
+        .with("order", stages.run.plan.order.to_string())
+        .with("pairs", pairs.collect::<Json>())
+        .with("values", values)
+}
+
+fn pair(sheet: &Sheet, stage: &Stage) -> Object {
+    let values = stage.redone.iter().map(|redone| value(sheet, redone));
+    Object::new()
+        .with("label", stage.label)
+        .with("line", stage.label + 1)
+        .with("owner", sheet.full_name(stage.owner))
+        .with("before", stage.old)
+        .with("number", stage.number)
+        .with("redone", stage.change.redone)
+        .with("failing", stage.change.failing)
+        .with("steps", stage.change.steps)
+        .with("values", values.collect::<Json>())
+}
+
+fn value(sheet: &Sheet, redone: &Redone) -> Object {
+    values::name_object(redone.label, &sheet.full_name(redone.label))
+        .and(values::outcome_object(redone.after))
+        .with("changed", redone.is_changed())
+        .with("before", values::outcome_object(redone.before))
+}

@@ -40,8 +40,8 @@ pub struct Call {
 }
 
 impl Call {
-    /// Sorts the words by the options that there are. `--` ends them, and `-`
-    /// is none.
+    /// Sorts the words by the options that there are. `--` ends them; `-` is
+    /// none, and neither is a number below 0.
     pub fn parse(
         words: impl IntoIterator<Item = OsString>,
         options: &[Opt],
@@ -55,7 +55,7 @@ impl Call {
         while let Some(word) = words.next() {
             match word.to_str() {
                 Some("--") => call.operands.extend(words.by_ref()),
-                Some(text) if text.len() > 1 && text.starts_with('-') => {
+                Some(text) if is_option(text) => {
                     call.add_option(text, options, &mut words)?;
                 }
                 _ => call.operands.push(word),
@@ -121,6 +121,11 @@ impl Call {
     }
 }
 
+fn is_option(word: &str) -> bool {
+    let name = word.strip_prefix('-').unwrap_or("");
+    !name.is_empty() && !name.bytes().all(|byte| byte.is_ascii_digit())
+}
+
 #[cfg(test)]
 mod tests {
     use super::*;
@@ -163,6 +168,13 @@ mod tests {
         let call = parsed("--fold a x --fold=b").expect("a call");
         assert!(call.values("--fold").eq(["a", "b"]));
         assert_eq!(call.values("--order").count(), 0);
+    }
+
+    #[test]
+    fn numbers_are_no_options() {
+        let call = parsed("a -400 --list -").expect("a call");
+        assert!(call.is_set("--list"));
+        assert_eq!(call.operands, ["a", "-400", "-"]);
     }
 
     #[test]

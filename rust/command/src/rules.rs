@@ -81,7 +81,7 @@ pub const RULES: [Rule; 21] = [
     ),
     rule(
         "number of a pair",
-        "a number is from -1,000,000,000 to 1,000,000,000",
+        "the number of a pair is one that an N line may have",
     ),
 ];
 

@@ -63,7 +63,7 @@ pub const FIELDS: [Field; 16] = [
     ("refusal.number", "the number of the refusal, 1 to 21"),
     (
         "refusal.place",
-        "a label, 0 for the whole, a position in the order (17, 18), a pair (20, 21)",
+        "a label, 0 for the whole, a position (17, 18) or a pair (20, 21)",
     ),
     ("refusal.line", "the line to look at, from 1"),
     (

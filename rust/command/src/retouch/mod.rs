@@ -3,7 +3,7 @@
 mod json;
 mod pairs;
 mod picture;
-mod stages;
+pub mod stages;
 mod text;
 
 use std::ffi::OsString;
@@ -23,7 +23,7 @@ use crate::status::Status;
 use crate::values;
 use crate::words::{Example, Word};
 use pairs::Pair;
-pub use stages::{Stage, Stages};
+use stages::Stages;
 
 pub const WORD: Word = Word {
     name: "retouch",

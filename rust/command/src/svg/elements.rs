@@ -22,6 +22,7 @@ const STYLE: &str = "\
 .mixed-tag,.mixed-plan .summary{fill:#c2410c}
 .value .card{fill:#ffffff;stroke:#4a6580}
 .value .badge{fill:#4a6580}
+.changed .state{fill:#6d28d9}
 .failed .card{fill:#fdeceb;stroke:#b3261e}
 .failed .badge,.failed .state{fill:#b3261e}
 .folded .card,.stack{fill:#dde6f0;stroke:#4a6580}
@@ -31,7 +32,6 @@ const STYLE: &str = "\
 .function .badge{fill:#a97908}
 .card,.stack{stroke-width:1.2}
 .changed .card,.change{stroke:#6d28d9;stroke-width:3}
-.changed .state{fill:#6d28d9}
 .focus .card,.group.focus,.ring{stroke:#1b2733;stroke-width:3}
 .arrow{fill:none;stroke-width:1.7}
 .head,.tail{stroke:none}

@@ -110,6 +110,13 @@ const FAILURES: &str = "rust/command/tests/sheets/failures.sheet";
 fn calls(word: &Word) -> &'static [&'static str] {
     match word.name {
         "follow" => &["--order 5,4,2 *", "--order endless *"],
+        "retouch" => &[
+            "no.sheet x=1",
+            "sheets/09-used-twice.sheet 4=1",
+            "sheets/01-example.sheet right=1",
+            "sheets/01-example.sheet right.sphere=-400 13=0 13=100",
+            "sheets/01-example.sheet 13=0",
+        ],
         "check" => &["sheets *", "--all *"],
         "why" => &[
             "no.sheet x",

@@ -7,6 +7,7 @@ mod markup;
 mod pages;
 mod pictures;
 mod random;
+mod retouch;
 mod slips;
 mod tangles;
 mod transcripts;

@@ -33,6 +33,11 @@ fn plans_lists_and_orders() {
 }
 
 #[test]
+fn numbers_retouched() {
+    is_replayed("retouch.txt");
+}
+
+#[test]
 fn files_and_folders_checked() {
     is_replayed("check.txt");
 }

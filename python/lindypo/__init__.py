@@ -3,7 +3,7 @@
 A sheet is a small program: values and functions in nested Groups that name each
 other by dotted paths, in capitals or small letters. `Sheet.read` judges its text;
 the sheet then gives its lines and names, its plan, and its values, by the plan or
-by an order of the caller's.
+by an order of the caller's, or with new numbers put in.
 
 >>> import lindypo
 >>> sheet = lindypo.Sheet.read('''kind name a b c
@@ -27,6 +27,17 @@ total: 4 in 3 steps
 >>> run.values["total"].number
 4
 
+New numbers are put in one after the other, and only what depends on them is
+evaluated again:
+
+>>> retouched = sheet.retouch([("part", 9), (6, 0)])
+>>> retouched.changes[0]
+Change(redone=2, failing=0, steps=4)
+>>> retouched.changes[1]
+Change(redone=1, failing=1, steps=4)
+>>> print(retouched.values["total"])
+divided by zero
+
 A sheet that breaks a rule is refused, with the number and the place that the
 library proves, the line to look at, and words:
 
@@ -43,9 +54,10 @@ proved.
 from .constants import VERSION as __version__
 from .constants import Kind, Order, State
 from .library import LibraryError
-from .sheet import Line, Outcome, Plan, Refusal, Run, Sheet, print_text
+from .sheet import Change, Line, Outcome, Plan, Refusal, Retouched, Run, Sheet, print_text
 
 __all__ = [
+    "Change",
     "Kind",
     "LibraryError",
     "Line",
@@ -53,6 +65,7 @@ __all__ = [
     "Outcome",
     "Plan",
     "Refusal",
+    "Retouched",
     "Run",
     "Sheet",
     "State",

@@ -12,12 +12,19 @@ PATH_MOST = 8
 NUMBER_MOST = 1000000000
 LEVELS_MOST = 32
 
+# limit of a list of pairs
+PAIRS_MOST = 1024
+
 # bytes of a print
 PRINT_MOST = 49188
 
 # cells for each label
 TABLE_CELLS = 8
 RESULT_CELLS = 3
+
+# cells for each pair
+PAIR_CELLS = 2
+CHANGE_CELLS = 3
 
 
 class Kind(IntEnum):
@@ -68,6 +75,14 @@ class Result(IntEnum):
     STEPS = 2
 
 
+class Change(IntEnum):
+    """The cells of a pair in the changes."""
+
+    REDONE = 0
+    FAILING = 1
+    STEPS = 2
+
+
 class State(IntEnum):
     """What evaluating a value ends in."""
 
@@ -106,3 +121,6 @@ class RefusalNumber(IntEnum):
     CYCLE = 16
     LISTED = 17
     EARLY = 18
+    PAIRS = 19
+    PAIR_LABEL = 20
+    PAIR_NUMBER = 21

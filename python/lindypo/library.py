@@ -50,6 +50,7 @@ _CALLS = {
     "lindypo_plan": (Reply, _TEXT + _CELLS + _CELLS),
     "lindypo_run": (Reply, _TEXT + _CELLS + _CELLS + _CELLS),
     "lindypo_follow": (Reply, _TEXT + _CELLS + _CELLS + _CELLS),
+    "lindypo_retouch": (Reply, _TEXT + _CELLS + _CELLS + _CELLS + _CELLS + _CELLS),
     "lindypo_print": (Printed, _TEXT + [ctypes.c_char_p, ctypes.c_size_t]),
     "lindypo_find": (ctypes.c_int64, _TEXT + _CELLS + [ctypes.c_char_p]),
     "lindypo_refusal_words": (ctypes.c_char_p, [ctypes.c_uint64]),

@@ -2,10 +2,11 @@
 
 import ctypes
 import re
+from collections.abc import Mapping
 from operator import index
 from typing import Dict, NamedTuple, Optional, Tuple
 
-from .constants import LABELS_MOST, PRINT_MOST, RESULT_CELLS, TABLE_CELLS, TEXT_MOST
+from .constants import CHANGE_CELLS, LABELS_MOST, NUMBER_MOST, PRINT_MOST, RESULT_CELLS, TABLE_CELLS, TEXT_MOST
 from .constants import Column, Kind, Order, RefusalNumber, Result, State
 from .library import cells, library
 
@@ -13,12 +14,13 @@ _NOT_ALLOWED = re.compile(rb"[^\n -~]")
 
 
 class Refusal(Exception):
-    """Why a sheet or an order is refused.
+    """Why a sheet, an order or a list of pairs is refused.
 
     `number` and `place` are those that the library proves: the place is 0 for the
-    text as a whole (1 to 3), a label (5 to 16), or a position in the order, from 1
-    (17 and 18). `line` is the line of the text to look at, from 1, where it is in
-    the text. `words` say what the number stands for.
+    text (1 to 3) and the list of pairs (19) as a whole, a label (5 to 16), a position
+    in the order, from 1 (17 and 18), or a pair of the list, from 1 (20 and 21). `line`
+    is the line of the text to look at, from 1, where it is in the text. `words` say
+    what the number stands for.
     """
 
     def __init__(self, number, place, line):
@@ -30,8 +32,10 @@ class Refusal(Exception):
 
     def __str__(self):
         where = f", line {self.line}" if self.line else ""
-        if self.number >= RefusalNumber.LISTED:
+        if self.number in (RefusalNumber.LISTED, RefusalNumber.EARLY):
             where = f", position {self.place} of the order"
+        if self.number in (RefusalNumber.PAIR_LABEL, RefusalNumber.PAIR_NUMBER):
+            where += f", pair {self.place} of the list"
         return f"refusal {self.number}{where}: {self.words}"
 
 
@@ -82,6 +86,26 @@ class Run(NamedTuple):
 
     plan: Plan
     values: Dict[str, Outcome]
+
+
+class Change(NamedTuple):
+    """What one pair of a list brought about, as it stood before the next."""
+
+    #: values that were evaluated again
+    redone: int
+    #: values of the sheet that then have no number
+    failing: int
+    #: the sum of the steps of all values then
+    steps: int
+
+
+class Retouched(NamedTuple):
+    """A plan, each value's outcome with all numbers put in, by its full name and in the
+    order of the plan, and what each pair brought about."""
+
+    plan: Plan
+    values: Dict[str, Outcome]
+    changes: Tuple[Change, ...]
 
 
 class Sheet:
@@ -141,6 +165,15 @@ class Sheet:
             return None
         return library().lindypo_find(*self._lent_text(), *self._table, path) or None
 
+    def find_number(self, full_name):
+        """The label of the N line that is the body of the value with this full name, in
+        any case, or None where there is no such value or its body is something else."""
+        value = self._line_with(self.find(full_name))
+        body = self._line_with(value.b) if value else None
+        if value and body and value.kind is Kind.VALUE and body.kind is Kind.NUMBER:
+            return body.label
+        return None
+
     def name(self, label):
         """A label's name field, by Name; None where it is `-` or there is none."""
         if not 1 <= label <= self._labels:
@@ -172,6 +205,55 @@ class Sheet:
         results = self._blank_results()
         self._call("lindypo_follow", *cells(labels), *self._spare_table(), *results)
         return self._values(labels, results)
+
+    def retouch(self, pairs):
+        """Retouch: runs the sheet, then puts new numbers into N lines, one after the other,
+        and evaluates again what depends on them, and nothing else.
+
+        A pair is the label of an N line, or the full name of a value whose body is one, in
+        any case, and the new number; a dictionary will do. The values are those of a run
+        with all numbers put in.
+
+        >>> sheet = Sheet.read("kind name a b c\\nG - 0 - -\\nV x 1 3 -\\nN - 7 - -\\n")
+        >>> sheet.retouch({"X": 8}).values["x"].number
+        8
+        >>> sheet.retouch([(3, 8), (2, 9)])
+        Traceback (most recent call last):
+            ...
+        lindypo.sheet.Refusal: refusal 20, line 3, pair 2 of the list: a pair with a label that is no N line
+        """
+        pairs = self._list_of(pairs)
+        plan, length = cells(self._labels)
+        results, changes = self._blank_results(), cells(CHANGE_CELLS * len(pairs))
+        try:
+            reply = self._call(
+                "lindypo_retouch",
+                *cells(_cell_of(cell) for pair in pairs for cell in pair),
+                *self._spare_table(),
+                plan,
+                length,
+                *results,
+                *changes,
+            )
+        except Refusal as refusal:
+            raise self._at_pair(refusal, pairs) from None
+        settled = _plan_of(reply, plan)
+        return Retouched(settled, self._values(settled.labels, results), _changes_of(changes))
+
+    def with_numbers(self, pairs):
+        """The text with new numbers in N lines, as bytes; pairs that `retouch` would refuse
+        are left out. It may be longer than a sheet may be.
+
+        >>> sheet = Sheet.read("kind name a b c\\nG - 0 - -\\nV x 1 3 -\\nN - 7 - -\\n")
+        >>> sheet.with_numbers({"x": -40})
+        b'kind name a b c\\nG - 0 - -\\nV x 1 3 -\\nN - -40 - -\\n'
+        """
+        lines = self._text.splitlines(keepends=True)
+        for label, number in self._list_of(pairs):
+            line = self._line_with(label)
+            if line and line.kind is Kind.NUMBER and abs(number) <= NUMBER_MOST:
+                lines[label] = b"N - %d - -\n" % number
+        return b"".join(lines)
 
     def _call(self, name, *lent):
         """Makes a call that may refuse."""
@@ -217,6 +299,28 @@ class Sheet:
                 names[line.label] = f"{around}.{line.name}" if around else line.name or ""
         return names
 
+    def _line_with(self, label):
+        """The line of a label, or None where there is none."""
+        return self._lines[label - 1] if label and 1 <= label <= self._labels else None
+
+    def _list_of(self, pairs):
+        """Pairs as labels and numbers. A name that leads to no N line stands for what it
+        leads to, and 0 for nothing, which the library refuses."""
+        pairs = pairs.items() if isinstance(pairs, Mapping) else pairs
+        return [(self._number_label_of(entry), index(number)) for entry, number in pairs]
+
+    def _number_label_of(self, entry):
+        if isinstance(entry, str):
+            return self.find_number(entry) or self.find(entry) or 0
+        return index(entry)
+
+    def _at_pair(self, refusal, pairs):
+        """The refusal of a list, with the line that the pair names."""
+        if refusal.number not in (RefusalNumber.PAIR_LABEL, RefusalNumber.PAIR_NUMBER):
+            return refusal
+        line = self._line_with(pairs[refusal.place - 1][0])
+        return Refusal(refusal.number, refusal.place, line.label + 1 if line else None)
+
     def _label_of(self, entry):
         """An entry of an order; 0, which is no value's, for one that no cell can hold."""
         if isinstance(entry, str):
@@ -256,6 +360,16 @@ def _bytes_of(text):
 
 def _plan_of(reply, plan):
     return Plan(tuple(plan[: reply.count]), Order(reply.order))
+
+
+def _changes_of(changes):
+    cells, length = changes
+    return tuple(Change(*cells[at : at + CHANGE_CELLS]) for at in range(0, length, CHANGE_CELLS))
+
+
+def _cell_of(number):
+    """A label or number of a pair; one that no cell can hold is no label and no number."""
+    return max(-(2**63), min(number, 2**63 - 1))
 
 
 def _outcome_of(results, label):

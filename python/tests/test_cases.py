@@ -3,9 +3,9 @@
 import json
 import unittest
 
-from lindypo import Refusal, Sheet, print_text
+from lindypo import Kind, Refusal, Sheet, print_text
 from lindypo.build import Group
-from lindypo.constants import Column, RESULT_CELLS, TABLE_CELLS
+from lindypo.constants import Column, RESULT_CELLS, TABLE_CELLS, TEXT_MOST
 
 from places import CASES
 from prints import printed
@@ -29,7 +29,7 @@ class Cases(unittest.TestCase):
                 met_here = self.check(text, wanted)
                 met[met_here] = met.get(met_here, 0) + 1
                 self.assertEqual(print_text(text), printed(text))
-        # row 4 is about buffers, and those of the module are long enough; 17 and 18 are Follow's
+        # row 4 is about buffers, and those of the module are long enough; 17 and 18 are Follow's, 19 to 21 Retouch's
         self.assertEqual(sorted(met), [0, 1, 2, 3] + list(range(5, 17)))
 
     def check(self, text, wanted):
@@ -91,6 +91,36 @@ class Cases(unittest.TestCase):
         else:
             self.assertEqual(number, 0)
             self.values_are(sheet, values, wanted["follow"]["buffers"][1])
+
+
+class Retouched(unittest.TestCase):
+    """New numbers in the N lines of a sheet: what comes of it is Run's, of the sheet with
+    these numbers."""
+
+    NUMBERS = (0, 1, -3, 10**9, -(10**9), 77)
+
+    def test_numbers_put_in(self):
+        changed = 0
+        for name, text, wanted in cases():
+            if wanted["run"]["reply"][0] == 0:
+                with self.subTest(name):
+                    changed += self.check(Sheet.read(text))
+        self.assertGreater(changed, 100)
+
+    def check(self, sheet):
+        """Whether a value changed."""
+        labels = [line.label for line in sheet.lines if line.kind is Kind.NUMBER]
+        pairs = [(label, self.NUMBERS[(label + at) % 6]) for at, label in enumerate(labels[-4:] + labels[:2])]
+        run, retouched = sheet.run(), sheet.retouch(pairs)
+        text = sheet.with_numbers(pairs)
+        if len(text) <= TEXT_MOST:
+            self.assertEqual(Sheet.read(text).run(), (retouched.plan, retouched.values))
+        if pairs:
+            outcomes = retouched.values.values()
+            failing = sum(outcome.number is None for outcome in outcomes)
+            steps = sum(outcome.steps for outcome in outcomes)
+            self.assertEqual(retouched.changes[-1][1:], (failing, steps))
+        return run.values != retouched.values
 
 
 class Built(unittest.TestCase):

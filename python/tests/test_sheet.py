@@ -172,6 +172,80 @@ class Orders(unittest.TestCase):
         self.assertEqual(found, [True] * 800)
 
 
+class Pairs(unittest.TestCase):
+    # prism = dec * 3 / 100; right.dec is a number
+    TEXT = HEAD + (
+        "G right 1 - -\nV prism 1 5 -\nV dec 2 6 -\nD - 7 8 -\nN - 350 - -\n"
+        "M - 9 10 -\nN - 100 - -\nR right.dec - - -\nN - 3 - -\n"
+    )
+
+    def setUp(self):
+        self.sheet = Sheet.read(self.TEXT)
+
+    def test_numbers(self):
+        names = ("right.dec", "RIGHT.Dec", "prism", "right", "dec", "")
+        self.assertEqual([self.sheet.find_number(name) for name in names], [6, 6, None, None, None, None])
+
+    def test_changes(self):
+        retouched = self.sheet.retouch([("Right.DEC", 250), (8, 0), (8, 10)])
+        self.assertEqual(retouched.changes, ((2, 0, 6), (1, 1, 6), (1, 0, 6)))
+        self.assertEqual(retouched.changes[1].failing, 1)
+        self.assertEqual(retouched.plan, self.sheet.plan())
+        self.assertEqual(list(retouched.values), ["right.dec", "prism"])
+        self.assertEqual(retouched.values["prism"], (State.NUMBER, 75, 5))
+
+    def test_values_are_those_of_run(self):
+        for pairs in ([], [(6, 1)], {"right.dec": -7, 10: 4}, iter([(8, 0)]), [(10, 5), (10, 6)]):
+            pairs = list(pairs.items() if isinstance(pairs, dict) else pairs)
+            retouched = self.sheet.retouch(pairs)
+            again = Sheet.read(self.sheet.with_numbers(pairs)).run()
+            self.assertEqual((retouched.plan, retouched.values), again)
+            self.assertEqual(len(retouched.changes), len(pairs))
+        self.assertEqual(self.sheet.retouch({"right.dec": 1}).values["prism"].number, 0)
+        self.assertEqual(self.sheet.text, self.TEXT.encode())
+
+    def test_lists_that_are_refused(self):
+        for pairs, wanted in (
+            ([(6, 1)] * 1025, (19, 0, None)),
+            ([("right.dec", 5), ("prism", 5)], (20, 2, 4)),
+            ([("right", 5)], (20, 1, 3)),
+            ([("nobody", 5)], (20, 1, None)),
+            ([(0, 5)], (20, 1, None)),
+            ([(11, 5)], (20, 1, None)),
+            ([(2**63, 5)], (20, 1, None)),
+            ([(2**64 + 6, 5)], (20, 1, None)),
+            ([(-(2**64) + 6, 5)], (20, 1, None)),
+            ([(7, 2**70)], (20, 1, 8)),
+            ([(6, 10**9), (6, 10**9 + 1), (7, 0)], (21, 2, 7)),
+            ([(6, -(2**70))], (21, 1, 7)),
+            ([(6, 2**64)], (21, 1, 7)),
+        ):
+            refusal = refusal_of(self.sheet.retouch, pairs)
+            self.assertEqual((refusal.number, refusal.place, refusal.line), wanted)
+            kept = Sheet.read(self.sheet.with_numbers(pairs[-1:]))
+            self.assertTrue(wanted[0] == 19 or kept.text == self.sheet.text)
+        self.assertEqual(len(self.sheet.retouch([(6, 1)] * 1024).changes), 1024)
+
+    def test_words(self):
+        refusal = refusal_of(self.sheet.retouch, [("right.dec", 10**10)])
+        self.assertEqual(str(refusal), "refusal 21, line 7, pair 1 of the list: a pair with a number out of range")
+        refusal = refusal_of(self.sheet.retouch, [(11, 1)])
+        self.assertEqual(str(refusal), f"refusal 20, pair 1 of the list: {refusal.words}")
+        refusal = refusal_of(self.sheet.retouch, [(6, 1)] * 1025)
+        self.assertEqual(str(refusal), "refusal 19: an odd list of pairs, or more than 1,024 pairs")
+
+    def test_refusals_of_run_come_first(self):
+        sheet = Sheet.read(HEAD + "V x 1 3 -\nR x - - -\n")
+        for pairs in ([], [(0, 0)] * 1025):
+            refusal = refusal_of(sheet.retouch, pairs)
+            self.assertEqual((refusal.number, refusal.place, refusal.line), (16, 2, 3))
+
+    def test_what_is_no_pair(self):
+        for pairs in ([6], [(6,)], [(6, 1.5)], [(6, "7")], [(None, 7)], [(b"x", 7)], 6):
+            with self.assertRaises((TypeError, ValueError)):
+                self.sheet.retouch(pairs)
+
+
 class Refusals(unittest.TestCase):
     def test_places_and_lines(self):
         for text, wanted in (

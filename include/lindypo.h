@@ -77,7 +77,7 @@ extern "C" {
 #define LINDYPO_PLAN_STACK 327680
 #define LINDYPO_RUN_STACK 327680
 #define LINDYPO_FOLLOW_STACK 425984
-#define LINDYPO_RETOUCH_STACK 425984
+#define LINDYPO_RETOUCH_STACK 458752
 #define LINDYPO_PRINT_STACK 425984
 
 /* The kind of a line, by its letter's code. G, V and F lines are definitions,

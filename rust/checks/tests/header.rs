@@ -119,7 +119,7 @@ fn refusals() {
     let rows = read("crates/refusals/specs/Rows.antt");
     let numbers = rows.lines().filter_map(|line| line.split_once("Row = "));
     let numbers: Vec<i64> = numbers.map(|(_, number)| number.parse().unwrap()).collect();
-    assert_eq!(numbers, (1..=18).collect::<Vec<i64>>());
+    assert_eq!(numbers, (1..=21).collect::<Vec<i64>>());
 }
 
 #[test]
@@ -139,8 +139,10 @@ fn columns() {
     for (name, number) in columns {
         assert_eq!(named.get(&name), Some(&number), "{name}");
     }
-    let results = header_of("RESULT_");
-    assert_eq!(results["CELLS"], results.len() as i64 - 1);
+    for prefix in ["RESULT_", "CHANGE_"] {
+        let cells = header_of(prefix);
+        assert_eq!(cells["CELLS"], cells.len() as i64 - 1, "{prefix}");
+    }
 }
 
 /// Each kind has its letter beside it.
@@ -172,6 +174,7 @@ fn limits() {
         ("PATH_MOST", "cells", "pathLimit"),
         ("NUMBER_MOST", "cells", "numberLimit"),
         ("LEVELS_MOST", "cells", "levelLimit"),
+        ("PAIRS_MOST", "cells", "pairLimit"),
         ("STEPS_MOST", "evaluation", "stepLimit"),
         ("DEPTH_MOST", "evaluation", "depthLimit"),
         ("TABLE_CELLS", "cells", "cell"),
@@ -217,7 +220,7 @@ fn words_of_refusals() {
         .filter_map(|line| line.trim().strip_prefix("///"));
     let comment: String = comments.collect();
     let said = words("refusal");
-    for number in (1..=18).filter(|&number| number != 4) {
+    for number in (1..=21).filter(|&number| number != 4) {
         let sentence = format!(" {number}: {}.", said[&number]);
         assert!(comment.contains(&sentence), "{sentence}");
     }

@@ -265,7 +265,7 @@ impl<'text> Sheet<'text> {
     ///     "refusal 20, line 6, column 1, pair 2 of the list: \
     ///      the body of `prism` is not a number: line 6 is a quotient (D)"
     /// );
-    /// assert_eq!(refusal.help()[0].sentence, "label 7");
+    /// assert_eq!(refusal.help()[0].sentence, "label 7 is here");
     /// assert_eq!(refusal.help()[1].sentence, "name an N line; the one in it is label 7");
     /// # Ok::<(), lindypo::Refusal>(())
     /// ```

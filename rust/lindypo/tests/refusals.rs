@@ -565,14 +565,17 @@ fn refusal_20_expressions() {
         "refusal 20, line 10, column 1, pair 2 of the list: \
          label 9 is a product (M), not a number",
         &[
-            "line 12: label 11",
+            "line 12: label 11 is here",
             "name an N line; the one in it is label 11",
         ],
     );
     pairs_say(
         &[(10, 1)],
         "refusal 20, line 11, column 1, pair 1 of the list: label 10 is a read (R), not a number",
-        &["line 8: label 7", "name an N line; it depends on label 7"],
+        &[
+            "line 8: label 7 is here",
+            "name an N line; it depends on label 7",
+        ],
     );
     let all = "name an N line; they are labels 7, 11, 12 and 14";
     for label in [0, 15, Label::MAX] {
@@ -612,8 +615,8 @@ fn refusal_20_definitions() {
         "refusal 20, line 9, column 1, pair 1 of the list: \
          the body of `prism` is not a number: line 9 is a quotient (D)",
         &[
-            "line 12: label 11",
-            "line 13: label 12",
+            "line 12: label 11 is here",
+            "line 13: label 12 is here",
             "name an N line; those in it are labels 11 and 12",
         ],
     );
@@ -621,13 +624,16 @@ fn refusal_20_definitions() {
         &[(5, 250)],
         "refusal 20, line 14, column 1, pair 1 of the list: \
          the body of `copy` is not a number: line 14 is a read (R)",
-        &["line 8: label 7", "name an N line; it depends on label 7"],
+        &[
+            "line 8: label 7 is here",
+            "name an N line; it depends on label 7",
+        ],
     );
     pairs_say(
         &[(2, 250)],
         "refusal 20, line 3, column 3, pair 1 of the list: the Group `right` is not a number",
         &[
-            "line 8: label 7",
+            "line 8: label 7 is here",
             "name an N line; the one in it is label 7",
         ],
     );
@@ -635,9 +641,9 @@ fn refusal_20_definitions() {
         &[(1, 250)],
         "refusal 20, line 2, column 1, pair 1 of the list: the outermost Group is not a number",
         &[
-            "line 8: label 7",
-            "line 12: label 11",
-            "line 13: label 12",
+            "line 8: label 7 is here",
+            "line 12: label 11 is here",
+            "line 13: label 12 is here",
             "name an N line; those in it are labels 7, 11, 12 and 14",
         ],
     );

@@ -81,9 +81,9 @@ refusal 20: the body of `right.prism` is not a number: line 10 is a quotient (D)
 10 | D - 10 13 -
    | ^^^^^^^^^^^
 13 | N - 10 - -
-   |     -- label 12
+   |     -- label 12 is here
 14 | N - 100 - -
-   |     --- label 13
+   |     --- label 13 is here
    = help: name an N line; those in it are labels 12 and 13
    = rule: a pair of the list puts its number into an N line
 ",

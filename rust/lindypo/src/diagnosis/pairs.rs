@@ -93,7 +93,7 @@ fn within(found: Finding, rows: &Rows, label: Label) -> Finding {
 fn shown(found: Finding, rows: &Rows, numbers: &[Label]) -> Finding {
     let first = numbers.iter().take(SHOWN);
     first.fold(found, |found, &number| {
-        found.see(rows.mark(number, A), format!("label {number}"))
+        found.see(rows.mark(number, A), format!("label {number} is here"))
     })
 }
 

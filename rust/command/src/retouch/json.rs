@@ -15,7 +15,7 @@ pub const FIELDS: [Field; 23] = [
         "pairs.owner",
         "the full name of the value or function that it stands in",
     ),
-    ("pairs.before", "its number before this pair"),
+    ("pairs.was", "its number before this pair"),
     ("pairs.number", "its number after it"),
     ("pairs.redone", "how many values were evaluated again"),
     ("pairs.failing", "how many values then have no number"),
@@ -38,11 +38,11 @@ pub const FIELDS: [Field; 23] = [
         "pairs.values.changed",
         "whether it came to another number or state",
     ),
-    ("pairs.values.before", "what it came to before:"),
-    ("pairs.values.before.state", ""),
-    ("pairs.values.before.number", ""),
-    ("pairs.values.before.failure", ""),
-    ("pairs.values.before.steps", ""),
+    ("pairs.values.was", "what it came to before:"),
+    ("pairs.values.was.state", ""),
+    ("pairs.values.was.number", ""),
+    ("pairs.values.was.failure", ""),
+    ("pairs.values.was.steps", ""),
 ];
 
 pub fn of(sheet: &Sheet, stages: &Stages) -> Object {
@@ -60,7 +60,7 @@ fn pair(sheet: &Sheet, stage: &Stage) -> Object {
         .with("label", stage.label)
         .with("line", stage.label + 1)
         .with("owner", sheet.full_name(stage.owner))
-        .with("before", stage.old)
+        .with("was", stage.old)
         .with("number", stage.number)
         .with("redone", stage.change.redone)
         .with("failing", stage.change.failing)
@@ -72,5 +72,5 @@ fn value(sheet: &Sheet, redone: &Redone) -> Object {
     values::name_object(redone.label, &sheet.full_name(redone.label))
         .and(values::outcome_object(redone.after))
         .with("changed", redone.is_changed())
-        .with("before", values::outcome_object(redone.before))
+        .with("was", values::outcome_object(redone.before))
 }

@@ -14,7 +14,8 @@
 static char text[2 * LINDYPO_TEXT_MOST];
 static size_t length;
 static int64_t table[LINDYPO_TABLE_MOST], plan[LINDYPO_PLAN_MOST], results[LINDYPO_RESULTS_MOST];
-static int64_t pairs[LINDYPO_PAIR_CELLS * (LINDYPO_PAIRS_MOST + 1)], changes[LINDYPO_CHANGES_MOST + 3];
+static int64_t pairs[LINDYPO_PAIR_CELLS * (LINDYPO_PAIRS_MOST + 1)];
+static int64_t changes[LINDYPO_CHANGE_CELLS * (LINDYPO_PAIRS_MOST + 1)];
 static int facts, failures;
 
 static void check(int holds, const char *fact)
@@ -353,10 +354,11 @@ static void refusals_of_pairs(void)
     sheet("V x 1 3 -\nN - 7 - -\n");
     for (int pair = 1; pair <= LINDYPO_PAIRS_MOST + 1; pair++)
         put(pair, 3, pair);
-    CHECK(retouch_sheet(LINDYPO_PAIR_CELLS * LINDYPO_PAIRS_MOST).refusal == 0);
+    size_t most = LINDYPO_PAIR_CELLS * LINDYPO_PAIRS_MOST;
+    CHECK(retouch_sheet(most).refusal == 0);
     CHECK(result(2, LINDYPO_RESULT_NUMBER) == LINDYPO_PAIRS_MOST);
     CHECK(change(LINDYPO_PAIRS_MOST, LINDYPO_CHANGE_REDONE) == 1);
-    CHECK(retouch_sheet(LINDYPO_PAIR_CELLS * (LINDYPO_PAIRS_MOST + 1)).refusal == LINDYPO_REFUSAL_PAIRS);
+    CHECK(retouch_sheet(most + LINDYPO_PAIR_CELLS).refusal == LINDYPO_REFUSAL_PAIRS);
     CHECK(retouch_sheet(3).refusal == LINDYPO_REFUSAL_PAIRS && retouch_sheet(3).place == 0);
     CHECK(retouched(3, LINDYPO_NUMBER_MOST).refusal == 0);
     CHECK(retouched(3, -LINDYPO_NUMBER_MOST).refusal == 0);

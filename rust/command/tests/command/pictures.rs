@@ -1,12 +1,12 @@
 //! Pictures of random sheets: they are well-formed, and arrows run where they
 //! should.
 
-use std::collections::BTreeSet;
+use std::collections::{BTreeMap, BTreeSet};
 
 use command::blocks::{self, Tangle};
 use command::picture;
 use command::svg::{Wanted, MOST};
-use lindypo::{formula, Kind, Label, Line, Sheet};
+use lindypo::{formula, Kind, Label, Line, Sheet, State};
 
 use crate::markup::{parts, tags, words_in, Tag};
 use crate::{read, read_text};
@@ -322,6 +322,53 @@ fn random_focus() {
         drawn > 1_500 && left_out > 500,
         "{drawn} pictures, {left_out} in part"
     );
+}
+
+/// Cards of values that have changed are marked, and say what these were; so is a
+/// folded Group that has one.
+#[test]
+fn random_changes() {
+    let mut changes = 0;
+    for seed in 0..CASES / 2 {
+        let Some(text) = random(seed) else { continue };
+        let sheet = Sheet::read(&text).expect("a sheet");
+        let rng = &mut generator::Rng::new(seed);
+        let values = sheet.lines().filter(|line| line.kind == Kind::Value);
+        let values: Vec<Label> = values.map(|line| line.label).collect();
+        let states = [State::Number(-7), State::OutOfRange, State::TooDeep];
+        let before: BTreeMap<Label, State> = values
+            .into_iter()
+            .filter(|_| rng.chance(30))
+            .map(|label| (label, states[label % 3]))
+            .collect();
+        let groups = sheet.lines().filter(|line| line.kind == Kind::Group);
+        let folded: BTreeSet<Label> = groups
+            .map(|line| line.label)
+            .filter(|&label| label > 1 && rng.chance(20))
+            .collect();
+        let drawn = Drawn::new(&sheet, None, &folded);
+        let marked = before.keys().filter_map(|&label| drawn.cards[label]);
+        let marked: BTreeSet<Label> = marked.collect();
+        let open = marked.iter().filter(|&label| !folded.contains(label));
+        let open = open.count();
+        let wanted = Wanted {
+            folded: Some(folded),
+            before,
+            ..Wanted::default()
+        };
+        check(&text, &wanted, None).expect("a picture");
+        let (svg, _) = picture::picture(&text, &wanted, CAPTION).expect("a picture");
+        let groups = svg.lines().filter(|line| line.starts_with("<g class=\""));
+        let groups = groups.filter(|line| line.contains(" changed\">"));
+        assert_eq!(groups.count(), marked.len());
+        assert_eq!(svg.matches("\nbefore: ").count(), open);
+        assert_eq!(
+            svg.matches(" \u{2192} ").count(),
+            open + usize::from(!marked.is_empty())
+        );
+        changes += marked.len();
+    }
+    assert!(changes > 500, "{changes} cards marked");
 }
 
 /// A folded Group is one card, and arrows end at it.

@@ -131,6 +131,33 @@ fn status(words: &[&str]) -> Option<i32> {
     output.status.code()
 }
 
+/// New numbers in lines that may be anything: what the library refuses is refused,
+/// and JSON says so too.
+#[test]
+fn sheets_retouched() {
+    let folder = Folder::new("lindypo-retouched");
+    let mut statuses = [0; 2];
+    for (path, text) in files(&folder.0).into_iter().take(CASES as usize / 4) {
+        let reads = Sheet::read(&text);
+        let count = reads.as_ref().map_or(3, Sheet::labels);
+        let pairs: Vec<(usize, i64)> = [(count, 0), (count.saturating_sub(2), 7)].into();
+        let retouched = reads.and_then(|sheet| sheet.retouch(&pairs));
+        let has_failed = |(_, outcome): (usize, lindypo::Outcome)| outcome.state.number().is_none();
+        let wanted = retouched.map_or(1, |it| i32::from(it.run.values().any(has_failed)));
+        let words: Vec<String> = pairs
+            .iter()
+            .map(|(label, n)| format!("{label}={n}"))
+            .collect();
+        let words = ["retouch", &path, &words[0], &words[1]];
+        assert_eq!(status(&words), Some(wanted), "{path}");
+        let json = stdout(&output(&[&words[..], &["--json"]].concat()));
+        Reader::names(json.trim_end());
+        assert!(json.contains(&format!("\"status\":{wanted}")), "{path}");
+        statuses[wanted as usize] += 1;
+    }
+    assert!(statuses.iter().all(|&count| count > 5), "{statuses:?}");
+}
+
 /// A sheet that reads is shown in a file of its own; that or else the text that
 /// is no sheet is written where it gives one.
 #[test]

@@ -75,7 +75,7 @@ class Result(IntEnum):
     STEPS = 2
 
 
-class Change(IntEnum):
+class ChangeCell(IntEnum):
     """The cells of a pair in the changes."""
 
     REDONE = 0

@@ -13,7 +13,7 @@ ENUMS = {
     "KIND": constants.Kind,
     "COLUMN": constants.Column,
     "RESULT": constants.Result,
-    "CHANGE": constants.Change,
+    "CHANGE": constants.ChangeCell,
     "STATE": constants.State,
     "ORDER": constants.Order,
     "REFUSAL": constants.RefusalNumber,

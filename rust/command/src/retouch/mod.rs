@@ -70,6 +70,13 @@ pair 2: label 8 in total, 5 becomes 7
 
 label  name   before  after  steps
     2  total     -35    -33      3
+
+in the end: 3 of 3 values changed
+
+label  name          before  after  steps
+    5  right.sphere    -325   -400      1
+    4  right.prism      -33    -40      5
+    2  total            -28    -33      3
 ",
         },
         Example {

@@ -29,7 +29,7 @@ pub fn draw(file: &OsStr, call: &Call, out: &mut Output, pairs: &[Pair]) -> Resu
         Ok(Subject {
             text: with_numbers(&sheet, &stages)?,
             caption: caption(&source.file_name()),
-            before: stages.changed(),
+            before: stages.before(),
         })
     })
 }

@@ -1,10 +1,10 @@
 //! What each pair of a list brings about. The library gives the results after
-//! the last one and three figures for each; those in between are what it gives
-//! of the pairs up to there.
+//! the last one and three figures for each. The results in between are those of
+//! the pairs up to there.
 
 use std::collections::BTreeMap;
 
-use lindypo::{Change, Label, Outcome, Refusal, Results, Run, Sheet, State};
+use lindypo::{Change, Label, Outcome, Refusal, Results, Run, Sheet, State, MOST_BYTES};
 
 /// A pair that has been applied.
 pub struct Stage {
@@ -48,13 +48,24 @@ impl Stages {
         self.list.iter().map(pair).collect()
     }
 
-    /// What the values were that are something else in the end.
-    pub fn changed(&self) -> BTreeMap<Label, State> {
-        let before = |(label, after): (Label, Outcome)| {
-            let before = self.first.of(label)?.state;
-            (before != after.state).then_some((label, before))
+    /// The values that are something else in the end, in the order of the plan.
+    pub fn changed(&self) -> Vec<Redone> {
+        let redone = |(label, after): (Label, Outcome)| {
+            let before = self.first.of(label)?;
+            Some(Redone {
+                label,
+                before,
+                after,
+            })
         };
-        self.run.values().filter_map(before).collect()
+        let values = self.run.values().filter_map(redone);
+        values.filter(Redone::is_changed).collect()
+    }
+
+    /// What those were.
+    pub fn before(&self) -> BTreeMap<Label, State> {
+        let state = |redone: &Redone| (redone.label, redone.before.state);
+        self.changed().iter().map(state).collect()
     }
 }
 
@@ -66,7 +77,7 @@ pub fn of(sheet: &Sheet, pairs: &[(Label, i64)]) -> Result<Stages, Refusal> {
     let mut numbers: BTreeMap<Label, i64> = BTreeMap::new();
     let (mut list, mut before) = (vec![], first.clone());
     for (count, (&(label, number), &change)) in (1..).zip(pairs.iter().zip(&whole.changes)) {
-        let after = sheet.retouch(&pairs[..count])?.run.results;
+        let after = results(sheet, &pairs[..count])?;
         let line = sheet.line(label);
         let owner = line.and_then(|line| line.owner).unwrap_or(0);
         let sent = line.map_or(0, |line| line.a);
@@ -94,6 +105,17 @@ pub fn of(sheet: &Sheet, pairs: &[(Label, i64)]) -> Result<Stages, Refusal> {
         run: whole.run,
         first,
     })
+}
+
+/// The results after some pairs: by Retouch's promise those of Run on the sheet
+/// with their numbers, which takes as long for many pairs as for few. Where that
+/// text is too long for a sheet, Retouch's own.
+fn results(sheet: &Sheet, pairs: &[(Label, i64)]) -> Result<Results, Refusal> {
+    let text = sheet.with_numbers(pairs);
+    match text.len() > MOST_BYTES {
+        true => Ok(sheet.retouch(pairs)?.run.results),
+        false => Ok(Sheet::read(&text)?.run()?.results),
+    }
 }
 
 /// By label, from 0: the definitions that mention it.

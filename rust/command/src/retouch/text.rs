@@ -25,7 +25,29 @@ pub fn of(sheet: &Sheet, stages: &Stages, paint: Paint) -> String {
     let pairs: String = pairs
         .map(|(number, stage)| pair(sheet, number, stage, paint))
         .collect();
-    format!("{headline}; {meaning}\n{pairs}")
+    let end = match stages.list.len() {
+        0 | 1 => String::new(),
+        _ => end(sheet, stages, paint),
+    };
+    format!("{headline}; {meaning}\n{pairs}{end}")
+}
+
+/// What all pairs together changed.
+fn end(sheet: &Sheet, stages: &Stages, paint: Paint) -> String {
+    let changed = stages.changed();
+    let values = counted(stages.run.plan.labels.len() as u64, "value");
+    match changed.len() as u64 {
+        0 => format!("\n{}\n", paint.strong("in the end: all values as before")),
+        count => {
+            let title = format!("in the end: {} of {values} changed", grouped(count));
+            let changed: Vec<&Redone> = changed.iter().collect();
+            format!(
+                "\n{}\n\n{}",
+                paint.strong(&title),
+                rows(sheet, &changed, paint)
+            )
+        }
+    }
 }
 
 /// A pair, its figures, the values that it changed, and those that it did not.
@@ -47,8 +69,7 @@ fn pair(sheet: &Sheet, number: usize, stage: &Stage, paint: Paint) -> String {
     let steps = counted(stage.change.steps, "step");
     let mut text = format!("\n{title}\n{redone}; {failing}; {steps} in all\n");
     if !changed.is_empty() {
-        let rows: Vec<_> = changed.iter().map(|redone| row(sheet, redone)).collect();
-        text += &format!("\n{}", table::aligned(COLUMNS, &rows, paint));
+        text += &format!("\n{}", rows(sheet, &changed, paint));
     }
     if !same.is_empty() {
         let names = same.iter().map(|redone| sheet.full_name(redone.label));
@@ -85,6 +106,11 @@ fn failing(stage: &Stage, paint: Paint) -> String {
         1 => paint.bad("1 value fails"),
         count => paint.bad(&format!("{} fail", counted(count, "value"))),
     }
+}
+
+fn rows(sheet: &Sheet, changed: &[&Redone], paint: Paint) -> String {
+    let rows: Vec<_> = changed.iter().map(|redone| row(sheet, redone)).collect();
+    table::aligned(COLUMNS, &rows, paint)
 }
 
 fn row(sheet: &Sheet, redone: &Redone) -> [Cell; 5] {

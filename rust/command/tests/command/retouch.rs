@@ -28,7 +28,8 @@ fn pairs(sheet: &Sheet, rng: &mut Rng) -> Vec<(Label, i64)> {
 
 /// The values that are said to be redone are as many as the library says; no
 /// other changes; each stage begins with what the one before it ended with, and
-/// ends with what Run gives of the sheet with the numbers put in.
+/// ends with what Retouch gives of the pairs up to there, and Run of the sheet with
+/// their numbers put in.
 #[test]
 fn stages_are_the_librarys() {
     let (mut redone, mut changed) = (0, 0);
@@ -46,7 +47,9 @@ fn stages_are_the_librarys() {
         for (count, stage) in (1..).zip(&stages.list) {
             let put = sheet.with_numbers(&pairs[..count]);
             let put = Sheet::read(&put).expect("a sheet");
-            let after = put.run().expect("a run").results;
+            let after = sheet.retouch(&pairs[..count]).expect("an answer").run;
+            assert_eq!(put.run().as_ref(), Ok(&after));
+            let after = after.results;
             assert_eq!(stage.redone.len(), stage.change.redone);
             for value in &stage.redone {
                 assert_eq!(results.of(value.label), Some(value.before));

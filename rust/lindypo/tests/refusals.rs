@@ -574,7 +574,7 @@ fn refusal_20_expressions() {
         "refusal 20, line 11, column 1, pair 1 of the list: label 10 is a read (R), not a number",
         &[
             "line 8: label 7 is here",
-            "name an N line; it depends on label 7",
+            "name an N line; the one that it reaches is label 7",
         ],
     );
     let all = "name an N line; they are labels 7, 11, 12 and 14";
@@ -590,10 +590,7 @@ fn refusal_20_expressions() {
         &["the sheet has no N lines, so no number can be changed"],
     );
     let refusal = none.retouch(&[(1, 1)]).expect_err("a refusal");
-    helps(
-        &refusal,
-        &["it depends on no N line, so no number changes it"],
-    );
+    helps(&refusal, &["no N line is in it, nor in what it reaches"]);
 }
 
 #[test]
@@ -626,7 +623,7 @@ fn refusal_20_definitions() {
          the body of `copy` is not a number: line 14 is a read (R)",
         &[
             "line 8: label 7 is here",
-            "name an N line; it depends on label 7",
+            "name an N line; the one that it reaches is label 7",
         ],
     );
     pairs_say(

@@ -16,6 +16,8 @@ const PAIRS: usize = 1024;
 const NUMBERS: usize = 8;
 const SHOWN: usize = 3;
 
+const NAME_ONE: &str = "name an N line";
+
 /// Refusal 19, of a list of whole pairs.
 pub fn list(count: usize) -> Finding {
     Finding::new(format!(
@@ -53,8 +55,6 @@ pub fn label(rows: &Rows, label: Label) -> Finding {
     }
 }
 
-const NAME_ONE: &str = "name an N line";
-
 /// A value or function in place of the N line that is its body, or of one in it.
 fn definition(rows: &Rows, label: Label) -> Finding {
     let body = rows.link(label, B);
@@ -81,10 +81,10 @@ fn within(found: Finding, rows: &Rows, label: Label) -> Finding {
     let reached = reached(rows, label);
     let reached = numbers(rows, |number| reached.contains(&rows.owner(number)));
     match &reached[..] {
-        [] => found.help("it depends on no N line, so no number changes it"),
+        [] => found.help("no N line is in it, nor in what it reaches"),
         numbers => {
-            let those = labels(numbers);
-            shown(found, rows, numbers).help(format!("{NAME_ONE}; it depends on {those}"))
+            let those = are(numbers, "the one that it reaches", "those that it reaches");
+            shown(found, rows, numbers).help(format!("{NAME_ONE}; {those}"))
         }
     }
 }
@@ -113,42 +113,31 @@ fn outward<'a>(rows: &'a Rows, label: Label) -> impl Iterator<Item = Label> + 'a
     rows.outward(label).chain(groups)
 }
 
-/// The definitions that a definition reaches, or that the owner of an expression
-/// does; those that anything in a Group reaches.
+/// The definitions that a Group, a definition or an expression reaches, by the R
+/// and C lines in it.
 fn reached(rows: &Rows, label: Label) -> BTreeSet<Label> {
     let mentions = order::mentions(rows);
-    let start = match rows.is_definition(label) {
-        true => label,
-        false => rows.owner(label),
-    };
-    let is_under = |&at: &Label| {
-        let mut around = std::iter::successors(Some(at), |&at| rows.around(at));
-        rows.is_definition(at) && around.any(|at| at == start)
-    };
-    let mut open: Vec<Label> = rows.labels().filter(is_under).collect();
+    let is_in = |line: Label| line == label || outward(rows, line).any(|at| at == label);
+    let lines = mentions.iter().flatten();
+    let mut open: Vec<Label> = lines
+        .filter(|mention| is_in(mention.line))
+        .map(|mention| mention.target)
+        .collect();
     let mut reached = BTreeSet::new();
     while let Some(at) = open.pop() {
-        let found = mentions[at].iter().map(|mention| mention.target);
-        open.extend(found.filter(|&target| reached.insert(target)));
+        if reached.insert(at) {
+            open.extend(mentions[at].iter().map(|mention| mention.target));
+        }
     }
     reached
 }
 
-/// "label 4", "labels 4, 5 and 7".
-fn labels(numbers: &[Label]) -> String {
-    let labels = words::and_more(numbers, NUMBERS);
-    match numbers.len() {
-        1 => format!("label {labels}"),
-        _ => format!("labels {labels}"),
-    }
-}
-
 /// "the one in it is label 4", "those in it are labels 4, 5 and 7".
 fn are(numbers: &[Label], one: &str, several: &str) -> String {
-    let labels = labels(numbers);
+    let labels = words::and_more(numbers, NUMBERS);
     match numbers.len() {
-        1 => format!("{one} is {labels}"),
-        _ => format!("{several} are {labels}"),
+        1 => format!("{one} is label {labels}"),
+        _ => format!("{several} are labels {labels}"),
     }
 }
 

@@ -202,7 +202,8 @@ module _ (t : List ℤ) (n : ℕ) (ps : List ℤ) (i : ℕ) {l : ℕ} {u : List 
     pub redoable-still : (square : List ℕ) → Redoable (withNumber (pairLabel ps i) (pairNumber ps i) t) n r plan k square (owner t (pairLabel ps i)) → Redoable u n r plan k square d
     redoable-still square w = transport (λ j. Redoable (sym table-is j) n r plan k square (sym (owner-is own) j)) w
 
-    pub redid-still : {c c′ : Change} {r′ : List ℤ} → Redid u n r plan k d c r′ c′ → Redid (withNumber (pairLabel ps i) (pairNumber ps i) t) n r plan k (owner t (pairLabel ps i)) c r′ c′
+    pub redid-still : {c c′ : Change} {r′ : List ℤ} → Redid u n r plan k d c r′ c′
+        → Redid (withNumber (pairLabel ps i) (pairNumber ps i) t) n r plan k (owner t (pairLabel ps i)) c r′ c′
     redid-still {c} {c′} {r′} w = transport (λ j. Redid (table-is j) n r plan k (owner-is own j) c r′ c′) w
 
     pub applied-still : {w r′ w′ : List ℤ} {c : Change} → PairApplied t n ps i r w (withNumber (pairLabel ps i) (pairNumber ps i) t) r′ w′ c → PairApplied t n ps i r w u r′ w′ c

@@ -70,7 +70,8 @@ module _ (f : ℕ → Bool) where
   filter-cut [] (y ∷ a) v b e = absurd (let z : _≡_ {A = ℕ} 0 1 = cc in omega arith)
   filter-cut (x ∷ o) a v b e = go (f x) refl (filter-cut o)
     where
-      go : (c : Bool) → f x ≡ c → ((a : List ℕ) (v : ℕ) (b : List ℕ) → filter f o ≡ a ++ v ∷ b → (a₁ : List ℕ) × (b₁ : List ℕ) × (o ≡ a₁ ++ v ∷ b₁) × (filter f b₁ ≡ b))
+      go : (c : Bool) → f x ≡ c
+          → ((a : List ℕ) (v : ℕ) (b : List ℕ) → filter f o ≡ a ++ v ∷ b → (a₁ : List ℕ) × (b₁ : List ℕ) × (o ≡ a₁ ++ v ∷ b₁) × (filter f b₁ ≡ b))
           → (a₁ : List ℕ) × (b₁ : List ℕ) × (x ∷ o ≡ a₁ ++ v ∷ b₁) × (filter f b₁ ≡ b)
       go true h rest = cut a (rw h at e)
         where

@@ -22,7 +22,7 @@ use Rattle.figures.specs.Figures.{evaluateInto}
 use Rattle.marks.specs.Marks.{mark}
 use Rattle.reach.specs.MarkRows.{width}
 use Rattle.redoing.specs.Pairs.{pairNumber}
-use Rattle.redoing.specs.Redone.{total, fails, failing, stepSum}
+use Rattle.redoing.specs.Redone.{total, isFailure, failing, stepSum}
 use Rattle.redoing.specs.RedoStages.{Tallied, Turned, turns}
 use Rattle.redoing.specs.declared.Change.{Change}
 
@@ -59,10 +59,10 @@ pub steps-there : (r : List ℤ) (l : ℕ) → 1 ≤ l → natAt r (3 * (l - 1) 
 steps-there r zero h = absurd (omega arith)
 steps-there r (suc k) h = let e : suc k - 1 ≡ k = omega arith in rw e
 
-pub fails-not : (r : List ℤ) (l : ℕ) → 1 ≤ l → {x : ℕ} → x ≡ natAt r (3 * (l - 1)) → x ≤ 1 → 0 ≡ one (fails (stored r l))
+pub fails-not : (r : List ℤ) (l : ℕ) → 1 ≤ l → {x : ℕ} → x ≡ natAt r (3 * (l - 1)) → x ≤ 1 → 0 ≡ one (isFailure (stored r l))
 fails-not r l h e q = rw (le-ltb 1 (stateAt r l) (omega (arith, e, state-at r l h))) refl
 
-pub fails-so : (r : List ℤ) (l : ℕ) → 1 ≤ l → {x : ℕ} → x ≡ natAt r (3 * (l - 1)) → 1 < x → 1 ≡ one (fails (stored r l))
+pub fails-so : (r : List ℤ) (l : ℕ) → 1 ≤ l → {x : ℕ} → x ≡ natAt r (3 * (l - 1)) → 1 < x → 1 ≡ one (isFailure (stored r l))
 fails-so r l h e q = rw (lt-ltb 1 (stateAt r l) (omega (arith, e, state-at r l h))) refl
 
 -- ---- the failing values and the steps
@@ -72,7 +72,7 @@ one-few true = omega arith
 one-few false = omega arith
 
 module _ (f : ℕ → Value) where
-  pub failing-next : (k : ℕ) → failing f (k + 1) ≡ failing f k + one (fails (f (k + 1)))
+  pub failing-next : (k : ℕ) → failing f (k + 1) ≡ failing f k + one (isFailure (f (k + 1)))
   unfolding failing
   failing-next k = rw add-one refl
 
@@ -82,7 +82,7 @@ module _ (f : ℕ → Value) where
 
   pub failing-few : (n : ℕ) → failing f n ≤ n
   unfolding failing
-  failing-few n = omega (arith, total-bound (λ l. one (fails (f l))) 1 (λ l. one-few (fails (f l))) n)
+  failing-few n = omega (arith, total-bound (λ l. one (isFailure (f l))) 1 (λ l. one-few (isFailure (f l))) n)
 
   pub steps-few : (n : ℕ) → ((l : ℕ) → f l .steps ≤ stepLimit) → stepSum f n ≤ n * stepLimit
   unfolding stepSum
@@ -98,12 +98,12 @@ module _ (t r : List ℤ) (v n : ℕ) (room : ResultsRoom r v) (high : v ≤ n) 
   same-other l d = sym (stored-other r v (evaluated t r v) l d)
 
   -- what it gives to the sums goes, and what it gives now comes
-  pub failing-moves : (one (fails (stored r v)) ≤ failing (stored r) n)
-      × (failing (stored r) n - one (fails (stored r v)) + one (fails (stored (evaluateInto t r v) v)) ≡ failing (stored (evaluateInto t r v)) n)
+  pub failing-moves : (one (isFailure (stored r v)) ≤ failing (stored r) n)
+      × (failing (stored r) n - one (isFailure (stored r v)) + one (isFailure (stored (evaluateInto t r v) v)) ≡ failing (stored (evaluateInto t r v)) n)
   unfolding failing
   failing-moves =
-      total-change (λ l. one (fails (stored r l))) (λ l. one (fails (stored r′ l))) v (room .low)
-      (λ l d. ap (λ (x : Value). one (fails x)) (same-other l d)) n high
+      total-change (λ l. one (isFailure (stored r l))) (λ l. one (isFailure (stored r′ l))) v (room .low)
+      (λ l d. ap (λ (x : Value). one (isFailure x)) (same-other l d)) n high
 
   pub steps-move : (stepsAt r v ≤ stepSum (stored r) n) × (stepSum (stored r) n - stepsAt r v + stepsAt (evaluateInto t r v) v ≡ stepSum (stored (evaluateInto t r v)) n)
   unfolding stepSum
@@ -126,12 +126,12 @@ took-few t r v n room high h {r′} e q = omega (arith, steps-short t r v n room
 
 -- the sums of a value evaluated again, as the code carries them
 pub redone-tally : (t r : List ℤ) (v n : ℕ) → ResultsRoom r v → v ≤ n → (c : Change) → Tallied n r c → {r′ : List ℤ} {x y x′ y′ : ℕ} → r′ ≡ evaluateInto t r v
-    → x ≡ one (fails (stored r v)) → y ≡ stepsAt r v → x′ ≡ one (fails (stored r′ v)) → y′ ≡ stepsAt r′ v
+    → x ≡ one (isFailure (stored r v)) → y ≡ stepsAt r v → x′ ≡ one (isFailure (stored r′ v)) → y′ ≡ stepsAt r′ v
     → Tallied n r′ (record { redone = c .redone + 1; failing = c .failing - x + x′; steps = c .steps - y + y′ })
 redone-tally t r v n room high c w {r′} e p q p′ q′ =
     let f = failing-moves t r v n room high in
     let s = steps-move t r v n room high in
-    let now : one (fails (stored r′ v)) ≡ one (fails (stored (evaluateInto t r v) v)) = ap (λ (z : List ℤ). one (fails (stored z v))) e in
+    let now : one (isFailure (stored r′ v)) ≡ one (isFailure (stored (evaluateInto t r v) v)) = ap (λ (z : List ℤ). one (isFailure (stored z v))) e in
     let took : stepsAt r′ v ≡ stepsAt (evaluateInto t r v) v = ap (λ (z : List ℤ). stepsAt z v) e in
     record {
       failed = omega (arith, w .failed, p, p′, now, f .0, f .1) ∙ ap (λ (z : List ℤ). failing (stored z) n) (sym e);
@@ -152,7 +152,7 @@ module _ (r : List ℤ) (n : ℕ) where
   counting-none = record { upto = omega arith; failed = refl; taken = refl }
 
   module _ {x y l : ℕ} (w : Counting r n x y l) where
-    pub counting-next : l < n → {x′ y′ : ℕ} → x′ ≡ one (fails (stored r (l + 1))) → y′ ≡ stepsAt r (l + 1) → Counting r n (x + x′) (y + y′) (l + 1)
+    pub counting-next : l < n → {x′ y′ : ℕ} → x′ ≡ one (isFailure (stored r (l + 1))) → y′ ≡ stepsAt r (l + 1) → Counting r n (x + x′) (y + y′) (l + 1)
     counting-next h p q = record {
       upto = omega arith;
       failed = omega (arith, w .failed, p, failing-next (stored r) l);

@@ -42,12 +42,12 @@ total f zero = 0
 total f (suc k) = total f k + f (suc k)
 
 -- a state above 1 is a failure's; lines other than V have state 0
-abbrev pub fails : Value → Bool
-fails v = ltb hasNumber (v .state)
+abbrev pub isFailure : Value → Bool
+isFailure v = ltb hasNumber (v .state)
 
 -- of the results f of n labels
 unfoldable pub failing : (ℕ → Value) → ℕ → ℕ
-failing f n = total (λ l. one (fails (f l))) n
+failing f n = total (λ l. one (isFailure (f l))) n
 
 unfoldable pub stepSum : (ℕ → Value) → ℕ → ℕ
 stepSum f n = total (λ l. f l .steps) n

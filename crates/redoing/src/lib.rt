@@ -18,7 +18,7 @@ ghost use Rattle.evaluation.specs.Evaluation.{stepLimit};
 ghost use Rattle.evaluation.specs.Ready.{ResultsRoom, Evaluable};
 ghost use Rattle.figures.specs.Figures.{evaluateInto};
 ghost use Rattle.redoing.specs.Pairs.{pairCount, pairLabel, pairNumber, PairRight, PairsRight};
-ghost use Rattle.redoing.specs.Redone.{fails};
+ghost use Rattle.redoing.specs.Redone.{isFailure};
 ghost use Rattle.redoing.specs.RedoStages.{Tallied, Turned, turns, Redoable, Redid, OwnersMarked, Standing, PairApplied, PairsApplied};
 
 // "For each pair, how many values were redone, how many now fail, and the sum of all step counts."
@@ -33,7 +33,7 @@ pub struct Change {
 // 1 where the label's state is a failure's, else 0.
 fn failed(results: &[i64], label: usize) -> u64
     requires { ⌜ ResultsRoom (now results) label ⌝ }
-    ensures { λ r. ⌜ (r ≡ one (fails (stored (now (results .entry)) label))) × (r ≤ 1) ⌝ }
+    ensures { λ r. ⌜ (r ≡ one (isFailure (stored (now (results .entry)) label))) × (r ≤ 1) ⌝ }
 {
     if cells::nat_at(results, 3 * (label - 1)) <= 1 {
         0
@@ -285,7 +285,8 @@ fn apply(
     results: &mut [i64],
     changes: &mut [i64],
 )
-    requires { ⌜ Standing (now table) n (now plan) count (now results) × PairsRight (now table) (now pairs) × (pairCount (now pairs) ≤ pairLimit) × (3 * pairCount (now pairs) ≤ length (now changes)) ⌝ }
+    requires { ⌜ Standing (now table) n (now plan) count (now results) × PairsRight (now table) (now pairs) × (pairCount (now pairs) ≤ pairLimit)
+        × (3 * pairCount (now pairs) ≤ length (now changes)) ⌝ }
     requires { ⌜ ((n + 1) * width n ≤ length (now square)) × OwnersMarked (now table) n (now pairs) (pairCount (now pairs)) (now square) ⌝ }
     ensures { λ _. ⌜ PairsApplied (now (table .entry)) n (now (pairs .entry)) (pairCount (now (pairs .entry))) (now (results .entry)) (now (changes .entry))
         (now (table .exit)) (now (results .exit)) (now (changes .exit)) ⌝ }
@@ -320,7 +321,8 @@ fn apply_in(
     results: &mut [i64],
     changes: &mut [i64],
 )
-    requires { ⌜ Standing (now table) n (now plan) count (now results) × PairsRight (now table) (now pairs) × (pairCount (now pairs) ≤ pairLimit) × (3 * pairCount (now pairs) ≤ length (now changes)) ⌝ }
+    requires { ⌜ Standing (now table) n (now plan) count (now results) × PairsRight (now table) (now pairs) × (pairCount (now pairs) ≤ pairLimit)
+        × (3 * pairCount (now pairs) ≤ length (now changes)) ⌝ }
     requires { ⌜ ((n + 1) * width n ≤ length (now square)) × ((d : ℕ) → Blank n (now square) d) ⌝ }
     ensures { λ _. ⌜ PairsApplied (now (table .entry)) n (now (pairs .entry)) (pairCount (now (pairs .entry))) (now (results .entry)) (now (changes .entry))
         (now (table .exit)) (now (results .exit)) (now (changes .exit)) ⌝ }
@@ -340,7 +342,8 @@ pub fn apply_pairs(
     results: &mut [i64],
     changes: &mut [i64],
 )
-    requires { ⌜ Standing (now table) n (now plan) count (now results) × PairsRight (now table) (now pairs) × (pairCount (now pairs) ≤ pairLimit) × (3 * pairCount (now pairs) ≤ length (now changes)) ⌝ }
+    requires { ⌜ Standing (now table) n (now plan) count (now results) × PairsRight (now table) (now pairs) × (pairCount (now pairs) ≤ pairLimit)
+        × (3 * pairCount (now pairs) ≤ length (now changes)) ⌝ }
     ensures { λ _. ⌜ PairsApplied (now (table .entry)) n (now (pairs .entry)) (pairCount (now (pairs .entry))) (now (results .entry)) (now (changes .entry))
         (now (table .exit)) (now (results .exit)) (now (changes .exit)) ⌝ }
 {

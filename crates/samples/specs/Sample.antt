@@ -189,7 +189,7 @@ pub record NumberSaid : Type 0 where
   pub line : ℕ
   pub shows : ℤ
 
-pub record Retouched : Type 0 where
+pub record RetouchSample : Type 0 where
   pub sheet : List String
   pub pairs : List PairSaid
   -- once all pairs are applied: what Retouch comes to, and what the table shows
@@ -200,12 +200,12 @@ abbrev pub pairCells : List PairSaid → List ℤ
 pairCells [] = []
 pairCells (x ∷ ps) = pos (x .label) ∷ x .number ∷ pairCells ps
 
-abbrev pub changeCells : List PairSaid → List ℤ
-changeCells [] = []
-changeCells (x ∷ ps) = pos (x .redone) ∷ pos (x .failing) ∷ pos (x .steps) ∷ changeCells ps
+abbrev pub changesSaid : List PairSaid → List ℤ
+changesSaid [] = []
+changesSaid (x ∷ ps) = pos (x .redone) ∷ pos (x .failing) ∷ pos (x .steps) ∷ changesSaid ps
 
 -- what the definitions of Retouch give: the reply, the plan, the results, the changes, and cell a of the lines that the sample says
-pub record RetouchGiven : Type 0 where
+pub record RetouchFigures : Type 0 where
   pub reply : PlanReply
   pub plan : List ℤ
   pub results : List ℤ
@@ -213,7 +213,7 @@ pub record RetouchGiven : Type 0 where
   pub numbers : List ℤ
 
 -- of a text s with n labels, where the call is lent just enough
-abbrev pub retouchFor : List ℕ → ℕ → List PairSaid → List NumberSaid → RetouchGiven
+abbrev pub retouchFor : List ℕ → ℕ → List PairSaid → List NumberSaid → RetouchFigures
 retouchFor s n ps ns = record {
   reply = retouchReply s (pairCells ps) (8 * n) n (3 * n) (3 * length ps);
   plan = retouchPlan s (pairCells ps) (8 * n) n (3 * n) (3 * length ps);
@@ -222,17 +222,17 @@ retouchFor s n ps ns = record {
   numbers = map (λ x. lineNumber (retouchTable s (pairCells ps) (8 * n) n (3 * n) (3 * length ps)) (x .line)) ns;
 }
 
-abbrev pub retouchGiven : Retouched → RetouchGiven
+abbrev pub retouchGiven : RetouchSample → RetouchFigures
 retouchGiven x = retouchFor (textOf (x .sheet)) (labels (textOf (x .sheet))) (x .pairs) (x .numbers)
 
-abbrev pub retouchSaidOf : Retouched → ℕ → List PrintLine → RetouchGiven
+abbrev pub retouchSaidOf : RetouchSample → ℕ → List PrintLine → RetouchFigures
 retouchSaidOf x n ls = record {
   reply = planReplyBy (x .outcome);
   plan = planBy n ls;
   results = resultsSaid (3 * n) ls;
-  changes = changeCells (x .pairs);
+  changes = changesSaid (x .pairs);
   numbers = map (λ y. y .shows) (x .numbers);
 }
 
-abbrev pub retouchSaid : Retouched → RetouchGiven
+abbrev pub retouchSaid : RetouchSample → RetouchFigures
 retouchSaid x = retouchSaidOf x (length (x .sheet) - 1) (printLinesOf (x .outcome))

@@ -5,7 +5,7 @@ use Prim.Native.Nat.{ℕ}
 use Prim.Native.String.{String}
 use lib.IntN.{ℤ, pos, negℤ}
 use Rattle.refusals.specs.declared.Reply.the-variants.{Answered, Refused}
-use Rattle.samples.specs.Sample.{group, value, function, reads, calls, PrintLine, refusal, whole, mixed, Sample, Retouched}
+use Rattle.samples.specs.Sample.{group, value, function, reads, calls, PrintLine, refusal, whole, mixed, Sample, RetouchSample}
 
 abbrev printLine : ℕ → String → ℕ → ℤ → ℕ → PrintLine
 printLine label name state number steps = record { label = label; name = name; state = state; number = number; steps = steps }
@@ -323,7 +323,7 @@ samples =
 
 -- document 02, order 4: the sheet of the layout bench. The first pair puts in the number that stands there: its owner `pd` is worked out
 -- again, and nothing changes. The second is owned by the function `prism`, which `base` calls: 250 / 10 is 25
-abbrev pub bench : Retouched
+abbrev pub bench : RetouchSample
 bench = record {
   sheet =
       "kind name a b c"
@@ -354,7 +354,7 @@ bench = record {
 }
 
 -- the same sheet: a divisor of 0 put into `prism` fails `base`; the next pair mends it, and the last is owned by `dec`, which `base` reads
-abbrev pub benchMended : Retouched
+abbrev pub benchMended : RetouchSample
 benchMended = record {
   sheet = bench .sheet;
   pairs =
@@ -370,5 +370,5 @@ benchMended = record {
   numbers = record { line = 9; shows = minus 100 } ∷ record { line = 10; shows = pos 350 } ∷ record { line = 11; shows = pos 3100 } ∷ [];
 }
 
-unfoldable pub retouches : List Retouched
+unfoldable pub retouches : List RetouchSample
 retouches = bench ∷ benchMended ∷ []

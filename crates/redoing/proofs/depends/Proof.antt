@@ -1,4 +1,3 @@
-use mathlib.Core.Path.{refl, _∙_}
 use native.Mathlib.Omega.{arith}
 use Rattle.reach.proofs.Reading.{row-room}
 use Rattle.reach.specs.MarkRows.{width}

@@ -30,20 +30,12 @@ cell-of-requires c κs =
 visit-requires : tie.Need-visit-requires Inv-loop μ-loop
 visit-requires c κs =
     let pre = c .before .before .before .before .before .before .before .before .before .before .before .pre in
-    let turn = c .before .before .before .before .before in
-    let inv = turn .before .loop .inv in (
-      pre .0 .0,
-      (
-        inl refl,
-        (
-          pre .1 .0,
-          (
-            marking-room _ _ _ (pre .0 .0) (pre .0 .1) _ _ _ (pre .1 .1 .1 .0) inv (pre .1 .1 .0),
-            (inv .going .rows, pair-owner _ _ _ (pre .0 .0) (pre .0 .1) _ (turn .loop-test .taken) (c .before .before .before .before .label-of .ensures) (c .before .before .before .cell-of .ensures)),
-          ),
-        ),
-      ),
-    )
+    let found = c .before .before .before in
+    let turn = found .before .before in
+    let inv = turn .before .loop .inv in
+    let room = marking-room _ _ _ (pre .0 .0) (pre .0 .1) _ _ _ (pre .1 .1 .1 .0) inv (pre .1 .1 .0) in
+    let body = pair-owner _ _ _ (pre .0 .0) (pre .0 .1) _ (turn .loop-test .taken) (found .before .label-of .ensures) (found .cell-of .ensures) in
+    (pre .0 .0, (inl refl, (pre .1 .0, (room, (inv .going .rows, body)))))
 
 add-k : tie.Need-add-k Inv-loop μ-loop
 add-k c = omega (arith, c .before .before .before .before .before .before .before .before .before .before .before .before .loop-test .taken)

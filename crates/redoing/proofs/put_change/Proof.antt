@@ -1,7 +1,6 @@
 use mathlib.Core.Path.{_∙_}
 use mathlib.Core.List.{[], _∷_}
 use Prim.Native.Nat.{_*_}
-use native.Mathlib.Omega.{arith}
 use lib.Seq.{sets}
 use mir.Syntax.{w64}
 use mir.Facts.{toZ-pos}

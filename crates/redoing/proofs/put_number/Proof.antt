@@ -43,7 +43,9 @@ returns c =
     let entry = c .before in
     let t = entry .args .table .now in
     let l = entry .args .label in
-    ap (λ z. set t (8 * (l - 1) + 3) z) (whole _ (c .table .given) ∙ number-there (entry .args .pairs .now) (entry .args .k)) ∙ put-there t l (pairNumber (entry .args .pairs .now) (entry .args .k + 1)) (entry .pre .0)
+    let ps = entry .args .pairs .now in
+    let k = entry .args .k in
+    ap (λ z. set t (8 * (l - 1) + 3) z) (whole _ (c .table .given) ∙ number-there ps k) ∙ put-there t l (pairNumber ps (k + 1)) (entry .pre .0)
 
 pub put-number-spec : {M : Type 1} → statement M
 put-number-spec =

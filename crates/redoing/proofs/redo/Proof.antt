@@ -7,6 +7,11 @@ use borrow.Author.Needs.{needs}
 use Rattle.redoing.proofs.redo.Statement.{statement}
 use Rattle.redoing.proofs.redo.Tie as tie
 
+-- ---- earlier places, by later ones
+
+abbrev entry-of : tie.After-evaluate-into → tie.Start
+entry-of c = c .before .before .before .before .before .before .before .before
+
 failed-requires : tie.Need-failed-requires
 failed-requires c κs = value-room (c .before .pre .0 .0)
 
@@ -40,21 +45,26 @@ add-t8 : tie.Need-add-t8
 add-t8 c = search needs
 
 failed-requires-2 : tie.Need-failed-requires-2
-failed-requires-2 c κs = room-still (value-room (c .before .before .before .before .before .before .before .before .before .before .before .pre .0 .0)) (c .before .before .before .evaluate-into .kept .1 .0)
+failed-requires-2 c κs =
+    let done = c .before .before .before in
+    room-still (value-room (entry-of done .pre .0 .0)) (done .evaluate-into .kept .1 .0)
 
 add-t19 : tie.Need-add-t19
 add-t19 c =
-    let entry = c .before .before .before .before .before .before .before .before .before .before .before .before in
+    let entry = entry-of (c .before .before .before .before) in
     omega (arith, c .failed2 .ensures .1, entry .pre .1 .0 .failed, failing-few (stored (entry .args .results .now)) (entry .args .n), entry .pre .0 .2)
 
 steps-of-requires-2 : tie.Need-steps-of-requires-2
-steps-of-requires-2 c κs = room-still (value-room (c .before .before .before .before .before .before .before .before .before .before .before .before .before .pre .0 .0)) (c .before .before .before .before .before .evaluate-into .kept .1 .0)
+steps-of-requires-2 c κs =
+    let done = c .before .before .before .before .before in
+    room-still (value-room (entry-of done .pre .0 .0)) (done .evaluate-into .kept .1 .0)
 
 add-t23 : tie.Need-add-t23
 add-t23 c =
-    let entry = c .before .before .before .before .before .before .before .before .before .before .before .before .before .before in
+    let done = c .before .before .before .before .before .before in
+    let entry = entry-of done in
     let took = took-few (entry .args .table .now) (entry .args .results .now) (entry .args .label) (entry .args .n) (value-room (entry .pre .0 .0)) (entry .pre .0 .1)
-    (entry .pre .1 .0 .short) (c .before .before .before .before .before .before .evaluate-into .ensures) (c .steps-of2 .ensures) in
+    (entry .pre .1 .0 .short) (done .evaluate-into .ensures) (c .steps-of2 .ensures) in
     omega (arith, took, entry .pre .1 .0 .taken, steps-few (stored (entry .args .results .now)) (entry .args .n) (entry .pre .1 .0 .short), entry .pre .0 .2)
 
 same-length : tie.Need-same-length
@@ -62,15 +72,14 @@ same-length c = search needs
 
 returns : tie.Need-returns
 returns c =
-    let entry = c .before .before .before .before .before .before .before .before .before .before .before .before .before .before in (
-      c .before .before .before .before .before .before .evaluate-into .ensures,
-      (
-        refl,
-        redone-tally (entry .args .table .now) (entry .args .results .now) (entry .args .label) (entry .args .n)
-            (value-room (entry .pre .0 .0)) (entry .pre .0 .1) (entry .args .before) (entry .pre .1 .0) (c .before .before .before .before .before .before .evaluate-into .ensures)
-            (c .before .before .before .before .before .before .before .before .before .before .before .before .failed .ensures .0) (c .before .before .before .before .before .before .before .before .before .steps-of .ensures) (c .before .before .failed2 .ensures .0) (c .steps-of2 .ensures),
-      ),
-    )
+    let done = c .before .before .before .before .before .before in
+    let steps = done .before .before .before in
+    let failing = steps .before .before .before in
+    let entry = entry-of done in
+    let tallied = redone-tally (entry .args .table .now) (entry .args .results .now) (entry .args .label) (entry .args .n) (value-room (entry .pre .0 .0)) (entry .pre .0 .1)
+    (entry .args .before) (entry .pre .1 .0) (done .evaluate-into .ensures) (failing .failed .ensures .0) (steps .steps-of .ensures) (c .before .before .failed2 .ensures .0)
+    (c .steps-of2 .ensures) in
+    (done .evaluate-into .ensures, (refl, tallied))
 
 pub redo-spec : {M : Type 1} → statement M
 redo-spec =

@@ -1,4 +1,4 @@
-use mathlib.Core.Path.{refl, sym, _∙_}
+use mathlib.Core.Path.{sym, _∙_}
 use Rattle.redoing.proofs.Sums.{turned-so, turned-not}
 use borrow.Author.Needs.{needs}
 use Rattle.redoing.proofs.redo_dependent.Statement.{statement}

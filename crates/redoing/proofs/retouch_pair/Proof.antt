@@ -73,7 +73,8 @@ returns c =
     let own = c .before .before .before .before .before .before .before .cell-of .ensures in
     let did = redid-still _ _ _ (entry .args .k + 1) named put _ _ _ own (c .before .before .before .before .redo-down .ensures) in
     applied-still _ _ _ (entry .args .k + 1) named put _ (entry .args .plan .now) (entry .args .count) own
-    (pair-applied _ _ _ _ _ (entry .pre .0) line number (right .line) (right .number) refl did (entry .args .pairs .now) (entry .args .k + 1) refl refl _ _ (rw at-index (c .before .put-change .ensures)))
+    (pair-applied _ _ _ _ _ (entry .pre .0) line number (right .line) (right .number) refl did (entry .args .pairs .now) (entry .args .k + 1)
+    refl refl _ _ (rw at-index (c .before .put-change .ensures)))
 
 pub retouch-pair-spec : {M : Type 1} → statement M
 retouch-pair-spec =

@@ -1,4 +1,3 @@
-use native.Mathlib.Omega.{arith}
 use Rattle.retouching.proofs.Rows.{list-odd, list-long, list-fine}
 use Rattle.retouching.proofs.check_list.Statement.{statement}
 use Rattle.retouching.proofs.check_list.Tie as tie

@@ -28,7 +28,16 @@ impl Outcome {
             Ok(number) => (1, number),
             Err(failure) => (failure as i64, 0),
         };
-        [state, number, i64::from(self.steps)]
+        [state, number, self.steps()]
+    }
+
+    pub fn steps(&self) -> i64 {
+        i64::from(self.steps)
+    }
+
+    /// 1 where the value failed: what it adds to the count of those that do.
+    pub fn failures(&self) -> i64 {
+        i64::from(self.answer.is_err())
     }
 }
 
@@ -69,21 +78,26 @@ struct Frame {
 pub fn evaluate(sheet: &Sheet, order: &[Label]) -> Vec<Option<Outcome>> {
     let mut outcomes = vec![None; sheet.count()];
     for &value in order {
-        let mut evaluation = Evaluation {
-            sheet,
-            outcomes: &outcomes,
-            allowance: Allowance::fresh(),
-        };
-        // A value has no P (row 10), so its argument is never asked for.
-        let frame = Frame {
-            argument: 0,
-            depth: 0,
-        };
-        let answer = evaluation.expression(sheet.line(value).link(1), frame);
-        let steps = evaluation.allowance.taken();
-        outcomes[value - 1] = Some(Outcome { answer, steps });
+        outcomes[value - 1] = Some(evaluate_value(sheet, &outcomes, value));
     }
     outcomes
+}
+
+/// Evaluates one value; those that it reaches have their outcomes.
+pub fn evaluate_value(sheet: &Sheet, outcomes: &[Option<Outcome>], value: Label) -> Outcome {
+    let mut evaluation = Evaluation {
+        sheet,
+        outcomes,
+        allowance: Allowance::fresh(),
+    };
+    // A value has no P (row 10), so its argument is never asked for.
+    let frame = Frame {
+        argument: 0,
+        depth: 0,
+    };
+    let answer = evaluation.expression(sheet.line(value).link(1), frame);
+    let steps = evaluation.allowance.taken();
+    Outcome { answer, steps }
 }
 
 /// The evaluation of one value.

@@ -1,13 +1,14 @@
 //! The rules of order sheets in Rust: document 01, "the paper", with the orders
 //! of document 02 so far: 1, names compared without regard to the case of
-//! letters, 2, only the tangled Groups opened, and 3, names compared by the word.
+//! letters, 2, only the tangled Groups opened, 3, names compared by the word, and
+//! 4, retouching numbers.
 //!
 //! One module for each stage, in the order in which refusals are found:
 //! `text` (rows 1 to 3), `lines` (5 to 7), `tree` (8 to 11), `paths` (12 to
-//! 15), `reach` (16), `order` (the plan, 17 and 18), then `evaluate`. The
-//! calls below put the stages together and add row 4. They clear every buffer
-//! first and write only once nothing is left to refuse, so a refusal leaves
-//! zeros everywhere.
+//! 15), `reach` (16), `order` (the plan, 17 and 18), then `evaluate` and
+//! `retouch` (19 to 21). The calls below put the stages together and add row 4.
+//! They clear every buffer first and write only once nothing is left to refuse,
+//! so a refusal leaves zeros everywhere.
 
 #![forbid(unsafe_code)]
 
@@ -20,11 +21,13 @@ mod order;
 mod paths;
 mod print;
 mod reach;
+mod retouch;
 mod sheet;
 mod text;
 mod tree;
 
 use evaluate::Outcome;
+use reach::Reach;
 use sheet::{Label, Sheet};
 
 pub use print::{print, print_into, Printed};
@@ -61,6 +64,9 @@ struct Lent {
     table: Option<usize>,
     plan: Option<usize>,
     results: Option<usize>,
+    changes: Option<usize>,
+    /// How many pairs the changes are of.
+    pairs: usize,
 }
 
 impl Lent {
@@ -70,6 +76,7 @@ impl Lent {
             (self.table, TABLE_CELLS * count),
             (self.plan, count),
             (self.results, RESULT_CELLS * count),
+            (self.changes, retouch::CHANGE_CELLS * self.pairs),
         ];
         for (place, (length, cells)) in (1..).zip(wanted) {
             if length.is_some_and(|length| length < cells) {
@@ -85,6 +92,7 @@ struct Planned<'a> {
     sheet: Sheet<'a>,
     plan: Vec<Label>,
     order: Order,
+    reach: Reach,
 }
 
 /// Read: writes the table and answers n.
@@ -124,7 +132,7 @@ pub fn plan(text: &[u8], table: &mut [i64], plan: &mut [i64]) -> Result<(usize, 
     let lent = Lent {
         table: Some(table.len()),
         plan: Some(plan.len()),
-        results: None,
+        ..Lent::default()
     };
     let planned = plan_sheet(text, &lent)?;
     write_table(&planned.sheet, table);
@@ -146,6 +154,7 @@ pub fn run(
         table: Some(table.len()),
         plan: Some(plan.len()),
         results: Some(results.len()),
+        ..Lent::default()
     };
     let planned = plan_sheet(text, &lent)?;
     write_table(&planned.sheet, table);
@@ -165,14 +174,46 @@ pub fn follow(
     results.fill(0);
     let lent = Lent {
         table: Some(table.len()),
-        plan: None,
         results: Some(results.len()),
+        ..Lent::default()
     };
     let sheet = read_sheet(text, &lent)?;
     let listed = order::check(&sheet, &reach::reach(&sheet)?, order)?;
     write_table(&sheet, table);
     write_results(&evaluate::evaluate(&sheet, &listed), results);
     Ok(listed.len())
+}
+
+/// Retouch: Run, then each pair of a list (label, number) applied in turn. Answers
+/// as Run does; the table has the new numbers, the changes have three cells for
+/// each pair.
+pub fn retouch(
+    text: &[u8],
+    pairs: &[i64],
+    table: &mut [i64],
+    plan: &mut [i64],
+    results: &mut [i64],
+    changes: &mut [i64],
+) -> Result<(usize, Order), Refusal> {
+    table.fill(0);
+    plan.fill(0);
+    results.fill(0);
+    changes.fill(0);
+    let lent = Lent {
+        table: Some(table.len()),
+        plan: Some(plan.len()),
+        results: Some(results.len()),
+        changes: Some(changes.len()),
+        pairs: retouch::count_pairs(pairs),
+    };
+    let mut planned = plan_sheet(text, &lent)?;
+    let pairs = retouch::check(&planned.sheet, pairs)?;
+    let mut outcomes = evaluate::evaluate(&planned.sheet, &planned.plan);
+    retouch::apply(&mut planned, &mut outcomes, &pairs, changes);
+    write_table(&planned.sheet, table);
+    write_plan(&planned.plan, plan);
+    write_results(&outcomes, results);
+    Ok((planned.plan.len(), planned.order))
 }
 
 /// Rows 1 to 7.
@@ -194,8 +235,14 @@ fn read_sheet<'a>(text: &'a [u8], lent: &Lent) -> Result<Sheet<'a>, Refusal> {
 /// Rows 1 to 16, and the plan.
 fn plan_sheet<'a>(text: &'a [u8], lent: &Lent) -> Result<Planned<'a>, Refusal> {
     let sheet = read_sheet(text, lent)?;
-    let (plan, order) = order::plan(&sheet, reach::reach(&sheet)?);
-    Ok(Planned { sheet, plan, order })
+    let mut reach = reach::reach(&sheet)?;
+    let (plan, order) = order::plan(&sheet, &mut reach);
+    Ok(Planned {
+        sheet,
+        plan,
+        order,
+        reach,
+    })
 }
 
 fn write_table(sheet: &Sheet, table: &mut [i64]) {

@@ -7,9 +7,10 @@ use crate::reach::Reach;
 use crate::sheet::{Kind, Label, Sheet};
 use crate::{Order, Refusal};
 
-/// The plan: "'Mixed' is the answer when some block has several members."
-pub fn plan(sheet: &Sheet, mut reach: Reach) -> (Vec<Label>, Order) {
-    let mut planner = Planner::new(sheet, &mut reach);
+/// The plan: "'Mixed' is the answer when some block has several members." It puts
+/// what the values under a Group reach into the Group's row; all other rows stay.
+pub fn plan(sheet: &Sheet, reach: &mut Reach) -> (Vec<Label>, Order) {
+    let mut planner = Planner::new(sheet, reach);
     planner.list_group(0);
     (planner.listed, planner.order)
 }

@@ -5,6 +5,7 @@ mod evaluation;
 mod letters;
 mod orders;
 mod refusals;
+mod retouching;
 mod samples;
 mod tangles;
 

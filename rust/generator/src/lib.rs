@@ -3,10 +3,10 @@
 //!
 //! `random` makes sheets that read, `damage` spoils them, `letters` writes their
 //! names in capitals and small letters, `rows` takes them apart, `lent` chooses
-//! buffer lengths and orders for Follow, `tangles` says where a sheet is tangled,
-//! `near` makes names that are nearly the same, `everyday`, `shapes`, `tangled` and
-//! `long_names` hold the fixed sheets, `slots` names that share a slot of the
-//! library's hash.
+//! buffer lengths and orders for Follow, `pairs` makes lists for Retouch, `tangles`
+//! says where a sheet is tangled, `near` makes names that are nearly the same,
+//! `everyday`, `shapes`, `tangled` and `long_names` hold the fixed sheets, `slots`
+//! names that share a slot of the library's hash.
 
 #![forbid(unsafe_code)]
 
@@ -17,6 +17,7 @@ mod lent;
 mod letters;
 mod long_names;
 mod near;
+mod pairs;
 mod random;
 mod rng;
 pub mod rows;
@@ -31,6 +32,7 @@ pub use lent::{buffer_length, order, planned, print_length, proper_order};
 pub use letters::{capital_paths, is_same_name, recase, recased, recased_name, OtherLetters};
 pub use long_names::{near_names, near_paths, one_hash, one_slot};
 pub use near::{long_name, make_near, NearNames};
+pub use pairs::{number_labels, pairs, put_numbers};
 pub use random::{sheet, sheet_within};
 pub use rng::Rng;
 pub use shapes::{
@@ -58,6 +60,9 @@ pub struct Case {
     pub order: Vec<i64>,
     /// Bytes to lend for the print.
     pub print: usize,
+    /// A list of pairs for Retouch, and the cells to lend for its changes.
+    pub pairs: Vec<i64>,
+    pub changes: usize,
 }
 
 /// The trial with this seed.
@@ -65,7 +70,7 @@ pub fn case(seed: u64) -> Case {
     let rng = &mut Rng::new(seed);
     let text = any_sheet(rng);
     let lines = line_count(&text);
-    Case {
+    let mut case = Case {
         table: buffer_length(rng, 8 * lines),
         plan: buffer_length(rng, lines),
         results: buffer_length(rng, 3 * lines),
@@ -73,8 +78,14 @@ pub fn case(seed: u64) -> Case {
         label: lent::label(rng, lines),
         order: order(rng, &text),
         print: print_length(rng, &text),
+        pairs: Vec::new(),
+        changes: 0,
         text,
-    }
+    };
+    // last, so that all else of a seed's trial is what it was without them
+    case.pairs = pairs(rng, &case.text);
+    case.changes = buffer_length(rng, 3 * (case.pairs.len() / 2));
+    case
 }
 
 /// A sheet of any sort: about half of them read.

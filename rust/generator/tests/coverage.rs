@@ -12,8 +12,12 @@ const CASES: u64 = 20_000;
 
 #[derive(Default)]
 struct Counts {
-    /// Refusals of Run, and of Follow alone (17, 18), by number.
-    refusals: [usize; 19],
+    /// Refusals of Run, of Follow alone (17, 18) and of Retouch alone (19 to 21),
+    /// by number.
+    refusals: [usize; 22],
+    /// Changes that are too short for Retouch, and its answers.
+    short_changes: usize,
+    retouched: usize,
     states: [usize; 6],
     whole: usize,
     mixed: usize,
@@ -64,6 +68,7 @@ impl Counts {
                 }
                 self.longest = self.longest.max(lines);
                 self.follow(case, &plan[..length], &results);
+                self.retouch(case);
             }
             Err(refusal) => {
                 self.refusals[refusal.number as usize] += 1;
@@ -86,6 +91,33 @@ impl Counts {
                 assert_eq!(results, wanted);
                 self.followed += 1;
                 self.other_orders += usize::from(case.order != plan);
+            }
+            Err(refusal) => self.refusals[refusal.number as usize] += 1,
+        }
+    }
+
+    /// Retouch on a sheet that Run accepts.
+    fn retouch(&mut self, case: &Case) {
+        let Buffers {
+            mut table,
+            mut plan,
+            mut results,
+        } = Buffers::new(case);
+        let mut changes = vec![case.rubbish; case.changes];
+        let (text, pairs) = (&case.text, &case.pairs);
+        let answer = reference::retouch(
+            text,
+            pairs,
+            &mut table,
+            &mut plan,
+            &mut results,
+            &mut changes,
+        );
+        match answer {
+            Ok(_) => self.retouched += 1,
+            Err(Refusal { number: 4, place }) => {
+                assert_eq!(place, 4, "the other buffers are long enough");
+                self.short_changes += 1;
             }
             Err(refusal) => self.refusals[refusal.number as usize] += 1,
         }
@@ -125,6 +157,11 @@ fn every_rule_is_met() {
         counts.followed, counts.other_orders
     );
     println!("names {}", counts.names);
+    println!(
+        "retouched {}, changes too short {}",
+        counts.retouched, counts.short_changes
+    );
+    assert!(counts.retouched > 3_000 && counts.short_changes > 100);
     assert!(counts.whole > 2_000 && counts.mixed > 1_000);
     assert!(counts.other_orders > 500 && counts.names > 2_000);
     assert!(counts.longest > 900);

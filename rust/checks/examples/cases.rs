@@ -39,43 +39,46 @@ fn main() -> ExitCode {
 }
 
 fn write(folder: &Path, count: u64) -> std::io::Result<usize> {
-    let shape = |(at, text): (usize, Vec<u8>)| (format!("shape-{at:02}"), text, vec![]);
+    let shape = |(at, text): (usize, Vec<u8>)| (format!("shape-{at:02}"), text, [vec![], vec![]]);
     let random = |seed: u64| {
         let case = generator::case(seed);
-        (format!("seed-{seed}"), case.text, case.order)
+        (format!("seed-{seed}"), case.text, [case.order, case.pairs])
     };
     let shapes = generator::shapes().into_iter().map(|shape| shape.text);
     // the longest chain that a sheet has room for takes Plan the most stack
     let shapes = shapes.chain([generator::forward(CHAIN)]);
     fs::write(folder.join("mistakes.json"), format!("{:?}\n", mistakes()))?;
     let mut sheets = 0;
-    for (name, text, order) in shapes.enumerate().map(shape).chain((0..count).map(random)) {
+    for (name, text, lists) in shapes.enumerate().map(shape).chain((0..count).map(random)) {
         let file = folder.join(name);
         fs::write(file.with_extension("sheet"), &text)?;
-        fs::write(file.with_extension("json"), wanted(&text, &order))?;
+        fs::write(file.with_extension("json"), wanted(&text, &lists))?;
         sheets += 1;
     }
     Ok(sheets)
 }
 
-/// What each call has to reply and to write.
-fn wanted(text: &[u8], order: &[i64]) -> String {
+/// What each call has to reply and to write, Follow and Retouch with these lists.
+fn wanted(text: &[u8], [order, pairs]: &[Vec<i64>; 2]) -> String {
     let lines = generator::line_count(text).min(LABELS);
     let trial = Trial {
         table: 8 * lines,
         plan: lines,
         results: 3 * lines,
+        pairs,
+        changes: 3 * (pairs.len() / 2),
         ..Trial::new(text, order)
     };
-    let [read, plan, run, follow] = trial.wanted();
+    let [read, plan, run, follow, retouch] = trial.wanted();
     format!(
-        "{{\"order\": {order:?}, \"line\": {}, \"built\": {}, \"read\": {}, \"plan\": {}, \"run\": {}, \"follow\": {}}}\n",
+        "{{\"order\": {order:?}, \"pairs\": {pairs:?}, \"line\": {}, \"built\": {}, \"read\": {}, \"plan\": {}, \"run\": {}, \"follow\": {}, \"retouch\": {}}}\n",
         line(text).map_or(NULL.to_string(), |line| line.to_string()),
         built(text).map_or(NULL.to_string(), |text| format!("{text:?}")),
         call(&read, &[0]),
         call(&plan, &[0, 1]),
         call(&run, &[0, 1, 2]),
         call(&follow, &[0, 2]),
+        call(&retouch, &[0, 1, 2, 3]),
     )
 }
 

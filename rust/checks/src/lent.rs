@@ -5,12 +5,12 @@ use std::fmt::Display;
 /// How many bytes or cells stand on each side.
 const MARGIN: usize = 8;
 
-/// What may stand around a text and around an order list. A reader that goes
+/// What may stand around a text and around a list. A reader that goes
 /// past an end of the text meets a line end, or more of a field; past an end of
 /// the list it meets no label, or one that may well be a value's.
 pub const SURROUNDINGS: [(u8, i64); 2] = [(b'\n', 0), (b'7', 2)];
 
-/// A text or an order list between bytes or cells that are not its own.
+/// A text or a list between bytes or cells that are not its own.
 pub struct LentPart<T> {
     all: Vec<T>,
 }

@@ -1,11 +1,11 @@
 //! The proved library against the Rust reference.
 //!
-//! A trial lends both the same text, order list and lengths of buffers, full of
-//! rubbish beforehand, and compares the replies and every cell: for Read, Plan,
-//! Run and Follow, for Name with each of many labels, and for the print, in a
-//! buffer that may be too short for it. What the library is
+//! A trial lends both the same text, order list, list of pairs and lengths of
+//! buffers, full of rubbish beforehand, and compares the replies and every cell:
+//! for Read, Plan, Run, Follow and Retouch, for Name with each of many labels, and
+//! for the print, in a buffer that may be too short for it. What the library is
 //! lent stands between canaries: cells that must stay as they are, and bytes
-//! around the text and cells around the list that would change the reply if
+//! around the text and cells around the lists that would change the reply if
 //! they were read. A random trial also lends the library the same sheet with the
 //! case of letters changed in its names and paths, which has to give the same.
 //!
@@ -17,6 +17,7 @@ mod calls;
 mod crates;
 mod lent;
 mod letters;
+mod retouches;
 mod tally;
 mod trial;
 
@@ -27,6 +28,7 @@ use generator::Rng;
 pub use calls::{Call, Lent};
 pub use crates::Crates;
 pub use letters::Letters;
+pub use retouches::Retouches;
 pub use tally::Tally;
 pub use trial::{Expected, Outcome, Trial, Wanted, WantedName, WantedPrint};
 

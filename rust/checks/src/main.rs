@@ -2,7 +2,7 @@
 //! wanted. Status 1 and the seed where the library and the reference differ,
 //! and where many trials have not met every refusal, state and order, names in
 //! other letters than those that they are the same as, names that are nearly the
-//! same, and every sort of tangle.
+//! same, every sort of tangle, and all that lists of pairs bring about.
 
 use std::env;
 use std::process::ExitCode;

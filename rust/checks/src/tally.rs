@@ -6,10 +6,7 @@ use generator::{NearNames, Tangles};
 
 use crate::calls::{MIXED, WHOLE};
 use crate::letters::Letters;
-use crate::{Call, Outcome};
-
-/// Rows of the table of refusals.
-const ROWS: usize = 18;
+use crate::{Call, Outcome, Retouches};
 
 /// With at least this many random trials everything is met.
 const ENOUGH: u64 = 5_000;
@@ -36,13 +33,14 @@ const NEAR: [&str; NearNames::COUNT] = [
 /// How the calls replied, what Plan and Run came to, how many labels Name was
 /// asked for and gave a part to, how many prints there was room for, how many
 /// sheets had names in other letters than those that they are the same as, or names
-/// that are nearly the same, and where mixed plans were tangled.
+/// that are nearly the same, where mixed plans were tangled, and what lists of pairs
+/// brought about.
 #[derive(Debug, Default, Clone, PartialEq, Eq)]
 pub struct Tally {
     trials: u64,
     /// By call, in the sequence of `Call::ALL`: the answers, then the refusals
     /// by row.
-    replies: [[u64; ROWS + 1]; 4],
+    replies: [[u64; Call::LAST_ROW + 1]; Call::COUNT],
     whole: u64,
     mixed: u64,
     states: [u64; 5],
@@ -57,6 +55,8 @@ pub struct Tally {
     near: [[u64; NearNames::COUNT]; 2],
     /// Mixed plans by what is told in `TANGLES`.
     tangles: [u64; Tangles::COUNT],
+    /// Lists of pairs by what is told in `Retouches::WORDS`.
+    retouches: [u64; Retouches::COUNT],
 }
 
 impl Tally {
@@ -84,6 +84,7 @@ impl Tally {
             add_all(counts, &more);
         }
         add_all(&mut self.tangles, &outcome.tangles.counts());
+        add_all(&mut self.retouches, &outcome.retouches.counts());
     }
 
     pub fn merge(&mut self, other: &Tally) {
@@ -102,16 +103,18 @@ impl Tally {
             add_all(counts, more);
         }
         add_all(&mut self.tangles, &other.tangles);
+        add_all(&mut self.retouches, &other.retouches);
     }
 
     /// Whether every call answered and refused by each of its rows, plans were
     /// whole and mixed, values came to every state, Name gave parts, empty ones
     /// too, prints had room and had not, names were in other letters and nearly the
-    /// same wherever they are compared, and sheets were tangled wherever they can be; a
-    /// short run need not have met all of them.
+    /// same wherever they are compared, sheets were tangled wherever they can be, and
+    /// lists of pairs brought about all that they can; a short run need not have met
+    /// all of them.
     pub fn is_complete(&self) -> bool {
         let mut calls = Call::ALL.into_iter().zip(&self.replies);
-        let replies = calls.all(|(call, counts)| !counts[..=call.last_row()].contains(&0));
+        let replies = calls.all(|(call, counts)| call.has_met(counts));
         let orders = self.whole > 0 && self.mixed > 0;
         let names = self.named > 0 && self.named < self.asked;
         let prints = self.printed > 0 && self.printed < self.trials;
@@ -119,8 +122,10 @@ impl Tally {
         let letters = !self.letters.contains(&0);
         let near = !self.near.as_flattened().contains(&0);
         let tangles = !self.tangles.contains(&0);
+        let retouches = !self.retouches.contains(&0);
         let named = names && letters && near;
-        let is_all = replies && orders && named && prints && states && tangles;
+        let evaluated = prints && states && retouches;
+        let is_all = replies && orders && named && evaluated && tangles;
         self.trials < ENOUGH || is_all
     }
 
@@ -152,7 +157,7 @@ impl fmt::Display for Tally {
             write!(f, " {:>8}", format!("{call:?}"))?;
         }
         writeln!(f)?;
-        for row in 0..=ROWS {
+        for row in 0..=Call::LAST_ROW {
             match row {
                 0 => write!(f, "{:<10}", "answered")?,
                 _ => write!(f, "refused {row:>2}")?,
@@ -165,6 +170,8 @@ impl fmt::Display for Tally {
         writeln!(f, "plans: {} whole, {} mixed", self.whole, self.mixed)?;
         writeln!(f, "tangled: {}", listed(&TANGLES, &self.tangles))?;
         writeln!(f, "values: {}", listed(&STATES, &self.states))?;
+        let retouches = listed(&Retouches::WORDS, &self.retouches);
+        writeln!(f, "lists of pairs: {retouches}")?;
         let cut = self.trials - self.printed;
         writeln!(f, "prints: {} whole, {cut} cut short", self.printed)?;
         let [heads, later, clashes] = self.letters;

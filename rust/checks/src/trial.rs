@@ -6,6 +6,7 @@ use lindypo::raw::{Part, Printed, Reply};
 use crate::calls::{Call, Lent, MIXED};
 use crate::lent::{LentCells, LentPart, SURROUNDINGS};
 use crate::letters::Letters;
+use crate::retouches::Retouches;
 
 /// Name is tried with every label of a sheet up to this many lines.
 const ALL_LABELS: usize = 40;
@@ -14,18 +15,20 @@ const ALL_LABELS: usize = 40;
 const LABEL_STEP: usize = 4;
 
 /// The buffers that a call may be lent for writing.
-const BUFFERS: [&str; 3] = ["table", "plan", "results"];
+const BUFFERS: [&str; 4] = ["table", "plan", "results", "changes"];
 
-/// What is lent: the text, a list for Follow, the lengths of the buffers, what
-/// they are full of beforehand, a label for Name besides those of every trial,
-/// and how many bytes the print has room for.
+/// What is lent: the text, a list for Follow, one for Retouch, the lengths of the
+/// buffers, what they are full of beforehand, a label for Name besides those of
+/// every trial, and how many bytes the print has room for.
 #[derive(Debug, Clone, Copy)]
 pub struct Trial<'a> {
     pub text: &'a [u8],
     pub order: &'a [i64],
+    pub pairs: &'a [i64],
     pub table: usize,
     pub plan: usize,
     pub results: usize,
+    pub changes: usize,
     pub rubbish: i64,
     pub label: i64,
     pub print: usize,
@@ -38,6 +41,7 @@ pub struct Outcome {
     pub plan: Reply,
     pub run: Reply,
     pub follow: Reply,
+    pub retouch: Reply,
     /// How many values Run left in each of the states 1 to 5.
     pub states: [u64; 5],
     /// How many labels Name was asked for, and how many of them have a name.
@@ -48,24 +52,27 @@ pub struct Outcome {
     pub letters: Letters,
     pub near: NearNames,
     pub tangles: Tangles,
+    pub retouches: Retouches,
 }
 
 impl Outcome {
-    /// What the calls on a text, these names and the print come to by the
+    /// What the calls of a trial, these names and the print come to by the
     /// reference.
-    pub fn new(text: &[u8], expected: &Expected) -> Self {
+    pub fn new(trial: &Trial, expected: &Expected) -> Self {
+        let text = trial.text;
         let Expected {
             calls,
             names,
             print,
         } = expected;
-        let [read, plan, run, follow] = calls.each_ref().map(|wanted| wanted.reply);
+        let [read, plan, run, follow, retouch] = calls.each_ref().map(|wanted| wanted.reply);
         let is_named = |wanted: &&WantedName| wanted.part.length > 0;
         Outcome {
             read,
             plan,
             run,
             follow,
+            retouch,
             states: states(&calls[2].buffers[2], run),
             asked: names.len() as u64,
             named: names.iter().filter(is_named).count() as u64,
@@ -73,20 +80,22 @@ impl Outcome {
             letters: Letters::of(text, &calls[0]),
             near: near_names(text, &calls[0]),
             tangles: tangles(&calls[1]),
+            retouches: Retouches::of(trial.pairs, calls),
         }
     }
 
     /// The replies in the sequence of `Call::ALL`.
-    pub fn replies(&self) -> [Reply; 4] {
-        [self.read, self.plan, self.run, self.follow]
+    pub fn replies(&self) -> [Reply; Call::COUNT] {
+        [self.read, self.plan, self.run, self.follow, self.retouch]
     }
 }
 
-/// What a call has to reply and to leave in every buffer: table, plan, results.
+/// What a call has to reply and to leave in every buffer: table, plan, results,
+/// changes.
 pub struct Wanted {
     pub call: Call,
     pub reply: Reply,
-    pub buffers: [Vec<i64>; 3],
+    pub buffers: [Vec<i64>; 4],
 }
 
 /// What Name has to give for a label.
@@ -104,24 +113,36 @@ pub struct WantedPrint {
 /// All that the reference wants of a trial: of the calls, in the sequence of
 /// `Call::ALL`, of Name for each label tried, and of the print.
 pub struct Expected {
-    pub calls: [Wanted; 4],
+    pub calls: [Wanted; Call::COUNT],
     pub names: Vec<WantedName>,
     pub print: WantedPrint,
 }
 
 impl<'a> Trial<'a> {
-    /// A trial with buffers one cell longer than need be.
+    /// A trial with buffers one cell longer than need be, and nothing to retouch.
     pub fn new(text: &'a [u8], order: &'a [i64]) -> Self {
         let lines = generator::line_count(text);
         Trial {
             text,
             order,
+            pairs: &[],
             table: 8 * lines + 1,
             plan: lines + 1,
             results: 3 * lines + 1,
+            changes: 1,
             rubbish: -77,
             label: 2,
             print: reference::print(text).len() + 1,
+        }
+    }
+
+    /// The trial with these pairs, and changes one cell longer than need be.
+    pub fn retouching(self, pairs: &'a [i64]) -> Self {
+        let changes = 3 * (pairs.len() / 2) + 1;
+        Trial {
+            pairs,
+            changes,
+            ..self
         }
     }
 
@@ -130,9 +151,11 @@ impl<'a> Trial<'a> {
         Trial {
             text: &case.text,
             order: &case.order,
+            pairs: &case.pairs,
             table: case.table,
             plan: case.plan,
             results: case.results,
+            changes: case.changes,
             rubbish: case.rubbish,
             label: case.label,
             print: case.print,
@@ -144,7 +167,7 @@ impl<'a> Trial<'a> {
     pub fn run(&self) -> Result<Outcome, String> {
         let expected = self.expected_of_all()?;
         self.compare(&expected)?;
-        Ok(Outcome::new(self.text, &expected))
+        Ok(Outcome::new(self, &expected))
     }
 
     /// As `run`, and the library gives the same for this text too, the same but
@@ -158,7 +181,7 @@ impl<'a> Trial<'a> {
         };
         let in_letters = |difference| format!("in other letters: {difference}");
         other.compare_recased(&expected).map_err(in_letters)?;
-        Ok(Outcome::new(self.text, &expected))
+        Ok(Outcome::new(self, &expected))
     }
 
     /// What the reference wants, with Name of these labels.
@@ -203,7 +226,7 @@ impl<'a> Trial<'a> {
     }
 
     /// What the reference wants of each call, in the sequence of `Call::ALL`.
-    pub fn wanted(&self) -> [Wanted; 4] {
+    pub fn wanted(&self) -> [Wanted; Call::COUNT] {
         Call::ALL.map(|call| self.wanted_of(call))
     }
 
@@ -212,26 +235,29 @@ impl<'a> Trial<'a> {
         match self.run() {
             Ok(outcome) => outcome,
             Err(difference) => panic!(
-                "{difference}\n{:?}\norder {:?}",
+                "{difference}\n{:?}\norder {:?}\npairs {:?}",
                 String::from_utf8_lossy(self.text),
-                self.order
+                self.order,
+                self.pairs
             ),
         }
     }
 
-    fn lengths(&self) -> [usize; 3] {
-        [self.table, self.plan, self.results]
+    fn lengths(&self) -> [usize; 4] {
+        [self.table, self.plan, self.results, self.changes]
     }
 
     fn wanted_of(&self, call: Call) -> Wanted {
         let mut buffers = self.lengths().map(|length| vec![self.rubbish; length]);
-        let [table, plan, results] = &mut buffers;
+        let [table, plan, results, changes] = &mut buffers;
         let reply = call.reference(Lent {
             text: self.text,
             order: self.order,
+            pairs: self.pairs,
             table,
             plan,
             results,
+            changes,
         });
         Wanted {
             call,
@@ -287,12 +313,12 @@ impl<'a> Trial<'a> {
         (byte, cell): (u8, i64),
     ) -> Result<(), String> {
         let text = LentPart::new(self.text, byte);
-        let order = LentPart::new(self.order, cell);
+        let lists = [self.order, self.pairs].map(|list| LentPart::new(list, cell));
         let mut cells = self
             .lengths()
             .map(|length| LentCells::new(length, self.rubbish));
         for wanted in wanted {
-            compare_call(wanted, text.part(), order.part(), &mut cells)?;
+            compare_call(wanted, text.part(), &lists, &mut cells)?;
         }
         for name in names {
             compare_name(name, text.part(), &mut cells[0], &wanted[0].buffers[0])?;
@@ -304,21 +330,23 @@ impl<'a> Trial<'a> {
 fn compare_call(
     wanted: &Wanted,
     text: &[u8],
-    order: &[i64],
-    cells: &mut [LentCells<i64>; 3],
+    [order, pairs]: &[LentPart<i64>; 2],
+    cells: &mut [LentCells<i64>; 4],
 ) -> Result<(), String> {
     let Wanted {
         call,
         reply,
         buffers,
     } = wanted;
-    let [table, plan, results] = cells.each_mut().map(LentCells::lend);
+    let [table, plan, results, changes] = cells.each_mut().map(LentCells::lend);
     let given = call.library(Lent {
         text,
-        order,
+        order: order.part(),
+        pairs: pairs.part(),
         table,
         plan,
         results,
+        changes,
     });
     if given != *reply {
         return Err(format!("{call:?} replied {given:?}, wanted {reply:?}"));

@@ -14,19 +14,20 @@ const LABELS: usize = 100;
 /// How a call is made: by the library or by the reference.
 type Make = fn(Call, Lent) -> Reply;
 
-/// What a call on a text replies, and what it leaves in table, plan and results,
-/// lent as much as the case says.
-fn given(make: Make, call: Call, case: &Case, text: &[u8]) -> (Reply, [Vec<i64>; 3]) {
-    let lengths = [case.table, case.plan, case.results];
+/// What a call on a text replies, and what it leaves in table, plan, results and
+/// changes, lent as much as the case says.
+fn given(make: Make, call: Call, case: &Case, text: &[u8]) -> (Reply, [Vec<i64>; 4]) {
+    let lengths = [case.table, case.plan, case.results, case.changes];
     let mut buffers = lengths.map(|length| vec![case.rubbish; length]);
-    let [table, plan, results] = &mut buffers;
-    let order = &case.order[..];
+    let [table, plan, results, changes] = &mut buffers;
     let lent = Lent {
         text,
-        order,
+        order: &case.order,
+        pairs: &case.pairs,
         table,
         plan,
         results,
+        changes,
     };
     (make(call, lent), buffers)
 }
@@ -72,7 +73,7 @@ fn same_reply(call: Call, case: &Case, other: &[u8]) -> Reply {
 
 /// Checks that a text and the same in other letters give the same: every reply,
 /// cell and part; prints but for the case of letters, which is as sent.
-fn same_in_other_letters(case: &Case, other: &[u8]) -> [Reply; 4] {
+fn same_in_other_letters(case: &Case, other: &[u8]) -> [Reply; Call::COUNT] {
     let text = &case.text[..];
     let replies = Call::ALL.map(|call| same_reply(call, case, other));
     for label in labels(case) {
@@ -102,6 +103,8 @@ fn case_of(text: Vec<u8>) -> Case {
         label: 2,
         order: generator::planned(&text),
         print: reference::print(&text).len(),
+        pairs: vec![],
+        changes: 0,
         text,
     }
 }
@@ -111,7 +114,7 @@ fn case_of(text: Vec<u8>) -> Case {
 #[test]
 fn recased_sheets() {
     let first = setting("LINDYPO_SEED", 0);
-    let mut replies = [[0; 19]; 4];
+    let mut replies = [[0; Call::LAST_ROW + 1]; Call::COUNT];
     for seed in first..first + 6_000 {
         let case = case(seed);
         let other = recased(&mut Rng::new(seed), &case.text);
@@ -124,10 +127,9 @@ fn recased_sheets() {
         }
     }
     for (call, counts) in Call::ALL.into_iter().zip(replies) {
-        let rows = &counts[..=call.last_row()];
         assert!(
-            !rows.contains(&0),
-            "{call:?} has not met every row: {rows:?}"
+            call.has_met(&counts),
+            "{call:?} has not met every row: {counts:?}"
         );
     }
 }

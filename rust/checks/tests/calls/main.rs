@@ -5,6 +5,7 @@ mod letters;
 mod names;
 mod orders;
 mod random;
+mod retouching;
 mod sheets;
 mod sizes;
 mod stack;
@@ -14,7 +15,7 @@ use std::fs;
 use std::path::{Path, PathBuf};
 
 use checks::{Outcome, Trial};
-use generator::{line_count, planned};
+use generator::{line_count, number_labels, planned};
 
 const RUBBISH: i64 = -77;
 
@@ -69,9 +70,22 @@ impl Buffers {
 }
 
 /// A trial of this text with buffers that are long enough for it; Follow is
-/// lent the plan.
+/// lent the plan, Retouch some pairs.
 fn agree(text: &[u8]) -> Outcome {
-    Trial::new(text, &planned(text)).expect()
+    let (order, pairs) = (planned(text), some_pairs(text));
+    Trial::new(text, &order).retouching(&pairs).expect()
+}
+
+/// The first N line and the last with a number that may divide and one whose sums
+/// leave the range; none where the text does not read.
+fn some_pairs(text: &[u8]) -> Vec<i64> {
+    let mut table = vec![0; 8 * line_count(text)];
+    // a refusal leaves zeros, which are no N lines
+    let _ = reference::read(text, &mut table);
+    let labels = number_labels(&table);
+    let ends = [labels.first(), labels.last()].into_iter().flatten();
+    ends.flat_map(|&label| [label, 0, label, 1_000_000_000])
+        .collect()
 }
 
 /// Number and place of Read's refusal of a text.

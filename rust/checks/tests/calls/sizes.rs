@@ -46,7 +46,8 @@ fn shapes_at_the_edges() {
     }
 }
 
-/// Random sheets of nearly as many lines, with orders for Follow.
+/// Random sheets of nearly as many lines, with orders for Follow and pairs for
+/// Retouch.
 #[test]
 fn random_sheets_at_the_edges() {
     let rng = &mut Rng::new(11);
@@ -55,7 +56,8 @@ fn random_sheets_at_the_edges() {
             let text = generator::sheet_within(rng, lines);
             let text = padded(text, lines);
             let order = generator::order(rng, &text);
-            Trial::new(&text, &order).expect();
+            let pairs = generator::pairs(rng, &text);
+            Trial::new(&text, &order).retouching(&pairs).expect();
         }
     }
 }

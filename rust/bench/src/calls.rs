@@ -11,6 +11,7 @@ pub enum Call {
     Plan,
     Run,
     Follow,
+    Retouch,
 }
 
 /// Whose calls.
@@ -28,10 +29,12 @@ pub enum Side {
 pub struct Lent<'a> {
     pub text: &'a [u8],
     pub order: &'a [i64],
+    pub pairs: &'a [i64],
     pub label: i64,
     pub table: &'a mut [i64],
     pub plan: &'a mut [i64],
     pub results: &'a mut [i64],
+    pub changes: &'a mut [i64],
 }
 
 /// A call of one of the two: its count, or 0 where it refuses; the length of a
@@ -62,9 +65,19 @@ impl Side {
 }
 
 impl Call {
-    pub const ALL: [Call; 5] = [Call::Read, Call::Name, Call::Plan, Call::Run, Call::Follow];
+    pub const ALL: [Call; 6] = [
+        Call::Read,
+        Call::Name,
+        Call::Plan,
+        Call::Run,
+        Call::Follow,
+        Call::Retouch,
+    ];
 
-    /// Those that plan or go by a plan, and those that evaluate.
+    /// Those that are measured on sheets as they are, with no list of pairs.
+    pub const UNTOUCHED: [Call; 5] = [Call::Read, Call::Name, Call::Plan, Call::Run, Call::Follow];
+
+    /// Of these, those that plan or go by a plan, and those that evaluate.
     pub const PLANNED: [Call; 3] = [Call::Plan, Call::Run, Call::Follow];
     pub const EVALUATED: [Call; 2] = [Call::Run, Call::Follow];
 
@@ -103,6 +116,12 @@ impl Call {
             Call::Follow => {
                 |lent| raw::follow(lent.text, lent.order, lent.table, lent.results).unwrap_or(0)
             }
+            Call::Retouch => |lent| {
+                let (text, pairs) = (lent.text, lent.pairs);
+                let (table, plan, results) = (lent.table, lent.plan, lent.results);
+                let answer = raw::retouch(text, pairs, table, plan, results, lent.changes);
+                answer.map_or(0, |(length, _)| length)
+            },
         }
     }
 
@@ -120,6 +139,12 @@ impl Call {
             },
             Call::Follow => |lent| {
                 reference::follow(lent.text, lent.order, lent.table, lent.results).unwrap_or(0)
+            },
+            Call::Retouch => |lent| {
+                let (text, pairs) = (lent.text, lent.pairs);
+                let (table, plan, results) = (lent.table, lent.plan, lent.results);
+                let answer = reference::retouch(text, pairs, table, plan, results, lent.changes);
+                answer.map_or(0, |(length, _)| length)
             },
         }
     }

@@ -66,8 +66,9 @@ mod linked {
         };
     }
 
+    /// Before order 4 there was no Retouch.
     pub fn function(call: Call) -> Option<Function> {
-        Some(match call {
+        let function: Function = match call {
             Call::Read => |lent| {
                 let (text, table) = (lent.text, lent.table);
                 lend!(earlier_read(text.as_ptr, table.as_mut_ptr)).count()
@@ -101,6 +102,8 @@ mod linked {
                 ))
                 .count()
             },
-        })
+            Call::Retouch => return None,
+        };
+        Some(function)
     }
 }

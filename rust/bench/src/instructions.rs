@@ -25,7 +25,7 @@ pub fn make_calls(words: &[String]) -> Option<()> {
     };
     let call = Call::named(call)?;
     let side = Side::BOTH.into_iter().find(|each| each.name() == side)?;
-    let workload = &counted()[sheet.parse::<usize>().ok()?];
+    let workload = &counted(call)[sheet.parse::<usize>().ok()?];
     let mut job = Job::new(call, workload);
     let function = call.function(side)?;
     for _ in 0..count.parse::<u64>().ok()? {
@@ -36,7 +36,7 @@ pub fn make_calls(words: &[String]) -> Option<()> {
 
 /// Prints a call's instructions on the sheets that are counted.
 pub fn print(call: Call, width: usize) {
-    for (sheet, workload) in counted().iter().enumerate() {
+    for (sheet, workload) in counted(call).iter().enumerate() {
         let [library, reference] = Side::BOTH.map(|side| count(call, side, sheet));
         let (Some(library), Some(reference)) = (library, reference) else {
             println!("valgrind is not there, or not callgrind: no instructions counted");

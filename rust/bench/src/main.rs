@@ -15,6 +15,8 @@
 //! times that one too, in the same turns, on sheets of which it answers the same:
 //! the last column is our time to its.
 //!
+//! Retouch is measured on lists of pairs, and beside as many Runs as there are pairs.
+//!
 //! The floor is one pass over the bytes that judges nothing. Read and Run on everyday
 //! orders are given as multiples of its time, too, taken in the same turns.
 
@@ -33,7 +35,7 @@ use std::process::ExitCode;
 use calls::{Call, Side};
 use instructions::CALLS_ONLY;
 use measure::{measure, Times, ROUNDS};
-use workloads::{floored, growths, workloads, Growth, Workload, BAR};
+use workloads::{floored, growths, retouched, workloads, Growth, Workload, BAR};
 
 /// Passes through all sheets; fewer where only the growth is wanted.
 const PASSES: usize = 12;
@@ -45,6 +47,10 @@ const EARLIER_BAR: f64 = 1.05;
 /// The calls that are measured by the floor, and how many times its time the library
 /// may take on an order of as many lines as a sheet may have.
 const FLOOR_BARS: [(Call, f64); 2] = [(Call::Read, 3.0), (Call::Run, 4.5)];
+
+/// The share of as many Runs as there are pairs that Retouch may take beside one Run,
+/// on the first list of pairs.
+const RUNS_BAR: f64 = 1.0 / 20.0;
 
 /// Width of the names of sheets.
 const WIDTH: usize = 30;
@@ -92,6 +98,7 @@ fn measure_all(choice: &Choice) -> ExitCode {
         measured += grow(call, choice, &growths);
         measured += count(call, choice);
         measured += compare_floor(call, choice);
+        measured += compare_runs(call, choice);
     }
     if measured > 0 {
         return ExitCode::SUCCESS;
@@ -231,6 +238,47 @@ fn print_floor(workload: &Workload, times: &Times) {
         print!(" {multiple:>10.2}");
     }
     println!();
+}
+
+/// Prints what Retouch takes beside as many Runs as there are pairs, where that is
+/// chosen; says how many.
+fn compare_runs(call: Call, choice: &Choice) -> usize {
+    if call != Call::Retouch || !choice.has_sheet("runs") {
+        return 0;
+    }
+    println!("Retouch beside a Run for each pair, microseconds; the share is without one Run\n");
+    println!(
+        "{:<WIDTH$} {:>6} {:>7} {:>9} {:>9} {:>11} {:>7}",
+        "sheet", "lines", "pairs", "Retouch", "a Run", "the Runs", "share"
+    );
+    let workloads = retouched();
+    let sheets: Vec<&Workload> = workloads.iter().collect();
+    let [touched, run] = [Call::Retouch, Call::Run].map(|call| {
+        let times = measure(call, &sheets, &[Side::Library], PASSES);
+        times.into_iter().map(|times| times.of(Side::Library))
+    });
+    let mut shares = Vec::new();
+    for ((workload, touched), run) in workloads.iter().zip(touched).zip(run) {
+        let runs = run * workload.pairs() as f64;
+        shares.push((touched - run) / runs);
+        println!(
+            "{:<WIDTH$} {:>6} {:>7} {:>9.2} {:>9.2} {:>11.2} {:>7.4}",
+            workload.name,
+            workload.lines(),
+            workload.pairs(),
+            1e6 * touched,
+            1e6 * run,
+            1e6 * runs,
+            (touched - run) / runs
+        );
+    }
+    let said = if shares[0] <= RUNS_BAR {
+        "within"
+    } else {
+        "above"
+    };
+    println!("\nRetouch: {said} the bar of {RUNS_BAR} of the Runs on the first\n");
+    workloads.len()
 }
 
 /// Prints how the time of a call grows with the lines, for every shape chosen;

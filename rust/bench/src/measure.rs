@@ -67,6 +67,7 @@ pub struct Job<'a> {
     table: Vec<i64>,
     plan: Vec<i64>,
     results: Vec<i64>,
+    changes: Vec<i64>,
     /// How often a round goes through the sheets.
     turns: usize,
     /// Whether an earlier library knows the rules that the sheets go by.
@@ -82,6 +83,7 @@ impl<'a> Job<'a> {
             table: vec![0; 8 * lines],
             plan: vec![0; lines],
             results: vec![0; 3 * lines],
+            changes: vec![0; 3 * workload.pairs()],
             turns: 1,
             is_known_earlier: false,
         }
@@ -138,10 +140,12 @@ impl<'a> Job<'a> {
         function(black_box(Lent {
             text: &sheet.text,
             order: &sheet.order,
+            pairs: &sheet.pairs,
             label: sheet.label,
             table: &mut self.table,
             plan: &mut self.plan,
             results: &mut self.results,
+            changes: &mut self.changes,
         }))
     }
 }

@@ -9,15 +9,22 @@ use crate::calls::Call;
 
 const LINES: [usize; 3] = [60, 250, 1_024];
 
+/// How many pairs Retouch is lent.
+const PAIRS: usize = 1_000;
+
+/// The code of a value in the table.
+const VALUE: i64 = 2;
+
 /// How many different sheets are taken in turn.
 const SHEETS: u64 = 16;
 
-/// A sheet, the order for Follow (the plan, or none where there is none) and
-/// the label for Name, the last one that has a name.
+/// A sheet, the order for Follow (the plan, or none where there is none), the
+/// label for Name, the last one that has a name, and the pairs for Retouch.
 pub struct Sheet {
     pub text: Vec<u8>,
     pub order: Vec<i64>,
     pub label: i64,
+    pub pairs: Vec<i64>,
 }
 
 impl Sheet {
@@ -27,7 +34,12 @@ impl Sheet {
         let planned = reference::plan(&text, &mut table, &mut order);
         order.truncate(planned.map_or(0, |(length, _)| length));
         let label = 1 + table.chunks(8).rposition(|cells| cells[2] > 0).unwrap_or(0) as i64;
-        Sheet { text, order, label }
+        Sheet {
+            text,
+            order,
+            label,
+            pairs: Vec::new(),
+        }
     }
 }
 
@@ -54,6 +66,17 @@ impl Workload {
         }
     }
 
+    /// One for Retouch: pairs for an order of these labels in turn, each with a
+    /// number of its own.
+    fn retouched(name: &str, text: Vec<u8>, labels: Vec<i64>, count: usize) -> Self {
+        let labels = labels.into_iter().cycle().take(count);
+        let numbers = (0..).map(|at| at * 37 % 600 - 299);
+        let pairs = labels.zip(numbers);
+        let mut workload = Workload::one(name, &[Call::Retouch], text);
+        workload.sheets[0].pairs = pairs.flat_map(|(label, number)| [label, number]).collect();
+        workload
+    }
+
     fn without_bar(self) -> Self {
         Workload { bar: None, ..self }
     }
@@ -66,7 +89,7 @@ impl Workload {
         let texts = (1..=sheets).map(|seed| generator::everyday(lines, seed));
         Workload {
             name,
-            calls: &Call::ALL,
+            calls: &Call::UNTOUCHED,
             sheets: texts.map(Sheet::new).collect(),
             bar: Some(BAR),
         }
@@ -74,6 +97,11 @@ impl Workload {
 
     pub fn lines(&self) -> usize {
         generator::line_count(&self.sheets[0].text)
+    }
+
+    /// The pairs for Retouch.
+    pub fn pairs(&self) -> usize {
+        self.sheets[0].pairs.len() / 2
     }
 
     /// The bytes of a sheet, on average.
@@ -84,7 +112,11 @@ impl Workload {
 }
 
 pub fn workloads() -> Vec<Workload> {
-    let mut list = vec![Workload::one("the paper's example", &Call::ALL, example())];
+    let mut list = vec![Workload::one(
+        "the paper's example",
+        &Call::UNTOUCHED,
+        example(),
+    )];
     list.extend(LINES.map(|lines| Workload::everyday(lines, 1)));
     list.extend(LINES.map(|lines| Workload::everyday(lines, SHEETS)));
     list.extend(shapes());
@@ -92,12 +124,17 @@ pub fn workloads() -> Vec<Workload> {
     list.extend(in_other_letters());
     list.extend(near_names());
     list.extend([7, 9, 15, 16].map(refused));
+    list.extend(retouched());
     list
 }
 
 /// The sheets whose instructions are counted.
-pub fn counted() -> [Workload; 2] {
-    let example = Workload::one("the paper's example", &Call::ALL, example());
+pub fn counted(call: Call) -> [Workload; 2] {
+    if call == Call::Retouch {
+        let [each, _, _, one] = retouched();
+        return [one, each];
+    }
+    let example = Workload::one("the paper's example", &Call::UNTOUCHED, example());
     [example, Workload::everyday(1_024, 1)]
 }
 
@@ -109,7 +146,7 @@ fn example() -> Vec<u8> {
 /// 171 values that reach each other through functions and 341 Groups with a
 /// value are as many as 1,024 lines hold: six lines a value, three a Group.
 fn shapes() -> Vec<Workload> {
-    let all = &Call::ALL;
+    let all = &Call::UNTOUCHED;
     let planned = &Call::PLANNED;
     let evaluated = &Call::EVALUATED;
     let one = Workload::one;
@@ -156,7 +193,7 @@ fn tangled() -> Vec<Workload> {
 /// Paths in capitals to names in small letters, and names and paths in letters
 /// of either case, as no processor can foresee them.
 fn in_other_letters() -> [Workload; 4] {
-    let all = &Call::ALL;
+    let all = &Call::UNTOUCHED;
     let everyday = |lines| {
         let text = capital_paths(&generator::everyday(lines, 1));
         Workload::one("everyday, paths in capitals", all, text)
@@ -180,13 +217,49 @@ fn in_other_letters() -> [Workload; 4] {
 /// Names of 16 bytes that are hard to tell apart, such as templates have; and such
 /// that a hash does not tell apart.
 fn near_names() -> [Workload; 4] {
-    let one = |name, text| Workload::one(name, &Call::ALL, text);
+    let one = |name, text| Workload::one(name, &Call::UNTOUCHED, text);
     [
         one("names that differ at their end", generator::near_names(19)),
         one("paths of eight such names", generator::near_paths(360)),
         one("names in one slot", generator::one_slot(511)).without_bar(),
         one("names of one hash", generator::one_hash()).without_bar(),
     ]
+}
+
+/// Everyday orders with pairs for Retouch: the first is that of which one Run after
+/// another would redo most in vain.
+pub fn retouched() -> [Workload; 4] {
+    let everyday = |lines| generator::everyday(lines, 1);
+    let on_one = generator::everyday_on_one(1_024, 1);
+    let [long, short] = [1_024, 60].map(everyday);
+    let [all, of_value] = [long.clone(), short.clone()].map(|text| labels(&text, |_| true));
+    let alone = labels(&long, |redone| redone == 1);
+    let retouched = Workload::retouched;
+    [
+        retouched("1,000 pairs of one value each", long.clone(), alone, PAIRS),
+        retouched("1,000 pairs of every value", on_one, vec![1_024], PAIRS),
+        retouched("1,000 pairs of all numbers", long, all, PAIRS),
+        retouched("one pair", short, of_value, 1),
+    ]
+}
+
+/// The N lines of values for which a pair redoes so many values as wanted.
+fn labels(text: &[u8], is_wanted: impl Fn(i64) -> bool) -> Vec<i64> {
+    let lines = generator::line_count(text);
+    let mut buffers = [8 * lines, lines, 3 * lines, 3].map(|length| vec![0; length]);
+    let [table, plan, results, changes] = &mut buffers;
+    reference::read(text, table).expect("a sheet that reads");
+    let owner_kind = |label: i64| {
+        let owner = table[8 * (label as usize - 1) + 6];
+        table[8 * (owner as usize - 1)]
+    };
+    let mut labels = generator::number_labels(table);
+    labels.retain(|&label| owner_kind(label) == VALUE);
+    labels.retain(|&label| {
+        let answer = reference::retouch(text, &[label, 0], table, plan, results, changes);
+        answer.is_ok() && is_wanted(changes[0])
+    });
+    labels
 }
 
 /// The everyday orders that are measured by the floor.
@@ -203,7 +276,7 @@ fn refused(number: u64) -> Workload {
         ),
         _ => (
             format!("refusal {number} at the last label"),
-            &Call::ALL[..],
+            &Call::UNTOUCHED[..],
         ),
     };
     Workload::one(&name, calls, generator::late_refusal(number))
@@ -217,7 +290,7 @@ pub struct Growth {
 }
 
 pub fn growths() -> Vec<Growth> {
-    let all = &Call::ALL;
+    let all = &Call::UNTOUCHED;
     let planned = &Call::PLANNED;
     let everyday = Growth {
         name: "everyday orders",

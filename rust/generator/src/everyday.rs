@@ -2,6 +2,7 @@
 
 use crate::builder::{Builder, MAX_LINES};
 use crate::rng::Rng;
+use crate::rows;
 
 /// An everyday order of exactly this many lines, 1 to 1,024: Groups right,
 /// left and frame, short names, dotted paths, some functions. It reads and has
@@ -14,6 +15,26 @@ pub fn everyday(lines: usize, seed: u64) -> Vec<u8> {
         day.value(rng);
     }
     day.builder.text()
+}
+
+/// An everyday order of exactly this many lines, 9 to 1,024, in which every value
+/// reaches one: the number of its last line stands for all that values had.
+pub fn everyday_on_one(lines: usize, seed: u64) -> Vec<u8> {
+    let text = everyday(lines - 2, seed);
+    let mut table = vec![0; 8 * (lines - 2)];
+    reference::read(&text, &mut table).expect("a sheet that reads");
+    let mut rows = rows::split(&text).expect("lines of five fields");
+    let row = |fields: [&str; 5]| fields.map(|field| field.as_bytes().to_vec());
+    for label in crate::number_labels(&table) {
+        let at = label as usize - 1;
+        let owner = table[8 * at + 6] as usize - 1;
+        if rows[owner][0] == b"V" {
+            rows[at] = row(["R", "origin", "-", "-", "-"]);
+        }
+    }
+    rows.push(row(["V", "origin", "1", &lines.to_string(), "-"]));
+    rows.push(row(["N", "-", "250", "-", "-"]));
+    rows::join(&rows)
 }
 
 const GROUPS: [&str; 3] = ["frame", "right", "left"];

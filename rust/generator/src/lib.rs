@@ -27,7 +27,7 @@ mod tangled;
 mod tangles;
 
 pub use damage::{damage, damaged};
-pub use everyday::everyday;
+pub use everyday::{everyday, everyday_on_one};
 pub use lent::{buffer_length, order, planned, print_length, proper_order};
 pub use letters::{capital_paths, is_same_name, recase, recased, recased_name, OtherLetters};
 pub use long_names::{near_names, near_paths, one_hash, one_slot};

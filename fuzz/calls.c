@@ -1,4 +1,4 @@
-/* Makes all five calls and the print on what a fuzzer's input stands for, and
+/* Makes all six calls and the print on what a fuzzer's input stands for, and
  * ends the process where a reply, a cell or a byte is not the one that the
  * reference gives.
  *
@@ -34,6 +34,7 @@ typedef struct {
     __typeof__(lindypo_plan) *plan;
     __typeof__(lindypo_run) *run;
     __typeof__(lindypo_follow) *follow;
+    __typeof__(lindypo_retouch) *retouch;
     __typeof__(lindypo_print) *print;
 } library;
 
@@ -42,18 +43,20 @@ __typeof__(lindypo_name) twin_name;
 __typeof__(lindypo_plan) twin_plan;
 __typeof__(lindypo_run) twin_run;
 __typeof__(lindypo_follow) twin_follow;
+__typeof__(lindypo_retouch) twin_retouch;
 __typeof__(lindypo_print) twin_print;
 
 static const library shipped = {"library", lindypo_read, lindypo_name, lindypo_plan,
-                                lindypo_run, lindypo_follow, lindypo_print};
+                                lindypo_run, lindypo_follow, lindypo_retouch, lindypo_print};
 static const library twin = {"twin", twin_read, twin_name, twin_plan,
-                             twin_run, twin_follow, twin_print};
+                             twin_run, twin_follow, twin_retouch, twin_print};
 
-static const char *const call_names[CALLS] = {"Read", "Plan", "Run", "Follow"};
-static const char *const buffer_names[BUFFERS] = {"table", "plan", "results"};
+static const char *const call_names[CALLS] = {"Read", "Plan", "Run", "Follow", "Retouch"};
+static const char *const buffer_names[BUFFERS] = {"table", "plan", "results", "changes"};
 
 /* Whether a call is lent a buffer. */
-static const int is_lent[CALLS][BUFFERS] = {{1, 0, 0}, {1, 1, 0}, {1, 1, 1}, {1, 0, 1}};
+static const int is_lent[CALLS][BUFFERS] = {
+    {1, 0, 0, 0}, {1, 1, 0, 0}, {1, 1, 1, 0}, {1, 0, 1, 0}, {1, 1, 1, 1}};
 
 /* One library's turn at one input: where its parts stand in their rooms, and
  * what its buffers hold beforehand. */
@@ -63,26 +66,35 @@ typedef struct {
     enum side side;
     uint64_t rubbish, step;
     const uint8_t *text;
-    const int64_t *order;
+    const int64_t *order, *pairs;
     int64_t *cells[BUFFERS];
     uint8_t *out;
 } turn;
 
-static room text_room, order_room, rooms[BUFFERS], print_room;
+static room text_room, order_room, pairs_room, rooms[BUFFERS], print_room;
 static oracle *reference;
 static uint8_t *stack;
 static const execution *at_hand;
 static sem_t begin, end;
 
+static void print_list(const char *name, const int64_t *list, size_t length)
+{
+    fprintf(stderr, "%s:", name);
+    for (size_t at = 0; at < length; at++)
+        fprintf(stderr, " %" PRId64, list[at]);
+    fputc('\n', stderr);
+}
+
 static void print_input(const execution *execution)
 {
-    fprintf(stderr, "lengths: table %zu, plan %zu, results %zu, print %zu; label %" PRId64
-            "\norder:",
+    fprintf(stderr, "lengths: table %zu, plan %zu, results %zu, changes %zu, print %zu; label %"
+            PRId64 "\n",
             execution->lengths[TABLE], execution->lengths[PLANNED],
-            execution->lengths[RESULTS], execution->print_length, execution->label);
-    for (size_t at = 0; at < execution->order_length; at++)
-        fprintf(stderr, " %" PRId64, execution->order[at]);
-    fprintf(stderr, "\ntext, %zu bytes:\n", execution->text_length);
+            execution->lengths[RESULTS], execution->lengths[CHANGES],
+            execution->print_length, execution->label);
+    print_list("order", execution->order, execution->order_length);
+    print_list("pairs", execution->pairs, execution->pairs_length);
+    fprintf(stderr, "text, %zu bytes:\n", execution->text_length);
     for (size_t at = 0; at < execution->text_length; at++) {
         uint8_t byte = execution->text[at];
         int plain = byte == '\n' || (byte >= 32 && byte <= 126);
@@ -143,10 +155,16 @@ static lindypo_reply make_call(const turn *turn, enum call call)
         return library->run(text, size, cells[TABLE], lengths[TABLE],
                             cells[PLANNED], lengths[PLANNED],
                             cells[RESULTS], lengths[RESULTS]);
-    default:
+    case FOLLOW:
         return library->follow(text, size, turn->order, turn->execution->order_length,
                                cells[TABLE], lengths[TABLE],
                                cells[RESULTS], lengths[RESULTS]);
+    default:
+        return library->retouch(text, size, turn->pairs, turn->execution->pairs_length,
+                                cells[TABLE], lengths[TABLE],
+                                cells[PLANNED], lengths[PLANNED],
+                                cells[RESULTS], lengths[RESULTS],
+                                cells[CHANGES], lengths[CHANGES]);
     }
 }
 
@@ -215,7 +233,7 @@ static void try_print(const turn *turn)
         differ(turn, "print", "bytes beside it were written");
 }
 
-/* All five calls and the print; each cell is at first `rubbish`, plus `step` for
+/* All six calls and the print; each cell is at first `rubbish`, plus `step` for
  * each before it. */
 static void take_turn(const library *library, enum side side, uint64_t rubbish, uint64_t step)
 {
@@ -225,6 +243,8 @@ static void take_turn(const library *library, enum side side, uint64_t rubbish, 
                  .rubbish = rubbish, .step = step};
     turn.text = lend_copy(&text_room, side, execution->text, execution->text_length);
     turn.order = lend_copy(&order_room, side, execution->order, order_bytes);
+    turn.pairs = lend_copy(&pairs_room, side, execution->pairs,
+                           execution->pairs_length * sizeof(int64_t));
     for (enum buffer buffer = TABLE; buffer < BUFFERS; buffer++)
         turn.cells[buffer] =
             lend(&rooms[buffer], side, execution->lengths[buffer] * sizeof(int64_t));
@@ -285,6 +305,7 @@ int LLVMFuzzerInitialize(int *count, char ***words)
     (void)words;
     text_room = make_room(READ_ONLY);
     order_room = make_room(READ_ONLY);
+    pairs_room = make_room(READ_ONLY);
     for (enum buffer buffer = TABLE; buffer < BUFFERS; buffer++)
         rooms[buffer] = make_room(WRITABLE);
     print_room = make_room(WRITABLE);

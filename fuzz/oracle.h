@@ -6,13 +6,13 @@
 #include "lindypo.h"
 
 /* How many bytes of an input are settings; the text comes after them. */
-#define SETTINGS 51
+#define SETTINGS 75
 
 /* The calls that reply, in the sequence of `wanted`. */
-enum call { READ, PLAN, RUN, FOLLOW, CALLS };
+enum call { READ, PLAN, RUN, FOLLOW, RETOUCH, CALLS };
 
 /* The buffers lent for writing, in the sequence of `cells` and `lengths`. */
-enum buffer { TABLE, PLANNED, RESULTS, BUFFERS };
+enum buffer { TABLE, PLANNED, RESULTS, CHANGES, BUFFERS };
 
 typedef struct oracle oracle;
 
@@ -27,6 +27,8 @@ typedef struct {
     size_t text_length;
     const int64_t *order;
     size_t order_length;
+    const int64_t *pairs;
+    size_t pairs_length;
     size_t lengths[BUFFERS];
     /* What the buffers hold beforehand. */
     int64_t rubbish;

@@ -24,7 +24,7 @@ function print_row(line, at,    i, count, fields, text) {
     count = split(line, fields)
     if (line ~ /^refused/ || line ~ /^answered/) {
         text = substr(line, 1, 10)
-        for (i = count - 3; i <= count; i++)
+        for (i = count - 4; i <= count; i++)
             text = text sprintf(" %8d", sums[at, i])
         print text
     } else if (line ~ /^ /)

@@ -8,7 +8,7 @@
 
 #include "lindypo.h"
 
-#define FAULTS 29
+#define FAULTS 42
 
 static const char *const words[FAULTS + 1] = {
     "",
@@ -41,6 +41,19 @@ static const char *const words[FAULTS + 1] = {
     "Read takes names for one that differ in their first eight bytes alone",
     "Read does not find a name of more than eight bytes in other letters",
     "Read leads a path to a name that differs after its eighth byte",
+    "Retouch leaves out the value that owns the number",
+    "Retouch redoes what mentions the owner itself alone",
+    "Retouch does not lower the count of values that fail",
+    "Retouch does not lower the sum of steps",
+    "Retouch leaves out a pair whose number stays",
+    "Retouch looks at the number of a pair before its label",
+    "Retouch looks at all labels before any number",
+    "Retouch counts an odd last cell as a pair of the changes",
+    "Retouch has applied pairs where it refuses a later one",
+    "Retouch leaves the last number as sent in the table",
+    "Retouch takes one pair more than there may be",
+    "Retouch reads the cell after the pairs",
+    "Retouch writes the cell after the changes",
 };
 
 static int fault;
@@ -60,6 +73,7 @@ __typeof__(lindypo_name) __real_lindypo_name, __wrap_lindypo_name;
 __typeof__(lindypo_plan) __real_lindypo_plan, __wrap_lindypo_plan;
 __typeof__(lindypo_run) __real_lindypo_run, __wrap_lindypo_run;
 __typeof__(lindypo_follow) __real_lindypo_follow, __wrap_lindypo_follow;
+__typeof__(lindypo_retouch) __real_lindypo_retouch, __wrap_lindypo_retouch;
 __typeof__(lindypo_print) __real_lindypo_print, __wrap_lindypo_print;
 
 /* Whether the path at a label is in other letters than the definitions that it
@@ -374,6 +388,171 @@ lindypo_reply __wrap_lindypo_follow(const uint8_t *text, size_t text_length,
         reply.place--;
     if (fault == 14 && reply.refusal == 0)
         *(volatile uint8_t *)alloca(2 << 20) = 0;
+    return reply;
+}
+
+/* What a list of pairs leaves, in buffers that are long enough. */
+#define PAIRS_MOST 1024
+typedef struct {
+    int64_t table[LINDYPO_TABLE_MOST], plan[LINDYPO_PLAN_MOST];
+    int64_t results[LINDYPO_RESULTS_MOST], changes[3 * PAIRS_MOST];
+} left;
+
+static void leave(left *left, const uint8_t *text, size_t text_length,
+                  const int64_t *pairs, size_t pairs_length)
+{
+    __real_lindypo_retouch(text, text_length, pairs, pairs_length,
+                           left->table, LINDYPO_TABLE_MOST, left->plan, LINDYPO_PLAN_MOST,
+                           left->results, LINDYPO_RESULTS_MOST, left->changes, 3 * PAIRS_MOST);
+}
+
+/* The line of a label. */
+static int64_t *line_of(int64_t *table, int64_t label)
+{
+    return table + 8 * (label - 1);
+}
+
+/* Whether a value mentions a definition itself. */
+static int mentions(const int64_t *table, uint64_t lines, int64_t value, int64_t target)
+{
+    for (const int64_t *line = table; line < table + 8 * lines; line += 8)
+        if (line[6] == value && line[7] == target)
+            return 1;
+    return 0;
+}
+
+/* A value's result as it was before the last pair. */
+static void leave_out(int64_t *results, int64_t *change, const left *before, int64_t value)
+{
+    memcpy(results + 3 * (value - 1), before->results + 3 * (value - 1), 3 * sizeof *results);
+    change[0]--;
+}
+
+/* The last pair redoes no value that mentions the owner by others alone. */
+static void leave_out_distant(int64_t *table, uint64_t lines, const int64_t *plan,
+                              uint64_t count, int64_t owner, int64_t *results, int64_t *change,
+                              const left *before)
+{
+    fill_reaches(table, lines);
+    for (uint64_t at = 0; at < count; at++) {
+        int64_t value = plan[at];
+        if (value != owner && reaches[value][owner] && !mentions(table, lines, value, owner))
+            leave_out(results, change, before, value);
+    }
+}
+
+/* A figure of each pair that goes up and never down. */
+static void keep_highest(int64_t *changes, size_t pairs, int figure, int64_t before)
+{
+    for (size_t at = 0; at < pairs; at++) {
+        int64_t *cell = changes + 3 * at + figure;
+        if (*cell < before)
+            *cell = before;
+        before = *cell;
+    }
+}
+
+/* The values that fail by these results, or all steps: what figure 1 and 2 are of. */
+static int64_t sum_of(const int64_t *results, int figure)
+{
+    int64_t sum = 0;
+    for (const int64_t *result = results; result < results + LINDYPO_RESULTS_MOST; result += 3)
+        sum += figure == 1 ? result[0] > 1 : result[2];
+    return sum;
+}
+
+static int is_in_range(int64_t number)
+{
+    return number >= -LINDYPO_NUMBER_MOST && number <= LINDYPO_NUMBER_MOST;
+}
+
+/* The first pair from a place on whose label is no N line's; 0 where none is. */
+static uint64_t first_wrong_label(const uint8_t *text, size_t text_length,
+                                  const int64_t *pairs, size_t pairs_length, uint64_t place)
+{
+    static int64_t table[LINDYPO_TABLE_MOST];
+    int64_t lines =
+        (int64_t)__real_lindypo_read(text, text_length, table, LINDYPO_TABLE_MOST).count;
+    for (; 2 * place <= pairs_length; place++) {
+        int64_t label = pairs[2 * (place - 1)];
+        int is_label = label >= 1 && label <= lines;
+        if (!is_label || line_of(table, label)[0] != LINDYPO_KIND_NUMBER)
+            return place;
+    }
+    return 0;
+}
+
+/* Pairs whose number is there redo nothing. */
+static void skip_unchanged(const int64_t *pairs, size_t count, int64_t *numbers,
+                           int64_t *changes)
+{
+    for (size_t at = 0; at < count; at++) {
+        int64_t *number = line_of(numbers, pairs[2 * at]) + 3;
+        if (*number == pairs[2 * at + 1])
+            changes[3 * at] = 0;
+        *number = pairs[2 * at + 1];
+    }
+}
+
+/* The faults of a list that is answered, of one pair at least. */
+static void spoil_answer(const uint8_t *text, size_t text_length, const int64_t *pairs,
+                         size_t count, int64_t *table, size_t table_length,
+                         const int64_t *plan, uint64_t planned, int64_t *results,
+                         int64_t *changes)
+{
+    static left before;
+    int64_t label = pairs[2 * (count - 1)];
+    int64_t owner = line_of(table, label)[6];
+    int64_t *change = changes + 3 * (count - 1);
+    int is_last = fault == 30 || fault == 31 || fault == 39;
+    leave(&before, text, text_length, pairs, is_last ? 2 * (count - 1) : 0);
+    if (fault == 30 && line_of(table, owner)[0] == LINDYPO_KIND_VALUE)
+        leave_out(results, change, &before, owner);
+    if (fault == 31)
+        leave_out_distant(table, line_count(table, table_length), plan, planned, owner,
+                          results, change, &before);
+    if (fault == 32 || fault == 33)
+        keep_highest(changes, count, fault - 31, sum_of(before.results, fault - 31));
+    if (fault == 34)
+        skip_unchanged(pairs, count, before.table, changes);
+    if (fault == 39)
+        line_of(table, label)[3] = line_of(before.table, label)[3];
+}
+
+lindypo_reply __wrap_lindypo_retouch(const uint8_t *text, size_t text_length,
+                                     const int64_t *pairs, size_t pairs_length,
+                                     int64_t *table, size_t table_length,
+                                     int64_t *plan, size_t plan_length,
+                                     int64_t *results, size_t results_length,
+                                     int64_t *changes, size_t changes_length)
+{
+    if (fault == 41)
+        (void)*(const volatile int64_t *)(pairs + pairs_length);
+    lindypo_reply reply = __real_lindypo_retouch(
+        text, text_length, pairs, pairs_length, table, table_length, plan, plan_length,
+        results, results_length, changes, changes_length);
+    uint64_t row = reply.refusal, place = reply.place;
+    if (row == 0 && pairs_length > 0)
+        spoil_answer(text, text_length, pairs, pairs_length / 2, table, table_length, plan,
+                     reply.count, results, changes);
+    if (fault == 35 && row == 20 && !is_in_range(pairs[2 * (place - 1) + 1]))
+        reply = refused(21, place);
+    uint64_t later = 0;
+    if (fault == 36 && row == 21)
+        later = first_wrong_label(text, text_length, pairs, pairs_length, place);
+    if (later != 0)
+        reply = refused(20, later);
+    if (fault == 37 && row == 19 && changes_length < 3 * ((pairs_length + 1) / 2))
+        reply = refused(4, 4);
+    if (fault == 38 && row >= 20 && place > 1)
+        __real_lindypo_run(text, text_length, table, table_length, plan, plan_length, results,
+                           results_length);
+    if (fault == 40 && row == 19 && pairs_length == 2 * (PAIRS_MOST + 1))
+        reply = __real_lindypo_retouch(text, text_length, pairs, 2 * PAIRS_MOST, table,
+                                       table_length, plan, plan_length, results,
+                                       results_length, changes, changes_length);
+    if (fault == 42 && row == 0)
+        changes[changes_length] = 0;
     return reply;
 }
 

@@ -2,7 +2,7 @@
 
 use std::slice;
 
-use checks::{Expected, Outcome, Tally, Trial};
+use checks::{Call, Expected, Outcome, Tally, Trial};
 use generator::{Case, Rng};
 use lindypo::raw::{Part, Printed, Reply};
 
@@ -20,11 +20,11 @@ struct Held {
     expected: Expected,
 }
 
-/// What one call replies and leaves in table, plan and results.
+/// What one call replies and leaves in table, plan, results and changes.
 #[repr(C)]
 pub struct WantedCells {
     reply: Reply,
-    cells: [*const i64; 3],
+    cells: [*const i64; 4],
 }
 
 /// What the calls are lent, and what they have to give.
@@ -34,12 +34,14 @@ pub struct Execution {
     text_length: usize,
     order: *const i64,
     order_length: usize,
-    /// Cells of table, plan and results.
-    lengths: [usize; 3],
+    pairs: *const i64,
+    pairs_length: usize,
+    /// Cells of table, plan, results and changes.
+    lengths: [usize; 4],
     rubbish: i64,
     label: i64,
-    /// Read, Plan, Run, Follow.
-    wanted: [WantedCells; 4],
+    /// Read, Plan, Run, Follow, Retouch.
+    wanted: [WantedCells; Call::COUNT],
     name: Part,
     /// The bytes lent for the print, what it answers and leaves in them.
     print_length: usize,
@@ -60,7 +62,9 @@ impl Execution {
             text_length: case.text.len(),
             order: case.order.as_ptr(),
             order_length: case.order.len(),
-            lengths: [case.table, case.plan, case.results],
+            pairs: case.pairs.as_ptr(),
+            pairs_length: case.pairs.len(),
+            lengths: [case.table, case.plan, case.results, case.changes],
             rubbish: case.rubbish,
             label: case.label,
             wanted: calls.each_ref().map(|wanted| WantedCells {
@@ -79,9 +83,10 @@ impl Oracle {
     /// What the reference wants for an input.
     fn take(&mut self, input: &[u8]) -> &Execution {
         let case = crate::decode(input);
-        let expected = Trial::of(&case).expected(|_| vec![case.label]);
+        let trial = Trial::of(&case);
+        let expected = trial.expected(|_| vec![case.label]);
         let expected = expected.unwrap_or_else(|difference| panic!("{difference}"));
-        self.tally.add(Outcome::new(&case.text, &expected));
+        self.tally.add(Outcome::new(&trial, &expected));
         let held = self.held.insert(Held { case, expected });
         self.execution.insert(Execution::new(held))
     }

@@ -10,7 +10,8 @@ pub const MOST_CELLS: usize = 8 * 1_024 + 64;
 pub const MOST_PRINT: usize = 49_188 + 64;
 
 /// Zeros, which a sheet without settings has, stand for buffers of exactly the
-/// cells needed, Follow down the plan, and Name of label 2.
+/// cells needed, Follow down the plan, Name of label 2, and Retouch with the first
+/// two N lines at 0.
 #[derive(Debug, Default, Clone, Copy, PartialEq, Eq)]
 pub struct Settings {
     /// How the list for Follow is made, the fault in it and where that is.
@@ -18,9 +19,10 @@ pub struct Settings {
     pub fault: u8,
     pub at: u16,
     pub other: u16,
-    /// How the lengths of table, plan and results come from the cells needed.
-    pub ways: [u8; 3],
-    pub amounts: [u16; 3],
+    /// How the lengths of table, plan, results and changes come from the cells
+    /// needed.
+    pub ways: [u8; 4],
+    pub amounts: [u16; 4],
     /// How the label for Name comes from the word.
     pub label: u8,
     pub word: i64,
@@ -31,10 +33,18 @@ pub struct Settings {
     /// How the length of the buffer for the print comes from the bytes needed.
     pub print_way: u8,
     pub print_amount: u16,
+    /// How the list for Retouch is made and of how many pairs, the fault in it and
+    /// where that is.
+    pub pairs: u8,
+    pub pair_count: u8,
+    pub pair_fault: u8,
+    pub pair_at: u16,
+    /// For each pair a byte that chooses the N line and one for the number.
+    pub touches: [u8; 16],
 }
 
 impl Settings {
-    pub const BYTES: usize = 51;
+    pub const BYTES: usize = 75;
 
     /// The settings of an input and its text; what is missing is 0.
     pub fn split(input: &[u8]) -> (Self, &[u8]) {
@@ -52,24 +62,30 @@ impl Settings {
             fault: bytes[1],
             at: pair(2),
             other: pair(4),
-            ways: [bytes[6], bytes[7], bytes[8]],
+            ways: [bytes[6], bytes[7], bytes[8], bytes[51]],
             label: bytes[9],
-            amounts: [pair(10), pair(12), pair(14)],
+            amounts: [pair(10), pair(12), pair(14), pair(52)],
             word: i64::from_le_bytes(eight(16)),
             seed: u64::from_le_bytes(eight(24)),
             list: std::array::from_fn(|byte| bytes[32 + byte]),
             print_way: bytes[48],
             print_amount: pair(49),
+            pairs: bytes[54],
+            pair_count: bytes[55],
+            pair_fault: bytes[56],
+            pair_at: pair(57),
+            touches: std::array::from_fn(|byte| bytes[59 + byte]),
         }
     }
 
     pub fn to_bytes(self) -> Vec<u8> {
-        let [table, plan, results] = self.amounts.map(u16::to_le_bytes);
+        let [table, plan, results, changes] = self.amounts.map(u16::to_le_bytes);
+        let [ways @ .., changes_way] = self.ways;
         [
             &[self.order, self.fault][..],
             &self.at.to_le_bytes(),
             &self.other.to_le_bytes(),
-            &self.ways,
+            &ways,
             &[self.label],
             &table,
             &plan,
@@ -79,6 +95,11 @@ impl Settings {
             &self.list,
             &[self.print_way],
             &self.print_amount.to_le_bytes(),
+            &[changes_way],
+            &changes,
+            &[self.pairs, self.pair_count, self.pair_fault],
+            &self.pair_at.to_le_bytes(),
+            &self.touches,
         ]
         .concat()
     }
@@ -86,7 +107,7 @@ impl Settings {
     /// Settings of any sort, lengths most often those needed.
     pub fn random(rng: &mut Rng) -> Self {
         let mut settings = Settings::default();
-        for _ in 0..8 {
+        for _ in 0..12 {
             settings.change(rng);
         }
         settings
@@ -94,10 +115,10 @@ impl Settings {
 
     /// One of the settings anew.
     pub fn change(&mut self, rng: &mut Rng) {
-        let buffer = rng.below(3);
+        let buffer = rng.below(4);
         let small = rng.below(64) as i64;
         let edges = [small, small, small, -small, -1, i64::MIN, i64::MAX];
-        match rng.below(12) {
+        match rng.below(18) {
             0 => self.order = rng.below(8) as u8,
             1 => self.fault = rng.below(8) as u8,
             2 => self.at = small as u16,
@@ -109,7 +130,12 @@ impl Settings {
             8 => self.label = rng.below(8) as u8,
             9 => self.print_way = rng.below(32) as u8,
             10 => self.print_amount = rng.below(MOST_PRINT + 1) as u16,
-            _ => self.list[rng.below(16)] = small as u8,
+            11 => self.list[rng.below(16)] = small as u8,
+            12 => self.pairs = rng.below(8) as u8,
+            13 => self.pair_count = rng.below(8) as u8,
+            14 => self.pair_fault = rng.below(8) as u8,
+            15 => self.pair_at = small as u16,
+            _ => self.touches[rng.below(16)] = rng.word() as u8,
         }
     }
 }

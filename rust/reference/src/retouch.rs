@@ -25,7 +25,7 @@ pub fn count_pairs(list: &[i64]) -> usize {
 
 /// Rows 19 to 21. All pairs are judged before the first is applied.
 pub fn check(sheet: &Sheet, list: &[i64]) -> Result<Vec<Pair>, Refusal> {
-    if list.len() % 2 != 0 || count_pairs(list) > MAX_PAIRS {
+    if list.len() % 2 == 1 || count_pairs(list) > MAX_PAIRS {
         return Err(Refusal::new(19, 0));
     }
     let pairs = list.chunks_exact(2).zip(1..);

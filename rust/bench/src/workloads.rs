@@ -327,3 +327,32 @@ fn growth(
     let sizes = counts.map(|count| Workload::one(name, calls, shape(count)));
     Growth { name, calls, sizes }
 }
+
+#[cfg(test)]
+mod tests {
+    use super::*;
+
+    /// How many values each pair of a workload redoes, and how many there are.
+    fn redone(workload: &Workload) -> (Vec<i64>, i64) {
+        let Sheet { text, pairs, .. } = &workload.sheets[0];
+        let lines = workload.lines();
+        let lengths = [8 * lines, lines, 3 * lines, 3 * workload.pairs()];
+        let mut buffers = lengths.map(|length| vec![0; length]);
+        let [table, plan, results, changes] = &mut buffers;
+        let answer = lindypo::raw::retouch(text, pairs, table, plan, results, changes);
+        let (values, _) = answer.expect("a sheet that runs");
+        (changes.iter().step_by(3).copied().collect(), values as i64)
+    }
+
+    /// The pairs for Retouch are what their names say.
+    #[test]
+    fn pairs_redo_what_they_are_called() {
+        let workloads = retouched();
+        let [(each, _), (every, values), (all, _), (one, _)] = workloads.each_ref().map(redone);
+        assert_eq!(each, [1; PAIRS]);
+        assert_eq!(every, [values; PAIRS]);
+        assert!(values > 200);
+        assert!(all.contains(&1) && all.iter().any(|&redone| redone > 10));
+        assert_eq!(one.len(), 1);
+    }
+}

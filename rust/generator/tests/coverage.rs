@@ -3,8 +3,8 @@
 //! gives the same trial.
 
 use generator::{
-    any_sheet, capital_paths, case, recased, sheet, tangled_blocks, Case, NearNames, OtherLetters,
-    Rng, Tangles,
+    any_sheet, capital_paths, case, everyday_on_one, recased, sheet, tangled_blocks, Case,
+    NearNames, OtherLetters, Rng, Tangles,
 };
 use reference::{Order, Refusal};
 
@@ -461,6 +461,22 @@ fn everyday_orders_have_their_lines_and_a_whole_plan() {
             "{lines} {planned:?}"
         );
         assert_eq!(generator::line_count(&text), lines);
+    }
+}
+
+/// Every value reaches the number of the last line: a pair of it redoes all.
+#[test]
+fn everyday_orders_on_one_number() {
+    for lines in [9, 60, 250, 1_024] {
+        let text = everyday_on_one(lines, 1);
+        assert_eq!(generator::line_count(&text), lines);
+        let mut buffers = [8 * lines, lines, 3 * lines, 3].map(|length| vec![0; length]);
+        let [table, plan, results, changes] = &mut buffers;
+        let pairs = [lines as i64, 7];
+        let answer = reference::retouch(&text, &pairs, table, plan, results, changes);
+        let (values, order) = answer.expect("a sheet that runs");
+        assert_eq!((changes[0], order), (values as i64, Order::Whole));
+        assert!(values > lines / 8);
     }
 }
 

@@ -2,7 +2,7 @@
 
 from enum import IntEnum
 
-VERSION = "0.4.1"
+VERSION = "0.5.0"
 
 # limits of a sheet
 TEXT_MOST = 65536

@@ -36,6 +36,13 @@ labels-append (z ∷ a) b = ap (λ (l : List ℕ). natOf z ∷ l) (labels-append
 abbrev pub left : List ℤ → ℕ → ℕ → List ℕ
 left order k i = labelsOf (drop i (take k order))
 
+-- the labels before an index and those from it on
+pub labels-cut : (order : List ℤ) (i j : ℕ) → j ≤ i → labelsOf (take i order) ≡ labelsOf (take j order) ++ left order i j
+labels-cut order i j h =
+    ap labelsOf (sym (take-append-drop j (take i order)))
+    ∙ labels-append (take j (take i order)) (drop j (take i order))
+    ∙ ap (λ (l : List ℤ). labelsOf l ++ left order i j) (take-take j i order h)
+
 module _ (order : List ℤ) (k i : ℕ) (h : k ≤ length order) (j : i < k) where
   pub next : left order k i ≡ natAt order i ∷ left order k (i + 1)
   next =
@@ -46,21 +53,11 @@ module _ (order : List ℤ) (k i : ℕ) (h : k ≤ length order) (j : i < k) whe
   one-more = rw (add-one, take-suc order i (pos 0) (omega arith)) (labels-append (take i order) _)
 
   parts : labelsOf (take k order) ≡ labelsOf (take i order) ++ natAt order i ∷ left order k (i + 1)
-  parts =
-      ap labelsOf (sym (take-append-drop i (take k order)))
-      ∙ labels-append (take i (take k order)) (drop i (take k order))
-      ∙ ap (λ (l : List ℤ). labelsOf l ++ left order k i) (take-take i k order (omega arith))
-      ∙ ap (λ (l : List ℕ). labelsOf (take i order) ++ l) next
+  parts = labels-cut order k i (omega arith) ∙ ap (λ (l : List ℕ). labelsOf (take i order) ++ l) next
 
 -- what stands before index i stands before any index above it
 still-before : (order : List ℤ) {i j : ℕ} → j ≤ i → (x : ℕ) → x ∈ labelsOf (take j order) → x ∈ labelsOf (take i order)
-still-before order {i} {j} h x m =
-    let behind = labelsOf (drop j (take i order)) in
-    let cut : labelsOf (take i order) ≡ labelsOf (take j order) ++ behind =
-    ap labelsOf (sym (take-append-drop j (take i order)))
-    ∙ labels-append (take j (take i order)) (drop j (take i order))
-    ∙ ap (λ (l : List ℤ). labelsOf l ++ behind) (take-take j i order h) in
-    rw cut (in-left x (labelsOf (take j order)) behind m)
+still-before order {i} {j} h x m = rw (labels-cut order i j h) (in-left x (labelsOf (take j order)) (left order i j) m)
 
 -- ---- the loop
 

@@ -12,6 +12,7 @@ use Rattle.cells.specs.Cells.{natOf, natAt, zeros}
 use Rattle.cells.specs.Limits.{numberLimit}
 use Rattle.cells.specs.Table.{kind, owner, withNumber}
 use Rattle.cells.specs.Accepted.{Accepted}
+use Rattle.cells.proofs.Accepted.{body-label}
 use Rattle.cells.proofs.Stores.{sets-next}
 use Rattle.order.specs.Order.{NoCycle, Proper, SameStructure}
 use Rattle.order.specs.Following.{labelsOf}
@@ -27,12 +28,12 @@ use Rattle.evaluation.specs.Ready.{Ready}
 use Rattle.evaluation.specs.declared.Value.{Value}
 use Rattle.figures.specs.Figures.{blank, figures, resultCells, evaluateInto}
 use Rattle.figures.proofs.Rows.{same-stored, stored-zeros, buffer-length}
-use Rattle.figures.proofs.Working.{figures-solve, figures-value, figures-stored}
+use Rattle.figures.proofs.Working.{value-label, figures-solve, figures-value, figures-stored}
 use Rattle.figures.proofs.Early.{figures-recorded}
 use Rattle.figures.proofs.Loop.{listed}
 use Rattle.redoing.specs.Pairs.{pairCount, pairLabel, pairNumber, PairRight, PairsRight, withPairs}
 use Rattle.redoing.specs.Redone.{isRedone, redoneOf, redoneCount, failing, stepSum, changeCells, changeOf, changesOf}
-use Rattle.redoing.specs.RedoStages.{Tallied, Redoable, Redid, OwnersMarked, Standing, PairApplied, PairsApplied}
+use Rattle.redoing.specs.RedoStages.{Tallied, Redoable, Redid, Window, OwnersMarked, OwnersWindows, Standing, PairApplied, PairsApplied}
 use Rattle.redoing.specs.declared.Change.{Change}
 use Rattle.redoing.proofs.Numbers.{number-length, number-structure, number-owner, number-accepted}
 use Rattle.redoing.proofs.Structure.{proper-on, proper-list-on, mark-row-on}
@@ -80,6 +81,10 @@ module _ (t : List ℤ) (n : ℕ) (plan : List ℤ) (k : ℕ) (r : List ℤ) (st
 
   pub plan-few : k ≤ n
   plan-few = omega (arith, order-length, order-short t n (st .accepted) order proper)
+
+  pub plan-labels : (i : ℕ) → i < k → natAt plan i ≤ n
+  plan-labels i h =
+      value-label t n (st .accepted) (natAt plan i) (listed t plan n k (length r) (st .accepted) (st .plans) (st .fit) (st .proper) refl .values i h) .1
 
   -- no value has taken more than its allowance
   pub steps-standing : (l : ℕ) → stepsAt r l ≤ stepLimit
@@ -131,7 +136,7 @@ module _ (t : List ℤ) (n : ℕ) (plan : List ℤ) (k : ℕ) (r : List ℤ) (st
 
     -- ---- what it leaves
 
-    module _ {c : Change} (none : c .redone ≡ 0) {r′ : List ℤ} {c′ : Change} (did : Redid (withNumber l z t) n r plan k (owner t l) c r′ c′) where
+    module _ {c : Change} (none : c .redone ≡ 0) {r′ : List ℤ} {c′ : Change} (did : Redid (withNumber l z t) n r (labelsOf (take k plan)) (owner t l) c r′ c′) where
       settled : r′ ≡ resultCells u n (length r)
       settled =
           did .results
@@ -192,19 +197,22 @@ module _ (t : List ℤ) (n : ℕ) (ps : List ℤ) (i : ℕ) {l : ℕ} {u : List 
   table-is : u ≡ withNumber (pairLabel ps i) (pairNumber ps i) t
   table-is = put ∙ ap (λ (x : ℕ). withNumber x (pairNumber ps i) t) named
 
-  owner-is : {d : ℕ} → d ≡ owner u l → d ≡ owner t (pairLabel ps i)
+  pub owner-is : {d : ℕ} → d ≡ owner u l → d ≡ owner t (pairLabel ps i)
   owner-is own = own ∙ ap (λ (w : List ℤ). owner w l) put ∙ number-structure t l (pairNumber ps i) .owners l ∙ ap (owner t) named
 
   pub accepted-still : Accepted t n → PairRight t ps i → Accepted u n
   accepted-still ok right = rw table-is (number-accepted t n ok (pairLabel ps i) (right .line) (pairNumber ps i) (right .number))
 
+  pub owner-few : Accepted t n → PairRight t ps i → {d : ℕ} → d ≡ owner u l → d ≤ n
+  owner-few ok right own = rw (owner-is own) (body-label t n ok (owner t (pairLabel ps i)) (number-owner t n ok (pairLabel ps i) (right .line)) .1)
+
   module _ (r plan : List ℤ) (k : ℕ) {d : ℕ} (own : d ≡ owner u l) where
     pub redoable-still : (square : List ℕ) → Redoable (withNumber (pairLabel ps i) (pairNumber ps i) t) n r plan k square (owner t (pairLabel ps i)) → Redoable u n r plan k square d
     redoable-still square w = transport (λ j. Redoable (sym table-is j) n r plan k square (sym (owner-is own) j)) w
 
-    pub redid-still : {c c′ : Change} {r′ : List ℤ} → Redid u n r plan k d c r′ c′
-        → Redid (withNumber (pairLabel ps i) (pairNumber ps i) t) n r plan k (owner t (pairLabel ps i)) c r′ c′
-    redid-still {c} {c′} {r′} w = transport (λ j. Redid (table-is j) n r plan k (owner-is own j) c r′ c′) w
+    pub redid-still : {o : List ℕ} {c c′ : Change} {r′ : List ℤ} → Redid u n r o d c r′ c′
+        → Redid (withNumber (pairLabel ps i) (pairNumber ps i) t) n r o (owner t (pairLabel ps i)) c r′ c′
+    redid-still {o} {c} {c′} {r′} w = transport (λ j. Redid (table-is j) n r o (owner-is own j) c r′ c′) w
 
     pub applied-still : {w r′ w′ : List ℤ} {c : Change} → PairApplied t n ps i r w (withNumber (pairLabel ps i) (pairNumber ps i) t) r′ w′ c → PairApplied t n ps i r w u r′ w′ c
     applied-still {w} {r′} {w′} {c} a = subst (λ (x : List ℤ). PairApplied t n ps i r w x r′ w′ c) (sym table-is) a
@@ -246,6 +254,9 @@ module _ (t : List ℤ) (n : ℕ) (plan : List ℤ) (k : ℕ) (ps r w : List ℤ
 
     pub next-row : (square : List ℕ) → OwnersMarked t n ps (pairCount ps) square → MarkRow u n 6 square (owner u (pairLabel ps (i + 1)))
     next-row square rows = rw (g .structure .owners (pairLabel ps (i + 1))) (mark-row-on (g .structure) n square (owner t (pairLabel ps (i + 1))) (rows (i + 1) (omega arith) (omega arith)))
+
+    pub next-window : (square windows : List ℕ) → OwnersWindows t n plan k square ps (pairCount ps) windows → Window square n plan k windows (owner u (pairLabel ps (i + 1)))
+    next-window square windows found = rw (g .structure .owners (pairLabel ps (i + 1))) (found (i + 1) (omega arith) (omega arith))
 
     module _ (room : 3 * pairCount ps ≤ length w) (right : PairsRight t ps) {u″ r″ w″ : List ℤ} {c′ : Change} (a : PairApplied u n ps (i + 1) r′ w′ u″ r″ w″ c′) where
       abbrev l : ℕ

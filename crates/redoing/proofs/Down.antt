@@ -17,12 +17,12 @@ use Rattle.evaluation.specs.Evaluation.{evaluated}
 use Rattle.evaluation.specs.Ready.{Ready, Evaluable}
 use Rattle.evaluation.proofs.Stored.{store-length, recorded-still, ready-stored}
 use Rattle.figures.specs.Figures.{evaluateInto}
-use Rattle.figures.proofs.Loop.{left, next}
+use Rattle.figures.proofs.Loop.{next}
 use Rattle.redoing.specs.Redone.{isRedone, redoneOf}
-use Rattle.redoing.specs.RedoStages.{Tallied, Turned, turns, Redoable, Redid}
+use Rattle.redoing.specs.RedoStages.{Tallied, Turned, turns, Redoable, Redid, between}
 use Rattle.redoing.specs.declared.Change.{Change}
 
-pub record Going (t : List ℤ) (n : ℕ) (plan : List ℤ) (k : ℕ) (square : List ℕ) (d : ℕ) (r₀ : List ℤ) (c₀ : Change) (r : List ℤ) (c : Change) (i : ℕ) : Type 0 where
+pub record Going (t : List ℤ) (n : ℕ) (plan : List ℤ) (from k : ℕ) (square : List ℕ) (d : ℕ) (r₀ : List ℤ) (c₀ : Change) (r : List ℤ) (c : Change) (i : ℕ) : Type 0 where
   pub asked : Redoable t n r₀ plan k square d
   pub upto : i ≤ k
   pub long : length r ≡ length r₀
@@ -30,14 +30,14 @@ pub record Going (t : List ℤ) (n : ℕ) (plan : List ℤ) (k : ℕ) (square : 
   pub evaluated : (v : ℕ) → kind t v ≡ valueCode → 1 ≤ stateAt r v
   pub tallied : Tallied n r c
   pub few : c .redone ≤ i
-  pub rest : down (evaluateInto t) (redoneOf t n d (left plan k i)) r ≡ down (evaluateInto t) (redoneOf t n d (labelsOf (take k plan))) r₀
-  pub counted : c .redone + length (redoneOf t n d (left plan k i)) ≡ c₀ .redone + length (redoneOf t n d (labelsOf (take k plan)))
+  pub rest : down (evaluateInto t) (redoneOf t n d (between plan i k)) r ≡ down (evaluateInto t) (redoneOf t n d (between plan from k)) r₀
+  pub counted : c .redone + length (redoneOf t n d (between plan i k)) ≡ c₀ .redone + length (redoneOf t n d (between plan from k))
 
-module _ (t : List ℤ) (n : ℕ) (plan : List ℤ) (k : ℕ) (square : List ℕ) (d : ℕ) (r₀ : List ℤ) (c₀ : Change) where
-  pub going-start : Redoable t n r₀ plan k square d → Tallied n r₀ c₀ → c₀ .redone ≡ 0 → Going t n plan k square d r₀ c₀ r₀ c₀ 0
-  going-start w a z = record {
+module _ (t : List ℤ) (n : ℕ) (plan : List ℤ) (from k : ℕ) (square : List ℕ) (d : ℕ) (r₀ : List ℤ) (c₀ : Change) where
+  pub going-start : Redoable t n r₀ plan k square d → from ≤ k → Tallied n r₀ c₀ → c₀ .redone ≡ 0 → Going t n plan from k square d r₀ c₀ r₀ c₀ from
+  going-start w h a z = record {
     asked = w;
-    upto = omega arith;
+    upto = h;
     long = refl;
     ready = w .ready;
     evaluated = w .evaluated;
@@ -47,7 +47,7 @@ module _ (t : List ℤ) (n : ℕ) (plan : List ℤ) (k : ℕ) (square : List ℕ
     counted = refl;
   }
 
-  module _ {r : List ℤ} {c : Change} {i : ℕ} (g : Going t n plan k square d r₀ c₀ r c i) where
+  module _ {r : List ℤ} {c : Change} {i : ℕ} (g : Going t n plan from k square d r₀ c₀ r c i) where
     pub turn-value : {v : ℕ} → i < k → v ≡ natAt plan i → kind t v ≡ valueCode
     turn-value h e = rw e (g .asked .values i h)
 
@@ -64,16 +64,16 @@ module _ (t : List ℤ) (n : ℕ) (plan : List ℤ) (k : ℕ) (square : List ℕ
 
     -- what is left with a value v in front, by the test of v
     next-left : (b : Bool) {v : ℕ} → i < k → v ≡ natAt plan i → isRedone t n d v ≡ b
-        → redoneOf t n d (left plan k i) ≡ cond b (v ∷ redoneOf t n d (left plan k (i + 1))) (redoneOf t n d (left plan k (i + 1)))
+        → redoneOf t n d (between plan i k) ≡ cond b (v ∷ redoneOf t n d (between plan (i + 1) k)) (redoneOf t n d (between plan (i + 1) k))
     next-left b {v} h e q =
-        ap (redoneOf t n d) (next plan k i (g .asked .room) h ∙ ap (λ (x : ℕ). x ∷ left plan k (i + 1)) (sym e))
-        ∙ ap (λ (a : Bool). cond a (v ∷ redoneOf t n d (left plan k (i + 1))) (redoneOf t n d (left plan k (i + 1)))) q
+        ap (redoneOf t n d) (next plan k i (g .asked .room) h ∙ ap (λ (x : ℕ). x ∷ between plan (i + 1) k) (sym e))
+        ∙ ap (λ (a : Bool). cond a (v ∷ redoneOf t n d (between plan (i + 1) k)) (redoneOf t n d (between plan (i + 1) k))) q
 
     pub going-turn : {v : ℕ} {r′ : List ℤ} {c′ : Change} → i < k → v ≡ natAt plan i → turns square n d v ≡ isRedone t n d v
-        → Turned (turns square n d v) t n v r c r′ c′ → Going t n plan k square d r₀ c₀ r′ c′ (i + 1)
+        → Turned (turns square n d v) t n v r c r′ c′ → Going t n plan from k square d r₀ c₀ r′ c′ (i + 1)
     going-turn {v} {r′} {c′} h e same w = go (isRedone t n d v) refl (rw same at w)
       where
-        go : (b : Bool) → isRedone t n d v ≡ b → Turned b t n v r c r′ c′ → Going t n plan k square d r₀ c₀ r′ c′ (i + 1)
+        go : (b : Bool) → isRedone t n d v ≡ b → Turned b t n v r c r′ c′ → Going t n plan from k square d r₀ c₀ r′ c′ (i + 1)
         go true q (p, a, s) =
             let f = next-left true h e q in
             let ok = turn-ready h e in
@@ -85,7 +85,7 @@ module _ (t : List ℤ) (n : ℕ) (plan : List ℤ) (k : ℕ) (square : List ℕ
               evaluated = λ w k. rw p (still v ok w k);
               tallied = s;
               few = omega (arith, a, g .few);
-              rest = ap (down (evaluateInto t) (redoneOf t n d (left plan k (i + 1)))) p ∙ ap (λ (l : List ℕ). down (evaluateInto t) l r) (sym f) ∙ g .rest;
+              rest = ap (down (evaluateInto t) (redoneOf t n d (between plan (i + 1) k))) p ∙ ap (λ (l : List ℕ). down (evaluateInto t) l r) (sym f) ∙ g .rest;
               counted = omega (arith, a, ap length f, g .counted);
             }
         go false q (p, a) =
@@ -98,14 +98,14 @@ module _ (t : List ℤ) (n : ℕ) (plan : List ℤ) (k : ℕ) (square : List ℕ
               evaluated = rw p (g .evaluated);
               tallied = rw (p, a) (g .tallied);
               few = omega (arith, ap (λ (x : Change). x .redone) a, g .few);
-              rest = ap (down (evaluateInto t) (redoneOf t n d (left plan k (i + 1)))) p ∙ ap (λ (l : List ℕ). down (evaluateInto t) l r) (sym f) ∙ g .rest;
+              rest = ap (down (evaluateInto t) (redoneOf t n d (between plan (i + 1) k))) p ∙ ap (λ (l : List ℕ). down (evaluateInto t) l r) (sym f) ∙ g .rest;
               counted = omega (arith, ap (λ (x : Change). x .redone) a, ap length f, g .counted);
             }
 
-    pub going-done : k ≤ i → Redid t n r₀ plan k d c₀ r c
+    pub going-done : k ≤ i → Redid t n r₀ (between plan from k) d c₀ r c
     going-done h =
         let none : drop i (take k plan) ≡ [] = drop-of-length-le (take k plan) {i = i} (omega (arith, length-take-le k plan (g .asked .room))) in
-        let empty : redoneOf t n d (left plan k i) ≡ [] = ap (λ (l : List ℤ). redoneOf t n d (labelsOf l)) none in
+        let empty : redoneOf t n d (between plan i k) ≡ [] = ap (λ (l : List ℤ). redoneOf t n d (labelsOf l)) none in
         record {
           results = sym (ap (λ (l : List ℕ). down (evaluateInto t) l r) empty) ∙ g .rest;
           redone = omega (arith, g .counted, ap length empty);

@@ -5,4 +5,5 @@ pub mod Redone
 pub mod Dependents
 mod Owners
 mod Down
+mod Windows
 pub mod Applied

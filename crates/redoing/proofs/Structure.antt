@@ -1,22 +1,21 @@
 -- Two tables with the same kinds, owners and targets: what reaches what, proper orders, rows of marks and what is redone are the same.
 use mathlib.Core.Path.{_≡_, refl, sym, ap, _∙_}
 use mathlib.Core.Bool.{Bool, _||_}
-use mathlib.Core.Logic.{inl, inr, _↔_}
+use mathlib.Core.Logic.{inl, inr}
 use mathlib.Core.List.{List}
 use Prim.Native.Nat.{ℕ, zero, suc}
 use lib.Dec.{eqb}
 use lib.IntN.{ℤ}
-use lib.ListN.{length}
 use Rattle.cells.specs.Table.{owner}
 use Rattle.cells.specs.Reaches.{Mentions, Reaches, once, then}
 use Rattle.order.specs.LabelLists.{filter}
-use Rattle.order.specs.Order.{values, up, NoCycle, Proper, SameStructure}
+use Rattle.order.specs.Order.{up, Proper, SameStructure}
 use Rattle.order.specs.Following.{ProperList}
-use Rattle.order.proofs.Same.{reaches-same, values-same}
+use Rattle.order.proofs.Same.{reaches-same}
 use Rattle.reach.specs.Links.{Around, Touches}
 use Rattle.reach.specs.MarkRows.{MarkRow}
 use Rattle.reach.proofs.Links.{back-exact}
-use Rattle.redoing.specs.Redone.{Redone, isRedone, redoneOf, redoneCount}
+use Rattle.redoing.specs.Redone.{Redone, isRedone, redoneOf}
 
 pub structure-back : {t u : List ℤ} → SameStructure t u → SameStructure u t
 structure-back s = record { kinds = λ l. sym (s .kinds l); owners = λ l. sym (s .owners l); targets = λ l. sym (s .targets l) }
@@ -53,12 +52,6 @@ module _ {t u : List ℤ} (s : SameStructure t u) where
 -- ---- both ways
 
 module _ {t u : List ℤ} (s : SameStructure t u) where
-  pub reaches-exchange : (a b : ℕ) → Reaches u a b ↔ Reaches t a b
-  reaches-exchange a b = (reaches-on (structure-back s), reaches-on s)
-
-  pub no-cycle-on : NoCycle t → NoCycle u
-  no-cycle-on h v k r = h v (sym (s .kinds v) ∙ k) (reaches-on (structure-back s) r)
-
   pub proper-on : {o : List ℕ} → Proper t o → Proper u o
   proper-on p = record {
     once = λ v. rw (s .kinds v) (p .once v);
@@ -79,6 +72,3 @@ module _ {t u : List ℤ} (s : SameStructure t u) where
 
     pub redone-list-same : (o : List ℕ) → redoneOf u n d o ≡ redoneOf t n d o
     redone-list-same o = ap (λ (f : ℕ → Bool). filter f o) redone-same
-
-    pub redone-count-same : redoneCount u n d ≡ redoneCount t n d
-    redone-count-same = ap length (redone-list-same (values u n) ∙ ap (redoneOf t n d) (values-same t u s n))

@@ -2,21 +2,24 @@
 use mathlib.Core.Path.{_≡_, refl, sym, ap, _∙_}
 use mathlib.Core.Bool.{Bool, true, false}
 use mathlib.Core.List.{List}
-use Prim.Native.Nat.{ℕ, zero, suc, _+_, _-_, _*_, _≤_, _<_}
+use Prim.Native.Nat.{ℕ, zero, suc, _+_, _-_, _*_, _^_, _≤_, _<_}
 use native.Mathlib.Omega.{arith}
 use native.Mathlib.Numerals.{add-one}
 use native.Mathlib.Decide.{ℕ-discrete}
 use borrow.Author.Tests.{lt-ltb, le-ltb, eq-eqb, ne-eqb}
 use lib.IntN.{ℤ}
+use lib.Signed.{mag}
+use mir.Syntax.{w64}
+use mir.Val.{toZ, ofZ}
 use lib.ListN.{length, set}
-use Rattle.cells.specs.Cells.{intAt, natAt}
+use Rattle.cells.specs.Cells.{natOf, intAt}
+use Rattle.cells.proofs.Signed.{whole}
 use Rattle.cells.specs.Table.{withNumber}
 use Rattle.order.specs.LabelLists.{one}
 use Rattle.evaluation.specs.declared.Value.{Value}
 use Rattle.evaluation.specs.Results.{stateAt, stepsAt, stored}
 use Rattle.evaluation.specs.Evaluation.{stepLimit, evaluated}
 use Rattle.evaluation.specs.Ready.{ResultsRoom}
-use Rattle.evaluation.proofs.Leaves.{state-at}
 use Rattle.evaluation.proofs.Stored.{stored-own, stored-other}
 use Rattle.figures.specs.Figures.{evaluateInto}
 use Rattle.marks.specs.Marks.{mark}
@@ -55,15 +58,16 @@ module _ (f g : ℕ → ℕ) (v : ℕ) (low : 1 ≤ v) (other : (l : ℕ) → (l
 
 -- ---- cells of results, by their index
 
-pub steps-there : (r : List ℤ) (l : ℕ) → 1 ≤ l → natAt r (3 * (l - 1) + 2) ≡ stepsAt r l
-steps-there r zero h = absurd (omega arith)
-steps-there r (suc k) h = let e : suc k - 1 ≡ k = omega arith in rw e
+-- as the code reads them
+pub steps-are : (r : List ℤ) (l : ℕ) → 1 ≤ l → {x : ℕ} → mag (intAt r (3 * (l - 1) + 2)) < 2 ^ 63 → x ≡ natOf (toZ w64 (ofZ w64 (intAt r (3 * (l - 1) + 2)))) → x ≡ stepsAt r l
+steps-are r zero h f e = absurd (omega arith)
+steps-are r (suc k) h f e = let q : suc k - 1 ≡ k = omega arith in e ∙ ap natOf (whole (intAt r (3 * (suc k - 1) + 2)) f) ∙ rw q refl
 
-pub fails-not : (r : List ℤ) (l : ℕ) → 1 ≤ l → {x : ℕ} → x ≡ natAt r (3 * (l - 1)) → x ≤ 1 → 0 ≡ one (isFailure (stored r l))
-fails-not r l h e q = rw (le-ltb 1 (stateAt r l) (omega (arith, e, state-at r l h))) refl
+pub fails-not : (r : List ℤ) (l : ℕ) {x : ℕ} → x ≡ stateAt r l → x ≤ 1 → 0 ≡ one (isFailure (stored r l))
+fails-not r l e q = rw (le-ltb 1 (stateAt r l) (omega (arith, e))) refl
 
-pub fails-so : (r : List ℤ) (l : ℕ) → 1 ≤ l → {x : ℕ} → x ≡ natAt r (3 * (l - 1)) → 1 < x → 1 ≡ one (isFailure (stored r l))
-fails-so r l h e q = rw (lt-ltb 1 (stateAt r l) (omega (arith, e, state-at r l h))) refl
+pub fails-so : (r : List ℤ) (l : ℕ) {x : ℕ} → x ≡ stateAt r l → 1 < x → 1 ≡ one (isFailure (stored r l))
+fails-so r l e q = rw (lt-ltb 1 (stateAt r l) (omega (arith, e))) refl
 
 -- ---- the failing values and the steps
 

@@ -5,10 +5,11 @@ use mathlib.Core.List.{List, _++_}
 use Prim.Native.Nat.{ℕ, _+_, _-_, _*_, _≤_, _<_}
 use lib.Dec.{eqb}
 use lib.IntN.{ℤ}
-use lib.ListN.{length, take, drop}
+use lib.ListN.{length, getD, take, drop}
 use lib.Seq.{sets}
 use Rattle.kinds.specs.Kinds.{valueCode}
 use Rattle.cells.specs.Cells.{natAt}
+use Rattle.cells.specs.Limits.{labelLimit}
 use Rattle.cells.specs.Table.{kind, owner, withNumber}
 use Rattle.cells.specs.Accepted.{Accepted, HasBody}
 use Rattle.order.specs.Following.{ProperList, labelsOf}
@@ -54,17 +55,55 @@ pub record Redoable (t : List ℤ) (n : ℕ) (r plan : List ℤ) (k : ℕ) (squa
   pub rows : (n + 1) * width n ≤ length square
   pub row : MarkRow t n 6 square d
 
--- what it leaves: those that depend on d evaluated again, in turn, and counted
-pub record Redid (t : List ℤ) (n : ℕ) (r plan : List ℤ) (k d : ℕ) (c : Change) (r′ : List ℤ) (c′ : Change) : Type 0 where
-  pub results : r′ ≡ down (evaluateInto t) (redoneOf t n d (labelsOf (take k plan))) r
-  pub redone : c′ .redone ≡ c .redone + length (redoneOf t n d (labelsOf (take k plan)))
+-- the labels of a plan from one position to before another
+abbrev pub between : List ℤ → ℕ → ℕ → List ℕ
+between plan from to = labelsOf (drop from (take to plan))
+
+-- what it leaves, of the labels o that it goes down: those that depend on d evaluated again, in turn, and counted
+pub record Redid (t : List ℤ) (n : ℕ) (r : List ℤ) (o : List ℕ) (d : ℕ) (c : Change) (r′ : List ℤ) (c′ : Change) : Type 0 where
+  pub results : r′ ≡ down (evaluateInto t) (redoneOf t n d o) r
+  pub redone : c′ .redone ≡ c .redone + length (redoneOf t n d o)
   pub tallied : Tallied n r′ c′
+
+-- ---- where those that depend on d stand in the first k cells of a plan
+
+-- what looking for them asks
+pub record PlanRow (n : ℕ) (plan : List ℤ) (k : ℕ) (square : List ℕ) (d : ℕ) : Type 0 where
+  pub few : n ≤ labelLimit
+  pub rows : (n + 1) * width n ≤ length square
+  pub owner : d ≤ n
+  pub labels : (i : ℕ) → i < k → natAt plan i ≤ n
+
+-- none stands from one position to before another
+abbrev pub NoneDepends : List ℕ → ℕ → ℕ → List ℤ → ℕ → ℕ → Type 0
+NoneDepends square n d plan from to = (i : ℕ) → from ≤ i → i < to → turns square n d (natAt plan i) ≡ false
+
+-- d's window is known: none stands outside it. Windows has where it begins at index 2 * d, and one more than where it ends behind that.
+pub record Window (square : List ℕ) (n : ℕ) (plan : List ℤ) (k : ℕ) (windows : List ℕ) (d : ℕ) : Type 0 where
+  pub begun : getD windows (2 * d) 0 < getD windows (2 * d + 1) 0
+  pub ended : getD windows (2 * d + 1) 0 ≤ k + 1
+  pub before : NoneDepends square n d plan 0 (getD windows (2 * d) 0)
+  pub behind : NoneDepends square n d plan (getD windows (2 * d + 1) 0 - 1) k
+
+-- what is written is a window
+abbrev pub Windows : List ℕ → ℕ → List ℤ → ℕ → List ℕ → Type 0
+Windows square n plan k windows = (e : ℕ) → (getD windows (2 * e + 1) 0 ≡ 0 → ⊥) → Window square n plan k windows e
+
+-- d's window is known now, and others are known still
+pub record FoundWindow (square : List ℕ) (n : ℕ) (plan : List ℤ) (k d : ℕ) (w w′ : List ℕ) : Type 0 where
+  pub windows : Windows square n plan k w′
+  pub here : getD w′ (2 * d + 1) 0 ≡ 0 → ⊥
+  pub kept : (e : ℕ) → (getD w (2 * e + 1) 0 ≡ 0 → ⊥) → getD w′ (2 * e + 1) 0 ≡ 0 → ⊥
 
 -- ---- down the list of pairs
 
 -- the rows of the owners of the first k pairs
 abbrev pub OwnersMarked : List ℤ → ℕ → List ℤ → ℕ → List ℕ → Type 0
 OwnersMarked t n ps k square = (i : ℕ) → 1 ≤ i → i ≤ k → MarkRow t n 6 square (owner t (pairLabel ps i))
+
+-- their windows
+abbrev pub OwnersWindows : List ℤ → ℕ → List ℤ → ℕ → List ℕ → List ℤ → ℕ → List ℕ → Type 0
+OwnersWindows t n plan k square ps j windows = (i : ℕ) → 1 ≤ i → i ≤ j → Window square n plan k windows (owner t (pairLabel ps i))
 
 -- a table of n labels whose plan, in the first k cells of a list, and whose results stand
 pub record Standing (t : List ℤ) (n : ℕ) (plan : List ℤ) (k : ℕ) (r : List ℤ) : Type 0 where

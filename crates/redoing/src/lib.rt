@@ -7,6 +7,7 @@ ghost use Prim.Native.Nat.{ℕ, _+_, _*_, _^_, _≤_, _<_};
 ghost use lib.ListN.{length, getD};
 ghost use lib.Seq.{sets};
 ghost use lib.IntN.{pos};
+ghost use Rattle.cells.specs.Cells.{natAt};
 ghost use Rattle.cells.specs.Limits.{labelLimit, pairLimit};
 ghost use Rattle.cells.specs.Table.{owner, withNumber};
 ghost use Rattle.cells.specs.Accepted.{Accepted};
@@ -19,7 +20,8 @@ ghost use Rattle.evaluation.specs.Ready.{ResultsRoom, Evaluable};
 ghost use Rattle.figures.specs.Figures.{evaluateInto};
 ghost use Rattle.redoing.specs.Pairs.{pairCount, pairLabel, pairNumber, PairRight, PairsRight};
 ghost use Rattle.redoing.specs.Redone.{isFailure};
-ghost use Rattle.redoing.specs.RedoStages.{Tallied, Turned, turns, Redoable, Redid, OwnersMarked, Standing, PairApplied, PairsApplied};
+ghost use Rattle.redoing.specs.RedoStages.{Tallied, Turned, turns, Redoable, Redid, between, PlanRow, NoneDepends, Window, Windows};
+ghost use Rattle.redoing.specs.RedoStages.{FoundWindow, OwnersMarked, OwnersWindows, Standing, PairApplied, PairsApplied};
 
 // "For each pair, how many values were redone, how many now fail, and the sum of all step counts."
 pub struct Change {
@@ -35,7 +37,7 @@ fn failed(results: &[i64], label: usize) -> u64
     requires { ⌜ ResultsRoom (now results) label ⌝ }
     ensures { λ r. ⌜ (r ≡ one (isFailure (stored (now (results .entry)) label))) × (r ≤ 1) ⌝ }
 {
-    if cells::nat_at(results, 3 * (label - 1)) <= 1 {
+    if cells::nat_of(results[3 * (label - 1)]) <= 1 {
         0
     } else {
         1
@@ -47,7 +49,7 @@ fn steps_of(results: &[i64], label: usize) -> u64
     requires { ⌜ ResultsRoom (now results) label ⌝ }
     ensures { λ r. ⌜ r ≡ stepsAt (now (results .entry)) label ⌝ }
 {
-    cells::nat_at(results, 3 * (label - 1) + 2) as u64
+    cells::nat_of(results[3 * (label - 1) + 2]) as u64
 }
 
 // The sums over the results of n labels, before the first pair.
@@ -121,29 +123,77 @@ fn redo_dependent(
     before
 }
 
-// Goes down the plan and evaluates again what depends on d.
+// Goes down the plan between two positions and evaluates again what depends on d.
 fn redo_down(
     table: &[i64],
     n: usize,
     plan: &[i64],
-    count: usize,
+    from: usize,
+    to: usize,
     square: &[u64],
     d: usize,
     results: &mut [i64],
     before: Change,
 ) -> Change
-    requires { ⌜ Redoable (now table) n (now results) (now plan) count (now square) d ⌝ }
+    requires { ⌜ Redoable (now table) n (now results) (now plan) to (now square) d × (from ≤ to) ⌝ }
     requires { ⌜ Tallied n (now results) before × (before .redone ≡ 0) ⌝ }
-    ensures { λ r. ⌜ Redid (now (table .entry)) n (now (results .entry)) (now (plan .entry)) count d before (now (results .exit)) r ⌝ }
+    ensures { λ r. ⌜ Redid (now (table .entry)) n (now (results .entry)) (between (now (plan .entry)) from to) d before (now (results .exit)) r ⌝ }
 {
     let mut change = before;
-    let mut i = 0;
-    while i < count {
+    let mut i = from;
+    while i < to {
         let v = cells::nat_at(plan, i);
         change = redo_dependent(table, n, square, d, results, v, change);
         i += 1;
     }
     change
+}
+
+// ---- where those that depend on an owner stand in the plan
+
+// The first position whose value depends on d, or the plan's length.
+fn window_start(square: &[u64], n: usize, d: usize, plan: &[i64], count: usize) -> usize
+    requires { ⌜ PlanRow n (now plan) count (now square) d ⌝ }
+    ensures { λ r. ⌜ (r ≤ count) × NoneDepends (now (square .entry)) n d (now (plan .entry)) 0 r ⌝ }
+{
+    let mut i = 0;
+    while i < count {
+        if depends(square, n, d, cells::nat_at(plan, i)) {
+            return i;
+        }
+        i += 1;
+    }
+    count
+}
+
+// One past the last such position, none of which stands before `from`; `from` where there is none.
+fn window_end(square: &[u64], n: usize, d: usize, plan: &[i64], from: usize, count: usize) -> usize
+    requires { ⌜ PlanRow n (now plan) count (now square) d × (from ≤ count) ⌝ }
+    ensures { λ r. ⌜ (from ≤ r) × (r ≤ count) × NoneDepends (now (square .entry)) n d (now (plan .entry)) r count ⌝ }
+{
+    let mut i = count;
+    while from < i {
+        if depends(square, n, d, cells::nat_at(plan, i - 1)) {
+            return i;
+        }
+        i -= 1;
+    }
+    from
+}
+
+// The window of d in the plan, unless it is known: windows has where it begins at index 2 * d, and one more than where it ends behind that.
+fn find_window(square: &[u64], n: usize, d: usize, plan: &[i64], count: usize, windows: &mut [u16])
+    requires { ⌜ PlanRow n (now plan) count (now square) d × (count ≤ labelLimit) × (2 * n + 1 < length (now windows)) ⌝ }
+    requires { ⌜ Windows (now square) n (now plan) count (now windows) ⌝ }
+    ensures { λ _. ⌜ FoundWindow (now (square .entry)) n (now (plan .entry)) count d (now (windows .entry)) (now (windows .exit)) ⌝ }
+{
+    if windows[2 * d + 1] != 0 {
+        return;
+    }
+    let from = window_start(square, n, d, plan, count);
+    let to = window_end(square, n, d, plan, from, count);
+    windows[2 * d] = from as u16;
+    windows[2 * d + 1] = (to + 1) as u16;
 }
 
 // ---- a pair
@@ -182,6 +232,7 @@ fn retouch_pair(
     plan: &[i64],
     count: usize,
     square: &[u64],
+    windows: &[u16],
     pairs: &[i64],
     k: usize,
     results: &mut [i64],
@@ -191,6 +242,7 @@ fn retouch_pair(
     requires { ⌜ Standing (now table) n (now plan) count (now results) ⌝ }
     requires { ⌜ (k < pairCount (now pairs)) × PairRight (now table) (now pairs) (k + 1) × (3 * pairCount (now pairs) ≤ length (now changes)) ⌝ }
     requires { ⌜ ((n + 1) * width n ≤ length (now square)) × MarkRow (now table) n 6 (now square) (owner (now table) (pairLabel (now pairs) (k + 1))) ⌝ }
+    requires { ⌜ (2 * n + 1 < length (now windows)) × Window (now square) n (now plan) count (now windows) (owner (now table) (pairLabel (now pairs) (k + 1))) ⌝ }
     requires { ⌜ Tallied n (now results) before ⌝ }
     ensures { λ r. ⌜ PairApplied (now (table .entry)) n (now (pairs .entry)) (k + 1) (now (results .entry)) (now (changes .entry))
         (now (table .exit)) (now (results .exit)) (now (changes .exit)) r ⌝ }
@@ -203,7 +255,9 @@ fn retouch_pair(
         failing: before.failing,
         steps: before.steps,
     };
-    let change = redo_down(table, n, plan, count, square, d, results, start);
+    let from = marks::widen(windows[2 * d]);
+    let to = marks::widen(windows[2 * d + 1]) - 1;
+    let change = redo_down(table, n, plan, from, to, square, d, results, start);
     put_change(changes, k, change);
     change
 }
@@ -274,6 +328,30 @@ fn mark_pairs(table: &[i64], n: usize, pairs: &[i64], square: &mut [u64])
     mark_in(table, n, pairs, square, &mut chains, &mut state, &mut stack);
 }
 
+// The windows of the owners of the pairs' lines.
+fn find_windows(
+    table: &[i64],
+    n: usize,
+    plan: &[i64],
+    count: usize,
+    square: &[u64],
+    pairs: &[i64],
+    windows: &mut [u16],
+)
+    requires { ⌜ Accepted (now table) n × PairsRight (now table) (now pairs) ⌝ }
+    requires { ⌜ (count ≤ n) × ((i : ℕ) → i < count → natAt (now plan) i ≤ n) × ((n + 1) * width n ≤ length (now square)) ⌝ }
+    requires { ⌜ (2 * n + 1 < length (now windows)) × ((i : ℕ) → getD (now windows) i 0 ≡ 0) ⌝ }
+    ensures { λ _. ⌜ OwnersWindows (now (table .entry)) n (now (plan .entry)) count (now (square .entry)) (now (pairs .entry)) (pairCount (now (pairs .entry))) (now (windows .exit)) ⌝ }
+{
+    let mut k = 0;
+    while k < pairs.len() / 2 {
+        let label = label_of(pairs, k);
+        let d = reach::cell_of(table, n, label, cells::OWNER);
+        find_window(square, n, d, plan, count, windows);
+        k += 1;
+    }
+}
+
 // Applies the pairs in turn.
 fn apply(
     table: &mut [i64],
@@ -281,6 +359,7 @@ fn apply(
     plan: &[i64],
     count: usize,
     square: &[u64],
+    windows: &[u16],
     pairs: &[i64],
     results: &mut [i64],
     changes: &mut [i64],
@@ -288,6 +367,7 @@ fn apply(
     requires { ⌜ Standing (now table) n (now plan) count (now results) × PairsRight (now table) (now pairs) × (pairCount (now pairs) ≤ pairLimit)
         × (3 * pairCount (now pairs) ≤ length (now changes)) ⌝ }
     requires { ⌜ ((n + 1) * width n ≤ length (now square)) × OwnersMarked (now table) n (now pairs) (pairCount (now pairs)) (now square) ⌝ }
+    requires { ⌜ (2 * n + 1 < length (now windows)) × OwnersWindows (now table) n (now plan) count (now square) (now pairs) (pairCount (now pairs)) (now windows) ⌝ }
     ensures { λ _. ⌜ PairsApplied (now (table .entry)) n (now (pairs .entry)) (pairCount (now (pairs .entry))) (now (results .entry)) (now (changes .entry))
         (now (table .exit)) (now (results .exit)) (now (changes .exit)) ⌝ }
 {
@@ -300,6 +380,7 @@ fn apply(
             plan,
             count,
             square,
+            windows,
             pairs,
             k,
             results,
@@ -328,7 +409,19 @@ fn apply_in(
         (now (table .exit)) (now (results .exit)) (now (changes .exit)) ⌝ }
 {
     mark_pairs(table, n, pairs, square);
-    apply(table, n, plan, count, square, pairs, results, changes);
+    let mut windows = [0u16; 2050];
+    find_windows(table, n, plan, count, square, pairs, &mut windows);
+    apply(
+        table,
+        n,
+        plan,
+        count,
+        square,
+        &windows,
+        pairs,
+        results,
+        changes,
+    );
 }
 
 // Applies the pairs in turn to a table whose plan and results stand, and writes what each brought about. The square goes by the size of

@@ -123,7 +123,8 @@ module _ (n : ℕ) (ps t o : List ℤ) where
           ∙ drop-at (take (3 * pairCount ps) c) (zeros (length c - 3 * pairCount ps)) (3 * pairCount ps) (length-take-le (3 * pairCount ps) c h)
 
   -- something found, and all four buffers cleared
-  pub run-cleared : (q w : ℕ) {i l : ℕ} → Refused i l ≡ pairsBad (cellsTo n t) ps → {t′ o′ u c : List ℤ} → (t′ ≡ zeros (length t)) × ((o′ ≡ zeros (length o)) × ((u ≡ zeros q) × (c ≡ zeros w)))
+  pub run-cleared : (q w : ℕ) {i l : ℕ} → Refused i l ≡ pairsBad (cellsTo n t) ps → {t′ o′ u c : List ℤ}
+      → (t′ ≡ zeros (length t)) × ((o′ ≡ zeros (length o)) × ((u ≡ zeros q) × (c ≡ zeros w)))
       → RunRetouches n ps t o q w (Refused i l) t′ o′ u c
   run-cleared q w e (a, (b, (d, g))) = record { found = e; table = a; plan = b; results = d; changes = g }
 

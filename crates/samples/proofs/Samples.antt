@@ -31,7 +31,8 @@ use Rattle.samples.specs.Sample.{given, said, retouchGiven, retouchSaid}
 use Rattle.samples.specs.Samples.{samples, retouches}
 
 pub samples-hold : (map given samples ≡ map said samples) × (map retouchGiven retouches ≡ map retouchSaid retouches)
-unfolding samples retouches isText isAllowed line labels firstLine headBad fieldCells kinds kindAt codeOf isKind isDefinition isExpression hasBody hasPath wantedBy takes clauseOf fieldOf labelOf numberOf
+unfolding samples retouches
+    isText isAllowed line labels firstLine headBad fieldCells kinds kindAt codeOf isKind isDefinition isExpression hasBody hasPath wantedBy takes clauseOf fieldOf labelOf numberOf
     decimalOf digitsOf digitsValue allDigits linesBad lineBad rootLine isName isPath isLetter isAlphanumeric parts structureBad definitionOf ownerOf levelOf treeBad sameName
     lowercaseByte member paths.duplicateBad
     paths.headFrom paths.headOf paths.targetOf paths.pathHeadBad paths.laterBad paths.targetBad paths.pathsBad tableShort ownedTable resolvedTable resolvedBad sheetCells sheetBad sheetTable readBad

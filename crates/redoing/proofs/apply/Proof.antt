@@ -1,41 +1,42 @@
 use Prim.Native.Nat.{_-_}
 use native.Mathlib.Omega.{arith}
 use Rattle.redoing.specs.Pairs.{pairCount}
-use Rattle.redoing.proofs.Applied.{steps-standing, Applying, applying-start, next-right, next-row, applying-next, applying-done}
+use Rattle.redoing.proofs.Applied.{steps-standing, Applying, applying-start, next-right, next-row, next-window, applying-next, applying-done}
 use Rattle.redoing.proofs.apply.Statement.{statement}
 use Rattle.redoing.proofs.apply.Tie as tie
 
 abbrev Inv-loop : tie.InvT-loop
-Inv-loop table₀ n plan count square pairs results₀ changes₀ change₀ k₀ table results changes change k =
+Inv-loop table₀ n plan count square windows pairs results₀ changes₀ change₀ k₀ table results changes change k =
     Applying table₀ n plan count pairs results₀ changes₀ table results changes change k
 
 abbrev μ-loop : tie.MeasureT-loop
-μ-loop table₀ n plan count square pairs results₀ changes₀ change₀ k₀ table results changes change k = pairCount pairs - k
+μ-loop table₀ n plan count square windows pairs results₀ changes₀ change₀ k₀ table results changes change k = pairCount pairs - k
 
 tally-requires : tie.Need-tally-requires Inv-loop μ-loop
 tally-requires c κs =
-    let st = c .before .before .pre .0 .0 in
+    let st = c .before .before .before .pre .0 .0 in
     ((st .fit, st .accepted .few), steps-standing _ _ _ _ _ st)
 
 loop-holds : tie.Need-loop-holds Inv-loop μ-loop
-loop-holds c = applying-start _ _ _ _ _ _ _ (c .before .before .before .pre .0 .0) (c .tally .ensures)
+loop-holds c = applying-start _ _ _ _ _ _ _ (c .before .before .before .before .pre .0 .0) (c .tally .ensures)
 
 retouch-pair-requires : tie.Need-retouch-pair-requires Inv-loop μ-loop
 retouch-pair-requires c κs =
     let turn = c .before .before .before in
-    let pre = turn .before .before .before .before .before .pre in
-    let inv = turn .before .loop .inv in (
+    let pre = turn .before .before .before .before .before .before .pre in
+    let inv = turn .before .loop .inv in
+    let taken = turn .loop-test .taken in (
       inv .standing,
       (
-        (turn .loop-test .taken, next-right _ _ _ _ _ _ _ inv (turn .loop-test .taken) (pre .0 .1), omega (arith, pre .0 .3, inv .changesLong)),
-        ((pre .1 .0, next-row _ _ _ _ _ _ _ inv (turn .loop-test .taken) _ (pre .1 .1)), inv .tallied),
+        (taken, next-right _ _ _ _ _ _ _ inv taken (pre .0 .1), omega (arith, pre .0 .3, inv .changesLong)),
+        ((pre .1 .0 .0, next-row _ _ _ _ _ _ _ inv taken _ (pre .1 .0 .1)), ((pre .1 .1 .0, next-window _ _ _ _ _ _ _ inv taken _ _ (pre .1 .1 .1)), inv .tallied)),
       ),
     )
 
 add-k : tie.Need-add-k Inv-loop μ-loop
 add-k c =
     let turn = c .before .before .before .before .before .before .before in
-    omega (arith, turn .loop-test .taken, turn .before .before .before .before .before .pre .0 .2)
+    omega (arith, turn .loop-test .taken, turn .before .before .before .before .before .before .pre .0 .2)
 
 loop-less : tie.Need-loop-less Inv-loop μ-loop
 loop-less c = omega (arith, c .before .before .before .before .before .before .before .loop-test .taken)
@@ -43,7 +44,7 @@ loop-less c = omega (arith, c .before .before .before .before .before .before .b
 loop-again : tie.Need-loop-again Inv-loop μ-loop
 loop-again c =
     let turn = c .before .before .before .before .before .before .before in
-    let pre = turn .before .before .before .before .before .pre in
+    let pre = turn .before .before .before .before .before .before .pre in
     applying-next _ _ _ _ _ _ _ (turn .before .loop .inv) (turn .loop-test .taken) (pre .0 .3) (pre .0 .1) (c .before .before .before .retouch-pair .ensures)
 
 same-length : tie.Need-same-length Inv-loop μ-loop

@@ -1,23 +1,39 @@
-use mathlib.Core.Path.{_∙_}
-use Rattle.redoing.proofs.Sums.{steps-there}
+use Rattle.redoing.proofs.Sums.{steps-are}
 use borrow.Author.Needs.{needs}
 use Rattle.redoing.proofs.steps_of.Statement.{statement}
 use Rattle.redoing.proofs.steps_of.Tie as tie
 
-sub-nat-at : tie.Need-sub-nat-at
-sub-nat-at c = search needs
+sub-nat-of : tie.Need-sub-nat-of
+sub-nat-of c = search needs
 
-mul-nat-at : tie.Need-mul-nat-at
-mul-nat-at c = search needs
+mul-nat-of : tie.Need-mul-nat-of
+mul-nat-of c = search needs
 
-add-nat-at : tie.Need-add-nat-at
-add-nat-at c = search needs
+add-nat-of : tie.Need-add-nat-of
+add-nat-of c = search needs
 
-nat-at-requires : tie.Need-nat-at-requires
-nat-at-requires c κs = search needs
+mul-nat-of-2 : tie.Need-mul-nat-of-2
+mul-nat-of-2 c = search needs
+
+shared-slice-copy-out-nat-of : tie.Need-shared-slice-copy-out-nat-of
+shared-slice-copy-out-nat-of c = search needs
+
+nat-of-requires : tie.Need-nat-of-requires
+nat-of-requires c κs = search needs
 
 returns : tie.Need-returns
-returns c = c .nat-at .ensures ∙ steps-there (c .before .args .results .now) (c .before .args .label) (c .before .pre .low)
+returns c =
+    let entry = c .before .before in
+    steps-are (entry .args .results .now) (entry .args .label) (entry .pre .low) (c .before .nat-of-arg .given) (c .nat-of .ensures)
 
 pub steps-of-spec : {M : Type 1} → statement M
-steps-of-spec = tie.close (tie.spec sub-nat-at mul-nat-at add-nat-at nat-at-requires returns)
+steps-of-spec =
+    tie.close
+    (tie.spec
+    sub-nat-of
+    mul-nat-of
+    add-nat-of
+    mul-nat-of-2
+    shared-slice-copy-out-nat-of
+    nat-of-requires
+    returns)

@@ -29,7 +29,9 @@ returns c =
     let entry = turn .before .before in
     let check = pairBad (entry .args .table .now) (entry .args .pairs .now) in
     let found = c .before .check-pair .ensures in
-    (λ i. Refused (found i) (turn .before .loop .k)) ∙ sym (first-bad check (pairCount (entry .args .pairs .now)) (turn .before .loop .k) (turn .loop-test .taken) (λ e. c .if1 .taken (found ∙ e))) ∙ turn .before .loop .inv .2
+    let loop = turn .before .loop in
+    let bad = first-bad check (pairCount (entry .args .pairs .now)) (loop .k) (turn .loop-test .taken) (λ e. c .if1 .taken (found ∙ e)) in
+    (λ i. Refused (found i) (loop .k)) ∙ sym bad ∙ loop .inv .2
 
 add-k : tie.Need-add-k Inv-loop μ-loop
 add-k c = search needs
@@ -43,12 +45,16 @@ loop-again c =
     let entry = turn .before .before in
     let check = pairBad (entry .args .table .now) (entry .args .pairs .now) in
     let found = c .before .check-pair .ensures in
-    (omega arith, omega (arith, turn .loop-test .taken), sym (first-fine check (pairCount (entry .args .pairs .now)) (turn .before .loop .k) (turn .loop-test .taken) (sym found ∙ c .if1 .left)) ∙ turn .before .loop .inv .2)
+    let loop = turn .before .loop in
+    let fine = first-fine check (pairCount (entry .args .pairs .now)) (loop .k) (turn .loop-test .taken) (sym found ∙ c .if1 .left) in
+    (omega arith, omega (arith, turn .loop-test .taken), sym fine ∙ loop .inv .2)
 
 returns-2 : tie.Need-returns-2 Inv-loop μ-loop
 returns-2 c =
     let entry = c .before .before in
-    sym (first-end (pairBad (entry .args .table .now) (entry .args .pairs .now)) (pairCount (entry .args .pairs .now)) (c .before .loop .k) (omega (arith, c .loop-test .left))) ∙ c .before .loop .inv .2
+    let ps = entry .args .pairs .now in
+    let loop = c .before .loop in
+    sym (first-end (pairBad (entry .args .table .now) ps) (pairCount ps) (loop .k) (omega (arith, c .loop-test .left))) ∙ loop .inv .2
 
 pub check-each-spec : {M : Type 1} → statement M
 check-each-spec =

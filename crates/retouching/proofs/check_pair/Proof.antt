@@ -40,14 +40,16 @@ in-range-requires c κs = search needs
 returns-2 : tie.Need-returns-2
 returns-2 c =
     let entry = c .before .before .before .before .before .before in
+    let given = c .before .before .int-at in
     number-fine _ (entry .args .pairs .now) (entry .args .k) (entry .pre .0) (c .before .before .before .before .before .nat-at .ensures) (c .before .before .before .before .cell-at .ensures)
-    (whole (c .before .before .int-at .result) (c .before .before .int-at .ok) ∙ c .before .before .int-at .ensures) (c .before .in-range .ensures) (c .before .before .before .if1 .left) (c .if2 .taken)
+    (whole (given .result) (given .ok) ∙ given .ensures) (c .before .in-range .ensures) (c .before .before .before .if1 .left) (c .if2 .taken)
 
 returns-3 : tie.Need-returns-3
 returns-3 c =
     let entry = c .before .before .before .before .before .before in
+    let given = c .before .before .int-at in
     number-bad _ (entry .args .pairs .now) (entry .args .k) (entry .pre .0) (c .before .before .before .before .before .nat-at .ensures) (c .before .before .before .before .cell-at .ensures)
-    (whole (c .before .before .int-at .result) (c .before .before .int-at .ok) ∙ c .before .before .int-at .ensures) (c .before .in-range .ensures) (c .before .before .before .if1 .left) (c .if2 .left)
+    (whole (given .result) (given .ok) ∙ given .ensures) (c .before .in-range .ensures) (c .before .before .before .if1 .left) (c .if2 .left)
 
 pub check-pair-spec : {M : Type 1} → statement M
 check-pair-spec =

@@ -16,10 +16,14 @@ enum-known-row : tie.Need-enum-known-row
 enum-known-row c = search needs
 
 returns : tie.Need-returns
-returns c = pairs-next (c .before .before .before .before .args .table .now) (c .before .before .before .before .args .pairs .now) (c .before .before .before .check-list .ensures) (c .before .enum-told .given .1) (c .check-each .ensures)
+returns c =
+    let listed = c .before .before .before in
+    pairs-next (listed .before .args .table .now) (listed .before .args .pairs .now) (listed .check-list .ensures) (c .before .enum-told .given .1) (c .check-each .ensures)
 
 returns-2 : tie.Need-returns-2
-returns-2 c = pairs-stop (c .before .before .before .before .args .table .now) (c .before .before .before .before .args .pairs .now) (c .before .before .before .check-list .ensures) (c .before .row .given .1)
+returns-2 c =
+    let listed = c .before .before .before in
+    pairs-stop (listed .before .args .table .now) (listed .before .args .pairs .now) (listed .check-list .ensures) (c .before .row .given .1)
 
 pub check-pairs-spec : {M : Type 1} → statement M
 check-pairs-spec =

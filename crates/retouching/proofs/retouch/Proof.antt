@@ -40,7 +40,8 @@ returns c =
     let headed = c .before .before .before .before .before .before .before .before .before .before .before .before in
     let entry = headed .before .before in
     retouch-answered (entry .args .text .now) (entry .args .pairs .now) (length (entry .args .table .now)) (length (entry .args .plan .now)) (length (entry .args .results .now))
-    (length (entry .args .changes .now)) _ (headed .head-retouch .ensures) _ _ _ _ _ _ (c .before .before .before .before .before .before .before .before .before .before .n .given .1) (c .before .before .before .before .retouch-sheet .ensures)
+    (length (entry .args .changes .now)) _ (headed .head-retouch .ensures) _ _ _ _ _ _ (c .before .before .before .before .before .before .before .before .before .before .n .given .1)
+    (c .before .before .before .before .retouch-sheet .ensures)
 
 same-length-5 : tie.Need-same-length-5
 same-length-5 c = search needs
@@ -60,7 +61,8 @@ returns-2 c =
     let entry = headed .before .before in
     let zeroed = c .before .before .before .before .clear-all .ensures in
     retouch-refused (entry .args .text .now) (entry .args .pairs .now) (length (entry .args .table .now)) (length (entry .args .plan .now)) (length (entry .args .results .now))
-    (length (entry .args .changes .now)) _ (headed .head-retouch .ensures) _ _ _ _ _ _ (c .before .before .before .before .before .before .before .before .before .before .row .given .1) (zeroed .0) (zeroed .1 .0) (zeroed .1 .1 .0) (zeroed .1 .1 .1)
+    (length (entry .args .changes .now)) _ (headed .head-retouch .ensures) _ _ _ _ _ _ (c .before .before .before .before .before .before .before .before .before .before .row .given .1)
+    (zeroed .0) (zeroed .1 .0) (zeroed .1 .1 .0) (zeroed .1 .1 .1)
 
 pub retouch-spec : {M : Type 1} → statement M
 retouch-spec =

@@ -45,7 +45,8 @@ slice-aggregate-apply-pairs c =
 apply-pairs-requires : tie.Need-apply-pairs-requires
 apply-pairs-requires c κs =
     let entry = c .before .before .before .before .before .before .before .before .before .before .before in
-    let fine = sym (c .before .before .before .before .before .before .before .before .before .check-pairs .ensures) ∙ c .before .before .before .before .before .before .before .enum-told .given .1 in
+    let told = c .before .before .before .before .before .before .before in
+    let fine = sym (told .before .before .check-pairs .ensures) ∙ told .enum-told .given .1 in
     (entry .pre .0, pairs-right _ _ fine, pairs-few _ _ fine, omega (arith, entry .pre .2, c .before .before .before .before .before .clear-from .kept .0))
 
 enum-known-row : tie.Need-enum-known-row
@@ -69,8 +70,10 @@ same-length-4 c = search needs
 returns : tie.Need-returns
 returns c =
     let entry = c .before .before .before .before .before .before .before .before .before .before .before .before .before .before .before in
-    let fine = sym (c .before .before .before .before .before .before .before .before .before .before .before .before .before .check-pairs .ensures) ∙ c .before .before .before .before .before .before .before .before .before .before .before .enum-told .given .1 in
-    run-applied _ _ _ _ (entry .args .results .now) (entry .args .changes .now) fine (entry .pre .2) (c .before .before .before .before .before .before .before .before .before .clear-from .ensures) (c .before .before .before .apply-pairs .ensures)
+    let cleared = c .before .before .before .before .before .before .before .before .before in
+    let told = cleared .before .before in
+    let fine = sym (told .before .before .check-pairs .ensures) ∙ told .enum-told .given .1 in
+    run-applied _ _ _ _ (entry .args .results .now) (entry .args .changes .now) fine (entry .pre .2) (cleared .clear-from .ensures) (c .before .before .before .apply-pairs .ensures)
 
 same-length-5 : tie.Need-same-length-5
 same-length-5 c = search needs
@@ -86,7 +89,8 @@ same-length-8 c = search needs
 
 returns-2 : tie.Need-returns-2
 returns-2 c =
-    let found = sym (c .before .before .before .before .before .before .before .before .before .before .row .given .1) ∙ c .before .before .before .before .before .before .before .before .before .before .before .before .check-pairs .ensures in
+    let at-row = c .before .before .before .before .before .before .before .before .before .before in
+    let found = sym (at-row .row .given .1) ∙ at-row .before .before .check-pairs .ensures in
     run-cleared _ _ _ _ _ _ found (c .before .before .before .before .clear-all .ensures)
 
 pub retouch-run-spec : {M : Type 1} → statement M

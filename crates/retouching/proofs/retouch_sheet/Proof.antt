@@ -68,8 +68,9 @@ returns c =
     let ran = c .before .before .before .before .before .before .before .before .before .before .before .before .before .before .before .before in
     let entry = ran .before .before .before .before .before in
     let k = ran .run-sheet in
-    rw (c .reply-by .ensures) (run-retouched (entry .args .text .now) (entry .args .pairs .now) (length (entry .args .table .now)) (length (entry .args .plan .now)) (length (entry .args .results .now))
-    (length (entry .args .changes .now)) (entry .args .n) _ _ _ _ (entry .pre .0) (k .ensures) _ (c .before .before .before .before .before .before .before .before .before .before .before .count .given .1) refl _ refl
+    let counted = c .before .before .before .before .before .before .before .before .before .before .before in
+    rw (c .reply-by .ensures) (run-retouched (entry .args .text .now) (entry .args .pairs .now) (length (entry .args .table .now)) (length (entry .args .plan .now))
+    (length (entry .args .results .now)) (length (entry .args .changes .now)) (entry .args .n) _ _ _ _ (entry .pre .0) (k .ensures) _ (counted .count .given .1) refl _ refl
     _ _ _ _ _ (k .kept .1 .1 .0) (k .kept .1 .1 .1 .0) (k .kept .1 .1 .1 .1 .0) (c .before .before .before .before .before .retouch-run .ensures))
 
 same-length-5 : tie.Need-same-length-5
@@ -89,8 +90,9 @@ returns-2 c =
     let ran = c .before .before .before .before .before .before .before .before .before .before .before .before .before .before .before .before in
     let entry = ran .before .before .before .before .before in
     let k = ran .run-sheet in
-    rw (c .reply-by2 .ensures) (run-retouched (entry .args .text .now) (entry .args .pairs .now) (length (entry .args .table .now)) (length (entry .args .plan .now)) (length (entry .args .results .now))
-    (length (entry .args .changes .now)) (entry .args .n) _ _ _ _ (entry .pre .0) (k .ensures) _ (c .before .before .before .before .before .before .before .before .before .before .before .count2 .given .1) refl _ refl
+    let counted = c .before .before .before .before .before .before .before .before .before .before .before in
+    rw (c .reply-by2 .ensures) (run-retouched (entry .args .text .now) (entry .args .pairs .now) (length (entry .args .table .now)) (length (entry .args .plan .now))
+    (length (entry .args .results .now)) (length (entry .args .changes .now)) (entry .args .n) _ _ _ _ (entry .pre .0) (k .ensures) _ (counted .count2 .given .1) refl _ refl
     _ _ _ _ _ (k .kept .1 .1 .0) (k .kept .1 .1 .1 .0) (k .kept .1 .1 .1 .1 .0) (c .before .before .before .before .before .retouch-run2 .ensures))
 
 same-length-9 : tie.Need-same-length-9

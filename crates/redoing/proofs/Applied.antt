@@ -36,7 +36,7 @@ use Rattle.redoing.specs.Redone.{isRedone, redoneOf, redoneCount, failin
 use Rattle.redoing.specs.RedoStages.{Tallied, Redoable, Redid, Window, OwnersMarked, OwnersWindows, Standing, PairApplied, PairsApplied}
 use Rattle.redoing.specs.declared.Change.{Change}
 use Rattle.redoing.proofs.Numbers.{number-length, number-structure, number-owner, number-accepted}
-use Rattle.redoing.proofs.Structure.{proper-on, proper-list-on, mark-row-on}
+use Rattle.redoing.proofs.Structure.{structure-then, proper-on, proper-list-on, mark-row-on}
 use Rattle.redoing.proofs.Redone.{redone-many}
 use Rattle.redoing.proofs.Dependents.{pair-reached}
 use Rattle.redoing.proofs.Sums.{failing-few, steps-few}
@@ -294,7 +294,6 @@ module _ (t : List ℤ) (n : ℕ) (plan : List ℤ) (k : ℕ) (ps r w : List ℤ
 
       pub applying-next : Applying t n plan k ps r w u″ r″ w″ c′ (i + 1)
       applying-next =
-          let s = number-structure u l z in
           record {
             upto = omega arith;
             applied = record {
@@ -304,11 +303,7 @@ module _ (t : List ℤ) (n : ℕ) (plan : List ℤ) (k : ℕ) (ps r w : List ℤ
             };
             standing = rw (a .table) (standing-next u n plan k r′ (g .standing) l z line (next-right right .number) (rw (a .table) at (a .results)));
             tallied = a .tallied;
-            structure = rw (a .table) (record {
-              kinds = λ x. s .kinds x ∙ g .structure .kinds x;
-              owners = λ x. s .owners x ∙ g .structure .owners x;
-              targets = λ x. s .targets x ∙ g .structure .targets x;
-            });
+            structure = rw (a .table) (structure-then (g .structure) (number-structure u l z));
             tables = ap length (a .table) ∙ number-length u l z ∙ g .tables;
             resultsLong = long ∙ g .resultsLong;
             changesLong = ap length (a .changes) ∙ length-sets w′ (3 * (i + 1 - 1)) (changeCells u″ n (owner u l)) ∙ g .changesLong;

@@ -7,3 +7,4 @@ mod Owners
 mod Down
 mod Windows
 pub mod Applied
+pub mod EveryPair

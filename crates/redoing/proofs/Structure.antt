@@ -20,6 +20,9 @@ use Rattle.redoing.specs.Redone.{Redone, isRedone, redoneOf}
 pub structure-back : {t u : List ℤ} → SameStructure t u → SameStructure u t
 structure-back s = record { kinds = λ l. sym (s .kinds l); owners = λ l. sym (s .owners l); targets = λ l. sym (s .targets l) }
 
+pub structure-then : {t u w : List ℤ} → SameStructure t u → SameStructure u w → SameStructure t w
+structure-then a b = record { kinds = λ l. b .kinds l ∙ a .kinds l; owners = λ l. b .owners l ∙ a .owners l; targets = λ l. b .targets l ∙ a .targets l }
+
 module _ {t u : List ℤ} (s : SameStructure t u) where
   mentions-on : {a b : ℕ} → Mentions t a b → Mentions u a b
   mentions-on m =

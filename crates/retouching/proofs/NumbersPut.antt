@@ -13,18 +13,18 @@ use Rattle.cells.specs.Cells.{intAt, zeros}
 use Rattle.cells.specs.Accepted.{Accepted}
 use Rattle.cells.specs.Characters.{newline}
 use Rattle.cells.specs.Limits.{sizeLimit, labelLimit}
-use Rattle.cells.specs.Table.{kind, nameStart, withColumn, withNumber}
+use Rattle.cells.specs.Table.{kind, nameStart, owner, withColumn, withNumber}
 use Rattle.cells.proofs.Table.{cell-past}
 use Rattle.cells.proofs.Columns.{column-length, column-over, column-other}
 use Rattle.refusals.specs.declared.Verdict.the-variants.{Fine}
 use Rattle.refusals.proofs.OrElse.{both-fine}
 use Rattle.lines.specs.Lines.{isText, labels, firstLine, headBad}
 use Rattle.lines.proofs.Heads.{headed}
-use Rattle.order.specs.Order.{Answer, plan}
+use Rattle.order.specs.Order.{Answer, plan, orderOf}
 use Rattle.order.specs.Rows16to18.{cycleBad}
 use Rattle.reading.specs.Read.{tableShort, sheetBad, sheetTable, Reads, tableOf}
 use Rattle.reading.specs.AnyLength.{ReadsAtAnyLength}
-use Rattle.reading.proofs.Accepted.{any-accepted, any-length, read-length}
+use Rattle.reading.proofs.Accepted.{any-accepted, any-length, read-accepted, read-length}
 use Rattle.evaluation.specs.declared.Value.{Value}
 use Rattle.figures.specs.Figures.{bufferOf, figures}
 use Rattle.sheets.specs.NumberPut.{NumberPut}
@@ -33,9 +33,13 @@ use Rattle.calls.specs.Buffers.{planShort, resultsShort, runBuffers}
 use Rattle.calls.specs.Plan.{plannedBad, planOf, answerBy, listedBy}
 use Rattle.calls.specs.Run.{resultsBy, runBad, runReply, runTable, runPlan, runResults}
 use Rattle.calls.proofs.Answers.{cycleOf, cycle-of}
+use Rattle.calls.proofs.Rooms.{results-room, run-rooms}
+use Rattle.calls.proofs.Followed.{planned-proper}
 use Rattle.calls.proofs.Sheets.{planned-reads, reads-planned}
 use Rattle.redoing.specs.Pairs.{pairCount, pairLabel, pairNumber, PairRight, PairsRight, withPairs}
-use Rattle.redoing.proofs.Numbers.{number-length, number-structure}
+use Rattle.redoing.specs.PairRedone.{PairRedone}
+use Rattle.redoing.proofs.Numbers.{number-length}
+use Rattle.redoing.proofs.EveryPair.{pairs-structure, every-pair}
 use Rattle.retouching.specs.Retouch.{changesShort, retouchBuffers, pairsBad, retouchBad, retouched, retouchReply, retouchTable, retouchPlan, retouchResults}
 use Rattle.retouching.specs.NumbersPut.{numbersPut, RunOfPut}
 use Rattle.retouching.proofs.Rows.{pairs-right}
@@ -105,10 +109,6 @@ module _ (ps t : List ℤ) where
   pairs-length zero = refl
   pairs-length (suc k) = number-length (withPairs ps k t) (pairLabel ps (suc k)) (pairNumber ps (suc k)) ∙ pairs-length k
 
-  pairs-kind : (k l : ℕ) → kind (withPairs ps k t) l ≡ kind t l
-  pairs-kind zero l = refl
-  pairs-kind (suc k) l = number-structure (withPairs ps k t) (pairLabel ps (suc k)) (pairNumber ps (suc k)) .kinds l ∙ pairs-kind k l
-
   -- put into a table of n labels that stands before other cells
   pairs-before : (n : ℕ) (z : List ℤ) → length t ≡ 8 * n → (k : ℕ) → ((i : ℕ) → 1 ≤ i → i ≤ k → PairRight t ps i)
       → withPairs ps k (t ++ z) ≡ withPairs ps k t ++ z
@@ -116,7 +116,7 @@ module _ (ps t : List ℤ) where
   pairs-before n z g (suc k) h =
       let l = pairLabel ps (suc k) in
       ap (withNumber l (pairNumber ps (suc k))) (pairs-before n z g k (λ i a b. h i a (omega arith)))
-      ∙ number-before l (pairNumber ps (suc k)) (withPairs ps k t) z n (pairs-length k ∙ g) (pairs-kind k l ∙ h (suc k) (omega arith) (omega arith) .line)
+      ∙ number-before l (pairNumber ps (suc k)) (withPairs ps k t) z n (pairs-length k ∙ g) (pairs-structure ps t k .kinds l ∙ h (suc k) (omega arith) (omega arith) .line)
 
 -- ---- in turn
 
@@ -140,7 +140,7 @@ module _ (s : List ℕ) (ps : List ℤ) (reads : ReadsAtAnyLength s) (k : ℕ) (
   kind-kept l =
       ap (λ (t : List ℤ). kind t l) (v .table)
       ∙ column-other 1 (nameStart (sheetTable u)) (omega arith) (labels s) (withPairs ps k (sheetTable s)) l 0 (omega arith) (λ e. omega arith)
-      ∙ pairs-kind ps (sheetTable s) k l
+      ∙ pairs-structure ps (sheetTable s) k .kinds l
 
   module _ (r : List ℕ) (w : NumberPut u (pairLabel ps (suc k)) (pairNumber ps (suc k)) r) where
     abbrev n : ℕ
@@ -224,6 +224,15 @@ module _ (s : List ℕ) (ps : List ℤ) (m p q w : ℕ) (e : retouchBad s ps m p
   retouch-table =
       rw (e, runs)
       (sym (pairs-before ps (sheetTable s) (labels s) (zeros (m - 8 * labels s)) (read-length s (opened .0)) (pairCount ps) right))
+
+  -- "After each pair": the values that are worked out again, of each pair of the list
+  pub each-pair-redone : (k : ℕ) → k < pairCount ps
+      → PairRedone (withPairs ps k (sheetTable s)) (withPairs ps (suc k) (sheetTable s)) (labels s) (owner (sheetTable s) (pairLabel ps (suc k))) (orderOf (planOf s)) q
+  unfolding planOf
+  each-pair-redone k h =
+      let ok = read-accepted s (opened .0) in
+      every-pair ps (sheetTable s) (labels s) ok (orderOf (plan (sheetTable s) (labels s))) (planned-proper (sheetTable s) (labels s) ok (opened .2)) q
+      (results-room s q (run-rooms s m p q long .2)) k (λ i a b. right i a (omega arith))
 
   any : ReadsAtAnyLength s
   any = reads-any s (opened .0)

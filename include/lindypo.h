@@ -264,7 +264,8 @@ lindypo_reply lindypo_follow(const uint8_t *text, size_t text_length,
  * length of its text. An empty list changes nothing: Retouch is then Run.
  *
  * The changes need 3 cells for each whole pair of the list; an odd last cell is
- * not counted here, and refused later. In an answer the cells of pair k are
+ * not counted here, and refused later. So does a list of more pairs than are
+ * allowed: in LINDYPO_CHANGES_MOST cells it is refused for the changes. In an answer the cells of pair k are
  * those from 3(k - 1) on, by lindypo_change, as they stood after that pair and
  * before the next. All cells after these are then 0.
  *

@@ -1,5 +1,5 @@
 -- Order 4's claim of each pair of a list, on the table as the pairs before it left it.
-use mathlib.Core.Path.{refl, subst, _∙_}
+use mathlib.Core.Path.{_≡_, refl, sym, ap, subst, _∙_, fun-ext}
 use mathlib.Core.List.{List}
 use Prim.Native.Nat.{ℕ, zero, suc, _*_, _≤_}
 use native.Mathlib.Omega.{arith}
@@ -8,6 +8,11 @@ use Rattle.cells.specs.Table.{owner}
 use Rattle.cells.specs.Accepted.{Accepted}
 use Rattle.order.specs.Order.{Proper, SameStructure}
 use Rattle.redoing.specs.Pairs.{pairLabel, pairNumber, PairRight, withPairs}
+use Rattle.evaluation.specs.declared.Value.{Value}
+use Rattle.evaluation.specs.Results.{stored}
+use Rattle.figures.specs.Figures.{figures, resultCells}
+use Rattle.figures.proofs.Working.{figures-stored}
+use Rattle.redoing.specs.Redone.{failing, stepSum}
 use Rattle.redoing.specs.PairRedone.{PairRedone}
 use Rattle.redoing.proofs.Numbers.{number-structure, number-accepted}
 use Rattle.redoing.proofs.Structure.{structure-then, proper-on}
@@ -34,3 +39,10 @@ module _ (ps t : List ℤ) where
         let p = right (suc k) (omega arith) (omega arith) in
         subst (λ (d : ℕ). PairRedone (withPairs ps k t) (withPairs ps (suc k) t) n d o q) (same .owners l)
         (pair-redone (withPairs ps k t) n (accepted-after k (λ i a b. right i a (omega arith))) o (proper-on same proper) l (same .kinds l ∙ p .line) (pairNumber ps (suc k)) (p .number) q fit)
+
+-- the figures stored for a pair are sums over the results, in whatever buffer they stand
+pub sums-over-results : (t : List ℤ) (n : ℕ) → Accepted t n → (q : ℕ) → 3 * n ≤ q
+    → (failing (figures t n) n ≡ failing (stored (resultCells t n q)) n) × (stepSum (figures t n) n ≡ stepSum (stored (resultCells t n q)) n)
+sums-over-results t n ok q fit =
+    let same : stored (resultCells t n q) ≡ figures t n = fun-ext (figures-stored t n ok q fit) in
+    (ap (λ (f : ℕ → Value). failing f n) (sym same), ap (λ (f : ℕ → Value). stepSum f n) (sym same))

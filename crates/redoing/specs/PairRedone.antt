@@ -15,7 +15,7 @@ use Rattle.figures.specs.Figures.{figures, resultCells, evaluateInto}
 use Rattle.figures.specs.Entered.{EntersRead}
 use Rattle.redoing.specs.Redone.{Redone, redoneOf, redoneCount}
 
--- The table of n labels was t before the pair and is u after it, with another number in a line that d owns; results have q cells. The plan
+-- The table of n labels was t before the pair and is u after it, with the pair's number in a line that d owns; results have q cells. The plan
 -- is o, and those of its values that are worked out again are, in its sequence, redoneOf u n d o.
 pub record PairRedone (t u : List ℤ) (n d : ℕ) (o : List ℕ) (q : ℕ) : Type 0 where
   -- these and no others,

@@ -37,7 +37,7 @@ abbrev pub Turned : Bool → List ℤ → ℕ → ℕ → List ℤ → Change �
 Turned true t n v r c r′ c′ = (r′ ≡ evaluateInto t r v) × (c′ .redone ≡ c .redone + 1) × Tallied n r′ c′
 Turned false t n v r c r′ c′ = (r′ ≡ r) × (c′ ≡ c)
 
--- row d of the square has what reaches d: the test of a value v
+-- row d of the square has what reaches d, and the Groups around that: the test of a value v
 abbrev pub turns : List ℕ → ℕ → ℕ → ℕ → Bool
 turns square n d v = eqb v d || mark square (width n) d v
 
@@ -78,7 +78,8 @@ pub record PlanRow (n : ℕ) (plan : List ℤ) (k : ℕ) (square : List ℕ) (d 
 abbrev pub NoneDepends : List ℕ → ℕ → ℕ → List ℤ → ℕ → ℕ → Type 0
 NoneDepends square n d plan from to = (i : ℕ) → from ≤ i → i < to → turns square n d (natAt plan i) ≡ false
 
--- d's window is known: none stands outside it. Windows has where it begins at index 2 * d, and one more than where it ends behind that.
+-- d's window is known: none stands outside it. Windows has, at index 2 * d, its first position and, at 2 * d + 1, one more than the
+-- position past its last; 0 there while it is not known.
 pub record Window (square : List ℕ) (n : ℕ) (plan : List ℤ) (k : ℕ) (windows : List ℕ) (d : ℕ) : Type 0 where
   pub begun : getD windows (2 * d) 0 < getD windows (2 * d + 1) 0
   pub ended : getD windows (2 * d + 1) 0 ≤ k + 1

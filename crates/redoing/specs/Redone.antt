@@ -52,10 +52,11 @@ failing f n = total (λ l. one (isFailure (f l))) n
 unfoldable pub stepSum : (ℕ → Value) → ℕ → ℕ
 stepSum f n = total (λ l. f l .steps) n
 
--- the three cells of pair k, of the table t before the first pair: those of the table u after it
+-- the three cells of a pair, of the table u after it
 abbrev pub changeCells : List ℤ → ℕ → ℕ → List ℤ
 changeCells u n d = pos (redoneCount u n d) ∷ pos (failing (figures u n) n) ∷ pos (stepSum (figures u n) n) ∷ []
 
+-- those of pair k, of the table t before the first pair
 abbrev pub changeOf : List ℤ → ℕ → List ℤ → ℕ → List ℤ
 changeOf t n ps k = changeCells (withPairs ps k t) n (owner t (pairLabel ps k))
 

@@ -181,7 +181,8 @@ fn window_end(square: &[u64], n: usize, d: usize, plan: &[i64], from: usize, cou
     from
 }
 
-// The window of d in the plan, unless it is known: windows has where it begins at index 2 * d, and one more than where it ends behind that.
+// The window of d in the plan, unless it is known: windows has, at index 2 * d, its first position and, at 2 * d + 1, one more than the
+// position past its last; 0 there while it is not known.
 fn find_window(square: &[u64], n: usize, d: usize, plan: &[i64], count: usize, windows: &mut [u16])
     requires { ⌜ PlanRow n (now plan) count (now square) d × (count ≤ labelLimit) × (2 * n + 1 < length (now windows)) ⌝ }
     requires { ⌜ Windows (now square) n (now plan) count (now windows) ⌝ }
@@ -425,7 +426,7 @@ fn apply_in(
 }
 
 // Applies the pairs in turn to a table whose plan and results stand, and writes what each brought about. The square goes by the size of
-// the sheet, since it is zeroed at each call; an empty list has none.
+// the sheet, since it is zeroed at each call; a list without a pair has none.
 pub fn apply_pairs(
     table: &mut [i64],
     n: usize,

@@ -1,3 +1,4 @@
 pub mod Rows
 pub mod NumbersPut
+pub mod AsRun
 mod Calls

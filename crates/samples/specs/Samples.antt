@@ -321,7 +321,7 @@ samples =
     ∷ frameAndLeft
     ∷ []
 
--- document 02, order 4: the sheet of the layout bench. The first pair puts in the number that stands there: its owner `pd` is worked out
+-- for document 02, order 4: a sheet of the layout bench, and what its words give, counted by hand. The first pair puts in the number that stands there: its owner `pd` is worked out
 -- again, and nothing changes. The second is owned by the function `prism`, which `base` calls: 250 / 10 is 25
 abbrev pub bench : RetouchSample
 bench = record {

@@ -1,6 +1,13 @@
 use mathlib.Core.Path.{_≡_, refl, ap}
-use Prim.Native.Nat.{_+_, _-_, _≤_}
+use mathlib.Core.List.{List}
+use Prim.Native.Nat.{_+_, _-_, _*_, _≤_, _<_}
 use native.Mathlib.Omega.{arith}
+use lib.IntN.{ℤ}
+use lib.ListN.{length, getD, take}
+use Rattle.cells.specs.Table.{owner, withNumber}
+use Rattle.order.specs.Following.{labelsOf}
+use Rattle.redoing.specs.RedoStages.{Redoable, Redid, between, Window}
+use Rattle.redoing.specs.declared.Change.{Change}
 use Rattle.redoing.specs.Pairs.{pairLabel, pairNumber}
 use Rattle.redoing.proofs.Numbers.{number-label}
 use Rattle.redoing.proofs.Windows.{window-named, redoable-window, redid-window}
@@ -17,13 +24,67 @@ label-at c = c .before .before .before .before .before
 abbrev entry-of : tie.After-cell-of → tie.Start
 entry-of c = label-at c .before .before .before
 
--- the owner is a label
-owner-small : (c : tie.After-cell-of) → c .cell-of .result ≤ 1024
-owner-small c =
+abbrev found-at : tie.After-widen2 → tie.After-cell-of
+found-at c = c .before .before .before .before
+
+-- ---- once the owner is found
+
+owner-label : (c : tie.After-cell-of) → c .cell-of .result ≤ entry-of c .args .n
+owner-label c =
     let entry = entry-of c in
-    let few = owner-few _ _ _ (entry .args .k + 1) (label-at c .label-of .ensures) (c .before .before .before .put-number .ensures) (entry .pre .0 .accepted) (entry .pre .1 .0 .1)
-    (c .cell-of .ensures) in
-    omega (arith, few, entry .pre .0 .accepted .few)
+    owner-few _ _ _ (entry .args .k + 1) (label-at c .label-of .ensures) (c .before .before .before .put-number .ensures) (entry .pre .0 .accepted) (entry .pre .1 .0 .1) (c .cell-of .ensures)
+
+owner-small : (c : tie.After-cell-of) → c .cell-of .result ≤ 1024
+owner-small c = omega (arith, owner-label c, entry-of c .pre .0 .accepted .few)
+
+owner-room : (c : tie.After-cell-of) → 2 * c .cell-of .result + 1 < length (entry-of c .args .windows .now)
+owner-room c = omega (arith, owner-label c, entry-of c .pre .1 .1 .1 .0 .0)
+
+-- ---- once its window is read
+
+window-at : (c : tie.After-widen2) →
+    let entry = entry-of (found-at c) in
+    Window (entry .args .square .now) (entry .args .n) (entry .args .plan .now) (entry .args .count) (entry .args .windows .now) (found-at c .cell-of .result)
+window-at c =
+    let found = found-at c in
+    let entry = entry-of found in
+    window-named
+    (owner-is _ (entry .args .n) _ (entry .args .k + 1) (label-at found .label-of .ensures) (found .before .before .before .put-number .ensures) (found .cell-of .ensures))
+    (entry .pre .1 .1 .1 .0 .1)
+
+window-end : (c : tie.After-widen2) → c .widen2 .result - 1 ≡ getD (entry-of (found-at c) .args .windows .now) (2 * found-at c .cell-of .result + 1) 0 - 1
+window-end c = ap (λ x. x - 1) (c .widen2 .ensures)
+
+-- going down the whole plan would do
+whole-plan : (c : tie.After-widen2) →
+    let found = found-at c in
+    let entry = entry-of found in
+    Redoable (found .before .before .before .put-number .last .0) (entry .args .n) (entry .args .results .now) (entry .args .plan .now) (entry .args .count) (entry .args .square .now)
+    (found .cell-of .result)
+whole-plan c =
+    let found = found-at c in
+    let entry = entry-of found in
+    let right = entry .pre .1 .0 .1 in
+    let line = pairLabel (entry .args .pairs .now) (entry .args .k + 1) in
+    let number = pairNumber (entry .args .pairs .now) (entry .args .k + 1) in
+    redoable-still _ _ _ (entry .args .k + 1) (label-at found .label-of .ensures) (found .before .before .before .put-number .ensures) _ _ _ (found .cell-of .ensures) _
+    (pair-redoable _ _ _ _ _ (entry .pre .0) line number (right .line) (right .number) _ (entry .pre .1 .1 .0 .0) (entry .pre .1 .1 .0 .1))
+
+-- and what going down the window did is what that would have done
+whole-done : (c : tie.After-widen2) {c₀ c₁ : Change} {r : List ℤ} →
+    let found = found-at c in
+    let entry = entry-of found in
+    let line = pairLabel (entry .args .pairs .now) (entry .args .k + 1) in
+    Redid (found .before .before .before .put-number .last .0) (entry .args .n) (entry .args .results .now)
+    (between (entry .args .plan .now) (c .before .before .widen .result) (c .widen2 .result - 1)) (found .cell-of .result) c₀ r c₁
+    → Redid (withNumber line (pairNumber (entry .args .pairs .now) (entry .args .k + 1)) (entry .args .table .now)) (entry .args .n) (entry .args .results .now)
+    (labelsOf (take (entry .args .count) (entry .args .plan .now))) (owner (entry .args .table .now) line) c₀ r c₁
+whole-done c did =
+    let found = found-at c in
+    let entry = entry-of found in
+    redid-still _ _ _ (entry .args .k + 1) (label-at found .label-of .ensures) (found .before .before .before .put-number .ensures) _ (entry .args .plan .now) (entry .args .count)
+    (found .cell-of .ensures)
+    (redid-window (entry .args .windows .now) (whole-plan c) (window-at c) (c .before .before .widen .ensures) (window-end c) did)
 
 label-of-requires : tie.Need-label-of-requires
 label-of-requires c κs = search needs
@@ -52,12 +113,7 @@ mul-widen-2 : tie.Need-mul-widen-2
 mul-widen-2 c = omega (arith, owner-small c)
 
 shared-slice-read-widen : tie.Need-shared-slice-read-widen
-shared-slice-read-widen c =
-    let found = c .before in
-    let entry = entry-of found in
-    let few = owner-few _ _ _ (entry .args .k + 1) (label-at found .label-of .ensures) (found .before .before .before .put-number .ensures) (entry .pre .0 .accepted) (entry .pre .1 .0 .1)
-    (found .cell-of .ensures) in
-    omega (arith, few, entry .pre .1 .1 .1 .0 .0)
+shared-slice-read-widen c = omega (arith, owner-room (c .before))
 
 widen-requires : tie.Need-widen-requires
 widen-requires c κs = search needs
@@ -72,61 +128,30 @@ mul-widen-4 : tie.Need-mul-widen-4
 mul-widen-4 c = omega (arith, owner-small (c .before .before))
 
 shared-slice-read-widen-2 : tie.Need-shared-slice-read-widen-2
-shared-slice-read-widen-2 c =
-    let found = c .before .before .before in
-    let entry = entry-of found in
-    let few = owner-few _ _ _ (entry .args .k + 1) (label-at found .label-of .ensures) (found .before .before .before .put-number .ensures) (entry .pre .0 .accepted) (entry .pre .1 .0 .1)
-    (found .cell-of .ensures) in
-    omega (arith, few, entry .pre .1 .1 .1 .0 .0)
+shared-slice-read-widen-2 c = owner-room (c .before .before .before)
 
 widen-requires-2 : tie.Need-widen-requires-2
 widen-requires-2 c κs = search needs
 
 sub-to : tie.Need-sub-to
-sub-to c =
-    let found = c .before .before .before .before in
-    let entry = entry-of found in
-    let named = label-at found .label-of .ensures in
-    let put = found .before .before .before .put-number .ensures in
-    let own = found .cell-of .ensures in
-    let window = window-named (owner-is _ (entry .args .n) _ (entry .args .k + 1) named put own) (entry .pre .1 .1 .1 .0 .1) in
-    omega (arith, c .widen2 .ensures, window .begun)
+sub-to c = omega (arith, c .widen2 .ensures, window-at c .begun)
 
 redo-down-requires : tie.Need-redo-down-requires
 redo-down-requires c κs =
-    let found = c .before .before .before .before .before .before in
-    let entry = entry-of found in
-    let named = label-at found .label-of .ensures in
-    let put = found .before .before .before .put-number .ensures in
-    let own = found .cell-of .ensures in
-    let window = window-named (owner-is _ (entry .args .n) _ (entry .args .k + 1) named put own) (entry .pre .1 .1 .1 .0 .1) in
-    let right = entry .pre .1 .0 .1 in
-    let line = pairLabel (entry .args .pairs .now) (entry .args .k + 1) in
-    let number = pairNumber (entry .args .pairs .now) (entry .args .k + 1) in
-    let whole = pair-redoable _ _ _ _ _ (entry .pre .0) line number (right .line) (right .number) _ (entry .pre .1 .1 .0 .0) (entry .pre .1 .1 .0 .1) in
-    let ready = redoable-still _ _ _ (entry .args .k + 1) named put _ _ _ own _ whole in
     let read = c .before .before in
-    let to = ap (λ x. x - 1) (read .widen2 .ensures) in
-    (redoable-window (entry .args .windows .now) ready window (read .before .before .widen .ensures) to, (kept-tally (entry .pre .1 .1 .1 .1), refl))
+    let entry = entry-of (found-at read) in (
+      redoable-window (entry .args .windows .now) (whole-plan read) (window-at read) (read .before .before .widen .ensures) (window-end read),
+      (kept-tally (entry .pre .1 .1 .1 .1), refl),
+    )
 
 put-change-requires : tie.Need-put-change-requires
 put-change-requires c κs =
-    let found = c .before .before .before .before .before .before .before .before .before in
-    let entry = entry-of found in
-    let named = label-at found .label-of .ensures in
-    let put = found .before .before .before .put-number .ensures in
-    let own = found .cell-of .ensures in
-    let window = window-named (owner-is _ (entry .args .n) _ (entry .args .k + 1) named put own) (entry .pre .1 .1 .1 .0 .1) in
+    let read = c .before .before .before .before .before in
+    let entry = entry-of (found-at read) in
     let right = entry .pre .1 .0 .1 in
     let line = pairLabel (entry .args .pairs .now) (entry .args .k + 1) in
     let number = pairNumber (entry .args .pairs .now) (entry .args .k + 1) in
-    let whole = pair-redoable _ _ _ _ _ (entry .pre .0) line number (right .line) (right .number) _ (entry .pre .1 .1 .0 .0) (entry .pre .1 .1 .0 .1) in
-    let ready = redoable-still _ _ _ (entry .args .k + 1) named put _ _ _ own _ whole in
-    let read = c .before .before .before .before .before in
-    let to = ap (λ x. x - 1) (read .widen2 .ensures) in
-    let did = redid-still _ _ _ (entry .args .k + 1) named put _ (entry .args .plan .now) (entry .args .count) own
-    (redid-window (entry .args .windows .now) ready window (read .before .before .widen .ensures) to (c .before .before .redo-down .ensures)) in
-    let few = change-fits _ _ _ _ _ (entry .pre .0) line number (right .line) (right .number) refl did in
+    let few = change-fits _ _ _ _ _ (entry .pre .0) line number (right .line) (right .number) refl (whole-done read (c .before .before .redo-down .ensures)) in
     (omega (arith, entry .pre .1 .0 .0, entry .pre .1 .0 .2), few .0, few .1, few .2)
 
 same-length : tie.Need-same-length
@@ -140,25 +165,17 @@ same-length-3 c = search needs
 
 returns : tie.Need-returns
 returns c =
-    let found = c .before .before .before .before .before .before .before .before .before .before .before in
+    let read = c .before .before .before .before .before .before .before in
+    let found = found-at read in
     let entry = entry-of found in
-    let named = label-at found .label-of .ensures in
-    let put = found .before .before .before .put-number .ensures in
-    let own = found .cell-of .ensures in
-    let window = window-named (owner-is _ (entry .args .n) _ (entry .args .k + 1) named put own) (entry .pre .1 .1 .1 .0 .1) in
     let right = entry .pre .1 .0 .1 in
     let line = pairLabel (entry .args .pairs .now) (entry .args .k + 1) in
     let number = pairNumber (entry .args .pairs .now) (entry .args .k + 1) in
-    let whole = pair-redoable _ _ _ _ _ (entry .pre .0) line number (right .line) (right .number) _ (entry .pre .1 .1 .0 .0) (entry .pre .1 .1 .0 .1) in
-    let ready = redoable-still _ _ _ (entry .args .k + 1) named put _ _ _ own _ whole in
-    let read = c .before .before .before .before .before .before .before in
-    let to = ap (λ x. x - 1) (read .widen2 .ensures) in
-    let did = redid-still _ _ _ (entry .args .k + 1) named put _ (entry .args .plan .now) (entry .args .count) own
-    (redid-window (entry .args .windows .now) ready window (read .before .before .widen .ensures) to (c .before .before .before .before .redo-down .ensures)) in
     let at-index : entry .args .k + 1 - 1 ≡ entry .args .k = omega arith in
-    applied-still _ _ _ (entry .args .k + 1) named put _ (entry .args .plan .now) (entry .args .count) own
-    (pair-applied _ _ _ _ _ (entry .pre .0) line number (right .line) (right .number) refl did (entry .args .pairs .now) (entry .args .k + 1)
-    refl refl _ _ (rw at-index (c .before .put-change .ensures)))
+    applied-still _ _ _ (entry .args .k + 1) (label-at found .label-of .ensures) (found .before .before .before .put-number .ensures) _ (entry .args .plan .now) (entry .args .count)
+    (found .cell-of .ensures)
+    (pair-applied _ _ _ _ _ (entry .pre .0) line number (right .line) (right .number) refl (whole-done read (c .before .before .before .before .redo-down .ensures)) (entry .args .pairs .now)
+    (entry .args .k + 1) refl refl _ _ (rw at-index (c .before .put-change .ensures)))
 
 pub retouch-pair-spec : {M : Type 1} → statement M
 retouch-pair-spec =

@@ -37,7 +37,7 @@ fn failed(results: &[i64], label: usize) -> u64
     requires { ⌜ ResultsRoom (now results) label ⌝ }
     ensures { λ r. ⌜ (r ≡ one (isFailure (stored (now (results .entry)) label))) × (r ≤ 1) ⌝ }
 {
-    if cells::nat_of(results[3 * (label - 1)]) <= 1 {
+    if cells::nat_of(results[3 * (label - 1)]) <= evaluation::NUMBER as usize {
         0
     } else {
         1

@@ -20,6 +20,9 @@ shared-slice-copy-out-nat-of c = search needs
 nat-of-requires : tie.Need-nat-of-requires
 nat-of-requires c κs = search needs
 
+cast-if1 : tie.Need-cast-if1
+cast-if1 c = search needs
+
 returns : tie.Need-returns
 returns c =
     let entry = c .before .before .before in
@@ -43,5 +46,6 @@ failed-spec =
     mul-nat-of-2
     shared-slice-copy-out-nat-of
     nat-of-requires
+    cast-if1
     returns
     returns-2)

@@ -14,12 +14,13 @@ use Rattle.refusals.specs.declared.Verdict.the-variants.{Fine, Refused}
 use Rattle.refusals.specs.declared.Reply.{Reply}
 use Rattle.refusals.specs.declared.Reply.the-variants as head
 use Rattle.refusals.proofs.OrElse.{both-fine}
-use Rattle.lines.specs.Lines.{labels}
+use Rattle.lines.specs.Lines.{labels, arithmeticOf}
 use Rattle.order.specs.Following.{ProperList}
 use Rattle.order.specs.Rows16to18.{cycleBad}
 use Rattle.reading.specs.Read.{tableShort, sheetBad, sheetTable, Reads}
 use Rattle.reading.specs.ReadStages.{Passed}
 use Rattle.reading.proofs.Accepted.{reads, read-accepted}
+use Rattle.numbers.specs.declared.Arithmetic.{Arithmetic}
 use Rattle.figures.specs.Figures.{resultCells}
 use Rattle.calls.specs.Buffers.{planShort, resultsShort, planBuffers, runBuffers}
 use Rattle.calls.specs.Plan.{plannedBad, planOf, answerBy, listedBy, lengthOf, planBad, planReply, planTable, planCells, planRefusal, planPlace, isAnswer}
@@ -107,10 +108,10 @@ module _ (s : List ℕ) (m p n : ℕ) (r : PlanReply) (t o : List ℤ) (h : Pass
         let kept : PlanKept (sheetTable s) x o = rw (c .0, c .1) (plan-kept (sheetTable s) (labels s) ok p) in
         (rw (rows-sheets, h .count) ok, omega (arith, h .count), rw (rows-sheets, ← l) (kept .proper (answers-number x a)))
 
-    pub results-evaluated : (q : ℕ) (u : List ℤ) → u ≡ resultCells (cellsTo n t) n q → SheetRuns s m p q x t o u
-    results-evaluated q u e = record {
+    pub results-evaluated : {α : Arithmetic} → α ≡ arithmeticOf s → (q : ℕ) (u : List ℤ) → u ≡ resultCells α (cellsTo n t) n q → SheetRuns s m p q x t o u
+    results-evaluated own q u e = record {
       planned = record { reply = sym is ∙ st .reply; table = st .table; plan = st .plan };
-      results = rw fine (e ∙ rw (rows-sheets, h .count));
+      results = rw fine (e ∙ rw (own, rows-sheets, h .count));
     }
 
   -- a refusal is that of rows 5 to 16

@@ -75,11 +75,11 @@ module _ (s : List ℕ) (m p q m′ q′ : ℕ) (e : Reads s) (f : runBuffers s 
     no-cycle : NoCycle t
     no-cycle = proper-no-cycle (l .proper)
 
-    run-results : runResults s m p q ≡ resultCells t n q
+    run-results : runResults s m p q ≡ resultCells α t n q
     unfolding runResults runBad
     run-results = rw (reads-planned s (runBuffers s m p q) e f, proper-rows t n ok o l .0)
 
-    follow-results : followResults s o m′ q′ ≡ resultCells t n q′
+    follow-results : followResults s o m′ q′ ≡ resultCells α t n q′
     unfolding followResults followBad
     follow-results =
         let r = proper-rows t n ok o l in
@@ -89,15 +89,15 @@ module _ (s : List ℕ) (m p q m′ q′ : ℕ) (e : Reads s) (f : runBuffers s 
     same v k =
         let b = value-label t n ok v k in
         rw (follow-results, run-results)
-        (row-of (figures t n) n (zeros (q′ - 3 * n)) v (b .0) (b .1) ∙ sym (row-of (figures t n) n (zeros (q - 3 * n)) v (b .0) (b .1)))
+        (row-of (figures α t n) n (zeros (q′ - 3 * n)) v (b .0) (b .1) ∙ sym (row-of (figures α t n) n (zeros (q - 3 * n)) v (b .0) (b .1)))
 
-    evaluated : Evaluated t (followResults s o m′ q′)
-    evaluated = rw follow-results (figures-solve t n ok q′ fit no-cycle)
+    evaluated : Evaluated α t (followResults s o m′ q′)
+    evaluated = rw follow-results (figures-solve α t n ok q′ fit no-cycle)
 
-    only : (r : List ℤ) → length r ≡ q′ → Evaluated t r → r ≡ followResults s o m′ q′
+    only : (r : List ℤ) → length r ≡ q′ → Evaluated α t r → r ≡ followResults s o m′ q′
     only r h w =
         let room : 3 * n ≤ length r = omega (arith, fit) in
-        figures-only t n ok no-cycle r room w ∙ ap (resultCells t n) h ∙ sym follow-results
+        figures-only α t n ok no-cycle r room w ∙ ap (resultCells α t n) h ∙ sym follow-results
 
   pub demand-3 : Demand3 s m p q m′ q′
   unfolding planReply planCells planBad

@@ -13,13 +13,14 @@ use Rattle.refusals.specs.declared.Verdict.the-variants.{Fine, Refused}
 use Rattle.refusals.specs.declared.Reply.{Reply}
 use Rattle.refusals.specs.declared.Reply.the-variants as reply
 use Rattle.refusals.proofs.OrElse.{both-fine}
-use Rattle.lines.specs.Lines.{labels, headBad}
+use Rattle.lines.specs.Lines.{labels, headBad, arithmeticOf}
 use Rattle.order.specs.Following.{ProperList}
 use Rattle.order.specs.Rows16to18.{cycleBad, orderBad}
 use Rattle.reading.specs.Read.{sheetBad, sheetTable, Reads}
 use Rattle.reading.specs.ReadStages.{Passed, SheetReads}
 use Rattle.reading.proofs.Accepted.{reads, read-accepted}
 use Rattle.reading.proofs.Stage.{refused-judged}
+use Rattle.numbers.specs.declared.Arithmetic.{Arithmetic}
 use Rattle.figures.specs.Figures.{resultCells}
 use Rattle.calls.specs.Buffers.{resultsShort, followBuffers}
 use Rattle.calls.specs.Follow.{followBad, followReply, followTable, followResults}
@@ -67,10 +68,10 @@ module _ (s : List ℕ) (o : List ℤ) (m n : ℕ) (h : Passed s n) where
         let proper = order-proper (sheetTable s) (labels s) ok o (parts (sym (b .found) ∙ f) .1) in
         (rw (list-rows f, h .count) ok, rw (list-rows f, take-length o) proper)
 
-    pub list-follows : (j : ℕ) (u : List ℤ) → v ≡ Fine → u ≡ resultCells (cellsTo n t) n j → SheetFollows s o m j (reply.Answered (length o)) t u
-    list-follows j u f e =
+    pub list-follows : {α : Arithmetic} → α ≡ arithmeticOf s → (j : ℕ) (u : List ℤ) → v ≡ Fine → u ≡ resultCells α (cellsTo n t) n j → SheetFollows s o m j (reply.Answered (length o)) t u
+    list-follows own j u f e =
         let g = sym (b .found) ∙ f in
-        record { reply = rw g; table = rw g (b .left f); results = rw g (e ∙ rw (list-rows f, h .count)) }
+        record { reply = rw g; table = rw g (b .left f); results = rw g (e ∙ rw (own, list-rows f, h .count)) }
 
     pub list-refused : (j r l : ℕ) (x u : List ℤ) → v ≡ Refused r l → x ≡ zeros m → u ≡ zeros j → SheetFollows s o m j (reply.Refused r l) x u
     list-refused j r l x u f a c =

@@ -9,12 +9,14 @@ use lib.ListN.{length, take}
 use Rattle.kinds.specs.Kinds.{valueCode}
 use Rattle.cells.specs.Cells.{zeros}
 use Rattle.cells.specs.Table.{kind}
+use Rattle.numbers.specs.declared.Arithmetic.{Arithmetic}
 use Rattle.refusals.specs.Rows.{cycleRow}
 use Rattle.refusals.specs.Refusal as refusal
 use Rattle.order.specs.Order.{Proper, Whole}
 use Rattle.order.specs.Tangles.{ClearSideBySide}
 use Rattle.order.specs.Following.{ProperList, labelsOf}
 use Rattle.order.specs.Evaluating.{down, labelCells}
+use Rattle.lines.specs.Lines.{arithmeticOf}
 use Rattle.reading.specs.Read.{sheetTable}
 use Rattle.figures.specs.Figures.{Evaluated, evaluateInto}
 use Rattle.figures.specs.Entered.{NeverEarly}
@@ -47,12 +49,13 @@ pub record Demand3 (s : List ℕ) (m p q m′ q′ : ℕ) : Type 0 where
   -- "Whichever proper order that is, Follow gives every value the same state, number and step count as Run does": its three cells
   pub same : (o : List ℤ) → ProperList (sheetTable s) o → (v : ℕ) → kind (sheetTable s) v ≡ valueCode
       → labelCells 3 (followResults s o m′ q′) v ≡ labelCells 3 (runResults s m p q) v
-  -- "and they are those of document 01's Working out": they satisfy its rules, and no others do
-  pub evaluated : (o : List ℤ) → ProperList (sheetTable s) o → Evaluated (sheetTable s) (followResults s o m′ q′)
-  pub only : (o : List ℤ) → ProperList (sheetTable s) o → (r : List ℤ) → length r ≡ q′ → Evaluated (sheetTable s) r → r ≡ followResults s o m′ q′
+  -- "and they are those of document 01's Working out": they satisfy its rules, and no others do. Order 5: "Values are judged under the
+  -- rule that the sheet's own first line names"
+  pub evaluated : (o : List ℤ) → ProperList (sheetTable s) o → Evaluated (arithmeticOf s) (sheetTable s) (followResults s o m′ q′)
+  pub only : (o : List ℤ) → ProperList (sheetTable s) o → (r : List ℤ) → length r ≡ q′ → Evaluated (arithmeticOf s) (sheetTable s) r → r ≡ followResults s o m′ q′
 
 -- "A value read before it has been worked out puts another prism on the block": results in q cells are what one comes to by evaluating
 -- the values of the order o in turn, from zeros, and at each one's turn it reads only those that have been evaluated
-pub record EvaluatedDown (t : List ℤ) (o : List ℕ) (q : ℕ) (results : List ℤ) : Type 0 where
-  pub reached : results ≡ down (evaluateInto t) o (zeros q)
-  pub never : NeverEarly t o (zeros q)
+pub record EvaluatedDown (α : Arithmetic) (t : List ℤ) (o : List ℕ) (q : ℕ) (results : List ℤ) : Type 0 where
+  pub reached : results ≡ down (evaluateInto α t) o (zeros q)
+  pub never : NeverEarly α t o (zeros q)

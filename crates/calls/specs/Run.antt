@@ -5,16 +5,16 @@ use lib.IntN.{ℤ}
 use Rattle.cells.specs.Cells.{zeros}
 use Rattle.refusals.specs.declared.Verdict.{Verdict}
 use Rattle.refusals.specs.declared.Verdict.the-variants.{Fine, Refused}
-use Rattle.lines.specs.Lines.{labels}
+use Rattle.lines.specs.Lines.{labels, arithmeticOf}
 use Rattle.reading.specs.Read.{sheetTable, tableOf}
 use Rattle.figures.specs.Figures.{resultCells}
 use Rattle.calls.specs.Buffers.{runBuffers}
 use Rattle.calls.specs.Plan.{plannedBad, planOf, answerBy, listedBy}
 use Rattle.calls.specs.declared.PlanReply.{PlanReply}
 
--- results in q cells, those of Working out; nothing but zeros where the call refuses
+-- results in q cells, those of Working out by the sheet's own arithmetic; nothing but zeros where the call refuses
 abbrev pub resultsBy : Verdict → List ℕ → ℕ → List ℤ
-resultsBy Fine s q = resultCells (sheetTable s) (labels s) q
+resultsBy Fine s q = resultCells (arithmeticOf s) (sheetTable s) (labels s) q
 resultsBy (Refused r l) s q = zeros q
 
 unfoldable pub runBad : List ℕ → ℕ → ℕ → ℕ → Verdict

@@ -139,7 +139,7 @@ pub fn plan(text: &[u8], table: &mut [i64], plan: &mut [i64]) -> PlanReply
 
 // ---- Run
 
-// The plan of a text that rows 1 to 4 let pass, and the results down it.
+// The plan of a text that rows 1 to 4 let pass, and the results down it, by the sheet's own arithmetic.
 pub fn run_sheet(
     text: &[u8],
     n: usize,
@@ -151,13 +151,14 @@ pub fn run_sheet(
     ensures { λ r. ⌜ SheetRuns (now (text .entry)) (length (now (table .entry))) (length (now (plan .entry))) (length (now (results .entry)))
         r (now (table .exit)) (now (plan .exit)) (now (results .exit)) ⌝ }
 {
+    let arithmetic = lines::arithmetic_of(text);
     match plan_sheet(text, n, table, plan) {
         PlanReply::Whole(count) => {
-            figures::run_down(&table[..8 * n], n, plan, count as usize, results);
+            figures::run_down(arithmetic, &table[..8 * n], n, plan, count as usize, results);
             PlanReply::Whole(count)
         }
         PlanReply::Mixed(count) => {
-            figures::run_down(&table[..8 * n], n, plan, count as usize, results);
+            figures::run_down(arithmetic, &table[..8 * n], n, plan, count as usize, results);
             PlanReply::Mixed(count)
         }
         PlanReply::Refused(row, label) => {
@@ -195,7 +196,7 @@ fn follow_rows(text: &[u8], n: usize, order: &[i64], table: &mut [i64]) -> Verdi
     }
 }
 
-// The results down an order list that those rows let pass.
+// The results down an order list that those rows let pass, by the sheet's own arithmetic.
 fn follow_sheet(
     text: &[u8],
     n: usize,
@@ -206,9 +207,10 @@ fn follow_sheet(
     requires { ⌜ Passed (now text) n × (8 * n ≤ length (now table)) × (3 * n ≤ length (now results)) ⌝ }
     ensures { λ r. ⌜ SheetFollows (now (text .entry)) (now (order .entry)) (length (now (table .entry))) (length (now (results .entry))) r (now (table .exit)) (now (results .exit)) ⌝ }
 {
+    let arithmetic = lines::arithmetic_of(text);
     match follow_rows(text, n, order, table) {
         Verdict::Fine => {
-            figures::run_down(&table[..8 * n], n, order, order.len(), results);
+            figures::run_down(arithmetic, &table[..8 * n], n, order, order.len(), results);
             Reply::Answered(order.len() as u64)
         }
         Verdict::Refused(row, place) => {

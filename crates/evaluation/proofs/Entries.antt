@@ -18,6 +18,7 @@ use Rattle.kinds.proofs.Plans.{number-plain}
 use Rattle.cells.specs.Table.{cell, kind, fieldB, owner, target}
 use Rattle.cells.specs.Reaches.{Reaches}
 use Rattle.cells.specs.Limits.{numberLimit}
+use Rattle.numbers.specs.declared.Arithmetic.{Arithmetic}
 use Rattle.evaluation.specs.Evaluation.{branchOf, depthLimit, oneArgument, outcome, nothing}
 use Rattle.evaluation.specs.Ready.{Ready, ReachedEvaluated, ExpressionAt, Entry, Entered, EnteredCall, Cell, ResultsRoom, Evaluable}
 use Rattle.evaluation.specs.Results.{Recorded}
@@ -152,13 +153,13 @@ module _ {t r : List ℤ} {l : ℕ} {g : Arguments} {d : ℕ} where
 
 -- ---- after an operand
 
-module _ (t r : List ℤ) (x : ℕ) (g : Arguments) (s d : ℕ) {o : Outcome} (p : o ≡ outcome t r x g s d) where
+module _ (α : Arithmetic) (t r : List ℤ) (x : ℕ) (g : Arguments) (s d : ℕ) {o : Outcome} (p : o ≡ outcome α t r x g s d) where
   pub number-ranged : Entry t r x g d → {y : ℤ} → y ≡ o .number → natAbs y ≤ numberLimit
   number-ranged e q =
-      rw (q, p) (in-range t r (e .ready) x g s d (e .line) (e .given) .ranged)
+      rw (q, p) (in-range α t r (e .ready) x g s d (e .line) (e .given) .ranged)
 
   pub left-less-by : o .left ≤ s
-  left-less-by = rw p (left-less t r x g s d)
+  left-less-by = rw p (left-less α t r x g s d)
 
 -- ---- a value
 

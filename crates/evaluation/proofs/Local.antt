@@ -14,6 +14,7 @@ use Rattle.cells.specs.Cells.{equals}
 use Rattle.cells.specs.Table.{kind, fieldA, fieldB, fieldC, owner, target, lineNumber}
 use Rattle.cells.specs.Accepted.{Accepted}
 use Rattle.cells.specs.Reaches.{Reaches}
+use Rattle.numbers.specs.declared.Arithmetic.{Arithmetic}
 use Rattle.evaluation.specs.Results.{stateAt, numberAt}
 use Rattle.evaluation.specs.Evaluation.{answerAt, enteredBy, stepBy, outcome, nothing, stepLimit, valueOutcome}
 use Rattle.evaluation.specs.declared.Arguments.{Arguments}
@@ -40,7 +41,7 @@ pub record SameAnswer (r r′ : List ℤ) (x : ℕ) : Type 0 where
 abbrev pub Concerns : List ℤ → ℕ → ℕ → Type 0
 Concerns t v x = From t v x ⊎ From t v (owner t x)
 
-module _ (t t′ r r′ : List ℤ) (n : ℕ) (w : Accepted t n) (v : ℕ) (lines : (x : ℕ) → Concerns t v x → SameLine t t′ x)
+module _ (α : Arithmetic) (t t′ r r′ : List ℤ) (n : ℕ) (w : Accepted t n) (v : ℕ) (lines : (x : ℕ) → Concerns t v x → SameLine t t′ x)
     (answers : (x : ℕ) → kind t x ≡ valueCode → Reaches t v x → SameAnswer r r′ x) where
   abbrev Own : ℕ → Type 0
   Own x = Within t n (From t v) x
@@ -64,35 +65,35 @@ module _ (t t′ r r′ : List ℤ) (n : ℕ) (w : Accepted t n) (v : ℕ) (line
       ((q .0, same l o .first), λ y. (q .1 y, λ i. cond (equals 0 y) (same l o .third i) (same l o .second i)))
   asks clause.None l o q = absurd q
 
-  none : (l : ℕ) (g : Arguments) (d : ℕ) → Agreed 0 (outcome t r l g 0 d) (outcome t′ r′ l g 0 d)
+  none : (l : ℕ) (g : Arguments) (d : ℕ) → Agreed 0 (outcome α t r l g 0 d) (outcome α t′ r′ l g 0 d)
   unfolding stepBy
   none l g d =
-      record { same = sym (unrolled t r l g 0 d) ∙ unrolled t′ r′ l g 0 d; less = left-less t r l g 0 d }
+      record { same = sym (unrolled α t r l g 0 d) ∙ unrolled α t′ r′ l g 0 d; less = left-less α t r l g 0 d }
 
   -- by the steps left, which fall at each entry
-  up-to : (f : ℕ) (l : ℕ) (g : Arguments) (s d : ℕ) → Own l → s ≤ f → Agreed s (outcome t r l g s d) (outcome t′ r′ l g s d)
+  up-to : (f : ℕ) (l : ℕ) (g : Arguments) (s d : ℕ) → Own l → s ≤ f → Agreed s (outcome α t r l g s d) (outcome α t′ r′ l g s d)
   unfolding stepBy
   up-to zero l g zero d o h = none l g d
   up-to (suc f) l g zero d o h = none l g d
   up-to zero l g (suc s) d o h = absurd (omega arith)
   up-to (suc f) l g (suc s) d o h =
       let k : Clause = clauseOf (kind t l) in
-      let e = entered-agreed t t′ r r′ Own (outcome t r) (outcome t′ r′) s (λ l g n d o i. up-to f l g n d o (omega arith)) k l g d
+      let e = entered-agreed t t′ r r′ Own α (outcome α t r) (outcome α t′ r′) s (λ l g n d o i. up-to f l g n d o (omega arith)) k l g d
       (asks k l o (leads t n w (From t v) (Reaches t v) (from-closed t v) l o)) in
       record {
-        same = sym (unrolled t r l g (suc s) d) ∙ e .same ∙ ap (λ k. enteredBy (outcome t′ r′) t′ r′ (clauseOf k) l g s d) (same l o .kinds) ∙ unrolled t′ r′ l g (suc s) d;
-        less = left-less t r l g (suc s) d;
+        same = sym (unrolled α t r l g (suc s) d) ∙ e .same ∙ ap (λ k. enteredBy α (outcome α t′ r′) t′ r′ (clauseOf k) l g s d) (same l o .kinds) ∙ unrolled α t′ r′ l g (suc s) d;
+        less = left-less α t r l g (suc s) d;
       }
 
-  pub value-local : kind t v ≡ valueCode → valueOutcome t r v ≡ valueOutcome t′ r′ v
+  pub value-local : kind t v ≡ valueCode → valueOutcome α t r v ≡ valueOutcome α t′ r′ v
   unfolding valueOutcome
   value-local k =
       up-to stepLimit (fieldB t v) nothing stepLimit 0
       (body-within t n w (From t v) (Reaches t v) (from-closed t v) v (rw k value-body) (inl refl)) (le-refl stepLimit) .same
-      ∙ ap (λ x. outcome t′ r′ x nothing stepLimit 0) (lines v (inl (inl refl)) .second)
+      ∙ ap (λ x. outcome α t′ r′ x nothing stepLimit 0) (lines v (inl (inl refl)) .second)
 
 -- one table: the results count through the stored answers of the values that v reaches
-pub results-local : (t r r′ : List ℤ) (n : ℕ) → Accepted t n → (v : ℕ) → kind t v ≡ valueCode
-    → ((x : ℕ) → kind t x ≡ valueCode → Reaches t v x → SameAnswer r r′ x) → valueOutcome t r v ≡ valueOutcome t r′ v
-results-local t r r′ n w v k h =
-    value-local t t r r′ n w v (λ x _. record { kinds = refl; first = refl; second = refl; third = refl; aim = refl; number = refl }) h k
+pub results-local : (α : Arithmetic) (t r r′ : List ℤ) (n : ℕ) → Accepted t n → (v : ℕ) → kind t v ≡ valueCode
+    → ((x : ℕ) → kind t x ≡ valueCode → Reaches t v x → SameAnswer r r′ x) → valueOutcome α t r v ≡ valueOutcome α t r′ v
+results-local α t r r′ n w v k h =
+    value-local α t t r r′ n w v (λ x _. record { kinds = refl; first = refl; second = refl; third = refl; aim = refl; number = refl }) h k

@@ -13,9 +13,10 @@ use Rattle.cells.specs.Table.{kind, fieldA, fieldB, target, lineNumber}
 use Rattle.numbers.specs.Arithmetic.{calculated}
 use Rattle.numbers.specs.declared.Calculated.{Calculated}
 use Rattle.numbers.specs.declared.Calculated.the-variants as calculation
+use Rattle.numbers.specs.declared.Arithmetic.{Arithmetic}
 use Rattle.evaluation.specs.States.{hasNumber, outOfSteps}
 use Rattle.evaluation.specs.Results.{stateAt, numberAt}
-use Rattle.evaluation.specs.Evaluation.{Way, gives, fails, onNumber, unlessFailed, answerAt, outcomeOf, tieRule, stepLimit, depthLimit, bodyBy, callBy, operationBy, branchOf}
+use Rattle.evaluation.specs.Evaluation.{Way, gives, fails, onNumber, unlessFailed, answerAt, outcomeOf, stepLimit, depthLimit, bodyBy, callBy, operationBy, branchOf}
 use Rattle.evaluation.specs.Evaluation.{choiceBy, enteredBy, stepBy, withFuel, outcome, valueOutcome, evaluated}
 use Rattle.evaluation.specs.declared.Arguments.{Arguments}
 use Rattle.kinds.specs.declared.Clause.{Clause}
@@ -73,13 +74,13 @@ module _ (t t′ r r′ : List ℤ) (P : ℕ → Type 0) where
   Asks clause.Choice l = Same P (fieldA t l) (fieldA t′ l) × ((y : ℤ) → Same P (branchOf t l y) (branchOf t′ l y))
   Asks clause.None l = Unit {0}
 
-  module _ (rec rec′ : Way) (s : ℕ) (a : (l : ℕ) (g : Arguments) (n d : ℕ) → P l → n ≤ s → Agreed n (rec l g n d) (rec′ l g n d)) where
+  module _ (α : Arithmetic) (rec rec′ : Way) (s : ℕ) (a : (l : ℕ) (g : Arguments) (n d : ℕ) → P l → n ≤ s → Agreed n (rec l g n d) (rec′ l g n d)) where
     at : (l l′ : ℕ) (g : Arguments) (n d : ℕ) → Same P l l′ → n ≤ s → Agreed n (rec l g n d) (rec′ l′ g n d)
     at l l′ g n d p h =
         let b = a l g n d (p .0) h in
         record { same = b .same ∙ ap (λ x. rec′ x g n d) (p .1); less = b .less }
 
-    pub entered-agreed : (k : Clause) (l : ℕ) (g : Arguments) (d : ℕ) → Asks k l → Agreed s (enteredBy rec t r k l g s d) (enteredBy rec′ t′ r′ k l g s d)
+    pub entered-agreed : (k : Clause) (l : ℕ) (g : Arguments) (d : ℕ) → Asks k l → Agreed s (enteredBy α rec t r k l g s d) (enteredBy α rec′ t′ r′ k l g s d)
     unfolding Asks enteredBy callBy bodyBy operationBy choiceBy
     entered-agreed clause.Number l g d q = record { same = ap (λ y. gives y s) q; less = le-refl s }
     entered-agreed (clause.Argument i) l g d q = record { same = refl; less = le-refl s }
@@ -93,32 +94,32 @@ module _ (t t′ r r′ : List ℤ) (P : ℕ → Type 0) where
     entered-agreed (clause.Operation op) l g d q =
         unless-agreed (at _ _ g s d (q .0) (le-refl s))
         (λ y m h. unless-agreed (at _ _ g m d (q .1) h)
-        (λ z n i. record { same = refl; less = omega (arith, calculated-left (calculated tieRule op y z) n) }))
+        (λ z n i. record { same = refl; less = omega (arith, calculated-left (calculated α op y z) n) }))
     entered-agreed clause.Choice l g d q =
         unless-agreed (at _ _ g s d (q .0) (le-refl s)) (λ y m h. at _ _ g m d (q .1 y) h)
     entered-agreed clause.None l g d q = record { same = refl; less = le-refl s }
 
 -- ---- fuel
 
-module _ (t r : List ℤ) where
-  abbrev all : ℕ → Type 0
-  all l = Unit {0}
+abbrev all : ℕ → Type 0
+all l = Unit {0}
 
-  asks : (k : Clause) (l : ℕ) → Asks t t r r all k l
-  unfolding Asks
-  asks clause.Number l = refl
-  asks (clause.Argument i) l = tt
-  asks clause.Read l = λ s. refl
-  asks (clause.Call n) l = ((tt, refl), (tt, refl))
-  asks (clause.Operation op) l = ((tt, refl), (tt, refl))
-  asks clause.Choice l = ((tt, refl), λ y. (tt, refl))
-  asks clause.None l = tt
+asks : (t r : List ℤ) (k : Clause) (l : ℕ) → Asks t t r r all k l
+unfolding Asks
+asks t r clause.Number l = refl
+asks t r (clause.Argument i) l = tt
+asks t r clause.Read l = λ s. refl
+asks t r (clause.Call n) l = ((tt, refl), (tt, refl))
+asks t r (clause.Operation op) l = ((tt, refl), (tt, refl))
+asks t r clause.Choice l = ((tt, refl), λ y. (tt, refl))
+asks t r clause.None l = tt
 
+module _ (α : Arithmetic) (t r : List ℤ) where
   none : {s : ℕ} → Agreed s (fails outOfSteps 0) (fails outOfSteps 0)
   none = record { same = refl; less = omega arith }
 
   -- fuel beyond the steps left changes nothing
-  within-agreed : (f f′ : ℕ) (l : ℕ) (g : Arguments) (s d : ℕ) → s ≤ f → s ≤ f′ → Agreed s (withFuel f t r l g s d) (withFuel f′ t r l g s d)
+  within-agreed : (f f′ : ℕ) (l : ℕ) (g : Arguments) (s d : ℕ) → s ≤ f → s ≤ f′ → Agreed s (withFuel α f t r l g s d) (withFuel α f′ t r l g s d)
   unfolding withFuel stepBy
   within-agreed zero zero l g s d h h′ = none
   within-agreed zero (suc f′) l g zero d h h′ = none
@@ -127,29 +128,29 @@ module _ (t r : List ℤ) where
   within-agreed (suc f) zero l g (suc s) d h h′ = absurd (omega arith)
   within-agreed (suc f) (suc f′) l g zero d h h′ = none
   within-agreed (suc f) (suc f′) l g (suc s) d h h′ =
-      let a = entered-agreed t t r r all (withFuel f t r) (withFuel f′ t r) s
-      (λ l g n d p i. within-agreed f f′ l g n d (omega arith) (omega arith)) (clauseOf (kind t l)) l g d (asks (clauseOf (kind t l)) l) in
+      let a = entered-agreed t t r r all α (withFuel α f t r) (withFuel α f′ t r) s
+      (λ l g n d p i. within-agreed f f′ l g n d (omega arith) (omega arith)) (clauseOf (kind t l)) l g d (asks t r (clauseOf (kind t l)) l) in
       record { same = a .same; less = omega (arith, a .less) }
 
-  pub left-less : (l : ℕ) (g : Arguments) (s d : ℕ) → outcome t r l g s d .left ≤ s
+  pub left-less : (l : ℕ) (g : Arguments) (s d : ℕ) → outcome α t r l g s d .left ≤ s
   unfolding outcome
   left-less l g s d = within-agreed s s l g s d (le-refl s) (le-refl s) .less
 
   -- the rules, with no fuel
-  pub unrolled : (l : ℕ) (g : Arguments) (s d : ℕ) → stepBy (outcome t r) t r l g s d ≡ outcome t r l g s d
+  pub unrolled : (l : ℕ) (g : Arguments) (s d : ℕ) → stepBy α (outcome α t r) t r l g s d ≡ outcome α t r l g s d
   unfolding outcome withFuel stepBy
   unrolled l g zero d = refl
   unrolled l g (suc s) d =
-      entered-agreed t t r r all (outcome t r) (withFuel s t r) s
-      (λ l g n d p i. within-agreed n s l g n d (le-refl n) i) (clauseOf (kind t l)) l g d (asks (clauseOf (kind t l)) l) .same
+      entered-agreed t t r r all α (outcome α t r) (withFuel α s t r) s
+      (λ l g n d p i. within-agreed n s l g n d (le-refl n) i) (clauseOf (kind t l)) l g d (asks t r (clauseOf (kind t l)) l) .same
 
 -- ---- the steps that a value takes
 
-module _ (t r : List ℤ) (v : ℕ) where
-  pub left-most : valueOutcome t r v .left ≤ stepLimit
+module _ (α : Arithmetic) (t r : List ℤ) (v : ℕ) where
+  pub left-most : valueOutcome α t r v .left ≤ stepLimit
   unfolding valueOutcome
-  left-most = left-less t r (fieldB t v) _ stepLimit 0
+  left-most = left-less α t r (fieldB t v) _ stepLimit 0
 
   -- none is lost
-  pub steps-exact : evaluated t r v .steps + valueOutcome t r v .left ≡ stepLimit
+  pub steps-exact : evaluated α t r v .steps + valueOutcome α t r v .left ≡ stepLimit
   steps-exact = omega (arith, left-most)

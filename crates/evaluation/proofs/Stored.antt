@@ -15,6 +15,7 @@ use Rattle.cells.specs.Cells.{natOf, intAt, zeros}
 use Rattle.cells.specs.Accepted.{Accepted}
 use Rattle.cells.proofs.Stores.{intAt-zeros, sets-before, sets-past, sets-in}
 use Rattle.cells.specs.Limits.{numberLimit}
+use Rattle.numbers.specs.declared.Arithmetic.{Arithmetic}
 use Rattle.evaluation.specs.States.{hasNumber, lastState}
 use Rattle.evaluation.specs.Results.{stateAt, numberAt, stored, store, Recorded}
 use Rattle.evaluation.specs.Evaluation.{valueOutcome, valueOf, evaluated}
@@ -103,26 +104,26 @@ ready-zeros t n m w h = record {
     blank l = record { least = omega arith; most = omega (arith, state l); ranged = λ e. rw (number l) (omega arith) }
 
 -- what `evaluate_into` leaves
-module _ (t r : List ℤ) (v : ℕ) (e : Evaluable t r v) where
+module _ (α : Arithmetic) (t r : List ℤ) (v : ℕ) (e : Evaluable t r v) where
   -- v has been evaluated,
-  pub evaluated-own : Recorded 1 (store r v (evaluated t r v)) v
-  evaluated-own = recorded-own 1 r v (valueOutcome t r v) (value-room e) (value-recorded t r (e .ready .count) (e .ready .accepted) v (e .value) (reached-recorded (e .ready) (e .reached)))
+  pub evaluated-own : Recorded 1 (store r v (evaluated α t r v)) v
+  evaluated-own = recorded-own 1 r v (valueOutcome α t r v) (value-room e) (value-recorded α t r (e .ready .count) (e .ready .accepted) v (e .value) (reached-recorded (e .ready) (e .reached)))
 
   -- and what was recorded still is
-  pub recorded-still : (low : ℕ) → low ≤ 1 → (l : ℕ) → Recorded low r l → Recorded low (store r v (evaluated t r v)) l
+  pub recorded-still : (low : ℕ) → low ≤ 1 → (l : ℕ) → Recorded low r l → Recorded low (store r v (evaluated α t r v)) l
   recorded-still low h l s = go (eqb l v) refl
     where
-      go : (b : Bool) → eqb l v ≡ b → Recorded low (store r v (evaluated t r v)) l
+      go : (b : Bool) → eqb l v ≡ b → Recorded low (store r v (evaluated α t r v)) l
       go true p =
           let o = evaluated-own in
-          subst (λ (x : ℕ). Recorded low (store r v (evaluated t r v)) x) (sym (eqb-true l v p))
+          subst (λ (x : ℕ). Recorded low (store r v (evaluated α t r v)) x) (sym (eqb-true l v p))
           (record { least = omega (arith, o .least); most = o .most; ranged = o .ranged })
-      go false p = recorded-other low r v (evaluated t r v) l (eqb-false l v p) s
+      go false p = recorded-other low r v (evaluated α t r v) l (eqb-false l v p) s
 
-  pub ready-stored : Ready t (store r v (evaluated t r v))
+  pub ready-stored : Ready t (store r v (evaluated α t r v))
   ready-stored = record {
     count = e .ready .count;
     accepted = e .ready .accepted;
-    room = rw (store-length r v (evaluated t r v)) (e .ready .room);
+    room = rw (store-length r v (evaluated α t r v)) (e .ready .room);
     recorded = λ l. recorded-still 0 (omega arith) l (e .ready .recorded l);
   }

@@ -12,8 +12,7 @@ use Rattle.kinds.specs.declared.Clause.the-variants as clause
 use Rattle.cells.specs.Cells.{equals}
 use Rattle.cells.specs.Table.{kind, fieldA, fieldB, fieldC, target, lineNumber}
 use Rattle.numbers.specs.Arithmetic.{calculated}
-use Rattle.numbers.specs.declared.Tie.{Tie}
-use Rattle.numbers.specs.declared.Tie.the-variants.{Away}
+use Rattle.numbers.specs.declared.Arithmetic.{Arithmetic}
 use Rattle.numbers.specs.declared.Calculated.{Calculated}
 use Rattle.numbers.specs.declared.Calculated.the-variants as calculation
 use Rattle.evaluation.specs.declared.Arguments.{Arguments}
@@ -49,10 +48,6 @@ outcomeOf (calculation.Number z) s = gives z s
 outcomeOf calculation.OutOfRange s = fails outOfRange s
 outcomeOf calculation.ZeroDivisor s = fails zeroDivisor s
 
--- "halves away from zero"
-abbrev pub tieRule : Tie
-tieRule = Away
-
 -- ---- the rules
 
 abbrev pub stepLimit : ℕ
@@ -79,10 +74,10 @@ unfoldable pub callBy : Way → List ℤ → Way
 callBy rec t l g s d = unlessFailed (rec (fieldA t l) g s d) (λ y s′. bodyBy (eqb d depthLimit) rec t l y s′ d)
 
 -- "A, S, M, D work out a, then b."
-unfoldable pub operationBy : Way → List ℤ → Operation → Way
-operationBy rec t op l g s d =
+unfoldable pub operationBy : Arithmetic → Way → List ℤ → Operation → Way
+operationBy α rec t op l g s d =
     unlessFailed (rec (fieldA t l) g s d)
-    (λ a s′. unlessFailed (rec (fieldB t l) g s′ d) (λ b s″. outcomeOf (calculated tieRule op a b) s″))
+    (λ a s′. unlessFailed (rec (fieldB t l) g s′ d) (λ b s″. outcomeOf (calculated α op a b) s″))
 
 -- b if the test is not 0, c if it is
 abbrev pub branchOf : List ℤ → ℕ → ℤ → ℕ
@@ -93,30 +88,30 @@ unfoldable pub choiceBy : Way → List ℤ → Way
 choiceBy rec t l g s d = unlessFailed (rec (fieldA t l) g s d) (λ y s′. rec (branchOf t l y) g s′ d)
 
 -- an expression that has been entered, by the clause of its kind; a definition has none, and in a sheet that reads none is ever entered
-unfoldable pub enteredBy : Way → List ℤ → List ℤ → Clause → Way
-enteredBy rec t r clause.Number l g s d = gives (lineNumber t l) s
-enteredBy rec t r (clause.Argument i) l g s d = gives (g .first) s
-enteredBy rec t r clause.Read l g s d = answerAt r (target t l) s
-enteredBy rec t r (clause.Call n) l g s d = callBy rec t l g s d
-enteredBy rec t r (clause.Operation op) l g s d = operationBy rec t op l g s d
-enteredBy rec t r clause.Choice l g s d = choiceBy rec t l g s d
-enteredBy rec t r clause.None l g s d = fails 0 s
+unfoldable pub enteredBy : Arithmetic → Way → List ℤ → List ℤ → Clause → Way
+enteredBy α rec t r clause.Number l g s d = gives (lineNumber t l) s
+enteredBy α rec t r (clause.Argument i) l g s d = gives (g .first) s
+enteredBy α rec t r clause.Read l g s d = answerAt r (target t l) s
+enteredBy α rec t r (clause.Call n) l g s d = callBy rec t l g s d
+enteredBy α rec t r (clause.Operation op) l g s d = operationBy α rec t op l g s d
+enteredBy α rec t r clause.Choice l g s d = choiceBy rec t l g s d
+enteredBy α rec t r clause.None l g s d = fails 0 s
 
 -- "Entering an expression takes one step; with none left the state is 4."
-unfoldable pub stepBy : Way → List ℤ → List ℤ → Way
-stepBy rec t r l g zero d = fails outOfSteps 0
-stepBy rec t r l g (suc s) d = enteredBy rec t r (clauseOf (kind t l)) l g s d
+unfoldable pub stepBy : Arithmetic → Way → List ℤ → List ℤ → Way
+stepBy α rec t r l g zero d = fails outOfSteps 0
+stepBy α rec t r l g (suc s) d = enteredBy α rec t r (clauseOf (kind t l)) l g s d
 
 -- ---- the recursion closed
 
 -- at most `fuel` entries, one in the other
-unfoldable pub withFuel : ℕ → List ℤ → List ℤ → Way
-withFuel zero t r l g s d = fails outOfSteps 0
-withFuel (suc fuel) t r l g s d = stepBy (withFuel fuel t r) t r l g s d
+unfoldable pub withFuel : Arithmetic → ℕ → List ℤ → List ℤ → Way
+withFuel α zero t r l g s d = fails outOfSteps 0
+withFuel α (suc fuel) t r l g s d = stepBy α (withFuel α fuel t r) t r l g s d
 
 -- an expression: entries are no deeper than the steps left
-unfoldable pub outcome : List ℤ → List ℤ → Way
-outcome t r l g s d = withFuel s t r l g s d
+unfoldable pub outcome : Arithmetic → List ℤ → List ℤ → Way
+outcome α t r l g s d = withFuel α s t r l g s d
 
 -- ---- a value
 
@@ -124,12 +119,12 @@ abbrev pub nothing : Arguments
 nothing = record { first = pos 0 }
 
 -- "Each V starts with a fresh allowance of 20,000 steps at call depth 0": its body, from the results stored so far
-unfoldable pub valueOutcome : List ℤ → List ℤ → ℕ → Outcome
-valueOutcome t r v = outcome t r (fieldB t v) nothing stepLimit 0
+unfoldable pub valueOutcome : Arithmetic → List ℤ → List ℤ → ℕ → Outcome
+valueOutcome α t r v = outcome α t r (fieldB t v) nothing stepLimit 0
 
 -- state, number and steps taken
 abbrev pub valueOf : Outcome → Value
 valueOf o = record { number = o .number; state = o .state; steps = stepLimit - o .left }
 
-abbrev pub evaluated : List ℤ → List ℤ → ℕ → Value
-evaluated t r v = valueOf (valueOutcome t r v)
+abbrev pub evaluated : Arithmetic → List ℤ → List ℤ → ℕ → Value
+evaluated α t r v = valueOf (valueOutcome α t r v)

@@ -3,8 +3,8 @@
 use cells::nat_of;
 use kinds::Clause;
 use kinds::Operation;
+use numbers::Arithmetic;
 use numbers::Calculated;
-use numbers::Tie;
 ghost use mathlib.Core.Path.{_≡_};
 ghost use Prim.Native.Nat.{_-_, _*_, _≤_, _<_};
 ghost use lib.ListN.{length};
@@ -12,7 +12,7 @@ ghost use lib.IntN.{natAbs};
 ghost use Rattle.cells.specs.Table.{cell, lineNumber, target};
 ghost use Rattle.cells.specs.Limits.{numberLimit};
 ghost use Rattle.evaluation.specs.Results.{store, Recorded};
-ghost use Rattle.evaluation.specs.Evaluation.{gives, fails, answerAt, outcomeOf, tieRule, stepLimit, branchOf, callBy, operationBy, choiceBy, outcome, evaluated};
+ghost use Rattle.evaluation.specs.Evaluation.{gives, fails, answerAt, outcomeOf, stepLimit, branchOf, callBy, operationBy, choiceBy, outcome, evaluated};
 ghost use Rattle.numbers.specs.Arithmetic.{calculated};
 ghost use Rattle.evaluation.specs.Ready.{Entry, Entered, EnteredCall, Cell, ResultsRoom, Evaluable};
 
@@ -169,18 +169,19 @@ fn outcome_of(c: Calculated, left: u32) -> Outcome
     }
 }
 
-// Two operands under A, S, M or D; halves go away from zero.
-fn combine(op: Operation, a: i64, b: i64, left: u32) -> Outcome
+// Two operands under A, S, M or D.
+fn combine(arithmetic: Arithmetic, op: Operation, a: i64, b: i64, left: u32) -> Outcome
     requires { ⌜ (natAbs a ≤ numberLimit) × (natAbs b ≤ numberLimit) ⌝ }
-    ensures { λ r. ⌜ r ≡ outcomeOf (calculated tieRule op a b) left ⌝ }
+    ensures { λ r. ⌜ r ≡ outcomeOf (calculated arithmetic op a b) left ⌝ }
 {
-    outcome_of(numbers::calculate(Tie::Away, op, a, b), left)
+    outcome_of(numbers::calculate(arithmetic, op, a, b), left)
 }
 
 // ---- the cycle
 
 // An expression: takes a step and goes by the clause of its kind.
 fn expression(
+    arithmetic: Arithmetic,
     table: &[i64],
     results: &[i64],
     label: usize,
@@ -188,7 +189,7 @@ fn expression(
     allowance: Allowance,
 ) -> Outcome
     requires { ⌜ Entry (now table) (now results) label given (allowance .depth) ⌝ }
-    ensures { λ r. ⌜ r ≡ outcome (now (table .entry)) (now (results .entry)) label given (allowance .left) (allowance .depth) ⌝ }
+    ensures { λ r. ⌜ r ≡ outcome arithmetic (now (table .entry)) (now (results .entry)) label given (allowance .left) (allowance .depth) ⌝ }
 {
     let left = allowance.left;
     if left == 0 {
@@ -201,20 +202,27 @@ fn expression(
         Clause::Number => success(number_of(table, label), rest.left),
         Clause::Argument(_) => success(given.first, rest.left),
         Clause::Read => read(table, results, label, rest.left),
-        Clause::Call(_) => call(table, results, label, given, rest),
-        Clause::Operation(op) => operation(table, results, op, label, given, rest),
-        Clause::Choice => choice(table, results, label, given, rest),
+        Clause::Call(_) => call(arithmetic, table, results, label, given, rest),
+        Clause::Operation(op) => operation(arithmetic, table, results, op, label, given, rest),
+        Clause::Choice => choice(arithmetic, table, results, label, given, rest),
         Clause::None => failure(0, rest.left),
     }
 }
 
 // A call: its argument, then the body of its target one deeper.
-fn call(table: &[i64], results: &[i64], label: usize, given: Arguments, rest: Allowance) -> Outcome
+fn call(
+    arithmetic: Arithmetic,
+    table: &[i64],
+    results: &[i64],
+    label: usize,
+    given: Arguments,
+    rest: Allowance,
+) -> Outcome
     requires { ⌜ EnteredCall (now table) (now results) label given (rest .depth) ⌝ }
-    ensures { λ r. ⌜ r ≡ callBy (outcome (now (table .entry)) (now (results .entry))) (now (table .entry)) label given (rest .left) (rest .depth) ⌝ }
+    ensures { λ r. ⌜ r ≡ callBy (outcome arithmetic (now (table .entry)) (now (results .entry))) (now (table .entry)) label given (rest .left) (rest .depth) ⌝ }
 {
     let argument = field(table, label, cells::A);
-    let first = expression(table, results, argument, given, rest);
+    let first = expression(arithmetic, table, results, argument, given, rest);
     if first.state != NUMBER {
         return failure(first.state, first.left);
     }
@@ -231,11 +239,12 @@ fn call(table: &[i64], results: &[i64], label: usize, given: Arguments, rest: Al
         left: first.left,
         depth: depth + 1,
     };
-    expression(table, results, body, passed, deeper)
+    expression(arithmetic, table, results, body, passed, deeper)
 }
 
 // A sum, difference, product or quotient: a, then b.
 fn operation(
+    arithmetic: Arithmetic,
     table: &[i64],
     results: &[i64],
     op: Operation,
@@ -244,10 +253,10 @@ fn operation(
     rest: Allowance,
 ) -> Outcome
     requires { ⌜ Entered (Clause.Operation op) (now table) (now results) label given (rest .depth) ⌝ }
-    ensures { λ r. ⌜ r ≡ operationBy (outcome (now (table .entry)) (now (results .entry))) (now (table .entry)) op label given (rest .left) (rest .depth) ⌝ }
+    ensures { λ r. ⌜ r ≡ operationBy arithmetic (outcome arithmetic (now (table .entry)) (now (results .entry))) (now (table .entry)) op label given (rest .left) (rest .depth) ⌝ }
 {
     let a = field(table, label, cells::A);
-    let first = expression(table, results, a, given, rest);
+    let first = expression(arithmetic, table, results, a, given, rest);
     if first.state != NUMBER {
         return failure(first.state, first.left);
     }
@@ -256,15 +265,16 @@ fn operation(
         left: first.left,
         depth: rest.depth,
     };
-    let second = expression(table, results, b, given, next);
+    let second = expression(arithmetic, table, results, b, given, next);
     if second.state != NUMBER {
         return failure(second.state, second.left);
     }
-    combine(op, first.number, second.number, second.left)
+    combine(arithmetic, op, first.number, second.number, second.left)
 }
 
 // A choice: its test, then one branch only.
 fn choice(
+    arithmetic: Arithmetic,
     table: &[i64],
     results: &[i64],
     label: usize,
@@ -272,10 +282,10 @@ fn choice(
     rest: Allowance,
 ) -> Outcome
     requires { ⌜ Entered Clause.Choice (now table) (now results) label given (rest .depth) ⌝ }
-    ensures { λ r. ⌜ r ≡ choiceBy (outcome (now (table .entry)) (now (results .entry))) (now (table .entry)) label given (rest .left) (rest .depth) ⌝ }
+    ensures { λ r. ⌜ r ≡ choiceBy (outcome arithmetic (now (table .entry)) (now (results .entry))) (now (table .entry)) label given (rest .left) (rest .depth) ⌝ }
 {
     let tested = field(table, label, cells::A);
-    let test = expression(table, results, tested, given, rest);
+    let test = expression(arithmetic, table, results, tested, given, rest);
     if test.state != NUMBER {
         return failure(test.state, test.left);
     }
@@ -284,19 +294,19 @@ fn choice(
         left: test.left,
         depth: rest.depth,
     };
-    expression(table, results, branch, given, next)
+    expression(arithmetic, table, results, branch, given, next)
 }
 
 // ---- a value
 
 // Evaluates a value from the results stored so far. Every value that it reaches has been evaluated.
-pub fn evaluate(table: &[i64], results: &[i64], label: usize) -> Value
+pub fn evaluate(arithmetic: Arithmetic, table: &[i64], results: &[i64], label: usize) -> Value
     requires { ⌜ Evaluable (now table) (now results) label ⌝ }
-    ensures { λ r. ⌜ r ≡ evaluated (now (table .entry)) (now (results .entry)) label ⌝ }
+    ensures { λ r. ⌜ r ≡ evaluated arithmetic (now (table .entry)) (now (results .entry)) label ⌝ }
 {
     let body = field(table, label, cells::B);
     let none = Arguments { first: 0 };
-    let o = expression(table, results, body, none, Allowance::fresh());
+    let o = expression(arithmetic, table, results, body, none, Allowance::fresh());
     Value {
         number: o.number,
         state: o.state,
@@ -316,10 +326,10 @@ pub fn put_value(results: &mut [i64], label: usize, v: Value)
 }
 
 // Evaluates a value and stores its results.
-pub fn evaluate_into(table: &[i64], results: &mut [i64], label: usize)
+pub fn evaluate_into(arithmetic: Arithmetic, table: &[i64], results: &mut [i64], label: usize)
     requires { ⌜ Evaluable (now table) (now results) label ⌝ }
-    ensures { λ _. ⌜ now (results .exit) ≡ store (now (results .entry)) label (evaluated (now (table .entry)) (now (results .entry)) label) ⌝ }
+    ensures { λ _. ⌜ now (results .exit) ≡ store (now (results .entry)) label (evaluated arithmetic (now (table .entry)) (now (results .entry)) label) ⌝ }
 {
-    let v = evaluate(table, results, label);
+    let v = evaluate(arithmetic, table, results, label);
     put_value(results, label, v);
 }

@@ -18,6 +18,7 @@ use Rattle.order.specs.Evaluating.{down}
 use Rattle.order.proofs.Lists.{in-here, in-left, in-right}
 use Rattle.order.proofs.Proper.{listed-value}
 use Rattle.order.proofs.Following.{proper-list}
+use Rattle.numbers.specs.declared.Arithmetic.{Arithmetic}
 use Rattle.evaluation.specs.Evaluation.{evaluated}
 use Rattle.evaluation.specs.Ready.{Ready, ReachedEvaluated, Evaluable}
 use Rattle.evaluation.specs.Results.{Recorded}
@@ -62,19 +63,19 @@ still-before order {i} {j} h x m = rw (labels-cut order i j h) (in-left x (label
 -- ---- the loop
 
 -- at index i, from results r₀ at index 0: those before it have been evaluated
-pub record Going (t order : List ℤ) (k : ℕ) (r₀ r : List ℤ) (i : ℕ) : Type 0 where
+pub record Going (α : Arithmetic) (t order : List ℤ) (k : ℕ) (r₀ r : List ℤ) (i : ℕ) : Type 0 where
   pub asked : Listed t r₀ order k
   pub upto : i ≤ k
   pub long : length r ≡ length r₀
   pub ready : Ready t r
   pub sofar : (x : ℕ) → x ∈ labelsOf (take i order) → Recorded 1 r x
-  pub rest : down (evaluateInto t) (labelsOf (drop i (take k order))) r ≡ down (evaluateInto t) (labelsOf (take k order)) r₀
+  pub rest : down (evaluateInto α t) (labelsOf (drop i (take k order))) r ≡ down (evaluateInto α t) (labelsOf (take k order)) r₀
 
-module _ (t order : List ℤ) (k : ℕ) (r₀ : List ℤ) where
-  pub start : Listed t r₀ order k → Going t order k r₀ r₀ 0
+module _ (α : Arithmetic) (t order : List ℤ) (k : ℕ) (r₀ : List ℤ) where
+  pub start : Listed t r₀ order k → Going α t order k r₀ r₀ 0
   start w = record { asked = w; upto = omega arith; long = refl; ready = w .ready; sofar = λ x m. absurd (omega arith); rest = refl }
 
-  module _ {r : List ℤ} {i : ℕ} (g : Going t order k r₀ r i) where
+  module _ {r : List ℤ} {i : ℕ} (g : Going α t order k r₀ r i) where
     -- every cell names a value,
     pub names-value : {v j : ℕ} → v ≡ natAt order j → j < k → kind t v ≡ valueCode
     names-value {v} {j} e h = rw e (g .asked .values j h)
@@ -83,24 +84,24 @@ module _ (t order : List ℤ) (k : ℕ) (r₀ : List ℤ) where
     pub reached-before : {v j : ℕ} → v ≡ natAt order j → j < k → j ≤ i → ReachedEvaluated t r v
     reached-before {v} {j} e h u w q p = g .sofar w (still-before order u w (g .asked .after j h w q (rw e at p))) .least
 
-    pub turn : i < k → {v : ℕ} {r′ : List ℤ} → v ≡ natAt order i → r′ ≡ evaluateInto t r v → Going t order k r₀ r′ (i + 1)
+    pub turn : i < k → {v : ℕ} {r′ : List ℤ} → v ≡ natAt order i → r′ ≡ evaluateInto α t r v → Going α t order k r₀ r′ (i + 1)
     turn j {v} {r′} e q =
         let w : Evaluable t r v = record { ready = g .ready; value = names-value e j; reached = reached-before e j (omega arith) } in
         record {
           asked = g .asked;
           upto = omega arith;
-          long = ap length q ∙ store-length r v (evaluated t r v) ∙ g .long;
-          ready = rw q (ready-stored t r v w);
-          sofar = λ x m. rw q (recorded-next t r v w (labelsOf (take i order)) (g .sofar) x (rw e (rw (one-more order k i (g .asked .room) j) at m)));
+          long = ap length q ∙ store-length r v (evaluated α t r v) ∙ g .long;
+          ready = rw q (ready-stored α t r v w);
+          sofar = λ x m. rw q (recorded-next α t r v w (labelsOf (take i order)) (g .sofar) x (rw e (rw (one-more order k i (g .asked .room) j) at m)));
           rest =
-              ap (down (evaluateInto t) (left order k (i + 1))) (q ∙ ap (evaluateInto t r) e) ∙ sym (ap (λ (l : List ℕ). down (evaluateInto t) l r) (next order k i (g .asked .room) j))
+              ap (down (evaluateInto α t) (left order k (i + 1))) (q ∙ ap (evaluateInto α t r) e) ∙ sym (ap (λ (l : List ℕ). down (evaluateInto α t) l r) (next order k i (g .asked .room) j))
               ∙ g .rest;
         }
 
-    pub done : k ≤ i → r ≡ down (evaluateInto t) (labelsOf (take k order)) r₀
+    pub done : k ≤ i → r ≡ down (evaluateInto α t) (labelsOf (take k order)) r₀
     done h =
         let none : drop i (take k order) ≡ [] = drop-of-length-le (take k order) {i = i} (omega (arith, length-take-le k order (g .asked .room))) in
-        sym (ap (λ (l : List ℤ). down (evaluateInto t) (labelsOf l) r) none) ∙ g .rest
+        sym (ap (λ (l : List ℤ). down (evaluateInto α t) (labelsOf l) r) none) ∙ g .rest
 
 -- a proper order and cleared results are what the loop asks for, and it comes to the figures
 module _ (t order : List ℤ) (n k m : ℕ) {r : List ℤ} (ok : Accepted t n) (room : k ≤ length order) (fit : 3 * n ≤ m) (p : ProperList t (take k order)) (cleared : r ≡ zeros m) where
@@ -117,5 +118,5 @@ module _ (t order : List ℤ) (n k m : ℕ) {r : List ℤ} (ok : Accepted t n) (
     after = λ i j. proper .after (labelsOf (take i order)) (natAt order i) (left order k (i + 1)) (parts order k i room j);
   }
 
-  pub settles : {r′ : List ℤ} → r′ ≡ down (evaluateInto t) (labelsOf (take k order)) r → r′ ≡ resultCells t n m
-  settles e = e ∙ ap (down (evaluateInto t) (labelsOf (take k order))) cleared ∙ down-figures t n ok m fit (labelsOf (take k order)) proper
+  pub settles : (α : Arithmetic) {r′ : List ℤ} → r′ ≡ down (evaluateInto α t) (labelsOf (take k order)) r → r′ ≡ resultCells α t n m
+  settles α e = e ∙ ap (down (evaluateInto α t) (labelsOf (take k order))) cleared ∙ down-figures α t n ok m fit (labelsOf (take k order)) proper

@@ -6,6 +6,7 @@ use lib.IntN.{ℤ, pos}
 use Rattle.kinds.specs.Kinds.{kinds, kindAt, clauseOf}
 use Rattle.numbers.specs.Rounding.{rounded, quotient}
 use Rattle.numbers.specs.Arithmetic.{rangedOf, result, calculated}
+use Rattle.numbers.specs.declared.Arithmetic.the-variants.{HalvesAway}
 use Rattle.evaluation.specs.Evaluation.{onNumber, answerAt, outcomeOf, bodyBy, callBy, operationBy, choiceBy, enteredBy, stepBy, withFuel, outcome, valueOutcome}
 use Rattle.figures.specs.Figures.{afterRounds, resultCells}
 
@@ -27,7 +28,7 @@ table =
     (line 3 (pos 1) 7 1 0 (line 8 (pos 8) 9 6 0 (line 5 (pos 0) 0 6 0 (line 6 (pos 0) 0 6 2
     (line 2 (pos 1) 11 1 0 (line 7 (pos 12) 0 10 6 (line 4 (pos 3) 0 10 0 [])))))))))))
 
-failure-passed-on : resultCells table 12 36
+failure-passed-on : resultCells HalvesAway table 12 36
     ≡ no (has 3 (pos 0) 3 (no (no (no (no (no (no (no (has 3 (pos 0) 5 (no (no [])))))))))))
 unfolding afterRounds rounded quotient rangedOf result calculated onNumber answerAt outcomeOf kinds kindAt clauseOf bodyBy callBy operationBy choiceBy enteredBy stepBy withFuel outcome valueOutcome
 failure-passed-on = refl

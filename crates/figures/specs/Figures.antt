@@ -10,6 +10,7 @@ use Rattle.cells.specs.Cells.{zeros}
 use Rattle.cells.specs.Table.{kind, fieldB, fieldC, target, lineNumber}
 use Rattle.order.specs.Order.{isV}
 use Rattle.order.specs.Evaluating.{labelCells}
+use Rattle.numbers.specs.declared.Arithmetic.{Arithmetic}
 use Rattle.evaluation.specs.declared.Value.{Value}
 use Rattle.evaluation.specs.Results.{store}
 use Rattle.evaluation.specs.Evaluation.{evaluated}
@@ -35,31 +36,31 @@ bufferOf f n m = resultsOf f n ++ zeros (m - 3 * n)
 -- ---- the figures
 
 -- label l's results after k rounds, in each of which every value is evaluated from the results of the round before
-unfoldable pub afterRounds : List ℤ → ℕ → ℕ → ℕ → Value
-afterRounds t n zero l = blank
-afterRounds t n (suc k) l = cond (isV t l) (evaluated t (resultsOf (afterRounds t n k) n) l) blank
+unfoldable pub afterRounds : Arithmetic → List ℤ → ℕ → ℕ → ℕ → Value
+afterRounds α t n zero l = blank
+afterRounds α t n (suc k) l = cond (isV t l) (evaluated α t (resultsOf (afterRounds α t n k) n) l) blank
 
 -- each label's results. Where no value reaches itself, a value has its results one round after those that it reaches; so n rounds are
 -- enough, and another one would change nothing.
-abbrev pub figures : List ℤ → ℕ → ℕ → Value
-figures t n = afterRounds t n n
+abbrev pub figures : Arithmetic → List ℤ → ℕ → ℕ → Value
+figures α t n = afterRounds α t n n
 
 -- the whole results buffer of m cells
-abbrev pub resultCells : List ℤ → ℕ → ℕ → List ℤ
-resultCells t n m = bufferOf (figures t n) n m
+abbrev pub resultCells : Arithmetic → List ℤ → ℕ → ℕ → List ℤ
+resultCells α t n m = bufferOf (figures α t n) n m
 
 -- ---- what singles them out
 
 -- Results satisfy "Working out": each V has what it comes to from these very results, and all other cells are 0.
-pub record Evaluated (t r : List ℤ) : Type 0 where
-  pub values : (v : ℕ) → kind t v ≡ valueCode → labelCells 3 r v ≡ valueCells (evaluated t r v)
+pub record Evaluated (α : Arithmetic) (t r : List ℤ) : Type 0 where
+  pub values : (v : ℕ) → kind t v ≡ valueCode → labelCells 3 r v ≡ valueCells (evaluated α t r v)
   pub others : (l : ℕ) → (kind t l ≡ valueCode → ⊥) → labelCells 3 r l ≡ labelCells 3 (zeros (length r)) l
 
 -- ---- down an order
 
 -- results once value v has been evaluated from them and stored
-abbrev pub evaluateInto : List ℤ → List ℤ → ℕ → List ℤ
-evaluateInto t r v = store r v (evaluated t r v)
+abbrev pub evaluateInto : Arithmetic → List ℤ → List ℤ → ℕ → List ℤ
+evaluateInto α t r v = store r v (evaluated α t r v)
 
 -- ---- two tables
 

@@ -1,7 +1,7 @@
 pub mod Sizes
 pub mod Rounding
 pub mod Division
-pub mod Arithmetic
+pub mod Operations
 pub mod Decimals
 pub mod Numerals
 pub mod ReadBack

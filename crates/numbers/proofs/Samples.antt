@@ -7,6 +7,7 @@ use Rattle.numbers.specs.Rounding.{rounded, quotient}
 use Rattle.numbers.specs.Arithmetic.{rangedOf, result, calculated}
 use Rattle.numbers.specs.Decimal.{allDigits, digitsValue, digitsOf, decimalOf, numberOf}
 use Rattle.numbers.specs.declared.Tie.the-variants.{Away, Even}
+use Rattle.numbers.specs.declared.Arithmetic.the-variants.{HalvesAway}
 use Rattle.kinds.specs.declared.Operation.the-variants.{Sum, Difference, Product, Quotient}
 use Rattle.numbers.specs.declared.Calculated.the-variants.{Number, OutOfRange, ZeroDivisor}
 use Rattle.numbers.specs.declared.Number.the-variants.{Is, Not}
@@ -26,12 +27,12 @@ unfolding rounded quotient
 quotients = (refl, refl, refl, refl, refl, refl, refl)
 
 operations :
-    (calculated Away Sum (pos 1000000000) (pos 1) ≡ OutOfRange)
-    × (calculated Away Difference (minus 5) (minus 7) ≡ Number (pos 2))
-    × (calculated Away Product (minus 100000) (pos 10000) ≡ Number (minus 1000000000))
-    × (calculated Away Product (pos 100000) (pos 10001) ≡ OutOfRange)
-    × (calculated Away Quotient (pos 7) (pos 0) ≡ ZeroDivisor)
-    × (calculated Away Quotient (pos 7) (pos 2) ≡ Number (pos 4))
+    (calculated HalvesAway Sum (pos 1000000000) (pos 1) ≡ OutOfRange)
+    × (calculated HalvesAway Difference (minus 5) (minus 7) ≡ Number (pos 2))
+    × (calculated HalvesAway Product (minus 100000) (pos 10000) ≡ Number (minus 1000000000))
+    × (calculated HalvesAway Product (pos 100000) (pos 10001) ≡ OutOfRange)
+    × (calculated HalvesAway Quotient (pos 7) (pos 0) ≡ ZeroDivisor)
+    × (calculated HalvesAway Quotient (pos 7) (pos 2) ≡ Number (pos 4))
 unfolding rounded quotient rangedOf result calculated
 operations = (refl, refl, refl, refl, refl, refl)
 

@@ -8,7 +8,7 @@ ghost use lib.IntN.{natAbs};
 ghost use Rattle.cells.specs.Limits.{numberLimit};
 ghost use Rattle.numbers.specs.Range.{inRange};
 ghost use Rattle.numbers.specs.Rounding.{roundUp, quotient};
-ghost use Rattle.numbers.specs.Arithmetic.{rangedOf, calculated};
+ghost use Rattle.numbers.specs.Arithmetic.{tieRule, roundingBy, rangedOf, calculated};
 ghost use Rattle.numbers.specs.Decimal.{digitsOf, decimalOf, signedOf, numberOf};
 ghost use Rattle.numbers.specs.Bounds.{AtMost};
 use kinds::Operation;
@@ -73,6 +73,34 @@ pub fn nearest(tie: Tie, a: i64, b: i64) -> i64
     cells::with_sign(cells::is_negative(a) != cells::is_negative(b), m + up)
 }
 
+// ---- arithmetics
+
+// The arithmetic by which a sheet is evaluated: whole numbers, with a tie rule for quotients.
+pub enum Arithmetic {
+    HalvesAway,
+    HalvesToEven,
+}
+
+// The tie rule of an arithmetic.
+fn tie_rule(arithmetic: Arithmetic) -> Tie
+    ensures { λ r. ⌜ r ≡ tieRule arithmetic ⌝ }
+{
+    match arithmetic {
+        Arithmetic::HalvesAway => Tie::Away,
+        Arithmetic::HalvesToEven => Tie::Even,
+    }
+}
+
+// The arithmetic that rounds by a tie rule.
+pub fn rounding_by(tie: Tie) -> Arithmetic
+    ensures { λ r. ⌜ r ≡ roundingBy tie ⌝ }
+{
+    match tie {
+        Tie::Away => Arithmetic::HalvesAway,
+        Tie::Even => Arithmetic::HalvesToEven,
+    }
+}
+
 // ---- the four operations
 
 // What an operation gives: a number of a sheet, or why there is none.
@@ -93,9 +121,9 @@ fn ranged(x: i64) -> Calculated
 }
 
 // a and b under an operation. A zero divisor comes before the range.
-pub fn calculate(tie: Tie, op: Operation, a: i64, b: i64) -> Calculated
+pub fn calculate(arithmetic: Arithmetic, op: Operation, a: i64, b: i64) -> Calculated
     requires { ⌜ (natAbs a ≤ numberLimit) × (natAbs b ≤ numberLimit) ⌝ }
-    ensures { λ r. ⌜ r ≡ calculated tie op a b ⌝ }
+    ensures { λ r. ⌜ r ≡ calculated arithmetic op a b ⌝ }
 {
     match op {
         Operation::Sum => ranged(a + b),
@@ -105,7 +133,7 @@ pub fn calculate(tie: Tie, op: Operation, a: i64, b: i64) -> Calculated
             if b == 0 {
                 Calculated::ZeroDivisor
             } else {
-                ranged(nearest(tie, a, b))
+                ranged(nearest(tie_rule(arithmetic), a, b))
             }
         }
     }

@@ -22,6 +22,7 @@ use Rattle.order.proofs.Proper.{proper-no-cycle}
 use Rattle.order.proofs.Planned.{order-short}
 use Rattle.order.proofs.Following.{proper-list}
 use Rattle.reach.specs.MarkRows.{width, MarkRow}
+use Rattle.numbers.specs.declared.Arithmetic.{Arithmetic}
 use Rattle.evaluation.specs.Results.{stepsAt, stored, Recorded}
 use Rattle.evaluation.specs.Evaluation.{stepLimit}
 use Rattle.evaluation.specs.Ready.{Ready}
@@ -43,19 +44,19 @@ use Rattle.redoing.proofs.Sums.{failing-few, steps-few}
 
 -- ---- results that stand
 
-module _ (t : List ℤ) (n : ℕ) (ok : Accepted t n) (nc : NoCycle t) (m : ℕ) (fit : 3 * n ≤ m) where
+module _ (α : Arithmetic) (t : List ℤ) (n : ℕ) (ok : Accepted t n) (nc : NoCycle t) (m : ℕ) (fit : 3 * n ≤ m) where
   abbrev cells : List ℤ
-  cells = resultCells t n m
+  cells = resultCells α t n m
 
   -- what is no value has three zeros
   blank-stored : (l : ℕ) → (kind t l ≡ valueCode → ⊥) → stored cells l ≡ blank
-  blank-stored l d = same-stored cells (zeros (length cells)) l (figures-solve t n ok m fit nc .others l d) ∙ stored-zeros (length cells) l
+  blank-stored l d = same-stored cells (zeros (length cells)) l (figures-solve α t n ok m fit nc .others l d) ∙ stored-zeros (length cells) l
 
   recorded : (l : ℕ) → Recorded 0 cells l
   recorded l = go (ℕ-discrete (kind t l) valueCode)
     where
       go : Dec (kind t l ≡ valueCode) → Recorded 0 cells l
-      go (yes k) = let w = figures-recorded t n ok nc m fit l k in record { least = omega arith; most = w .most; ranged = w .ranged }
+      go (yes k) = let w = figures-recorded α t n ok nc m fit l k in record { least = omega arith; most = w .most; ranged = w .ranged }
       go (no d) =
           let e = blank-stored l d in
           record {
@@ -66,7 +67,7 @@ module _ (t : List ℤ) (n : ℕ) (ok : Accepted t n) (nc : NoCycle t) (m : ℕ)
 
 -- ---- a pair
 
-module _ (t : List ℤ) (n : ℕ) (plan : List ℤ) (k : ℕ) (r : List ℤ) (st : Standing t n plan k r) where
+module _ (α : Arithmetic) (t : List ℤ) (n : ℕ) (plan : List ℤ) (k : ℕ) (r : List ℤ) (st : Standing α t n plan k r) where
   abbrev order : List ℕ
   order = labelsOf (take k plan)
 
@@ -90,12 +91,12 @@ module _ (t : List ℤ) (n : ℕ) (plan : List ℤ) (k : ℕ) (r : List ℤ) (st
   pub steps-standing : (l : ℕ) → stepsAt r l ≤ stepLimit
   steps-standing l = rw (st .results) (go (ℕ-discrete (kind t l) valueCode))
     where
-      go : Dec (kind t l ≡ valueCode) → stepsAt (resultCells t n (length r)) l ≤ stepLimit
+      go : Dec (kind t l ≡ valueCode) → stepsAt (resultCells α t n (length r)) l ≤ stepLimit
       go (yes e) =
-          let f = figures-stored t n (st .accepted) (length r) (st .fit) l in
-          let g = figures-value t n (st .accepted) (length r) (st .fit) no-cycle l e in
+          let f = figures-stored α t n (st .accepted) (length r) (st .fit) l in
+          let g = figures-value α t n (st .accepted) (length r) (st .fit) no-cycle l e in
           omega (arith, ap (λ (v : Value). v .steps) (f ∙ g))
-      go (no d) = omega (arith, ap (λ (v : Value). v .steps) (blank-stored t n (st .accepted) no-cycle (length r) (st .fit) l d))
+      go (no d) = omega (arith, ap (λ (v : Value). v .steps) (blank-stored α t n (st .accepted) no-cycle (length r) (st .fit) l d))
 
   module _ (l : ℕ) (z : ℤ) (line : kind t l ≡ numberCode) (range : natAbs z ≤ numberLimit) where
     abbrev u : List ℤ
@@ -117,7 +118,7 @@ module _ (t : List ℤ) (n : ℕ) (plan : List ℤ) (k : ℕ) (r : List ℤ) (st
       count = n;
       accepted = ok;
       room = st .fit;
-      recorded = λ x. rw (st .results) (recorded t n (st .accepted) no-cycle (length r) (st .fit) x);
+      recorded = λ x. rw (st .results) (recorded α t n (st .accepted) no-cycle (length r) (st .fit) x);
     }
 
     pub pair-redoable : (square : List ℕ) → (n + 1) * width n ≤ length square → MarkRow t n 6 square (owner t l) → Redoable (withNumber l z t) n r plan k square (owner t l)
@@ -125,7 +126,7 @@ module _ (t : List ℤ) (n : ℕ) (plan : List ℤ) (k : ℕ) (r : List ℤ) (st
       accepted = ok;
       results = st .fit;
       ready = ready;
-      evaluated = λ v e. rw (st .results) (figures-recorded t n (st .accepted) no-cycle (length r) (st .fit) v (sym (same .kinds v) ∙ e) .least);
+      evaluated = λ v e. rw (st .results) (figures-recorded α t n (st .accepted) no-cycle (length r) (st .fit) v (sym (same .kinds v) ∙ e) .least);
       room = st .plans;
       few = plan-few;
       values = λ i h. same .kinds (natAt plan i) ∙ listed t plan n k (length r) (st .accepted) (st .plans) (st .fit) (st .proper) refl .values i h;
@@ -136,23 +137,23 @@ module _ (t : List ℤ) (n : ℕ) (plan : List ℤ) (k : ℕ) (r : List ℤ) (st
 
     -- ---- what it leaves
 
-    module _ {c : Change} (none : c .redone ≡ 0) {r′ : List ℤ} {c′ : Change} (did : Redid (withNumber l z t) n r (labelsOf (take k plan)) (owner t l) c r′ c′) where
-      settled : r′ ≡ resultCells u n (length r)
+    module _ {c : Change} (none : c .redone ≡ 0) {r′ : List ℤ} {c′ : Change} (did : Redid α (withNumber l z t) n r (labelsOf (take k plan)) (owner t l) c r′ c′) where
+      settled : r′ ≡ resultCells α u n (length r)
       settled =
           did .results
-          ∙ ap (down (evaluateInto u) (redoneOf u n d order)) (st .results)
-          ∙ pair-reached t n (st .accepted) order proper l line z range (length r) (st .fit)
+          ∙ ap (down (evaluateInto α u) (redoneOf u n d order)) (st .results)
+          ∙ pair-reached α t n (st .accepted) order proper l line z range (length r) (st .fit)
 
-      stored-is : stored r′ ≡ figures u n
-      stored-is = fun-ext (λ x. ap (λ (w : List ℤ). stored w x) settled ∙ figures-stored u n ok (length r) (st .fit) x)
+      stored-is : stored r′ ≡ figures α u n
+      stored-is = fun-ext (λ x. ap (λ (w : List ℤ). stored w x) settled ∙ figures-stored α u n ok (length r) (st .fit) x)
 
       redone-is : c′ .redone ≡ redoneCount u n d
       redone-is = omega (arith, did .redone, none, redone-many u n ok order (proper-on same proper) d)
 
-      failing-is : c′ .failing ≡ failing (figures u n) n
+      failing-is : c′ .failing ≡ failing (figures α u n) n
       failing-is = did .tallied .failed ∙ ap (λ (f : ℕ → Value). failing f n) stored-is
 
-      steps-is : c′ .steps ≡ stepSum (figures u n) n
+      steps-is : c′ .steps ≡ stepSum (figures α u n) n
       steps-is = did .tallied .taken ∙ ap (λ (f : ℕ → Value). stepSum f n) stored-is
 
       -- its sums fit a cell
@@ -165,26 +166,26 @@ module _ (t : List ℤ) (n : ℕ) (plan : List ℤ) (k : ℕ) (r : List ℤ) (st
           )
 
       pub pair-applied : (ps : List ℤ) (i : ℕ) → l ≡ pairLabel ps i → z ≡ pairNumber ps i → (w w′ : List ℤ)
-          → w′ ≡ sets w (3 * (i - 1)) (pos (c′ .redone) ∷ pos (c′ .failing) ∷ pos (c′ .steps) ∷ []) → PairApplied t n ps i r w (withNumber l z t) r′ w′ c′
+          → w′ ≡ sets w (3 * (i - 1)) (pos (c′ .redone) ∷ pos (c′ .failing) ∷ pos (c′ .steps) ∷ []) → PairApplied α t n ps i r w (withNumber l z t) r′ w′ c′
       pair-applied ps i e f w w′ g = record {
         table = λ j. withNumber (e j) (f j) t;
         results = settled;
         changes =
             g ∙ (λ j. sets w (3 * (i - 1)) (pos (redone-is j) ∷ pos (failing-is j) ∷ pos (steps-is j) ∷ []))
-            ∙ ap (λ (x : ℕ). sets w (3 * (i - 1)) (changeCells u n (owner t x))) e;
+            ∙ ap (λ (x : ℕ). sets w (3 * (i - 1)) (changeCells α u n (owner t x))) e;
         tallied = did .tallied;
       }
 
     -- the plan and the results stand again
-    pub standing-next : {r′ : List ℤ} → r′ ≡ resultCells (withNumber l z t) n (length r) → Standing (withNumber l z t) n plan k r′
+    pub standing-next : {r′ : List ℤ} → r′ ≡ resultCells α (withNumber l z t) n (length r) → Standing α (withNumber l z t) n plan k r′
     standing-next {r′} e =
-        let long : length r′ ≡ length r = ap length e ∙ buffer-length (figures u n) n (length r) (st .fit) in
+        let long : length r′ ≡ length r = ap length e ∙ buffer-length (figures α u n) n (length r) (st .fit) in
         record {
           accepted = ok;
           plans = st .plans;
           proper = proper-list-on same (st .proper);
           fit = omega (arith, st .fit, long);
-          results = e ∙ ap (resultCells u n) (sym long);
+          results = e ∙ ap (resultCells α u n) (sym long);
         }
 
 -- ---- the same in the code's words: its label is l, and its table u has the number in it
@@ -210,32 +211,32 @@ module _ (t : List ℤ) (n : ℕ) (ps : List ℤ) (i : ℕ) {l : ℕ} {u : List 
     pub redoable-still : (square : List ℕ) → Redoable (withNumber (pairLabel ps i) (pairNumber ps i) t) n r plan k square (owner t (pairLabel ps i)) → Redoable u n r plan k square d
     redoable-still square w = transport (λ j. Redoable (sym table-is j) n r plan k square (sym (owner-is own) j)) w
 
-    pub redid-still : {o : List ℕ} {c c′ : Change} {r′ : List ℤ} → Redid u n r o d c r′ c′
-        → Redid (withNumber (pairLabel ps i) (pairNumber ps i) t) n r o (owner t (pairLabel ps i)) c r′ c′
-    redid-still {o} {c} {c′} {r′} w = transport (λ j. Redid (table-is j) n r o (owner-is own j) c r′ c′) w
+    pub redid-still : {α : Arithmetic} {o : List ℕ} {c c′ : Change} {r′ : List ℤ} → Redid α u n r o d c r′ c′
+        → Redid α (withNumber (pairLabel ps i) (pairNumber ps i) t) n r o (owner t (pairLabel ps i)) c r′ c′
+    redid-still {α} {o} {c} {c′} {r′} w = transport (λ j. Redid α (table-is j) n r o (owner-is own j) c r′ c′) w
 
-    pub applied-still : {w r′ w′ : List ℤ} {c : Change} → PairApplied t n ps i r w (withNumber (pairLabel ps i) (pairNumber ps i) t) r′ w′ c → PairApplied t n ps i r w u r′ w′ c
-    applied-still {w} {r′} {w′} {c} a = subst (λ (x : List ℤ). PairApplied t n ps i r w x r′ w′ c) (sym table-is) a
+    pub applied-still : {α : Arithmetic} {w r′ w′ : List ℤ} {c : Change} → PairApplied α t n ps i r w (withNumber (pairLabel ps i) (pairNumber ps i) t) r′ w′ c → PairApplied α t n ps i r w u r′ w′ c
+    applied-still {α} {w} {r′} {w′} {c} a = subst (λ (x : List ℤ). PairApplied α t n ps i r w x r′ w′ c) (sym table-is) a
 
 -- ---- pairs in turn
 
-changes-length : (t : List ℤ) (n : ℕ) (ps : List ℤ) (k : ℕ) → length (changesOf t n ps k) ≡ 3 * k
-changes-length t n ps zero = refl
-changes-length t n ps (suc k) = omega (arith, length-append (changesOf t n ps k) (changeOf t n ps (suc k)), changes-length t n ps k)
+changes-length : (α : Arithmetic) (t : List ℤ) (n : ℕ) (ps : List ℤ) (k : ℕ) → length (changesOf α t n ps k) ≡ 3 * k
+changes-length α t n ps zero = refl
+changes-length α t n ps (suc k) = omega (arith, length-append (changesOf α t n ps k) (changeOf α t n ps (suc k)), changes-length α t n ps k)
 
 -- after i pairs, from table t, results r and changes w
-pub record Applying (t : List ℤ) (n : ℕ) (plan : List ℤ) (k : ℕ) (ps r w u r′ w′ : List ℤ) (c : Change) (i : ℕ) : Type 0 where
+pub record Applying (α : Arithmetic) (t : List ℤ) (n : ℕ) (plan : List ℤ) (k : ℕ) (ps r w u r′ w′ : List ℤ) (c : Change) (i : ℕ) : Type 0 where
   pub upto : i ≤ pairCount ps
-  pub applied : PairsApplied t n ps i r w u r′ w′
-  pub standing : Standing u n plan k r′
+  pub applied : PairsApplied α t n ps i r w u r′ w′
+  pub standing : Standing α u n plan k r′
   pub tallied : Tallied n r′ c
   pub structure : SameStructure t u
   pub tables : length u ≡ length t
   pub resultsLong : length r′ ≡ length r
   pub changesLong : length w′ ≡ length w
 
-module _ (t : List ℤ) (n : ℕ) (plan : List ℤ) (k : ℕ) (ps r w : List ℤ) where
-  pub applying-start : Standing t n plan k r → {c : Change} → Tallied n r c → Applying t n plan k ps r w t r w c 0
+module _ (α : Arithmetic) (t : List ℤ) (n : ℕ) (plan : List ℤ) (k : ℕ) (ps r w : List ℤ) where
+  pub applying-start : Standing α t n plan k r → {c : Change} → Tallied n r c → Applying α t n plan k ps r w t r w c 0
   applying-start st a = record {
     upto = omega arith;
     applied = record { table = refl; results = st .results; changes = refl };
@@ -247,7 +248,7 @@ module _ (t : List ℤ) (n : ℕ) (plan : List ℤ) (k : ℕ) (ps r w : List ℤ
     changesLong = refl;
   }
 
-  module _ {u r′ w′ : List ℤ} {c : Change} {i : ℕ} (g : Applying t n plan k ps r w u r′ w′ c i) (h : i < pairCount ps) where
+  module _ {u r′ w′ : List ℤ} {c : Change} {i : ℕ} (g : Applying α t n plan k ps r w u r′ w′ c i) (h : i < pairCount ps) where
     -- the next pair names an N line of the table as it is, and its owner's row is made
     pub next-right : PairsRight t ps → PairRight u ps (i + 1)
     next-right right = let p = right (i + 1) (omega arith) (omega arith) in record { line = g .structure .kinds (pairLabel ps (i + 1)) ∙ p .line; number = p .number }
@@ -258,7 +259,7 @@ module _ (t : List ℤ) (n : ℕ) (plan : List ℤ) (k : ℕ) (ps r w : List ℤ
     pub next-window : (square windows : List ℕ) → OwnersWindows t n plan k square ps (pairCount ps) windows → Window square n plan k windows (owner u (pairLabel ps (i + 1)))
     next-window square windows found = rw (g .structure .owners (pairLabel ps (i + 1))) (found (i + 1) (omega arith) (omega arith))
 
-    module _ (room : 3 * pairCount ps ≤ length w) (right : PairsRight t ps) {u″ r″ w″ : List ℤ} {c′ : Change} (a : PairApplied u n ps (i + 1) r′ w′ u″ r″ w″ c′) where
+    module _ (room : 3 * pairCount ps ≤ length w) (right : PairsRight t ps) {u″ r″ w″ : List ℤ} {c′ : Change} (a : PairApplied α u n ps (i + 1) r′ w′ u″ r″ w″ c′) where
       abbrev l : ℕ
       l = pairLabel ps (i + 1)
 
@@ -274,46 +275,46 @@ module _ (t : List ℤ) (n : ℕ) (plan : List ℤ) (k : ℕ) (ps r w : List ℤ
           more : withNumber l z (withPairs ps i t) ≡ withPairs ps (i + 1) t
           more = let e : suc i ≡ i + 1 = omega arith in (λ j. withNumber (pairLabel ps (sym e j)) (pairNumber ps (sym e j)) (withPairs ps i t)) ∙ ap (λ (x : ℕ). withPairs ps x t) e
 
-      cells-next : changeCells u″ n (owner u l) ≡ changeOf t n ps (i + 1)
-      cells-next = (λ j. changeCells (table-next j) n (g .structure .owners l j))
+      cells-next : changeCells α u″ n (owner u l) ≡ changeOf α t n ps (i + 1)
+      cells-next = (λ j. changeCells α (table-next j) n (g .structure .owners l j))
 
-      more-changes : changesOf t n ps i ++ changeOf t n ps (i + 1) ≡ changesOf t n ps (i + 1)
-      more-changes = let e : suc i ≡ i + 1 = omega arith in ap (λ (x : ℕ). changesOf t n ps i ++ changeOf t n ps x) (sym e) ∙ ap (changesOf t n ps) e
+      more-changes : changesOf α t n ps i ++ changeOf α t n ps (i + 1) ≡ changesOf α t n ps (i + 1)
+      more-changes = let e : suc i ≡ i + 1 = omega arith in ap (λ (x : ℕ). changesOf α t n ps i ++ changeOf α t n ps x) (sym e) ∙ ap (changesOf α t n ps) e
 
-      changes-next : w″ ≡ changesOf t n ps (i + 1) ++ drop (3 * (i + 1)) w
+      changes-next : w″ ≡ changesOf α t n ps (i + 1) ++ drop (3 * (i + 1)) w
       changes-next =
           let at : 3 * (i + 1 - 1) ≡ 3 * i = omega arith in
           let past : 3 * i + 3 ≡ 3 * (i + 1) = omega arith in
           a .changes
           ∙ (λ j. sets (g .applied .changes j) (at j) (cells-next j))
-          ∙ sets-next (changesOf t n ps i) (changeOf t n ps (i + 1)) w (3 * i) (changes-length t n ps i) (omega arith)
+          ∙ sets-next (changesOf α t n ps i) (changeOf α t n ps (i + 1)) w (3 * i) (changes-length α t n ps i) (omega arith)
           ∙ (λ j. more-changes j ++ drop (past j) w)
 
       long : length r″ ≡ length r′
-      long = ap length (a .results) ∙ buffer-length (figures u″ n) n (length r′) (g .standing .fit)
+      long = ap length (a .results) ∙ buffer-length (figures α u″ n) n (length r′) (g .standing .fit)
 
-      pub applying-next : Applying t n plan k ps r w u″ r″ w″ c′ (i + 1)
+      pub applying-next : Applying α t n plan k ps r w u″ r″ w″ c′ (i + 1)
       applying-next =
           record {
             upto = omega arith;
             applied = record {
               table = table-next;
-              results = a .results ∙ (λ j. resultCells (table-next j) n (g .resultsLong j));
+              results = a .results ∙ (λ j. resultCells α (table-next j) n (g .resultsLong j));
               changes = changes-next;
             };
-            standing = rw (a .table) (standing-next u n plan k r′ (g .standing) l z line (next-right right .number) (rw (a .table) at (a .results)));
+            standing = rw (a .table) (standing-next α u n plan k r′ (g .standing) l z line (next-right right .number) (rw (a .table) at (a .results)));
             tallied = a .tallied;
             structure = rw (a .table) (structure-then (g .structure) (number-structure u l z));
             tables = ap length (a .table) ∙ number-length u l z ∙ g .tables;
             resultsLong = long ∙ g .resultsLong;
-            changesLong = ap length (a .changes) ∙ length-sets w′ (3 * (i + 1 - 1)) (changeCells u″ n (owner u l)) ∙ g .changesLong;
+            changesLong = ap length (a .changes) ∙ length-sets w′ (3 * (i + 1 - 1)) (changeCells α u″ n (owner u l)) ∙ g .changesLong;
           }
 
-  pub applying-done : {u r′ w′ : List ℤ} {c : Change} {i : ℕ} → Applying t n plan k ps r w u r′ w′ c i → pairCount ps ≤ i → PairsApplied t n ps (pairCount ps) r w u r′ w′
+  pub applying-done : {u r′ w′ : List ℤ} {c : Change} {i : ℕ} → Applying α t n plan k ps r w u r′ w′ c i → pairCount ps ≤ i → PairsApplied α t n ps (pairCount ps) r w u r′ w′
   applying-done {u} {r′} {w′} {c} {i} g h =
       let e : i ≡ pairCount ps = omega (arith, g .upto) in
-      subst (λ (x : ℕ). PairsApplied t n ps x r w u r′ w′) e (g .applied)
+      subst (λ (x : ℕ). PairsApplied α t n ps x r w u r′ w′) e (g .applied)
 
   -- an empty list changes nothing
-  pub applied-none : Standing t n plan k r → pairCount ps ≡ 0 → PairsApplied t n ps (pairCount ps) r w t r w
+  pub applied-none : Standing α t n plan k r → pairCount ps ≡ 0 → PairsApplied α t n ps (pairCount ps) r w t r w
   applied-none st e = rw e (record { table = refl; results = st .results; changes = refl })

@@ -22,6 +22,7 @@ use Rattle.order.proofs.Tests.{both-ways}
 use Rattle.order.proofs.Lists.{count-parts, in-here, in-left, in-right, in-filter, count-filter-le}
 use Rattle.order.proofs.Proper.{listed-once, listed-value, proper-no-cycle}
 use Rattle.order.proofs.Evaluating.{run-append, run-fits, run-other, run-solves, run-rest}
+use Rattle.numbers.specs.declared.Arithmetic.{Arithmetic}
 use Rattle.evaluation.specs.declared.Value.{Value}
 use Rattle.evaluation.specs.Results.{stored}
 use Rattle.evaluation.specs.Evaluation.{valueOf, evaluated}
@@ -40,7 +41,7 @@ use Rattle.redoing.proofs.Redone.{redone-reaches, redone-test, not-redo
 
 -- ---- the number z in N line l
 
-module _ (t : List ℤ) (n : ℕ) (ok : Accepted t n) (o : List ℕ) (p : Proper t o) (l : ℕ) (line : kind t l ≡ numberCode) (z : ℤ) (range : natAbs z ≤ numberLimit) where
+module _ (α : Arithmetic) (t : List ℤ) (n : ℕ) (ok : Accepted t n) (o : List ℕ) (p : Proper t o) (l : ℕ) (line : kind t l ≡ numberCode) (z : ℤ) (range : natAbs z ≤ numberLimit) where
   abbrev u : List ℤ
   u = withNumber l z t
 
@@ -68,9 +69,9 @@ module _ (t : List ℤ) (n : ℕ) (ok : Accepted t n) (o : List ℕ) (p : Proper
 
   -- which comes to the same in both tables
   unchanged : (r r′ : List ℤ) (v : ℕ) → kind t v ≡ valueCode → (Redone t d v → ⊥)
-      → ((w : ℕ) → kind t w ≡ valueCode → Reaches t v w → labelCells 3 r w ≡ labelCells 3 r′ w) → evaluated t r v ≡ evaluated u r′ v
+      → ((w : ℕ) → kind t w ≡ valueCode → Reaches t v w → labelCells 3 r w ≡ labelCells 3 r′ w) → evaluated α t r v ≡ evaluated α u r′ v
   unchanged r r′ v k h rows =
-      ap valueOf (value-local t u r r′ n ok v (λ x c. number-line t l z x (λ e. apart v k h (subst (Concerns t v) e c))) answers k)
+      ap valueOf (value-local α t u r r′ n ok v (λ x c. number-line t l z x (λ e. apart v k h (subst (Concerns t v) e c))) answers k)
     where
       answers : (w : ℕ) → kind t w ≡ valueCode → Reaches t v w → SameAnswer r r′ w
       answers w i j = let e = same-stored r r′ w (rows w i j) in record { state = ap (λ (x : Value). x .state) e; number = ap (λ (x : Value). x .number) e }
@@ -78,13 +79,13 @@ module _ (t : List ℤ) (n : ℕ) (ok : Accepted t n) (o : List ℕ) (p : Proper
   module _ (q : ℕ) (fit : 3 * n ≤ q) where
     -- the results before
     abbrev old : List ℤ
-    old = resultCells t n q
+    old = resultCells α t n q
 
     abbrev test : ℕ → Bool
     test = isRedone t n d
 
     old-length : length old ≡ q
-    old-length = buffer-length (figures t n) n q fit
+    old-length = buffer-length (figures α t n) n q fit
 
     kept : (v : ℕ) → test v ≡ false → Redone t d v → ⊥
     kept v e h = both-ways (test v) (redone-test t n ok v d .1 h) e
@@ -98,24 +99,24 @@ module _ (t : List ℤ) (n : ℕ) (ok : Accepted t n) (o : List ℕ) (p : Proper
 
     -- the results once v's turn is over
     abbrev turn : List ℤ → ℕ → List ℤ
-    turn = passing test (evaluateInto u)
+    turn = passing test (evaluateInto α u)
 
     turn-stands : (r : List ℤ) (v : ℕ) → Stands r → (b : Bool) → test v ≡ b → Stands (turn r v)
     turn-stands r v (e, h) true i = rw i (
-      store-length r v (evaluated u r v) ∙ e,
-      λ w j. store-other r v (evaluated u r v) w (λ (x : w ≡ v). both-ways (test v) i (subst (λ (y : ℕ). test y ≡ false) x j)) ∙ h w j,
+      store-length r v (evaluated α u r v) ∙ e,
+      λ w j. store-other r v (evaluated α u r v) w (λ (x : w ≡ v). both-ways (test v) i (subst (λ (y : ℕ). test y ≡ false) x j)) ∙ h w j,
     )
     turn-stands r v h false i = rw i h
 
     -- what is passed over holds what it would come to
-    turn-own : (r : List ℤ) (v : ℕ) → kind u v ≡ valueCode → Stands r → (b : Bool) → test v ≡ b → labelCells 3 (turn r v) v ≡ valueCells (evaluated u r v)
-    turn-own r v k (e, h) true i = let b = value-label u n ok-after v k in rw i (store-own r v (evaluated u r v) (b .0) (omega (arith, b .1)))
+    turn-own : (r : List ℤ) (v : ℕ) → kind u v ≡ valueCode → Stands r → (b : Bool) → test v ≡ b → labelCells 3 (turn r v) v ≡ valueCells (evaluated α u r v)
+    turn-own r v k (e, h) true i = let b = value-label u n ok-after v k in rw i (store-own r v (evaluated α u r v) (b .0) (omega (arith, b .1)))
     turn-own r v k (e, h) false i =
-        rw i (h v i ∙ figures-solve t n ok q fit (proper-no-cycle p) .values v (value-before v k)
+        rw i (h v i ∙ figures-solve α t n ok q fit (proper-no-cycle p) .values v (value-before v k)
         ∙ ap valueCells (unchanged old r v (value-before v k) (kept v i) (λ w _ j. sym (h w (kept-reached v w i j)))))
 
     turn-other : (r : List ℤ) (v w : ℕ) → (w ≡ v → ⊥) → (b : Bool) → test v ≡ b → labelCells 3 (turn r v) w ≡ labelCells 3 r w
-    turn-other r v w e true i = rw i (store-other r v (evaluated u r v) w e)
+    turn-other r v w e true i = rw i (store-other r v (evaluated α u r v) w e)
     turn-other r v w e false i = rw i
 
     -- so passing over it is an evaluation of the table after, as `order` asks for one
@@ -123,12 +124,12 @@ module _ (t : List ℤ) (n : ℕ) (ok : Accepted t n) (o : List ℕ) (p : Proper
     redoing = record {
       Fits = Stands;
       stored = labelCells 3;
-      result = λ r v. valueCells (evaluated u r v);
+      result = λ r v. valueCells (evaluated α u r v);
       evaluate = turn;
       fits = λ r v k h. turn-stands r v h (test v) refl;
       own = λ r v k h. turn-own r v k h (test v) refl;
       other = λ r v w k h e. turn-other r v w e (test v) refl;
-      local = λ r r′ v k h h′ rows. ap valueCells (value-rows u n ok-after r r′ v k rows);
+      local = λ r r′ v k h h′ rows. ap valueCells (value-rows α u n ok-after r r′ v k rows);
     }
 
     -- ---- down the order
@@ -137,36 +138,36 @@ module _ (t : List ℤ) (n : ℕ) (ok : Accepted t n) (o : List ℕ) (p : Proper
     redone = redoneOf t n d o
 
     abbrev end : List ℤ
-    end = down (evaluateInto u) redone old
+    end = down (evaluateInto α u) redone old
 
     old-stands : Stands old
     old-stands = (old-length, λ w _. refl)
 
     ends : down turn o old ≡ end
-    ends = down-filter test (evaluateInto u) o old
+    ends = down-filter test (evaluateInto α u) o old
 
     end-stands : Stands end
     end-stands = subst Stands ends (run-fits u redoing o (listed-value proper) old old-stands)
 
-    end-solves : Evaluated u end
+    end-solves : Evaluated α u end
     end-solves = record {
-      values = λ v k. subst (λ (r : List ℤ). labelCells 3 r v ≡ valueCells (evaluated u r v)) ends (run-solves u redoing o proper old old-stands v k);
+      values = λ v k. subst (λ (r : List ℤ). labelCells 3 r v ≡ valueCells (evaluated α u r v)) ends (run-solves u redoing o proper old old-stands v k);
       others = λ m h.
           ap (λ (r : List ℤ). labelCells 3 r m) (sym ends) ∙ run-rest u redoing o proper old old-stands m h
-          ∙ figures-solve t n ok q fit (proper-no-cycle p) .others m (λ k. h (same .kinds m ∙ k))
+          ∙ figures-solve α t n ok q fit (proper-no-cycle p) .others m (λ k. h (same .kinds m ∙ k))
           ∙ ap (λ (i : ℕ). labelCells 3 (zeros i) m) (old-length ∙ sym (end-stands .0));
     }
 
     -- one comes to the results of the table after
-    end-figures : end ≡ resultCells u n q
+    end-figures : end ≡ resultCells α u n q
     end-figures =
-        figures-only u n ok-after (proper-no-cycle proper) end (omega (arith, end-stands .0)) end-solves ∙ ap (resultCells u n) (end-stands .0)
+        figures-only α u n ok-after (proper-no-cycle proper) end (omega (arith, end-stands .0)) end-solves ∙ ap (resultCells α u n) (end-stands .0)
 
     -- what is not redone has the figures that it had
-    others : (v : ℕ) → (Redone t d v → ⊥) → figures u n v ≡ figures t n v
+    others : (v : ℕ) → (Redone t d v → ⊥) → figures α u n v ≡ figures α t n v
     others v h =
-        sym (figures-stored u n ok-after q fit v) ∙ ap (λ (r : List ℤ). stored r v) (sym end-figures)
-        ∙ same-stored end old v (end-stands .1 v (not-redone t n ok v d h)) ∙ figures-stored t n ok q fit v
+        sym (figures-stored α u n ok-after q fit v) ∙ ap (λ (r : List ℤ). stored r v) (sym end-figures)
+        ∙ same-stored end old v (end-stands .1 v (not-redone t n ok v d h)) ∙ figures-stored α t n ok q fit v
 
     redone-value : (v : ℕ) → v ∈ redone → kind u v ≡ valueCode
     redone-value v m = listed-value proper v (in-filter test v o m .0)
@@ -187,27 +188,27 @@ module _ (t : List ℤ) (n : ℕ) (ok : Accepted t n) (o : List ℕ) (p : Proper
               omega (arith, proper .after a₁ v b₁ i w k r, listed-once proper w k, count-parts w a₁ (v ∷ b₁) i, count-filter-le test w b₁, ap (count w) j)
 
       abbrev now : List ℤ
-      now = down (evaluateInto u) a old
+      now = down (evaluateInto α u) a old
 
       -- every R entered finds its target's figures of the table after
-      found : (x : ℕ) → EntersRead u now v x → stored now (target u x) ≡ figures u n (target u x)
+      found : (x : ℕ) → EntersRead α u now v x → stored now (target u x) ≡ figures α u n (target u x)
       found x i =
-          let w = entered-read u n ok-after v now x (back v (in-here v b)) i in
-          sym (same-stored (down (evaluateInto u) (v ∷ b) now) now (target u x)
-          (run-other u (working u n ok-after) (v ∷ b) back (target u x) (earlier (target u x) (w .0) (w .1)) now (run-fits u (working u n ok-after) a front old (omega (arith, old-length)))))
+          let w = entered-read u n ok-after v α now x (back v (in-here v b)) i in
+          sym (same-stored (down (evaluateInto α u) (v ∷ b) now) now (target u x)
+          (run-other u (working α u n ok-after) (v ∷ b) back (target u x) (earlier (target u x) (w .0) (w .1)) now (run-fits u (working α u n ok-after) a front old (omega (arith, old-length)))))
           ∙ ap (λ (r : List ℤ). stored r (target u x))
-          (sym (run-append u (working u n ok-after) a (v ∷ b) old) ∙ ap (λ (c : List ℕ). down (evaluateInto u) c old) (sym e) ∙ end-figures)
-          ∙ figures-stored u n ok-after q fit (target u x)
+          (sym (run-append u (working α u n ok-after) a (v ∷ b) old) ∙ ap (λ (c : List ℕ). down (evaluateInto α u) c old) (sym e) ∙ end-figures)
+          ∙ figures-stored α u n ok-after q fit (target u x)
 
     -- ---- in the words of the table after
 
     redone-again : redoneOf u n d o ≡ redone
     redone-again = redone-list-same same n d o
 
-    pub pair-reached : down (evaluateInto (withNumber l z t)) (redoneOf (withNumber l z t) n (owner t l) o) (resultCells t n q) ≡ resultCells (withNumber l z t) n q
-    pair-reached = ap (λ (c : List ℕ). down (evaluateInto u) c old) redone-again ∙ end-figures
+    pub pair-reached : down (evaluateInto α (withNumber l z t)) (redoneOf (withNumber l z t) n (owner t l) o) (resultCells α t n q) ≡ resultCells α (withNumber l z t) n q
+    pair-reached = ap (λ (c : List ℕ). down (evaluateInto α u) c old) redone-again ∙ end-figures
 
-    pub pair-redone : PairRedone t (withNumber l z t) n (owner t l) o q
+    pub pair-redone : PairRedone α t (withNumber l z t) n (owner t l) o q
     pair-redone = record {
       exactly = redone-exactly u n ok-after o proper d;
       once = redone-once u n ok-after o proper d;

@@ -7,6 +7,7 @@ use lib.IntN.{ℤ}
 use Rattle.cells.specs.Table.{owner}
 use Rattle.cells.specs.Accepted.{Accepted}
 use Rattle.order.specs.Order.{Proper, SameStructure}
+use Rattle.numbers.specs.declared.Arithmetic.{Arithmetic}
 use Rattle.redoing.specs.Pairs.{pairLabel, pairNumber, PairRight, withPairs}
 use Rattle.evaluation.specs.declared.Value.{Value}
 use Rattle.evaluation.specs.Results.{stored}
@@ -31,18 +32,18 @@ module _ (ps t : List ℤ) where
         number-accepted (withPairs ps k t) n (accepted-after k (λ i a b. right i a (omega arith))) (pairLabel ps (suc k)) (pairs-structure k .kinds (pairLabel ps (suc k)) ∙ p .line)
         (pairNumber ps (suc k)) (p .number)
 
-    pub every-pair : (o : List ℕ) → Proper t o → (q : ℕ) → 3 * n ≤ q → (k : ℕ) → ((i : ℕ) → 1 ≤ i → i ≤ suc k → PairRight t ps i)
-        → PairRedone (withPairs ps k t) (withPairs ps (suc k) t) n (owner t (pairLabel ps (suc k))) o q
-    every-pair o proper q fit k right =
+    pub every-pair : (α : Arithmetic) (o : List ℕ) → Proper t o → (q : ℕ) → 3 * n ≤ q → (k : ℕ) → ((i : ℕ) → 1 ≤ i → i ≤ suc k → PairRight t ps i)
+        → PairRedone α (withPairs ps k t) (withPairs ps (suc k) t) n (owner t (pairLabel ps (suc k))) o q
+    every-pair α o proper q fit k right =
         let l = pairLabel ps (suc k) in
         let same = pairs-structure k in
         let p = right (suc k) (omega arith) (omega arith) in
-        subst (λ (d : ℕ). PairRedone (withPairs ps k t) (withPairs ps (suc k) t) n d o q) (same .owners l)
-        (pair-redone (withPairs ps k t) n (accepted-after k (λ i a b. right i a (omega arith))) o (proper-on same proper) l (same .kinds l ∙ p .line) (pairNumber ps (suc k)) (p .number) q fit)
+        subst (λ (d : ℕ). PairRedone α (withPairs ps k t) (withPairs ps (suc k) t) n d o q) (same .owners l)
+        (pair-redone α (withPairs ps k t) n (accepted-after k (λ i a b. right i a (omega arith))) o (proper-on same proper) l (same .kinds l ∙ p .line) (pairNumber ps (suc k)) (p .number) q fit)
 
 -- the figures stored for a pair are sums over the results, in whatever buffer they stand
-pub sums-over-results : (t : List ℤ) (n : ℕ) → Accepted t n → (q : ℕ) → 3 * n ≤ q
-    → (failing (figures t n) n ≡ failing (stored (resultCells t n q)) n) × (stepSum (figures t n) n ≡ stepSum (stored (resultCells t n q)) n)
-sums-over-results t n ok q fit =
-    let same : stored (resultCells t n q) ≡ figures t n = fun-ext (figures-stored t n ok q fit) in
+pub sums-over-results : (α : Arithmetic) (t : List ℤ) (n : ℕ) → Accepted t n → (q : ℕ) → 3 * n ≤ q
+    → (failing (figures α t n) n ≡ failing (stored (resultCells α t n q)) n) × (stepSum (figures α t n) n ≡ stepSum (stored (resultCells α t n q)) n)
+sums-over-results α t n ok q fit =
+    let same : stored (resultCells α t n q) ≡ figures α t n = fun-ext (figures-stored α t n ok q fit) in
     (ap (λ (f : ℕ → Value). failing f n) (sym same), ap (λ (f : ℕ → Value). stepSum f n) (sym same))

@@ -16,6 +16,7 @@ use Rattle.cells.specs.Cells.{natOf, intAt}
 use Rattle.cells.proofs.Signed.{whole}
 use Rattle.cells.specs.Table.{withNumber}
 use Rattle.order.specs.LabelLists.{one}
+use Rattle.numbers.specs.declared.Arithmetic.{Arithmetic}
 use Rattle.evaluation.specs.declared.Value.{Value}
 use Rattle.evaluation.specs.Results.{stateAt, stepsAt, stored}
 use Rattle.evaluation.specs.Evaluation.{stepLimit, evaluated}
@@ -94,53 +95,53 @@ module _ (f : ℕ → Value) where
 
 -- ---- a value evaluated again
 
-module _ (t r : List ℤ) (v n : ℕ) (room : ResultsRoom r v) (high : v ≤ n) where
+module _ (α : Arithmetic) (t r : List ℤ) (v n : ℕ) (room : ResultsRoom r v) (high : v ≤ n) where
   abbrev r′ : List ℤ
-  r′ = evaluateInto t r v
+  r′ = evaluateInto α t r v
 
   same-other : (l : ℕ) → (l ≡ v → ⊥) → stored r l ≡ stored r′ l
-  same-other l d = sym (stored-other r v (evaluated t r v) l d)
+  same-other l d = sym (stored-other r v (evaluated α t r v) l d)
 
   -- what it gives to the sums goes, and what it gives now comes
   pub failing-moves : (one (isFailure (stored r v)) ≤ failing (stored r) n)
-      × (failing (stored r) n - one (isFailure (stored r v)) + one (isFailure (stored (evaluateInto t r v) v)) ≡ failing (stored (evaluateInto t r v)) n)
+      × (failing (stored r) n - one (isFailure (stored r v)) + one (isFailure (stored (evaluateInto α t r v) v)) ≡ failing (stored (evaluateInto α t r v)) n)
   unfolding failing
   failing-moves =
       total-change (λ l. one (isFailure (stored r l))) (λ l. one (isFailure (stored r′ l))) v (room .low)
       (λ l d. ap (λ (x : Value). one (isFailure x)) (same-other l d)) n high
 
-  pub steps-move : (stepsAt r v ≤ stepSum (stored r) n) × (stepSum (stored r) n - stepsAt r v + stepsAt (evaluateInto t r v) v ≡ stepSum (stored (evaluateInto t r v)) n)
+  pub steps-move : (stepsAt r v ≤ stepSum (stored r) n) × (stepSum (stored r) n - stepsAt r v + stepsAt (evaluateInto α t r v) v ≡ stepSum (stored (evaluateInto α t r v)) n)
   unfolding stepSum
   steps-move = total-change (λ l. stepsAt r l) (λ l. stepsAt r′ l) v (room .low) (λ l d. ap (λ (x : Value). x .steps) (same-other l d)) n high
 
   -- no value takes more than its allowance
-  pub steps-short : ((l : ℕ) → stepsAt r l ≤ stepLimit) → (l : ℕ) → stepsAt (evaluateInto t r v) l ≤ stepLimit
+  pub steps-short : ((l : ℕ) → stepsAt r l ≤ stepLimit) → (l : ℕ) → stepsAt (evaluateInto α t r v) l ≤ stepLimit
   steps-short h l = go (ℕ-discrete l v)
     where
       go : Dec (l ≡ v) → stepsAt r′ l ≤ stepLimit
-      go (yes e) = rw e (omega (arith, ap (λ (x : Value). x .steps) (stored-own r v (evaluated t r v) room)))
+      go (yes e) = rw e (omega (arith, ap (λ (x : Value). x .steps) (stored-own r v (evaluated α t r v) room)))
       go (no d) = omega (arith, h l, ap (λ (x : Value). x .steps) (same-other l d))
 
 pub room-still : {r r′ : List ℤ} {l : ℕ} → ResultsRoom r l → length r′ ≡ length r → ResultsRoom r′ l
 room-still w e = record { low = w .low; room = omega (arith, w .room, e) }
 
-pub took-few : (t r : List ℤ) (v n : ℕ) → ResultsRoom r v → v ≤ n → ((l : ℕ) → stepsAt r l ≤ stepLimit) → {r′ : List ℤ} {y : ℕ} → r′ ≡ evaluateInto t r v
+pub took-few : (α : Arithmetic) (t r : List ℤ) (v n : ℕ) → ResultsRoom r v → v ≤ n → ((l : ℕ) → stepsAt r l ≤ stepLimit) → {r′ : List ℤ} {y : ℕ} → r′ ≡ evaluateInto α t r v
     → y ≡ stepsAt r′ v → y ≤ stepLimit
-took-few t r v n room high h {r′} e q = omega (arith, steps-short t r v n room high h v, ap (λ (z : List ℤ). stepsAt z v) e)
+took-few α t r v n room high h {r′} e q = omega (arith, steps-short α t r v n room high h v, ap (λ (z : List ℤ). stepsAt z v) e)
 
 -- the sums of a value evaluated again, as the code carries them
-pub redone-tally : (t r : List ℤ) (v n : ℕ) → ResultsRoom r v → v ≤ n → (c : Change) → Tallied n r c → {r′ : List ℤ} {x y x′ y′ : ℕ} → r′ ≡ evaluateInto t r v
+pub redone-tally : (α : Arithmetic) (t r : List ℤ) (v n : ℕ) → ResultsRoom r v → v ≤ n → (c : Change) → Tallied n r c → {r′ : List ℤ} {x y x′ y′ : ℕ} → r′ ≡ evaluateInto α t r v
     → x ≡ one (isFailure (stored r v)) → y ≡ stepsAt r v → x′ ≡ one (isFailure (stored r′ v)) → y′ ≡ stepsAt r′ v
     → Tallied n r′ (record { redone = c .redone + 1; failing = c .failing - x + x′; steps = c .steps - y + y′ })
-redone-tally t r v n room high c w {r′} e p q p′ q′ =
-    let f = failing-moves t r v n room high in
-    let s = steps-move t r v n room high in
-    let now : one (isFailure (stored r′ v)) ≡ one (isFailure (stored (evaluateInto t r v) v)) = ap (λ (z : List ℤ). one (isFailure (stored z v))) e in
-    let took : stepsAt r′ v ≡ stepsAt (evaluateInto t r v) v = ap (λ (z : List ℤ). stepsAt z v) e in
+redone-tally α t r v n room high c w {r′} e p q p′ q′ =
+    let f = failing-moves α t r v n room high in
+    let s = steps-move α t r v n room high in
+    let now : one (isFailure (stored r′ v)) ≡ one (isFailure (stored (evaluateInto α t r v) v)) = ap (λ (z : List ℤ). one (isFailure (stored z v))) e in
+    let took : stepsAt r′ v ≡ stepsAt (evaluateInto α t r v) v = ap (λ (z : List ℤ). stepsAt z v) e in
     record {
       failed = omega (arith, w .failed, p, p′, now, f .0, f .1) ∙ ap (λ (z : List ℤ). failing (stored z) n) (sym e);
       taken = omega (arith, w .taken, q, q′, took, s .0, s .1) ∙ ap (λ (z : List ℤ). stepSum (stored z) n) (sym e);
-      short = rw e (steps-short t r v n room high (w .short));
+      short = rw e (steps-short α t r v n room high (w .short));
     }
 
 -- ---- the loop over all labels
@@ -185,9 +186,9 @@ turns-own square n d v e = rw (eq-eqb v d e) refl
 pub turns-other : (square : List ℕ) (n d v : ℕ) {b : Bool} → (v ≡ d → ⊥) → b ≡ mark square (width n) d v → b ≡ turns square n d v
 turns-other square n d v e m = rw (ne-eqb v d e) m
 
-module _ (b : Bool) (t : List ℤ) (n v : ℕ) (r : List ℤ) (c : Change) where
-  pub turned-so : (r′ : List ℤ) (c′ : Change) → b ≡ true → (r′ ≡ evaluateInto t r v) × (c′ .redone ≡ c .redone + 1) × Tallied n r′ c′ → Turned b t n v r c r′ c′
+module _ (α : Arithmetic) (b : Bool) (t : List ℤ) (n v : ℕ) (r : List ℤ) (c : Change) where
+  pub turned-so : (r′ : List ℤ) (c′ : Change) → b ≡ true → (r′ ≡ evaluateInto α t r v) × (c′ .redone ≡ c .redone + 1) × Tallied n r′ c′ → Turned α b t n v r c r′ c′
   turned-so r′ c′ e w = rw e w
 
-  pub turned-not : b ≡ false → Turned b t n v r c r c
+  pub turned-not : b ≡ false → Turned α b t n v r c r c
   turned-not e = rw e (refl, refl)

@@ -12,6 +12,7 @@ use Rattle.kinds.specs.Kinds.{valueCode}
 use Rattle.cells.specs.Cells.{natAt}
 use Rattle.cells.specs.Table.{kind, owner}
 use Rattle.cells.specs.Accepted.{Accepted}
+use Rattle.numbers.specs.declared.Arithmetic.{Arithmetic}
 use Rattle.order.specs.LabelLists.{filter}
 use Rattle.order.specs.Following.{labelsOf}
 use Rattle.reach.specs.MarkRows.{MarkRow}
@@ -75,14 +76,14 @@ window-redone t n ok plan k h values square d row windows w =
     (λ j a b. sym (row-redone t n ok square d row (natAt plan j) (values j b)) ∙ w .behind j a b)
 
 -- going down the window is going down the plan
-pub redid-window : {t : List ℤ} {n : ℕ} {r plan : List ℤ} {k : ℕ} {square : List ℕ} {d : ℕ} (windows : List ℕ) → Redoable t n r plan k square d → Window square n plan k windows d
-    → {from to : ℕ} {c c′ : Change} {r′ : List ℤ} → from ≡ getD windows (2 * d) 0 → to ≡ getD windows (2 * d + 1) 0 - 1 → Redid t n r (between plan from to) d c r′ c′
-    → Redid t n r (labelsOf (take k plan)) d c r′ c′
-redid-window {t} {n} {r} {plan} {k} {square} {d} windows w h {from} {to} e f did =
+pub redid-window : {α : Arithmetic} {t : List ℤ} {n : ℕ} {r plan : List ℤ} {k : ℕ} {square : List ℕ} {d : ℕ} (windows : List ℕ) → Redoable t n r plan k square d → Window square n plan k windows d
+    → {from to : ℕ} {c c′ : Change} {r′ : List ℤ} → from ≡ getD windows (2 * d) 0 → to ≡ getD windows (2 * d + 1) 0 - 1 → Redid α t n r (between plan from to) d c r′ c′
+    → Redid α t n r (labelsOf (take k plan)) d c r′ c′
+redid-window {α} {t} {n} {r} {plan} {k} {square} {d} windows w h {from} {to} e f did =
     let same : redoneOf t n d (between plan from to) ≡ redoneOf t n d (labelsOf (take k plan)) =
     (λ i. redoneOf t n d (between plan (e i) (f i))) ∙ window-redone t n (w .accepted) plan k (w .room) (w .values) square d (w .row) windows h in
     record {
-      results = did .results ∙ ap (λ (l : List ℕ). down (evaluateInto t) l r) same;
+      results = did .results ∙ ap (λ (l : List ℕ). down (evaluateInto α t) l r) same;
       redone = did .redone ∙ omega (arith, ap length same);
       tallied = did .tallied;
     }

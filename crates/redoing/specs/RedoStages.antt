@@ -14,6 +14,7 @@ use Rattle.cells.specs.Table.{kind, owner, withNumber}
 use Rattle.cells.specs.Accepted.{Accepted, HasBody}
 use Rattle.order.specs.Following.{ProperList, labelsOf}
 use Rattle.order.specs.Evaluating.{down}
+use Rattle.numbers.specs.declared.Arithmetic.{Arithmetic}
 use Rattle.marks.specs.Marks.{mark}
 use Rattle.reach.specs.MarkRows.{width, MarkRow}
 use Rattle.evaluation.specs.Results.{stateAt, stepsAt, stored}
@@ -33,9 +34,9 @@ pub record Tallied (n : ℕ) (r : List ℤ) (c : Change) : Type 0 where
 -- ---- down the plan
 
 -- v is evaluated again, and counted, where the test says so
-abbrev pub Turned : Bool → List ℤ → ℕ → ℕ → List ℤ → Change → List ℤ → Change → Type 0
-Turned true t n v r c r′ c′ = (r′ ≡ evaluateInto t r v) × (c′ .redone ≡ c .redone + 1) × Tallied n r′ c′
-Turned false t n v r c r′ c′ = (r′ ≡ r) × (c′ ≡ c)
+abbrev pub Turned : Arithmetic → Bool → List ℤ → ℕ → ℕ → List ℤ → Change → List ℤ → Change → Type 0
+Turned α true t n v r c r′ c′ = (r′ ≡ evaluateInto α t r v) × (c′ .redone ≡ c .redone + 1) × Tallied n r′ c′
+Turned α false t n v r c r′ c′ = (r′ ≡ r) × (c′ ≡ c)
 
 -- row d of the square has what reaches d, and the Groups around that: the test of a value v
 abbrev pub turns : List ℕ → ℕ → ℕ → ℕ → Bool
@@ -60,8 +61,8 @@ abbrev pub between : List ℤ → ℕ → ℕ → List ℕ
 between plan from to = labelsOf (drop from (take to plan))
 
 -- what it leaves, of the labels o that it goes down: those that depend on d evaluated again, in turn, and counted
-pub record Redid (t : List ℤ) (n : ℕ) (r : List ℤ) (o : List ℕ) (d : ℕ) (c : Change) (r′ : List ℤ) (c′ : Change) : Type 0 where
-  pub results : r′ ≡ down (evaluateInto t) (redoneOf t n d o) r
+pub record Redid (α : Arithmetic) (t : List ℤ) (n : ℕ) (r : List ℤ) (o : List ℕ) (d : ℕ) (c : Change) (r′ : List ℤ) (c′ : Change) : Type 0 where
+  pub results : r′ ≡ down (evaluateInto α t) (redoneOf t n d o) r
   pub redone : c′ .redone ≡ c .redone + length (redoneOf t n d o)
   pub tallied : Tallied n r′ c′
 
@@ -107,22 +108,22 @@ abbrev pub OwnersWindows : List ℤ → ℕ → List ℤ → ℕ → List ℕ �
 OwnersWindows t n plan k square ps j windows = (i : ℕ) → 1 ≤ i → i ≤ j → Window square n plan k windows (owner t (pairLabel ps i))
 
 -- a table of n labels whose plan, in the first k cells of a list, and whose results stand
-pub record Standing (t : List ℤ) (n : ℕ) (plan : List ℤ) (k : ℕ) (r : List ℤ) : Type 0 where
+pub record Standing (α : Arithmetic) (t : List ℤ) (n : ℕ) (plan : List ℤ) (k : ℕ) (r : List ℤ) : Type 0 where
   pub accepted : Accepted t n
   pub plans : k ≤ length plan
   pub proper : ProperList t (take k plan)
   pub fit : 3 * n ≤ length r
-  pub results : r ≡ resultCells t n (length r)
+  pub results : r ≡ resultCells α t n (length r)
 
 -- what pair i, from 1, leaves of table t, results r and changes w: the table u, and its plan is t's
-pub record PairApplied (t : List ℤ) (n : ℕ) (ps : List ℤ) (i : ℕ) (r w u r′ w′ : List ℤ) (c : Change) : Type 0 where
+pub record PairApplied (α : Arithmetic) (t : List ℤ) (n : ℕ) (ps : List ℤ) (i : ℕ) (r w u r′ w′ : List ℤ) (c : Change) : Type 0 where
   pub table : u ≡ withNumber (pairLabel ps i) (pairNumber ps i) t
-  pub results : r′ ≡ resultCells u n (length r)
-  pub changes : w′ ≡ sets w (3 * (i - 1)) (changeCells u n (owner t (pairLabel ps i)))
+  pub results : r′ ≡ resultCells α u n (length r)
+  pub changes : w′ ≡ sets w (3 * (i - 1)) (changeCells α u n (owner t (pairLabel ps i)))
   pub tallied : Tallied n r′ c
 
 -- what the first i pairs leave
-pub record PairsApplied (t : List ℤ) (n : ℕ) (ps : List ℤ) (i : ℕ) (r w u r′ w′ : List ℤ) : Type 0 where
+pub record PairsApplied (α : Arithmetic) (t : List ℤ) (n : ℕ) (ps : List ℤ) (i : ℕ) (r w u r′ w′ : List ℤ) : Type 0 where
   pub table : u ≡ withPairs ps i t
-  pub results : r′ ≡ resultCells (withPairs ps i t) n (length r)
-  pub changes : w′ ≡ changesOf t n ps i ++ drop (3 * i) w
+  pub results : r′ ≡ resultCells α (withPairs ps i t) n (length r)
+  pub changes : w′ ≡ changesOf α t n ps i ++ drop (3 * i) w

@@ -12,6 +12,7 @@ use Rattle.cells.specs.Table.{owner}
 use Rattle.cells.specs.Reaches.{Reaches}
 use Rattle.order.specs.LabelLists.{one, filter}
 use Rattle.order.specs.Order.{values, reaches}
+use Rattle.numbers.specs.declared.Arithmetic.{Arithmetic}
 use Rattle.evaluation.specs.States.{hasNumber}
 use Rattle.evaluation.specs.declared.Value.{Value}
 use Rattle.figures.specs.Figures.{figures}
@@ -53,14 +54,14 @@ unfoldable pub stepSum : (ℕ → Value) → ℕ → ℕ
 stepSum f n = total (λ l. f l .steps) n
 
 -- the three cells of a pair, of the table u after it
-abbrev pub changeCells : List ℤ → ℕ → ℕ → List ℤ
-changeCells u n d = pos (redoneCount u n d) ∷ pos (failing (figures u n) n) ∷ pos (stepSum (figures u n) n) ∷ []
+abbrev pub changeCells : Arithmetic → List ℤ → ℕ → ℕ → List ℤ
+changeCells α u n d = pos (redoneCount u n d) ∷ pos (failing (figures α u n) n) ∷ pos (stepSum (figures α u n) n) ∷ []
 
 -- those of pair k, of the table t before the first pair
-abbrev pub changeOf : List ℤ → ℕ → List ℤ → ℕ → List ℤ
-changeOf t n ps k = changeCells (withPairs ps k t) n (owner t (pairLabel ps k))
+abbrev pub changeOf : Arithmetic → List ℤ → ℕ → List ℤ → ℕ → List ℤ
+changeOf α t n ps k = changeCells α (withPairs ps k t) n (owner t (pairLabel ps k))
 
 -- those of the first k pairs
-abbrev pub changesOf : List ℤ → ℕ → List ℤ → ℕ → List ℤ
-changesOf t n ps zero = []
-changesOf t n ps (suc k) = changesOf t n ps k ++ changeOf t n ps (suc k)
+abbrev pub changesOf : Arithmetic → List ℤ → ℕ → List ℤ → ℕ → List ℤ
+changesOf α t n ps zero = []
+changesOf α t n ps (suc k) = changesOf α t n ps k ++ changeOf α t n ps (suc k)

@@ -1,6 +1,7 @@
 // Order 4's pairs, applied in turn to a sheet whose values have been evaluated: after each number, the values that depend on it are
 // evaluated again in plan order, and no others.
 
+use numbers::Arithmetic;
 ghost use mathlib.Core.Path.{_≡_};
 ghost use mathlib.Core.List.{[], _∷_};
 ghost use Prim.Native.Nat.{ℕ, _+_, _*_, _^_, _≤_, _<_};
@@ -76,15 +77,22 @@ fn tally(results: &[i64], n: usize) -> Change
 // ---- the values of a pair
 
 // Evaluates a value again. What it gave to the sums goes, and what it gives now comes.
-fn redo(table: &[i64], n: usize, results: &mut [i64], label: usize, before: Change) -> Change
+fn redo(
+    arithmetic: Arithmetic,
+    table: &[i64],
+    n: usize,
+    results: &mut [i64],
+    label: usize,
+    before: Change,
+) -> Change
     requires { ⌜ Evaluable (now table) (now results) label × (label ≤ n) × (n ≤ labelLimit) ⌝ }
     requires { ⌜ Tallied n (now results) before × (before .redone ≤ labelLimit) ⌝ }
-    ensures { λ r. ⌜ now (results .exit) ≡ evaluateInto (now (table .entry)) (now (results .entry)) label ⌝ }
+    ensures { λ r. ⌜ now (results .exit) ≡ evaluateInto arithmetic (now (table .entry)) (now (results .entry)) label ⌝ }
     ensures { λ r. ⌜ (r .redone ≡ before .redone + 1) × Tallied n (now (results .exit)) r ⌝ }
 {
     let failing = before.failing - failed(results, label);
     let steps = before.steps - steps_of(results, label);
-    evaluation::evaluate_into(table, results, label);
+    evaluation::evaluate_into(arithmetic, table, results, label);
     Change {
         redone: before.redone + 1,
         failing: failing + failed(results, label),
@@ -105,6 +113,7 @@ fn depends(square: &[u64], n: usize, d: usize, v: usize) -> bool
 
 // Evaluates value v again if it depends on d.
 fn redo_dependent(
+    arithmetic: Arithmetic,
     table: &[i64],
     n: usize,
     square: &[u64],
@@ -115,16 +124,17 @@ fn redo_dependent(
 ) -> Change
     requires { ⌜ Evaluable (now table) (now results) v × (v ≤ n) × (d ≤ n) × (n ≤ labelLimit) × ((n + 1) * width n ≤ length (now square)) ⌝ }
     requires { ⌜ Tallied n (now results) before × (before .redone ≤ labelLimit) ⌝ }
-    ensures { λ r. ⌜ Turned (turns (now (square .entry)) n d v) (now (table .entry)) n v (now (results .entry)) before (now (results .exit)) r ⌝ }
+    ensures { λ r. ⌜ Turned arithmetic (turns (now (square .entry)) n d v) (now (table .entry)) n v (now (results .entry)) before (now (results .exit)) r ⌝ }
 {
     if depends(square, n, d, v) {
-        return redo(table, n, results, v, before);
+        return redo(arithmetic, table, n, results, v, before);
     }
     before
 }
 
 // Goes down the plan between two positions and evaluates again what depends on d.
 fn redo_down(
+    arithmetic: Arithmetic,
     table: &[i64],
     n: usize,
     plan: &[i64],
@@ -137,13 +147,13 @@ fn redo_down(
 ) -> Change
     requires { ⌜ Redoable (now table) n (now results) (now plan) to (now square) d × (from ≤ to) ⌝ }
     requires { ⌜ Tallied n (now results) before × (before .redone ≡ 0) ⌝ }
-    ensures { λ r. ⌜ Redid (now (table .entry)) n (now (results .entry)) (between (now (plan .entry)) from to) d before (now (results .exit)) r ⌝ }
+    ensures { λ r. ⌜ Redid arithmetic (now (table .entry)) n (now (results .entry)) (between (now (plan .entry)) from to) d before (now (results .exit)) r ⌝ }
 {
     let mut change = before;
     let mut i = from;
     while i < to {
         let v = cells::nat_at(plan, i);
-        change = redo_dependent(table, n, square, d, results, v, change);
+        change = redo_dependent(arithmetic, table, n, square, d, results, v, change);
         i += 1;
     }
     change
@@ -228,6 +238,7 @@ fn put_change(changes: &mut [i64], k: usize, change: Change)
 
 // Applies the pair at index k.
 fn retouch_pair(
+    arithmetic: Arithmetic,
     table: &mut [i64],
     n: usize,
     plan: &[i64],
@@ -240,12 +251,12 @@ fn retouch_pair(
     changes: &mut [i64],
     before: Change,
 ) -> Change
-    requires { ⌜ Standing (now table) n (now plan) count (now results) ⌝ }
+    requires { ⌜ Standing arithmetic (now table) n (now plan) count (now results) ⌝ }
     requires { ⌜ (k < pairCount (now pairs)) × PairRight (now table) (now pairs) (k + 1) × (3 * pairCount (now pairs) ≤ length (now changes)) ⌝ }
     requires { ⌜ ((n + 1) * width n ≤ length (now square)) × MarkRow (now table) n 6 (now square) (owner (now table) (pairLabel (now pairs) (k + 1))) ⌝ }
     requires { ⌜ (2 * n + 1 < length (now windows)) × Window (now square) n (now plan) count (now windows) (owner (now table) (pairLabel (now pairs) (k + 1))) ⌝ }
     requires { ⌜ Tallied n (now results) before ⌝ }
-    ensures { λ r. ⌜ PairApplied (now (table .entry)) n (now (pairs .entry)) (k + 1) (now (results .entry)) (now (changes .entry))
+    ensures { λ r. ⌜ PairApplied arithmetic (now (table .entry)) n (now (pairs .entry)) (k + 1) (now (results .entry)) (now (changes .entry))
         (now (table .exit)) (now (results .exit)) (now (changes .exit)) r ⌝ }
 {
     let label = label_of(pairs, k);
@@ -258,7 +269,7 @@ fn retouch_pair(
     };
     let from = marks::widen(windows[2 * d]);
     let to = marks::widen(windows[2 * d + 1]) - 1;
-    let change = redo_down(table, n, plan, from, to, square, d, results, start);
+    let change = redo_down(arithmetic, table, n, plan, from, to, square, d, results, start);
     put_change(changes, k, change);
     change
 }
@@ -355,6 +366,7 @@ fn find_windows(
 
 // Applies the pairs in turn.
 fn apply(
+    arithmetic: Arithmetic,
     table: &mut [i64],
     n: usize,
     plan: &[i64],
@@ -365,17 +377,18 @@ fn apply(
     results: &mut [i64],
     changes: &mut [i64],
 )
-    requires { ⌜ Standing (now table) n (now plan) count (now results) × PairsRight (now table) (now pairs) × (pairCount (now pairs) ≤ pairLimit)
+    requires { ⌜ Standing arithmetic (now table) n (now plan) count (now results) × PairsRight (now table) (now pairs) × (pairCount (now pairs) ≤ pairLimit)
         × (3 * pairCount (now pairs) ≤ length (now changes)) ⌝ }
     requires { ⌜ ((n + 1) * width n ≤ length (now square)) × OwnersMarked (now table) n (now pairs) (pairCount (now pairs)) (now square) ⌝ }
     requires { ⌜ (2 * n + 1 < length (now windows)) × OwnersWindows (now table) n (now plan) count (now square) (now pairs) (pairCount (now pairs)) (now windows) ⌝ }
-    ensures { λ _. ⌜ PairsApplied (now (table .entry)) n (now (pairs .entry)) (pairCount (now (pairs .entry))) (now (results .entry)) (now (changes .entry))
+    ensures { λ _. ⌜ PairsApplied arithmetic (now (table .entry)) n (now (pairs .entry)) (pairCount (now (pairs .entry))) (now (results .entry)) (now (changes .entry))
         (now (table .exit)) (now (results .exit)) (now (changes .exit)) ⌝ }
 {
     let mut change = tally(results, n);
     let mut k = 0;
     while k < pairs.len() / 2 {
         change = retouch_pair(
+            arithmetic,
             table,
             n,
             plan,
@@ -394,6 +407,7 @@ fn apply(
 
 // The same, in a blank square.
 fn apply_in(
+    arithmetic: Arithmetic,
     table: &mut [i64],
     n: usize,
     plan: &[i64],
@@ -403,16 +417,17 @@ fn apply_in(
     results: &mut [i64],
     changes: &mut [i64],
 )
-    requires { ⌜ Standing (now table) n (now plan) count (now results) × PairsRight (now table) (now pairs) × (pairCount (now pairs) ≤ pairLimit)
+    requires { ⌜ Standing arithmetic (now table) n (now plan) count (now results) × PairsRight (now table) (now pairs) × (pairCount (now pairs) ≤ pairLimit)
         × (3 * pairCount (now pairs) ≤ length (now changes)) ⌝ }
     requires { ⌜ ((n + 1) * width n ≤ length (now square)) × ((d : ℕ) → Blank n (now square) d) ⌝ }
-    ensures { λ _. ⌜ PairsApplied (now (table .entry)) n (now (pairs .entry)) (pairCount (now (pairs .entry))) (now (results .entry)) (now (changes .entry))
+    ensures { λ _. ⌜ PairsApplied arithmetic (now (table .entry)) n (now (pairs .entry)) (pairCount (now (pairs .entry))) (now (results .entry)) (now (changes .entry))
         (now (table .exit)) (now (results .exit)) (now (changes .exit)) ⌝ }
 {
     mark_pairs(table, n, pairs, square);
     let mut windows = [0u16; 2050];
     find_windows(table, n, plan, count, square, pairs, &mut windows);
     apply(
+        arithmetic,
         table,
         n,
         plan,
@@ -428,6 +443,7 @@ fn apply_in(
 // Applies the pairs in turn to a table whose plan and results stand, and writes what each brought about. The square goes by the size of
 // the sheet, since it is zeroed at each call; a list without a pair has none.
 pub fn apply_pairs(
+    arithmetic: Arithmetic,
     table: &mut [i64],
     n: usize,
     plan: &[i64],
@@ -436,9 +452,9 @@ pub fn apply_pairs(
     results: &mut [i64],
     changes: &mut [i64],
 )
-    requires { ⌜ Standing (now table) n (now plan) count (now results) × PairsRight (now table) (now pairs) × (pairCount (now pairs) ≤ pairLimit)
+    requires { ⌜ Standing arithmetic (now table) n (now plan) count (now results) × PairsRight (now table) (now pairs) × (pairCount (now pairs) ≤ pairLimit)
         × (3 * pairCount (now pairs) ≤ length (now changes)) ⌝ }
-    ensures { λ _. ⌜ PairsApplied (now (table .entry)) n (now (pairs .entry)) (pairCount (now (pairs .entry))) (now (results .entry)) (now (changes .entry))
+    ensures { λ _. ⌜ PairsApplied arithmetic (now (table .entry)) n (now (pairs .entry)) (pairCount (now (pairs .entry))) (now (results .entry)) (now (changes .entry))
         (now (table .exit)) (now (results .exit)) (now (changes .exit)) ⌝ }
 {
     if pairs.len() < 2 {
@@ -446,19 +462,19 @@ pub fn apply_pairs(
     }
     if n <= 127 {
         let mut square = [0u64; 256];
-        apply_in(table, n, plan, count, &mut square, pairs, results, changes);
+        apply_in(arithmetic, table, n, plan, count, &mut square, pairs, results, changes);
         return;
     }
     if n <= 255 {
         let mut square = [0u64; 1024];
-        apply_in(table, n, plan, count, &mut square, pairs, results, changes);
+        apply_in(arithmetic, table, n, plan, count, &mut square, pairs, results, changes);
         return;
     }
     if n <= 511 {
         let mut square = [0u64; 4096];
-        apply_in(table, n, plan, count, &mut square, pairs, results, changes);
+        apply_in(arithmetic, table, n, plan, count, &mut square, pairs, results, changes);
         return;
     }
     let mut square = [0u64; 17425];
-    apply_in(table, n, plan, count, &mut square, pairs, results, changes);
+    apply_in(arithmetic, table, n, plan, count, &mut square, pairs, results, changes);
 }

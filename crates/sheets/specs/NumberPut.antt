@@ -5,6 +5,7 @@ use Prim.Native.Nat.{ℕ, zero, suc}
 use lib.IntN.{ℤ}
 use lib.ListN.{getD, set}
 use Rattle.cells.specs.Table.{nameStart, withColumn, withNumber}
+use Rattle.numbers.specs.declared.Arithmetic.{Arithmetic}
 use Rattle.lines.specs.Lines.{labels}
 use Rattle.order.specs.Order.{plan}
 use Rattle.reading.specs.Read.{sheetTable}
@@ -33,6 +34,6 @@ pub record NumberPut (s : List ℕ) (l : ℕ) (z : ℤ) (r : List ℕ) : Type 0 
   pub sheet : parse r ≡ putNumber l z (parse s)
   -- its table is the old one but for the byte starts and that cell
   pub table : sheetTable r ≡ withColumn 1 (nameStart (sheetTable r)) (labels s) (withNumber l z (sheetTable s))
-  -- its plan is the old one, and its figures are those of the old table with that cell changed
+  -- its plan is the old one, and its figures are those of the old table with that cell changed, by any arithmetic
   pub order : plan (sheetTable r) (labels r) ≡ plan (sheetTable s) (labels s)
-  pub results : (v : ℕ) → figures (sheetTable r) (labels r) v ≡ figures (withNumber l z (sheetTable s)) (labels s) v
+  pub results : (α : Arithmetic) (v : ℕ) → figures α (sheetTable r) (labels r) v ≡ figures α (withNumber l z (sheetTable s)) (labels s) v

@@ -38,16 +38,16 @@ use Rattle.evaluation.proofs.+call+choice+expression+operation.{stateme
 use Rattle.evaluation.proofs.+call+choice+expression+operation.Tie.{close}
 
 abbrev μ-call : Measures 2 call-kinds.ps ℕ
-μ-call κs a = 2 * (a .1 .1 .1 .1 .0 .left) + 1
+μ-call κs a = 2 * (a .1 .1 .1 .1 .1 .0 .left) + 1
 
 abbrev μ-choice : Measures 2 choice-kinds.ps ℕ
-μ-choice κs a = 2 * (a .1 .1 .1 .1 .0 .left) + 1
+μ-choice κs a = 2 * (a .1 .1 .1 .1 .1 .0 .left) + 1
 
 abbrev μ-expression : Measures 2 expression-kinds.ps ℕ
-μ-expression κs a = 2 * (a .1 .1 .1 .1 .0 .left)
+μ-expression κs a = 2 * (a .1 .1 .1 .1 .1 .0 .left)
 
 abbrev μ-operation : Measures 2 operation-kinds.ps ℕ
-μ-operation κs a = 2 * (a .1 .1 .1 .1 .1 .0 .left) + 1
+μ-operation κs a = 2 * (a .1 .1 .1 .1 .1 .1 .0 .left) + 1
 
 abbrev call-at : ℕ → In 2 call-kinds.ps
 call-at t = and 2 call-kinds.ps (is 2 call-kinds.ps μ-call t) call.Pre
@@ -124,7 +124,7 @@ call-returns t c =
     let entry = c .before .before .before .before .before in
     let field = c .before .before .before .before .field in
     let expression = c .before .before .before .expression in
-    first-fails _ _ (entry .args .label) _ _ _ (field .ensures) (expression .ensures) _ (c .before .if1 .taken) (c .failure .ensures)
+    first-fails _ _ _ (entry .args .label) _ _ _ (field .ensures) (expression .ensures) _ (c .before .if1 .taken) (c .failure .ensures)
 
 call-failure-requires-2 : (t : ℕ) → call-lts.Need-failure-requires-2 (call-claims t) (call-at t) call.Post
 call-failure-requires-2 t c κs = search needs
@@ -133,7 +133,7 @@ call-returns-2 : (t : ℕ) → call-lts.Need-returns-2 (call-claims t) (call-at 
 call-returns-2 t c =
     let field = c .before .before .before .before .before .field in
     let expression = c .before .before .before .before .expression in
-    call-deep _ _ _ _ _ _ (field .ensures) (expression .ensures) (c .before .before .if1 .left) (c .before .if2 .taken) (c .failure2 .ensures)
+    call-deep _ _ _ _ _ _ _ (field .ensures) (expression .ensures) (c .before .before .if1 .left) (c .before .if2 .taken) (c .failure2 .ensures)
 
 call-field-requires-2 : (t : ℕ) → call-lts.Need-field-requires-2 (call-claims t) (call-at t) call.Post
 call-field-requires-2 t c κs =
@@ -145,8 +145,8 @@ call-field-requires-3 t c κs =
     let entry = c .before .before .before .before .before .before in
     body-cell (entry .pre .1 .entered) (c .field2 .ensures)
 
-call-add-t14 : (t : ℕ) → call-lts.Need-add-t14 (call-claims t) (call-at t) call.Post
-call-add-t14 t c =
+call-add-t15 : (t : ℕ) → call-lts.Need-add-t15 (call-claims t) (call-at t) call.Post
+call-add-t15 t c =
     let entry = c .before .before .before .before .before .before .before .before in
     record { fits = omega (arith, entry .pre .1 .entered .entry .shallow) }
 
@@ -156,9 +156,9 @@ call-expression-requires-2 t c κs =
     let field = c .before .before .before .before .before .before .before .field in
     let expression = c .before .before .before .before .before .before .expression in
     let if2 = c .before .before .before .if2 in (
-      omega (arith, entry .pre .0, left-less-by _ _ _ _ _ _ (expression .ensures)),
+      omega (arith, entry .pre .0, left-less-by _ _ _ _ _ _ _ (expression .ensures)),
       body-entry (entry .pre .1 .entered) (c .before .before .field2 .ensures) (c .before .field3 .ensures)
-          (number-ranged _ _ _ _ _ _ (expression .ensures) (operand-entry (entry .pre .1 .entered) _ (field .ensures) refl) (whole (expression .result .number) (c .struct-told .given .0 .1)))
+          (number-ranged _ _ _ _ _ _ _ (expression .ensures) (operand-entry (entry .pre .1 .entered) _ (field .ensures) refl) (whole (expression .result .number) (c .struct-told .given .0 .1)))
           (omega (arith, entry .pre .1 .entered .entry .shallow, if2 .left)),
     )
 
@@ -169,7 +169,7 @@ call-returns-3 t c =
     let if1 = c .before .before .before .before .before .if1 in
     let if2 = c .before .before .before .before .if2 in
     let field2 = c .before .before .before .field2 in
-    call-goes _ _ _ _ _ _ (field .ensures) (expression .ensures) (if1 .left) (if2 .left) (whole (expression .result .number) (c .before .struct-told .given .0 .1)) (field2 .ensures)
+    call-goes _ _ _ _ _ _ _ (field .ensures) (expression .ensures) (if1 .left) (if2 .left) (whole (expression .result .number) (c .before .struct-told .given .0 .1)) (field2 .ensures)
     (c .before .before .field3 .ensures) (c .expression2 .ensures)
 
 choice-field-requires : (t : ℕ) → choice-lts.Need-field-requires (choice-claims t) (choice-at t) choice.Post
@@ -187,7 +187,7 @@ choice-returns t c =
     let entry = c .before .before .before .before .before in
     let field = c .before .before .before .before .field in
     let expression = c .before .before .before .expression in
-    first-fails _ _ (entry .args .label) _ _ _ (field .ensures) (expression .ensures) _ (c .before .if1 .taken) (c .failure .ensures)
+    first-fails _ _ _ (entry .args .label) _ _ _ (field .ensures) (expression .ensures) _ (c .before .if1 .taken) (c .failure .ensures)
 
 choice-branch-of-requires : (t : ℕ) → choice-lts.Need-branch-of-requires (choice-claims t) (choice-at t) choice.Post
 choice-branch-of-requires t c κs =
@@ -198,21 +198,21 @@ choice-expression-requires-2 : (t : ℕ) → choice-lts.Need-expression-requires
 choice-expression-requires-2 t c κs =
     let entry = c .before .before .before .before .before .before in
     let expression = c .before .before .before .before .expression in
-    (omega (arith, entry .pre .0, left-less-by _ _ _ _ _ _ (expression .ensures)), branch-entry (entry .pre .1) (toZ w64 (ofZ w64 (expression .result .number))) (c .branch-of .ensures))
+    (omega (arith, entry .pre .0, left-less-by _ _ _ _ _ _ _ (expression .ensures)), branch-entry (entry .pre .1) (toZ w64 (ofZ w64 (expression .result .number))) (c .branch-of .ensures))
 
 choice-returns-2 : (t : ℕ) → choice-lts.Need-returns-2 (choice-claims t) (choice-at t) choice.Post
 choice-returns-2 t c =
     let field = c .before .before .before .before .before .before .field in
     let expression = c .before .before .before .before .before .expression in
     let if1 = c .before .before .before .if1 in
-    chooses _ _ _ _ _ _ (field .ensures) (expression .ensures) (if1 .left) (whole (expression .result .number) (c .before .before .struct-told .given .0 .1)) (c .before .branch-of .ensures)
+    chooses _ _ _ _ _ _ _ (field .ensures) (expression .ensures) (if1 .left) (whole (expression .result .number) (c .before .before .struct-told .given .0 .1)) (c .before .branch-of .ensures)
     (c .expression2 .ensures)
 
 expression-failure-requires : (t : ℕ) → expression-lts.Need-failure-requires (expression-claims t) (expression-at t) expression.Post
 expression-failure-requires t c κs = search needs
 
 expression-returns : (t : ℕ) → expression-lts.Need-returns (expression-claims t) (expression-at t) expression.Post
-expression-returns t c = no-step _ _ _ _ _ _ (c .before .if1 .taken) (c .failure .ensures)
+expression-returns t c = no-step _ _ _ _ _ _ _ (c .before .if1 .taken) (c .failure .ensures)
 
 expression-step-requires : (t : ℕ) → expression-lts.Need-step-requires (expression-claims t) (expression-at t) expression.Post
 expression-step-requires t c κs = omega arith
@@ -297,7 +297,7 @@ expression-returns-2 t c =
     let step = c .before .before .before .before .before .before .step in
     let field = c .before .before .before .before .before .field in
     let clause-of = c .before .before .before .before .clause-of in
-    entered _ _ _ _ _ _ (if1 .left) (step .ensures .0) (step .ensures .1) (is-kind (field .ensures) (clause-of .ensures) (c .before .before .enum-told .given .1))
+    entered _ _ _ _ _ _ _ (if1 .left) (step .ensures .0) (step .ensures .1) (is-kind (field .ensures) (clause-of .ensures) (c .before .before .enum-told .given .1))
     (c .success .ensures ∙ ap (λ y. gives y (step .result .left)) (whole (c .before .number-of .result) (c .before .number-of .ok) ∙ c .before .number-of .ensures))
 
 expression-returns-3 : (t : ℕ) → expression-lts.Need-returns-3 (expression-claims t) (expression-at t) expression.Post
@@ -308,7 +308,7 @@ expression-returns-3 t c =
     let step = c .before .before .before .before .before .before .step in
     let field = c .before .before .before .before .before .field in
     let clause-of = c .before .before .before .before .clause-of in
-    entered _ _ _ _ _ _ (if1 .left) (step .ensures .0) (step .ensures .1) (is-kind (field .ensures) (clause-of .ensures) (c .before .before .enum-told2 .given .1))
+    entered _ _ _ _ _ _ _ (if1 .left) (step .ensures .0) (step .ensures .1) (is-kind (field .ensures) (clause-of .ensures) (c .before .before .enum-told2 .given .1))
     (c .success2 .ensures ∙ ap (λ y. gives y (step .result .left)) (whole (entry .args .given .first) (c .before .struct-told .given .0 .1)))
 
 expression-returns-4 : (t : ℕ) → expression-lts.Need-returns-4 (expression-claims t) (expression-at t) expression.Post
@@ -318,7 +318,7 @@ expression-returns-4 t c =
     let step = c .before .before .before .before .before .step in
     let field = c .before .before .before .before .field in
     let clause-of = c .before .before .before .clause-of in
-    entered _ _ _ _ _ _ (if1 .left) (step .ensures .0) (step .ensures .1) (is-kind (field .ensures) (clause-of .ensures) (c .before .enum-told3 .given .1)) (c .read .ensures)
+    entered _ _ _ _ _ _ _ (if1 .left) (step .ensures .0) (step .ensures .1) (is-kind (field .ensures) (clause-of .ensures) (c .before .enum-told3 .given .1)) (c .read .ensures)
 
 expression-returns-5 : (t : ℕ) → expression-lts.Need-returns-5 (expression-claims t) (expression-at t) expression.Post
 unfolding enteredBy
@@ -327,7 +327,7 @@ expression-returns-5 t c =
     let step = c .before .before .before .before .before .step in
     let field = c .before .before .before .before .field in
     let clause-of = c .before .before .before .clause-of in
-    entered _ _ _ _ _ _ (if1 .left) (step .ensures .0) (step .ensures .1) (is-kind (field .ensures) (clause-of .ensures) (c .before .enum-told4 .given .1)) (c .call .ensures)
+    entered _ _ _ _ _ _ _ (if1 .left) (step .ensures .0) (step .ensures .1) (is-kind (field .ensures) (clause-of .ensures) (c .before .enum-told4 .given .1)) (c .call .ensures)
 
 expression-returns-6 : (t : ℕ) → expression-lts.Need-returns-6 (expression-claims t) (expression-at t) expression.Post
 unfolding enteredBy
@@ -336,7 +336,7 @@ expression-returns-6 t c =
     let step = c .before .before .before .before .before .before .step in
     let field = c .before .before .before .before .before .field in
     let clause-of = c .before .before .before .before .clause-of in
-    entered _ _ _ _ _ _ (if1 .left) (step .ensures .0) (step .ensures .1) (is-kind (field .ensures) (clause-of .ensures) (c .before .before .clause .given .1)) (c .operation .ensures)
+    entered _ _ _ _ _ _ _ (if1 .left) (step .ensures .0) (step .ensures .1) (is-kind (field .ensures) (clause-of .ensures) (c .before .before .clause .given .1)) (c .operation .ensures)
 
 expression-returns-7 : (t : ℕ) → expression-lts.Need-returns-7 (expression-claims t) (expression-at t) expression.Post
 unfolding enteredBy
@@ -345,7 +345,7 @@ expression-returns-7 t c =
     let step = c .before .before .before .before .before .step in
     let field = c .before .before .before .before .field in
     let clause-of = c .before .before .before .clause-of in
-    entered _ _ _ _ _ _ (if1 .left) (step .ensures .0) (step .ensures .1) (is-kind (field .ensures) (clause-of .ensures) (c .before .enum-told5 .given .1)) (c .choice .ensures)
+    entered _ _ _ _ _ _ _ (if1 .left) (step .ensures .0) (step .ensures .1) (is-kind (field .ensures) (clause-of .ensures) (c .before .enum-told5 .given .1)) (c .choice .ensures)
 
 expression-returns-8 : (t : ℕ) → expression-lts.Need-returns-8 (expression-claims t) (expression-at t) expression.Post
 unfolding enteredBy
@@ -354,7 +354,7 @@ expression-returns-8 t c =
     let step = c .before .before .before .before .before .step in
     let field = c .before .before .before .before .field in
     let clause-of = c .before .before .before .clause-of in
-    entered _ _ _ _ _ _ (if1 .left) (step .ensures .0) (step .ensures .1) (is-kind (field .ensures) (clause-of .ensures) (c .before .enum-told6 .given .1)) (c .failure2 .ensures)
+    entered _ _ _ _ _ _ _ (if1 .left) (step .ensures .0) (step .ensures .1) (is-kind (field .ensures) (clause-of .ensures) (c .before .enum-told6 .given .1)) (c .failure2 .ensures)
 
 operation-field-requires : (t : ℕ) → operation-lts.Need-field-requires (operation-claims t) (operation-at t) operation.Post
 operation-field-requires t c κs = operand-cell (c .pre .1) refl _ (omega arith)
@@ -371,7 +371,7 @@ operation-returns t c =
     let entry = c .before .before .before .before .before in
     let field = c .before .before .before .before .field in
     let expression = c .before .before .before .expression in
-    first-fails _ _ (entry .args .label) _ _ _ (field .ensures) (expression .ensures) _ (c .before .if1 .taken) (c .failure .ensures)
+    first-fails _ _ _ (entry .args .label) _ _ _ (field .ensures) (expression .ensures) _ (c .before .if1 .taken) (c .failure .ensures)
 
 operation-field-requires-2 : (t : ℕ) → operation-lts.Need-field-requires-2 (operation-claims t) (operation-at t) operation.Post
 operation-field-requires-2 t c κs =
@@ -382,7 +382,7 @@ operation-expression-requires-2 : (t : ℕ) → operation-lts.Need-expression-re
 operation-expression-requires-2 t c κs =
     let entry = c .before .before .before .before .before in
     let expression = c .before .before .before .expression in
-    (omega (arith, entry .pre .0, left-less-by _ _ _ _ _ _ (expression .ensures)), operand-entry (entry .pre .1) _ (c .field2 .ensures) refl)
+    (omega (arith, entry .pre .0, left-less-by _ _ _ _ _ _ _ (expression .ensures)), operand-entry (entry .pre .1) _ (c .field2 .ensures) refl)
 
 operation-failure-requires-2 : (t : ℕ) → operation-lts.Need-failure-requires-2 (operation-claims t) (operation-at t) operation.Post
 operation-failure-requires-2 t c κs = search needs
@@ -394,7 +394,7 @@ operation-returns-2 t c =
     let if1 = c .before .before .before .before .before .if1 in
     let field2 = c .before .before .before .before .field2 in
     let expression2 = c .before .before .before .expression2 in
-    second-fails _ _ _ _ _ _ (field .ensures) (expression .ensures) (if1 .left) (field2 .ensures) (expression2 .ensures) _ (c .before .if2 .taken) (c .failure2 .ensures)
+    second-fails _ _ _ _ _ _ _ (field .ensures) (expression .ensures) (if1 .left) (field2 .ensures) (expression2 .ensures) _ (c .before .if2 .taken) (c .failure2 .ensures)
 
 operation-combine-requires : (t : ℕ) → operation-lts.Need-combine-requires (operation-claims t) (operation-at t) operation.Post
 operation-combine-requires t c κs =
@@ -403,9 +403,9 @@ operation-combine-requires t c κs =
     let expression = c .before .before .before .before .before .before .before .before .expression in
     let field2 = c .before .before .before .before .before .field2 in
     let expression2 = c .before .before .before .before .expression2 in (
-      number-ranged _ _ _ _ _ _ (expression .ensures) (operand-entry (entry .pre .1) _ (field .ensures) refl)
+      number-ranged _ _ _ _ _ _ _ (expression .ensures) (operand-entry (entry .pre .1) _ (field .ensures) refl)
           (whole (expression .result .number) (c .before .struct-told .given .0 .1)),
-      number-ranged _ _ _ _ _ _ (expression2 .ensures) (operand-entry (entry .pre .1) _ (field2 .ensures) refl)
+      number-ranged _ _ _ _ _ _ _ (expression2 .ensures) (operand-entry (entry .pre .1) _ (field2 .ensures) refl)
           (whole (expression2 .result .number) (c .struct-told2 .given .0 .1)),
     )
 
@@ -417,7 +417,7 @@ operation-returns-3 t c =
     let field2 = c .before .before .before .before .before .before .field2 in
     let expression2 = c .before .before .before .before .before .expression2 in
     let if2 = c .before .before .before .if2 in
-    combines _ _ _ _ _ _ (field .ensures) (expression .ensures) (if1 .left) (field2 .ensures) (expression2 .ensures) _ (if2 .left)
+    combines _ _ _ _ _ _ _ (field .ensures) (expression .ensures) (if1 .left) (field2 .ensures) (expression2 .ensures) _ (if2 .left)
     (whole (expression .result .number) (c .before .before .struct-told .given .0 .1)) (whole (expression2 .result .number) (c .before .struct-told2 .given .0 .1)) (c .combine .ensures)
 
 pub +call+choice+expression+operation-spec : {M : Type 1} → statement M
@@ -432,7 +432,7 @@ pub +call+choice+expression+operation-spec : {M : Type 1} → statement M
     (call-returns-2 t)
     (call-field-requires-2 t)
     (call-field-requires-3 t)
-    (call-add-t14 t)
+    (call-add-t15 t)
     (call-expression-requires-2 t)
     (call-returns-3 t))
     (λ t. choice-lts.spec (choice-claims t) (choice-at t)

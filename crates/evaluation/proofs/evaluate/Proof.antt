@@ -15,16 +15,16 @@ fresh-requires c κs = search needs
 expression-requires : tie.Need-expression-requires
 expression-requires c κs = rw (c .fresh .ensures .1) (value-entry (c .before .before .pre) (c .before .field .ensures))
 
-sub-t8 : tie.Need-sub-t8
-sub-t8 c = omega (arith, left-less-by _ _ _ _ _ _ (c .before .expression .ensures), c .before .before .fresh .ensures .0)
+sub-t9 : tie.Need-sub-t9
+sub-t9 c = omega (arith, left-less-by _ _ _ _ _ _ _ (c .before .expression .ensures), c .before .before .fresh .ensures .0)
 
 returns : tie.Need-returns
 returns c =
     let e = c .before .before in
     let entry = e .before .before .before in
-    value-is _ _ (entry .args .label) (e .before .before .field .ensures) (e .before .fresh .ensures .0) (e .before .fresh .ensures .1) (e .expression .ensures)
+    value-is _ _ _ (entry .args .label) (e .before .before .field .ensures) (e .before .fresh .ensures .0) (e .before .fresh .ensures .1) (e .expression .ensures)
     (whole (e .expression .result .number) (c .struct-told .given .0 .1))
 
 pub evaluate-spec : {M : Type 1} → statement M
 evaluate-spec =
-    tie.close (tie.spec field-requires fresh-requires expression-requires sub-t8 returns)
+    tie.close (tie.spec field-requires fresh-requires expression-requires sub-t9 returns)

@@ -6,10 +6,10 @@ use Rattle.figures.proofs.evaluate_down.Statement.{statement}
 use Rattle.figures.proofs.evaluate_down.Tie as tie
 
 abbrev Inv-loop : tie.InvT-loop
-Inv-loop table order count results₀ i₀ results i = Going table order count results₀ results i
+Inv-loop arithmetic table order count results₀ i₀ results i = Going arithmetic table order count results₀ results i
 
 abbrev μ-loop : tie.MeasureT-loop
-μ-loop table order count results₀ i₀ results i = count - i
+μ-loop arithmetic table order count results₀ i₀ results i = count - i
 
 -- ---- earlier places, by later ones
 
@@ -17,7 +17,7 @@ abbrev turn-of : tie.After-results Inv-loop μ-loop → tie.In-loop Inv-loop μ-
 turn-of c = c .before .before .before .before
 
 loop-holds : tie.Need-loop-holds Inv-loop μ-loop
-loop-holds c = start _ _ _ _ (c .pre)
+loop-holds c = start _ _ _ _ _ (c .pre)
 
 nat-at-requires : tie.Need-nat-at-requires Inv-loop μ-loop
 nat-at-requires c κs = search needs
@@ -27,8 +27,8 @@ evaluate-into-requires c κs =
     let inv = c .before .before .before .loop .inv in
     record {
       ready = inv .ready;
-      value = names-value _ _ _ _ inv (c .before .nat-at .ensures) (omega (arith, c .before .before .loop-test .taken));
-      reached = reached-before _ _ _ _ inv (c .before .nat-at .ensures) (omega (arith, c .before .before .loop-test .taken)) (omega arith);
+      value = names-value _ _ _ _ _ inv (c .before .nat-at .ensures) (omega (arith, c .before .before .loop-test .taken));
+      reached = reached-before _ _ _ _ _ inv (c .before .nat-at .ensures) (omega (arith, c .before .before .loop-test .taken)) (omega arith);
     }
 
 add-i : tie.Need-add-i Inv-loop μ-loop
@@ -44,13 +44,13 @@ loop-again c =
     let inv = turn-of c .before .loop .inv in
     let loop-test = turn-of c .loop-test in
     let nat-at = c .before .before .before .nat-at in
-    turn _ _ _ _ (inv) (loop-test .taken) (nat-at .ensures) (c .before .evaluate-into .ensures)
+    turn _ _ _ _ _ (inv) (loop-test .taken) (nat-at .ensures) (c .before .evaluate-into .ensures)
 
 same-length : tie.Need-same-length Inv-loop μ-loop
 same-length c = c .before .loop .inv .long
 
 returns : tie.Need-returns Inv-loop μ-loop
-returns c = done _ _ _ _ (c .before .loop .inv) (c .loop-test .left)
+returns c = done _ _ _ _ _ (c .before .loop .inv) (c .loop-test .left)
 
 pub evaluate-down-spec : {M : Type 1} → statement M
 evaluate-down-spec =

@@ -18,7 +18,7 @@ returns : tie.Need-returns
 returns c =
     let clear = c .before .before .before .before .clear in
     let pre = c .before .before .before .before .before .before .pre in
-    settles _ _ _ _ _ (pre .0) (pre .1) (pre .2) (pre .3) (clear .ensures) (c .before .evaluate-down .ensures)
+    settles _ _ _ _ _ (pre .0) (pre .1) (pre .2) (pre .3) (clear .ensures) _ (c .before .evaluate-down .ensures)
 
 pub run-down-spec : {M : Type 1} → statement M
 run-down-spec = tie.close (tie.spec clear-requires evaluate-down-requires same-length returns)

@@ -10,18 +10,18 @@ use Rattle.numbers.specs.Arithmetic.{rangedOf, dividesByZero, result, ca
 use Rattle.kinds.specs.declared.Operation.{Operation}
 use Rattle.kinds.specs.declared.Operation.the-variants.{Sum, Difference, Product, Quotient}
 use Rattle.numbers.specs.declared.Calculated.{Calculated}
-use Rattle.numbers.proofs.Arithmetic.{arm-fits, arm-is, calculated-by}
+use Rattle.numbers.proofs.Operations.{arm-fits, arm-is, calculated-by}
 use Rattle.numbers.proofs.calculate.Statement.{statement}
 use Rattle.numbers.proofs.calculate.Tie as tie
 
 -- the arms of sum, difference and product, by one law over the operation
-fits : (s : tie.Start) (arm : Operation) → SFits w64 (result (s .args .tie) arm (toZ w64 (ofZ w64 (s .args .a))) (toZ w64 (ofZ w64 (s .args .b))))
-fits s arm = arm-fits (s .args .tie) arm (s .args .a) (s .args .b) (s .fits .a) (s .fits .b) (s .pre .0) (s .pre .1)
+fits : (s : tie.Start) (arm : Operation) → SFits w64 (result (s .args .arithmetic) arm (toZ w64 (ofZ w64 (s .args .a))) (toZ w64 (ofZ w64 (s .args .b))))
+fits s arm = arm-fits (s .args .arithmetic) arm (s .args .a) (s .args .b) (s .fits .a) (s .fits .b) (s .pre .0) (s .pre .1)
 
 is : (s : tie.Start) (arm : Operation) → dividesByZero arm (s .args .b) ≡ false → {r : Calculated} → s .args .op ≡ arm
-    → r ≡ rangedOf (toZ w64 (ofZ w64 (result (s .args .tie) arm (toZ w64 (ofZ w64 (s .args .a))) (toZ w64 (ofZ w64 (s .args .b))))))
-    → r ≡ calculated (s .args .tie) (s .args .op) (s .args .a) (s .args .b)
-is s arm q p e = arm-is (s .args .tie) arm (s .args .a) (s .args .b) (s .fits .a) (s .fits .b) (s .pre .0) (s .pre .1) (s .args .op) p q e
+    → r ≡ rangedOf (toZ w64 (ofZ w64 (result (s .args .arithmetic) arm (toZ w64 (ofZ w64 (s .args .a))) (toZ w64 (ofZ w64 (s .args .b))))))
+    → r ≡ calculated (s .args .arithmetic) (s .args .op) (s .args .a) (s .args .b)
+is s arm q p e = arm-is (s .args .arithmetic) arm (s .args .a) (s .args .b) (s .fits .a) (s .fits .b) (s .pre .0) (s .pre .1) (s .args .op) p q e
 
 enum-told : tie.Need-enum-told
 enum-told c = search needs
@@ -56,10 +56,13 @@ ranged-requires-3 c κs = search needs
 enum-told-4 : tie.Need-enum-told-4
 enum-told-4 c = search needs
 
+tie-rule-requires : tie.Need-tie-rule-requires
+tie-rule-requires c κs = search needs
+
 nearest-requires : tie.Need-nearest-requires
 nearest-requires c κs =
-    let entry = c .before .before .before in
-    rw (toZ-ofZ (entry .fits .a), toZ-ofZ (entry .fits .b)) (entry .pre .0, entry .pre .1, nonzero-size (entry .args .b) (unequal (entry .args .b) 0 (c .if1 .left)))
+    let entry = c .before .before .before .before in
+    rw (toZ-ofZ (entry .fits .a), toZ-ofZ (entry .fits .b)) (entry .pre .0, entry .pre .1, nonzero-size (entry .args .b) (unequal (entry .args .b) 0 (c .before .if1 .left)))
 
 ranged-requires-4 : tie.Need-ranged-requires-4
 ranged-requires-4 c κs = search needs
@@ -91,13 +94,14 @@ returns-4 c =
 returns-5 : tie.Need-returns-5
 unfolding result
 returns-5 c =
-    let enum-told4 = c .before .before .before .enum-told4 in
-    let entry = c .before .before .before .before .before in
+    let enum-told4 = c .before .before .before .before .enum-told4 in
+    let entry = c .before .before .before .before .before .before in
+    let tie-rule = c .before .before .tie-rule in
     let nearest = c .before .nearest in
-    calculated-by (entry .args .tie) (entry .args .op) Quotient (entry .args .a) (entry .args .b) _
+    calculated-by (entry .args .arithmetic) (entry .args .op) Quotient (entry .args .a) (entry .args .b) _
     (enum-told4 .given .1)
-    (unequal (entry .args .b) 0 (c .before .before .if1 .left))
-    (toZ-ofZ (sfits-of (nearest .ok)) ∙ (rw (toZ-ofZ (entry .fits .a), toZ-ofZ (entry .fits .b)) at (nearest .ensures)))
+    (unequal (entry .args .b) 0 (c .before .before .before .if1 .left))
+    (toZ-ofZ (sfits-of (nearest .ok)) ∙ (rw (toZ-ofZ (entry .fits .a), toZ-ofZ (entry .fits .b), tie-rule .ensures) at (nearest .ensures)))
     (c .ranged4 .ensures)
 
 pub calculate-spec : {M : Type 1} → statement M
@@ -114,6 +118,7 @@ calculate-spec =
     mul-ranged
     ranged-requires-3
     enum-told-4
+    tie-rule-requires
     nearest-requires
     ranged-requires-4
     returns

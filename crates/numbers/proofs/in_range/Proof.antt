@@ -1,5 +1,5 @@
 use mir.Facts.{toZ-ofZ}
-use Rattle.numbers.proofs.Arithmetic.{range-low, range-high, range-in}
+use Rattle.numbers.proofs.Operations.{range-low, range-high, range-in}
 use Rattle.numbers.proofs.in_range.Statement.{statement}
 use Rattle.numbers.proofs.in_range.Tie as tie
 

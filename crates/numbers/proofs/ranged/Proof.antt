@@ -1,7 +1,7 @@
 use mathlib.Core.Path.{sym, _∙_}
 use mir.Facts.{toZ-ofZ}
 use borrow.Author.Needs.{needs}
-use Rattle.numbers.proofs.Arithmetic.{in-number, out-of-range}
+use Rattle.numbers.proofs.Operations.{in-number, out-of-range}
 use Rattle.numbers.proofs.ranged.Statement.{statement}
 use Rattle.numbers.proofs.ranged.Tie as tie
 

@@ -17,7 +17,7 @@ find-windows-requires c κs =
     let pre = marked .before .before .before .before .pre in
     let st = pre .0 .0 in
     let few = st .accepted .few in
-    ((st .accepted, pre .0 .1), ((plan-few _ _ _ _ _ st, plan-labels _ _ _ _ _ st, omega (arith, pre .1 .0, marked .mark-pairs .kept .1 .1 .1 .0)), (omega (arith, long 2050, few), zero-at 2050)))
+    ((st .accepted, pre .0 .1), ((plan-few _ _ _ _ _ _ st, plan-labels _ _ _ _ _ _ st, omega (arith, pre .1 .0, marked .mark-pairs .kept .1 .1 .1 .0)), (omega (arith, long 2050, few), zero-at 2050)))
 
 slice-aggregate-apply : tie.Need-slice-aggregate-apply
 slice-aggregate-apply c = search needs

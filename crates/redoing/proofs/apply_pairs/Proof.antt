@@ -8,7 +8,7 @@ use Rattle.redoing.proofs.apply_pairs.Tie as tie
 returns : tie.Need-returns
 returns c =
     let pre = c .before .pre in
-    applied-none _ _ _ _ _ _ _ (pre .0) (omega (arith, c .if1 .taken))
+    applied-none _ _ _ _ _ _ _ _ (pre .0) (omega (arith, c .if1 .taken))
 
 slice-aggregate-apply-in : tie.Need-slice-aggregate-apply-in
 slice-aggregate-apply-in c = search needs

@@ -22,7 +22,7 @@ sub-failing c =
       arith,
       c .before .failed .ensures .0,
       entry .pre .1 .0 .failed,
-      failing-moves (entry .args .table .now) (entry .args .results .now) (entry .args .label) (entry .args .n) (value-room (entry .pre .0 .0)) (entry .pre .0 .1) .0,
+      failing-moves (entry .args .arithmetic) (entry .args .table .now) (entry .args .results .now) (entry .args .label) (entry .args .n) (value-room (entry .pre .0 .0)) (entry .pre .0 .1) .0,
     )
 
 steps-of-requires : tie.Need-steps-of-requires
@@ -35,35 +35,35 @@ sub-steps c =
       arith,
       c .before .steps-of .ensures,
       entry .pre .1 .0 .taken,
-      steps-move (entry .args .table .now) (entry .args .results .now) (entry .args .label) (entry .args .n) (value-room (entry .pre .0 .0)) (entry .pre .0 .1) .0,
+      steps-move (entry .args .arithmetic) (entry .args .table .now) (entry .args .results .now) (entry .args .label) (entry .args .n) (value-room (entry .pre .0 .0)) (entry .pre .0 .1) .0,
     )
 
 evaluate-into-requires : tie.Need-evaluate-into-requires
 evaluate-into-requires c κs = search needs
 
-add-t8 : tie.Need-add-t8
-add-t8 c = search needs
+add-t9 : tie.Need-add-t9
+add-t9 c = search needs
 
 failed-requires-2 : tie.Need-failed-requires-2
 failed-requires-2 c κs =
     let done = c .before .before .before in
-    room-still (value-room (entry-of done .pre .0 .0)) (done .evaluate-into .kept .1 .0)
+    room-still (value-room (entry-of done .pre .0 .0)) (done .evaluate-into .kept .1 .1 .0)
 
-add-t19 : tie.Need-add-t19
-add-t19 c =
+add-t20 : tie.Need-add-t20
+add-t20 c =
     let entry = entry-of (c .before .before .before .before) in
     omega (arith, c .failed2 .ensures .1, entry .pre .1 .0 .failed, failing-few (stored (entry .args .results .now)) (entry .args .n), entry .pre .0 .2)
 
 steps-of-requires-2 : tie.Need-steps-of-requires-2
 steps-of-requires-2 c κs =
     let done = c .before .before .before .before .before in
-    room-still (value-room (entry-of done .pre .0 .0)) (done .evaluate-into .kept .1 .0)
+    room-still (value-room (entry-of done .pre .0 .0)) (done .evaluate-into .kept .1 .1 .0)
 
-add-t23 : tie.Need-add-t23
-add-t23 c =
+add-t24 : tie.Need-add-t24
+add-t24 c =
     let done = c .before .before .before .before .before .before in
     let entry = entry-of done in
-    let took = took-few (entry .args .table .now) (entry .args .results .now) (entry .args .label) (entry .args .n) (value-room (entry .pre .0 .0)) (entry .pre .0 .1)
+    let took = took-few (entry .args .arithmetic) (entry .args .table .now) (entry .args .results .now) (entry .args .label) (entry .args .n) (value-room (entry .pre .0 .0)) (entry .pre .0 .1)
     (entry .pre .1 .0 .short) (done .evaluate-into .ensures) (c .steps-of2 .ensures) in
     omega (arith, took, entry .pre .1 .0 .taken, steps-few (stored (entry .args .results .now)) (entry .args .n) (entry .pre .1 .0 .short), entry .pre .0 .2)
 
@@ -76,7 +76,7 @@ returns c =
     let steps = done .before .before .before in
     let failing = steps .before .before .before in
     let entry = entry-of done in
-    let tallied = redone-tally (entry .args .table .now) (entry .args .results .now) (entry .args .label) (entry .args .n) (value-room (entry .pre .0 .0)) (entry .pre .0 .1)
+    let tallied = redone-tally (entry .args .arithmetic) (entry .args .table .now) (entry .args .results .now) (entry .args .label) (entry .args .n) (value-room (entry .pre .0 .0)) (entry .pre .0 .1)
     (entry .args .before) (entry .pre .1 .0) (done .evaluate-into .ensures) (failing .failed .ensures .0) (steps .steps-of .ensures) (c .before .before .failed2 .ensures .0)
     (c .steps-of2 .ensures) in
     (done .evaluate-into .ensures, (refl, tallied))
@@ -90,10 +90,10 @@ redo-spec =
     steps-of-requires
     sub-steps
     evaluate-into-requires
-    add-t8
+    add-t9
     failed-requires-2
-    add-t19
+    add-t20
     steps-of-requires-2
-    add-t23
+    add-t24
     same-length
     returns)

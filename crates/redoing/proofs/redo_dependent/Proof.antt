@@ -18,10 +18,10 @@ returns c =
     let here = c .before in
     let test = here .before .before in
     let done = here .redo .ensures in
-    turned-so _ _ _ _ _ _ _ _ (sym (test .before .depends .ensures) ∙ test .if1 .taken) (done .0, done .1 .0, done .1 .1)
+    turned-so _ _ _ _ _ _ _ _ _ (sym (test .before .depends .ensures) ∙ test .if1 .taken) (done .0, done .1 .0, done .1 .1)
 
 returns-2 : tie.Need-returns-2
-returns-2 c = turned-not _ _ _ _ _ _ (sym (c .before .depends .ensures) ∙ c .if1 .left)
+returns-2 c = turned-not _ _ _ _ _ _ _ (sym (c .before .depends .ensures) ∙ c .if1 .left)
 
 pub redo-dependent-spec : {M : Type 1} → statement M
 redo-dependent-spec =

@@ -9,13 +9,13 @@ use Rattle.redoing.proofs.redo_down.Statement.{statement}
 use Rattle.redoing.proofs.redo_down.Tie as tie
 
 abbrev Inv-loop : tie.InvT-loop
-Inv-loop table n plan from to square d results₀ change₀ i₀ results change i = Going table n plan from to square d results₀ change₀ results change i
+Inv-loop arithmetic table n plan from to square d results₀ change₀ i₀ results change i = Going arithmetic table n plan from to square d results₀ change₀ results change i
 
 abbrev μ-loop : tie.MeasureT-loop
-μ-loop table n plan from to square d results₀ change₀ i₀ results change i = to - i
+μ-loop arithmetic table n plan from to square d results₀ change₀ i₀ results change i = to - i
 
 loop-holds : tie.Need-loop-holds Inv-loop μ-loop
-loop-holds c = going-start _ _ _ _ _ _ _ _ _ (c .before .pre .0 .0) (c .before .pre .0 .1) (c .before .pre .1 .0) (c .before .pre .1 .1)
+loop-holds c = going-start _ _ _ _ _ _ _ _ _ _ (c .before .pre .0 .0) (c .before .pre .0 .1) (c .before .pre .1 .0) (c .before .pre .1 .1)
 
 nat-at-requires : tie.Need-nat-at-requires Inv-loop μ-loop
 nat-at-requires c κs = search needs
@@ -25,10 +25,10 @@ redo-dependent-requires c κs =
     let turn = c .before .before in
     let inv = turn .before .loop .inv in
     let asked = inv .asked in
-    let value = turn-value _ _ _ _ _ _ _ _ _ inv (turn .loop-test .taken) (c .before .nat-at .ensures) in
+    let value = turn-value _ _ _ _ _ _ _ _ _ _ inv (turn .loop-test .taken) (c .before .nat-at .ensures) in
     let v = value-label _ _ (asked .accepted) _ value in
     let d = body-label _ _ (asked .accepted) _ (asked .body) in (
-      (turn-ready _ _ _ _ _ _ _ _ _ inv (turn .loop-test .taken) (c .before .nat-at .ensures), v .1, d .1, asked .accepted .few, asked .rows),
+      (turn-ready _ _ _ _ _ _ _ _ _ _ inv (turn .loop-test .taken) (c .before .nat-at .ensures), v .1, d .1, asked .accepted .few, asked .rows),
       (inv .tallied, omega (arith, inv .few, turn .loop-test .taken, asked .few, asked .accepted .few)),
     )
 
@@ -44,14 +44,14 @@ loop-again c =
     let inv = turn .before .loop .inv in
     let asked = inv .asked in
     let at = c .before .before .before .nat-at .ensures in
-    let v = turn-value _ _ _ _ _ _ _ _ _ inv (turn .loop-test .taken) at in
-    going-turn _ _ _ _ _ _ _ _ _ inv (turn .loop-test .taken) at (row-redone _ _ (asked .accepted) _ _ (asked .row) _ v) (c .before .redo-dependent .ensures)
+    let v = turn-value _ _ _ _ _ _ _ _ _ _ inv (turn .loop-test .taken) at in
+    going-turn _ _ _ _ _ _ _ _ _ _ inv (turn .loop-test .taken) at (row-redone _ _ (asked .accepted) _ _ (asked .row) _ v) (c .before .redo-dependent .ensures)
 
 same-length : tie.Need-same-length Inv-loop μ-loop
 same-length c = c .before .loop .inv .long
 
 returns : tie.Need-returns Inv-loop μ-loop
-returns c = going-done _ _ _ _ _ _ _ _ _ (c .before .loop .inv) (c .loop-test .left)
+returns c = going-done _ _ _ _ _ _ _ _ _ _ (c .before .loop .inv) (c .loop-test .left)
 
 pub redo-down-spec : {M : Type 1} → statement M
 redo-down-spec =

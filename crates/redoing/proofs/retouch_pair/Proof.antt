@@ -68,16 +68,16 @@ whole-plan c =
     let line = pairLabel (entry .args .pairs .now) (entry .args .k + 1) in
     let number = pairNumber (entry .args .pairs .now) (entry .args .k + 1) in
     redoable-still _ _ _ (entry .args .k + 1) (label-at found .label-of .ensures) (found .before .before .before .put-number .ensures) _ _ _ (found .cell-of .ensures) _
-    (pair-redoable _ _ _ _ _ (entry .pre .0) line number (right .line) (right .number) _ (entry .pre .1 .1 .0 .0) (entry .pre .1 .1 .0 .1))
+    (pair-redoable _ _ _ _ _ _ (entry .pre .0) line number (right .line) (right .number) _ (entry .pre .1 .1 .0 .0) (entry .pre .1 .1 .0 .1))
 
 -- and what going down the window did is what that would have done
 whole-done : (c : tie.After-widen2) {c₀ c₁ : Change} {r : List ℤ} →
     let found = found-at c in
     let entry = entry-of found in
     let line = pairLabel (entry .args .pairs .now) (entry .args .k + 1) in
-    Redid (found .before .before .before .put-number .last .0) (entry .args .n) (entry .args .results .now)
+    Redid (entry .args .arithmetic) (found .before .before .before .put-number .last .0) (entry .args .n) (entry .args .results .now)
     (between (entry .args .plan .now) (c .before .before .widen .result) (c .widen2 .result - 1)) (found .cell-of .result) c₀ r c₁
-    → Redid (withNumber line (pairNumber (entry .args .pairs .now) (entry .args .k + 1)) (entry .args .table .now)) (entry .args .n) (entry .args .results .now)
+    → Redid (entry .args .arithmetic) (withNumber line (pairNumber (entry .args .pairs .now) (entry .args .k + 1)) (entry .args .table .now)) (entry .args .n) (entry .args .results .now)
     (labelsOf (take (entry .args .count) (entry .args .plan .now))) (owner (entry .args .table .now) line) c₀ r c₁
 whole-done c did =
     let found = found-at c in
@@ -151,7 +151,7 @@ put-change-requires c κs =
     let right = entry .pre .1 .0 .1 in
     let line = pairLabel (entry .args .pairs .now) (entry .args .k + 1) in
     let number = pairNumber (entry .args .pairs .now) (entry .args .k + 1) in
-    let few = change-fits _ _ _ _ _ (entry .pre .0) line number (right .line) (right .number) refl (whole-done read (c .before .before .redo-down .ensures)) in
+    let few = change-fits _ _ _ _ _ _ (entry .pre .0) line number (right .line) (right .number) refl (whole-done read (c .before .before .redo-down .ensures)) in
     (omega (arith, entry .pre .1 .0 .0, entry .pre .1 .0 .2), few .0, few .1, few .2)
 
 same-length : tie.Need-same-length
@@ -174,7 +174,7 @@ returns c =
     let at-index : entry .args .k + 1 - 1 ≡ entry .args .k = omega arith in
     applied-still _ _ _ (entry .args .k + 1) (label-at found .label-of .ensures) (found .before .before .before .put-number .ensures) _ (entry .args .plan .now) (entry .args .count)
     (found .cell-of .ensures)
-    (pair-applied _ _ _ _ _ (entry .pre .0) line number (right .line) (right .number) refl (whole-done read (c .before .before .before .before .redo-down .ensures)) (entry .args .pairs .now)
+    (pair-applied _ _ _ _ _ _ (entry .pre .0) line number (right .line) (right .number) refl (whole-done read (c .before .before .before .before .redo-down .ensures)) (entry .args .pairs .now)
     (entry .args .k + 1) refl refl _ _ (rw at-index (c .before .put-change .ensures)))
 
 pub retouch-pair-spec : {M : Type 1} → statement M

@@ -13,8 +13,8 @@ use mir.Facts.{toZ-ofZ}
 use Rattle.cells.proofs.Signed.{clash, natAbs-neg, fits-by}
 use Rattle.numbers.specs.Range.{inRange}
 use Rattle.cells.specs.Limits.{numberLimit}
-use Rattle.numbers.specs.Arithmetic.{rangedOf, dividesByZero, result, calculated}
-use Rattle.numbers.specs.declared.Tie.{Tie}
+use Rattle.numbers.specs.Arithmetic.{tieRule, rangedOf, dividesByZero, result, calculated}
+use Rattle.numbers.specs.declared.Arithmetic.{Arithmetic}
 use Rattle.kinds.specs.declared.Operation.{Operation}
 use Rattle.kinds.specs.declared.Operation.the-variants.{Sum, Difference, Product, Quotient}
 use Rattle.numbers.specs.declared.Calculated.{Calculated}
@@ -23,15 +23,15 @@ use Rattle.numbers.proofs.Sizes.{add-size, mul-size}
 use Rattle.numbers.proofs.Rounding.{quotient-size}
 
 -- every result of two numbers of a sheet fits a cell
-pub result-fits : (tie : Tie) (op : Operation) (a b : ℤ) → natAbs a ≤ numberLimit → natAbs b ≤ numberLimit → SFits w64 (result tie op a b)
+pub result-fits : (α : Arithmetic) (op : Operation) (a b : ℤ) → natAbs a ≤ numberLimit → natAbs b ≤ numberLimit → SFits w64 (result α op a b)
 unfolding result
-result-fits tie op a b ha hb = fits-by (result tie op a b) (numberLimit * numberLimit) (small op) tt
+result-fits α op a b ha hb = fits-by (result α op a b) (numberLimit * numberLimit) (small op) tt
   where
-    small : (op : Operation) → natAbs (result tie op a b) ≤ numberLimit * numberLimit
+    small : (op : Operation) → natAbs (result α op a b) ≤ numberLimit * numberLimit
     small Sum = omega (arith, add-size a b)
     small Difference = omega (arith, add-size a (negℤ b), natAbs-neg b)
     small Product = rw mul-size (mul-le-mul ha hb)
-    small Quotient = omega (arith, quotient-size tie a b)
+    small Quotient = omega (arith, quotient-size (tieRule α) a b)
 
 -- ---- the range test, as the code makes it
 
@@ -70,30 +70,30 @@ ranged-bounded x = go (inRange x) refl
     go true e = leb-true (natAbs x) numberLimit e
     go false e = tt
 
-bounded : (tie : Tie) (op : Operation) (a b : ℤ) → Bounded (calculated tie op a b)
+bounded : (α : Arithmetic) (op : Operation) (a b : ℤ) → Bounded (calculated α op a b)
 unfolding calculated
-bounded tie op a b = go (dividesByZero op b)
+bounded α op a b = go (dividesByZero op b)
   where
-    go : (t : Bool) → Bounded (cond t ZeroDivisor (rangedOf (result tie op a b)))
+    go : (t : Bool) → Bounded (cond t ZeroDivisor (rangedOf (result α op a b)))
     go true = tt
-    go false = ranged-bounded (result tie op a b)
+    go false = ranged-bounded (result α op a b)
 
-pub calculated-size : (tie : Tie) (op : Operation) (a b z : ℤ) → calculated tie op a b ≡ Number z → natAbs z ≤ numberLimit
-calculated-size tie op a b z e = subst Bounded e (bounded tie op a b)
+pub calculated-size : (α : Arithmetic) (op : Operation) (a b z : ℤ) → calculated α op a b ≡ Number z → natAbs z ≤ numberLimit
+calculated-size α op a b z e = subst Bounded e (bounded α op a b)
 
 -- ---- an arm of the code, whatever its operation: it ranges a number z that is the result
 
-pub calculated-by : (tie : Tie) (op arm : Operation) (a b z : ℤ) {r : Calculated} → op ≡ arm → dividesByZero arm b ≡ false
-    → z ≡ result tie arm a b → r ≡ rangedOf z → r ≡ calculated tie op a b
+pub calculated-by : (α : Arithmetic) (op arm : Operation) (a b z : ℤ) {r : Calculated} → op ≡ arm → dividesByZero arm b ≡ false
+    → z ≡ result α arm a b → r ≡ rangedOf z → r ≡ calculated α op a b
 unfolding calculated
-calculated-by tie op arm a b z p q e f = rw (p, q, ← e) f
+calculated-by α op arm a b z p q e f = rw (p, q, ← e) f
 
 -- the operands and the result are read back from their bits
-module _ (tie : Tie) (arm : Operation) (a b : ℤ) (fa : SFits w64 a) (fb : SFits w64 b) (ha : natAbs a ≤ numberLimit) (hb : natAbs b ≤ numberLimit) where
-  pub arm-fits : SFits w64 (result tie arm (toZ w64 (ofZ w64 a)) (toZ w64 (ofZ w64 b)))
-  arm-fits = rw (toZ-ofZ fa, toZ-ofZ fb) (result-fits tie arm a b ha hb)
+module _ (α : Arithmetic) (arm : Operation) (a b : ℤ) (fa : SFits w64 a) (fb : SFits w64 b) (ha : natAbs a ≤ numberLimit) (hb : natAbs b ≤ numberLimit) where
+  pub arm-fits : SFits w64 (result α arm (toZ w64 (ofZ w64 a)) (toZ w64 (ofZ w64 b)))
+  arm-fits = rw (toZ-ofZ fa, toZ-ofZ fb) (result-fits α arm a b ha hb)
 
   pub arm-is : (op : Operation) {r : Calculated} → op ≡ arm → dividesByZero arm b ≡ false
-      → r ≡ rangedOf (toZ w64 (ofZ w64 (result tie arm (toZ w64 (ofZ w64 a)) (toZ w64 (ofZ w64 b)))))
-      → r ≡ calculated tie op a b
-  arm-is op p q e = calculated-by tie op arm a b _ p q (rw (toZ-ofZ fa, toZ-ofZ fb) (toZ-ofZ (result-fits tie arm a b ha hb))) e
+      → r ≡ rangedOf (toZ w64 (ofZ w64 (result α arm (toZ w64 (ofZ w64 a)) (toZ w64 (ofZ w64 b)))))
+      → r ≡ calculated α op a b
+  arm-is op p q e = calculated-by α op arm a b _ p q (rw (toZ-ofZ fa, toZ-ofZ fb) (toZ-ofZ (result-fits α arm a b ha hb))) e

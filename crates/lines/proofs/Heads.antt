@@ -1,16 +1,22 @@
 -- Rows 1 to 3, case by case, and what is known of a text that they do not refuse.
 use mathlib.Core.Path.{_≡_, refl, ap, sym, _∙_}
 use mathlib.Core.Bool.{Bool, true, false, not, cond, _&&_}
+use mathlib.Core.Logic.{⊎-elim}
 use mathlib.Core.List.{List, [], _∷_, _++_}
 use Prim.Native.Nat.{ℕ, suc, _+_, _-_, _≤_, _<_}
+use Prim.Native.Char.{code}
+use native.Mathlib.Numerals.{add-one}
 use native.Mathlib.Omega.{arith}
+use native.Mathlib.Decide.{decLe}
 use lib.Dec.{leb, eqb}
-use lib.ListN.{length, getD, take}
-use lib.Seq.{take-all}
+use lib.ListN.{length, getD, take, length-append}
+use lib.Seq.{take-all, getD-take}
 use borrow.Author.Tests.{eqb-true, leb-true, le-leb, lt-leb, eq-eqb, ne-eqb, not-true}
 use Rattle.cells.specs.Quoted.{bytesOf}
 use Rattle.cells.specs.Limits.{labelLimit, sizeLimit}
 use Rattle.cells.specs.Characters.{newline}
+use Rattle.numbers.specs.declared.Tie.{Tie}
+use Rattle.numbers.specs.declared.Tie.the-variants.{Away, Even}
 use Rattle.refusals.specs.Rows.{textRow, firstLineRow, labelsRow}
 use Rattle.refusals.specs.Refusal.{replyOf}
 use Rattle.refusals.specs.declared.Verdict.{Verdict}
@@ -20,9 +26,10 @@ use Rattle.refusals.specs.declared.Reply.the-variants as reply
 use Rattle.text.specs.Bytes.{all, countBy, isAllowed, isNewline, same, endsLines}
 use Rattle.text.specs.Scans.{isBad}
 use Rattle.text.specs.Pieces.{cut, cutAt, firstOf}
-use Rattle.text.proofs.Bytes.{true-false, and-left, and-right, and-false, all-allowed, count-some, same-lengths, same-eq}
+use Rattle.text.proofs.Bytes.{true-false, and-left, and-right, and-false, all-allowed, count-some, same-lengths, same-eq, same-itself}
+use Rattle.cells.proofs.Tests.{or-cases}
 use Rattle.text.proofs.Cuts.{first-onto}
-use Rattle.lines.specs.Lines.{isText, line, firstLine, labels, headBad}
+use Rattle.lines.specs.Lines.{isText, line, firstLine, tieOf, isFirstLine, labels, headBad}
 
 -- ---- row 1
 
@@ -124,17 +131,51 @@ get-first : (ps : List (List ℕ)) → getD ps 0 [] ≡ firstOf ps
 get-first [] = refl
 get-first (p ∷ ps) = refl
 
-module _ (s : List ℕ) (h : 1 ≤ countBy isNewline s) where
-  -- its sixteen bytes, with the newline
-  pub first-line : same (line s 0) firstLine ≡ same (take 16 s) (bytesOf "kind name a b c\n")
-  unfolding line firstLine
-  first-line = ap (λ (l : List ℕ). same l firstLine) (get-first (cut newline s)) ∙ first-bytes firstLine s refl h
+-- a first line as it stands in a text, with its end
+abbrev ended : Tie → List ℕ
+ended tie = firstLine tie ++ newline ∷ []
 
-  pub first-short : length s < 16 → false ≡ same (line s 0) firstLine
-  first-short k =
-      rw first-line
-      (sym (same-lengths (take 16 s) (bytesOf "kind name a b c\n")
-      (λ e. omega (arith, e, length-take-short 16 s k))))
+first-other : (tie : Tie) → all other (firstLine tie) ≡ true
+unfolding firstLine
+first-other Away = refl
+first-other Even = refl
+
+pub first-line : (s : List ℕ) (tie : Tie) → 1 ≤ countBy isNewline s → same (line s 0) (firstLine tie) ≡ same (take (length (ended tie)) s) (ended tie)
+unfolding line
+first-line s tie h =
+    rw (length-append (firstLine tie) (newline ∷ []), add-one (length (firstLine tie)))
+    (ap (λ (l : List ℕ). same l (firstLine tie)) (get-first (cut newline s)) ∙ first-bytes (firstLine tie) s (first-other tie) h)
+
+-- a text that is shorter than what it is asked to begin with
+pub begins-short : (s x : List ℕ) → length s < length x → false ≡ same (take (length x) s) x
+begins-short s x h = sym (same-lengths (take (length x) s) x (λ e. omega (arith, e, length-take-short (length x) s h)))
+
+-- ---- the tie rule that line one names
+
+named-right : (tie : Tie) → isFirstLine (firstLine tie) ≡ true
+unfolding firstLine
+named-right Away = refl
+named-right Even = refl
+
+named-rule : (tie : Tie) → cond (same (firstLine tie) (firstLine Even)) Even Away ≡ tie
+unfolding firstLine
+named-rule Away = refl
+named-rule Even = refl
+
+module _ (s : List ℕ) where
+  -- no text names two rules
+  pub tie-named : (tie : Tie) → line s 0 ≡ firstLine tie → tieOf s ≡ tie
+  unfolding tieOf
+  tie-named tie e = ap (λ (l : List ℕ). cond (same l (firstLine Even)) Even Away) e ∙ named-rule tie
+
+  pub first-named : isFirstLine (line s 0) ≡ true → line s 0 ≡ firstLine (tieOf s)
+  first-named e = ⊎-elim (by Away) (by Even) (or-cases (same (line s 0) (firstLine Away)) (same (line s 0) (firstLine Even)) e)
+    where
+      by : (tie : Tie) → same (line s 0) (firstLine tie) ≡ true → line s 0 ≡ firstLine (tieOf s)
+      by tie q = let f = same-eq (line s 0) (firstLine tie) q in f ∙ ap firstLine (sym (tie-named tie f))
+
+  pub named-first : line s 0 ≡ firstLine (tieOf s) → isFirstLine (line s 0) ≡ true
+  named-first e = ap (λ (l : List ℕ). isFirstLine l) e ∙ named-right (tieOf s)
 
 -- ---- rows 1 to 3 together
 
@@ -147,11 +188,11 @@ module _ (s : List ℕ) where
   head-text e = rw e
 
   module _ (t : isText s ≡ true) where
-    pub head-first : same (line s 0) firstLine ≡ false → reply.Refused firstLineRow 0 ≡ reply-is
+    pub head-first : isFirstLine (line s 0) ≡ false → reply.Refused firstLineRow 0 ≡ reply-is
     unfolding headBad
     head-first e = rw (t, e)
 
-    module _ (f : same (line s 0) firstLine ≡ true) where
+    module _ (f : isFirstLine (line s 0) ≡ true) where
       pub head-none : countBy isNewline s < 2 → reply.Refused labelsRow 0 ≡ reply-is
       unfolding headBad labels
       head-none h = rw (t, f, lt-leb 1 (countBy isNewline s - 1) (omega arith))
@@ -171,7 +212,7 @@ pub record Headed (s : List ℕ) : Type 0 where
   pub some : 1 ≤ length s
   pub ends : endsLines s
   pub allowed : all isAllowed s ≡ true
-  pub first : line s 0 ≡ firstLine
+  pub first : line s 0 ≡ firstLine (tieOf s)
   pub low : 1 ≤ labels s
   pub high : labels s ≤ labelLimit
 
@@ -183,14 +224,50 @@ pub headed : (s : List ℕ) → headBad s ≡ Fine → Headed s
 unfolding headBad
 headed s e =
     let one = refused-fine (isText s) _ 1 0 e in
-    let two = refused-fine (same (line s 0) firstLine) _ 2 0 (one .1) in
+    let two = refused-fine (isFirstLine (line s 0)) _ 2 0 (one .1) in
     let three = refused-fine (leb 1 (labels s) && leb (labels s) labelLimit) Fine 3 0 (two .1) in
     record {
       size = text-size s (one .0);
       some = text-some s (one .0);
       ends = text-ends s (one .0);
       allowed = text-allowed s (one .0);
-      first = same-eq (line s 0) firstLine (two .0);
+      first = first-named s (two .0);
       low = leb-true 1 (labels s) (and-left (leb 1 (labels s)) (leb (labels s) labelLimit) (three .0));
       high = leb-true (labels s) labelLimit (and-right (leb 1 (labels s)) (leb (labels s) labelLimit) (three .0));
     }
+
+-- ---- the fifth byte of such a text tells which of the two first lines it has
+
+ended-long : (tie : Tie) → 16 ≤ length (ended tie)
+unfolding firstLine
+ended-long Away = omega arith
+ended-long Even = omega arith
+
+ended-fifth : (tie : Tie) → cond (eqb (getD (ended tie) 4 0) (code "2")) Even Away ≡ tie
+unfolding firstLine
+ended-fifth Away = refl
+ended-fifth Even = refl
+
+module _ (s : List ℕ) (h : Headed s) where
+  abbrev begin : List ℕ
+  begin = ended (tieOf s)
+
+  begins : same (take (length begin) s) begin ≡ true
+  unfolding labels
+  begins =
+      sym (first-line s (tieOf s) (omega (arith, h .low)))
+      ∙ ap (λ (l : List ℕ). same l (firstLine (tieOf s))) (h .first)
+      ∙ same-itself (firstLine (tieOf s))
+
+  pub first-inside : 16 ≤ length s
+  first-inside = go (decLe (length begin) (length s))
+    where
+      go : Dec (length begin ≤ length s) → 16 ≤ length s
+      go (yes k) = omega (arith, ended-long (tieOf s))
+      go (no k) = absurd (true-false (sym begins ∙ sym (begins-short s begin (omega (arith, k)))))
+
+  pub fifth-tells : cond (eqb (getD s 4 0) (code "2")) Even Away ≡ tieOf s
+  fifth-tells =
+      let fifth : getD s 4 0 ≡ getD begin 4 0 =
+      sym (getD-take (length begin) s 4 0 (omega (arith, ended-long (tieOf s)))) ∙ ap (λ (l : List ℕ). getD l 4 0) (same-eq (take (length begin) s) begin begins) in
+      ap (λ (y : ℕ). cond (eqb y (code "2")) Even Away) fifth ∙ ended-fifth (tieOf s)

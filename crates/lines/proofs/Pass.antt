@@ -3,6 +3,7 @@ use mathlib.Core.Path.{_≡_, refl, ap, sym, _∙_}
 use mathlib.Core.List.{List, [], _∷_, _++_}
 use mathlib.Core.Bool.{Bool, true, false, cond}
 use Prim.Native.Nat.{ℕ, zero, suc, _+_, _-_, _*_, _≤_, _<_}
+use native.Mathlib.Nat.{zero-add}
 use native.Mathlib.Numerals.{add-one}
 use native.Mathlib.Omega.{arith}
 use lib.Dec.{eqb, ltb}
@@ -21,7 +22,7 @@ use Rattle.text.specs.Scans.{rest, fieldsFrom}
 use Rattle.text.proofs.Slices.{whole}
 use Rattle.text.proofs.Cuts.{pieces, place-zero, piece-is, pieces-next, place-next}
 use Rattle.text.proofs.Fields.{line-inside, line-next}
-use Rattle.lines.specs.Lines.{line, firstLine, labels, lineBad, lineCheck, linesBad, rootCells, fieldCells, lineCells, linesCells}
+use Rattle.lines.specs.Lines.{line, firstLine, tieOf, labels, lineBad, lineCheck, linesBad, rootCells, fieldCells, lineCells, linesCells}
 use Rattle.lines.specs.LineSteps.{lineFrom, cellsByFields, rootAt, cellsFor, eightCells, decide, lineRead, stepOf, lineWritten, linesWritten}
 use Rattle.lines.specs.declared.LineCells.{LineCells}
 use Rattle.lines.specs.declared.LineJudged.the-variants.{Passes}
@@ -142,21 +143,23 @@ module _ (s : List ℕ) (n : ℕ) (h : Headed s) (e : n ≡ labels s) where
   unfolding labels
   lines-count = omega (arith, h .low)
 
-  first-cut : cut newline s ≡ firstLine ∷ cut newline (rest s 16)
-  unfolding line firstLine
+  abbrev first : List ℕ
+  first = firstLine (tieOf s)
+
+  first-cut : cut newline s ≡ first ∷ cut newline (rest s (length first + 1))
+  unfolding line
   first-cut =
       let nx = line-next s 0 (h .some) (h .ends) in
       let w : cut newline (rest s 0) ≡ cut newline s = ap (cut newline) (whole s) in
-      let f : firstOf (cut newline (rest s 0)) ≡ firstLine = sym (ap (λ (ps : List (List ℕ)). getD ps 0 []) nx) ∙ ap (λ (ps : List (List ℕ)). getD ps 0 []) w ∙ h .first in
-      sym w ∙ nx ∙ rw f
+      let f : firstOf (cut newline (rest s 0)) ≡ first = sym (ap (λ (ps : List (List ℕ)). getD ps 0 []) nx) ∙ ap (λ (ps : List (List ℕ)). getD ps 0 []) w ∙ h .first in
+      sym w ∙ nx ∙ rw (f, zero-add (length first))
 
-  pub start : (t : List ℤ) → Going s n t 16 1 t
-  unfolding firstLine
+  pub start : (t : List ℤ) → Going s n t (length first + 1) 1 t
   start t = record {
     low = omega arith;
     high = omega arith;
-    here = sym (place-next (cut newline s) 0 firstLine (cut newline (rest s 16)) first-cut ∙ rw (place-zero (cut newline s)));
-    left = pieces-next (cut newline s) 0 firstLine (cut newline (rest s 16)) first-cut;
+    here = sym (place-next (cut newline s) 0 first (cut newline (rest s (length first + 1))) first-cut ∙ rw (place-zero (cut newline s), zero-add (length first)));
+    left = pieces-next (cut newline s) 0 first (cut newline (rest s (length first + 1))) first-cut;
     table = refl;
     size = refl;
     found = first-start (lineCheck s n) n;

@@ -3,6 +3,7 @@ use mathlib.Core.Path.{_≡_, refl}
 use mathlib.Core.List.{List, [], _∷_, _++_, map}
 use Prim.Native.Nat.{ℕ}
 use Rattle.numbers.specs.Decimal.{allDigits, digitsValue, digitsOf, decimalOf, numberOf}
+use Rattle.numbers.specs.declared.Tie.the-variants.{Away, Even}
 use Rattle.refusals.specs.Refusal.{orElse}
 use Rattle.refusals.specs.declared.Verdict.{Verdict}
 use Rattle.refusals.specs.declared.Verdict.the-variants.{Fine, Refused}
@@ -11,7 +12,7 @@ use Rattle.text.specs.Forms.{isName, isPath, labelOf}
 use Rattle.cells.specs.Quoted.{bytesOf, textOf}
 use Rattle.kinds.specs.Kinds.{kinds, kindAt, codeOf}
 use Rattle.lines.specs.Fields.{fieldOf}
-use Rattle.lines.specs.Lines.{isText, line, labels, firstLine, headBad, rootLine, lineBad, linesBad}
+use Rattle.lines.specs.Lines.{isText, line, labels, firstLine, tieOf, headBad, rootLine, lineBad, linesBad}
 
 -- sheets
 unfoldable sheets : List (List ℕ)
@@ -22,6 +23,14 @@ sheets =
     ∷ (textOf ("kind name a b c" ∷ []) ++ bytesOf "G - 0 - -")
     -- another line one
     ∷ textOf ("kind name a b d" ∷ "G - 0 - -" ∷ [])
+    -- a third name of a rule
+    ∷ textOf ("kind3 name a b c" ∷ "G - 0 - -" ∷ [])
+    -- halves to even
+    ∷ textOf ("kind2 name a b c" ∷ "G - 0 - -" ∷ [])
+    -- a second line of column names is the line of label 1
+    ∷ textOf ("kind2 name a b c" ∷ "kind name a b c" ∷ "G - 0 - -" ∷ [])
+    -- column names further down alone
+    ∷ textOf ("G - 0 - -" ∷ "kind2 name a b c" ∷ [])
     -- no label
     ∷ textOf ("kind name a b c" ∷ [])
     -- label 1 alone
@@ -57,6 +66,10 @@ textBad s = orElse (headBad s) (linesBad s (labels s))
 found : map textBad sheets ≡ Refused 1 0
     ∷ Refused 1 0
     ∷ Refused 2 0
+    ∷ Refused 2 0
+    ∷ Fine
+    ∷ Refused 6 1
+    ∷ Refused 2 0
     ∷ Refused 3 0
     ∷ Fine
     ∷ Refused 7 1
@@ -74,3 +87,14 @@ found : map textBad sheets ≡ Refused 1 0
 unfolding sheets headBad isText isAllowed labels line firstLine linesBad lineBad rootLine kinds kindAt codeOf fieldOf isName isPath isLetter isAlphanumeric labelOf numberOf decimalOf digitsOf
     digitsValue allDigits
 found = refl
+
+-- the rule goes by the first line alone
+rules : map tieOf
+    (textOf ("kind name a b c" ∷ "G - 0 - -" ∷ [])
+    ∷ textOf ("kind2 name a b c" ∷ "G - 0 - -" ∷ [])
+    ∷ textOf ("kind name a b c" ∷ "kind2 name a b c" ∷ [])
+    ∷ textOf ("kind2 name a b c" ∷ "kind name a b c" ∷ [])
+    ∷ [])
+    ≡ Away ∷ Even ∷ Away ∷ Even ∷ []
+unfolding tieOf line firstLine
+rules = refl

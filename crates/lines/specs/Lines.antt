@@ -1,5 +1,5 @@
 -- Rows 1 to 3 and 5 to 7 of document 01's table "Where each refusal is found", and the cells that Read writes of each line.
-use mathlib.Core.Bool.{Bool, cond, _&&_}
+use mathlib.Core.Bool.{Bool, cond, _&&_, _||_}
 use mathlib.Core.List.{List, [], _∷_, _++_}
 use Prim.Native.Nat.{ℕ, zero, suc, _+_, _-_}
 use lib.Dec.{leb, eqb}
@@ -11,6 +11,8 @@ use Rattle.cells.specs.Quoted.{bytesOf}
 use Rattle.kinds.specs.declared.Fields.{Fields}
 use Rattle.kinds.specs.Kinds.{groupCode, fieldsAt}
 use Rattle.cells.specs.Cells.{zeros}
+use Rattle.numbers.specs.declared.Tie.{Tie}
+use Rattle.numbers.specs.declared.Tie.the-variants.{Away, Even}
 use Rattle.text.specs.Bytes.{all, countBy, isAllowed, isNewline, same}
 use Rattle.text.specs.Pieces.{cut, pieceStart, fieldsAre}
 use Rattle.refusals.specs.Rows.{textRow, firstLineRow, labelsRow, fieldsRow, kindRow, formRow}
@@ -33,9 +35,19 @@ line s k = getD (cut newline s) k []
 unfoldable pub labels : List ℕ → ℕ
 labels s = countBy isNewline s - 1
 
--- "Line one holds the column names"
-unfoldable pub firstLine : List ℕ
-firstLine = bytesOf "kind name a b c"
+-- "Line one holds the column names": the line by which a sheet names a tie rule. Order 5: "Sheets whose first line is `kind2 name a b c`
+-- use it in D, and all other sheets keep halves away from zero."
+unfoldable pub firstLine : Tie → List ℕ
+firstLine Away = bytesOf "kind name a b c"
+firstLine Even = bytesOf "kind2 name a b c"
+
+-- "the rule that the sheet's own first line names"
+unfoldable pub tieOf : List ℕ → Tie
+tieOf s = cond (same (line s 0) (firstLine Even)) Even Away
+
+-- "Refusal 2 now allows either line."
+abbrev pub isFirstLine : List ℕ → Bool
+isFirstLine l = same l (firstLine Away) || same l (firstLine Even)
 
 abbrev unless : Bool → ℕ → Verdict → Verdict
 unless ok row next = cond ok next (Refused row 0)
@@ -43,7 +55,7 @@ unless ok row next = cond ok next (Refused row 0)
 unfoldable pub headBad : List ℕ → Verdict
 headBad s =
     unless (isText s) textRow
-    (unless (same (line s 0) firstLine) firstLineRow
+    (unless (isFirstLine (line s 0)) firstLineRow
     (unless (leb 1 (labels s) && leb (labels s) labelLimit) labelsRow
     Fine))
 

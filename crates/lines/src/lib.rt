@@ -4,7 +4,7 @@ ghost use mathlib.Core.Path.{_≡_};
 ghost use mathlib.Core.Bool.{true, cond};
 ghost use Prim.Native.Nat.{ℕ, _+_, _-_, _*_, _≤_, _<_};
 ghost use lib.IntN.{pos};
-ghost use lib.ListN.{length};
+ghost use lib.ListN.{length, take};
 ghost use lib.Seq.{slice, sets};
 ghost use Rattle.cells.specs.Limits.{labelLimit, sizeLimit};
 ghost use Rattle.kinds.specs.Kinds.{isKind};
@@ -15,13 +15,14 @@ ghost use Rattle.cells.specs.Characters.{space};
 ghost use Rattle.numbers.specs.Decimal.{numberOf};
 ghost use Rattle.refusals.specs.Refusal.{replyOf};
 ghost use Rattle.lines.specs.Fields.{dash, blankIf, fromLabel, fromNumber, fieldOf, kindCode};
-ghost use Rattle.lines.specs.Lines.{isText, line, firstLine, labels, headBad, linesBad};
+ghost use Rattle.lines.specs.Lines.{isText, line, firstLine, tieOf, isFirstLine, labels, headBad, linesBad};
 ghost use Rattle.lines.specs.Scanned.{Scanned, ScannedAll, QuickOf};
 ghost use Rattle.lines.specs.LineSteps.{FiveAt, SplitOf, operandsAt, eightCells, cellsByEnds, otherRead, rootRead, lineRead, stepOf, lineWritten, passed, linesWritten};
 use kinds::Fields;
 use kinds::Form;
 use numbers::Decimal;
 use numbers::Number;
+use numbers::Tie;
 use refusals::Reply;
 use refusals::Verdict;
 
@@ -527,13 +528,35 @@ fn step(text: &[u8], at: usize, n: usize, label: usize, table: &mut [i64]) -> Ne
     }
 }
 
+// The tie rule that line one names. After row 2 the fifth byte tells the two lines apart, so that every Run can ask.
+pub fn tie_of(text: &[u8]) -> Tie
+    requires { ⌜ headBad (now text) ≡ Verdict.Fine ⌝ }
+    ensures { λ r. ⌜ r ≡ tieOf (now (text .entry)) ⌝ }
+{
+    if text[4] == b'2' {
+        return Tie::Even;
+    }
+    Tie::Away
+}
+
+// Where the line of label 1 begins.
+fn after_first(text: &[u8]) -> usize
+    requires { ⌜ headBad (now text) ≡ Verdict.Fine ⌝ }
+    ensures { λ r. ⌜ r ≡ length (firstLine (tieOf (now (text .entry)))) + 1 ⌝ }
+{
+    match tie_of(text) {
+        Tie::Away => 16,
+        Tie::Even => 17,
+    }
+}
+
 // Rows 5 to 7, one pass down the lines. The cells of each line that passes are written; the others of the table stay.
 pub fn read_lines(text: &[u8], n: usize, table: &mut [i64]) -> Verdict
     requires { ⌜ (headBad (now text) ≡ Verdict.Fine) × (n ≡ labels (now text)) × (8 * n ≤ length (now table)) ⌝ }
     ensures { λ r. ⌜ r ≡ linesBad (now (text .entry)) n ⌝ }
     ensures { λ r. ⌜ now (table .exit) ≡ linesWritten (now (text .entry)) n (passed r n) (now (table .entry)) ⌝ }
 {
-    let mut at: usize = 16; // past the first line
+    let mut at = after_first(text);
     let mut label: usize = 1;
     while label <= n {
         match step(text, at, n, label, table) {
@@ -570,15 +593,37 @@ fn text_lines(text: &[u8]) -> usize
     counts.lines as usize
 }
 
-// Whether line one holds the column names.
-fn first_line_right(text: &[u8]) -> bool
-    requires { ⌜ 1 ≤ countBy isNewline (now text) ⌝ }
-    ensures { λ r. ⌜ r ≡ same (line (now (text .entry)) 0) firstLine ⌝ }
+// Whether the text begins with these bytes.
+fn starts_with(text: &[u8], line: &[u8]) -> bool
+    ensures { λ r. ⌜ r ≡ same (take (length (now (line .entry))) (now (text .entry))) (now (line .entry)) ⌝ }
 {
-    if text.len() < 16 {
+    let size = line.len();
+    if text.len() < size {
         return false;
     }
-    text::same_bytes(text, 0, 16, b"kind name a b c\n")
+    text::same_bytes(text, 0, size, line)
+}
+
+// Whether line one is the one that names this tie rule.
+fn names_tie(text: &[u8], tie: Tie) -> bool
+    requires { ⌜ 1 ≤ countBy isNewline (now text) ⌝ }
+    ensures { λ r. ⌜ r ≡ same (line (now (text .entry)) 0) (firstLine tie) ⌝ }
+{
+    match tie {
+        Tie::Away => starts_with(text, b"kind name a b c\n"),
+        Tie::Even => starts_with(text, b"kind2 name a b c\n"),
+    }
+}
+
+// Whether line one holds the column names, in either of the two ways.
+fn first_line_right(text: &[u8]) -> bool
+    requires { ⌜ 1 ≤ countBy isNewline (now text) ⌝ }
+    ensures { λ r. ⌜ r ≡ isFirstLine (line (now (text .entry)) 0) ⌝ }
+{
+    if names_tie(text, Tie::Away) {
+        return true;
+    }
+    names_tie(text, Tie::Even)
 }
 
 // Rows 1 to 3: the number of labels, or the refusal.

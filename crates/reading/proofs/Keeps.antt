@@ -22,9 +22,9 @@ use Rattle.text.specs.Bytes.{same}
 use Rattle.text.specs.Pieces.{cut}
 use Rattle.text.proofs.Bytes.{and-left, and-right}
 use Rattle.lines.specs.Fields.{kindCode}
-use Rattle.lines.specs.Lines.{isText, line, labels, firstLine, headBad, rootLine, field, formsRight, lineBad, lineCheck, linesBad}
+use Rattle.lines.specs.Lines.{isText, line, labels, headBad, rootLine, field, formsRight, lineBad, lineCheck, linesBad}
 use Rattle.lines.specs.Lined.{Lined}
-use Rattle.lines.proofs.Heads.{headed}
+use Rattle.lines.proofs.Heads.{headed, named-first}
 use Rattle.lines.proofs.Lined.{lined, fine-fields, fine-forms, known, root-is}
 use Rattle.tree.specs.Tree.{parts, groupRight, partRight, structureBad, usesBad, Level, ownerOf, levelOf, argumentBad, levelBad, treeBad}
 use Rattle.tree.specs.Treed.{Formed, Treed}
@@ -49,10 +49,11 @@ text-kept s e =
     record { some = h .some; size = h .size; ends = h .ends; allowed = h .allowed; first = h .first; low = h .low; high = h .high }
 
 kept-text : (s : List ℕ) → TextKept s → headBad s ≡ Fine
-unfolding headBad isText firstLine
+unfolding headBad isText
 kept-text s k =
     let ends = eq-eqb (getD s (length s - 1) 0) newline (k .ends) in
-    rw (le-leb 1 (length s) (k .some), le-leb (length s) sizeLimit (k .size), ends, k .allowed, k .first, le-leb 1 (labels s) (k .low), le-leb (labels s) labelLimit (k .high))
+    let first = named-first s (k .first) in
+    rw (le-leb 1 (length s) (k .some), le-leb (length s) sizeLimit (k .size), ends, k .allowed, first, le-leb 1 (labels s) (k .low), le-leb (labels s) labelLimit (k .high))
 
 -- ---- the lines
 

@@ -7,7 +7,7 @@ use lib.ListN.{length}
 use Rattle.cells.specs.Limits.{labelLimit}
 use Rattle.text.specs.Bytes.{all, isAllowed, endsLines}
 use Rattle.refusals.specs.declared.Verdict.the-variants.{Fine}
-use Rattle.lines.specs.Lines.{line, labels, firstLine}
+use Rattle.lines.specs.Lines.{line, labels, firstLine, tieOf}
 use Rattle.reading.specs.Read.{sheetBad}
 
 -- rows 1 to 3 find nothing in a text, row 1's length limit left aside
@@ -15,7 +15,8 @@ pub record HeadRight (s : List ℕ) : Type 0 where
   pub some : 1 ≤ length s
   pub ends : endsLines s
   pub allowed : all isAllowed s ≡ true
-  pub first : line s 0 ≡ firstLine
+  -- "Refusal 2 now allows either line.": the one that names the sheet's tie rule
+  pub first : line s 0 ≡ firstLine (tieOf s)
   pub low : 1 ≤ labels s
   pub high : labels s ≤ labelLimit
 

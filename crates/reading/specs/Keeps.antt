@@ -12,7 +12,7 @@ use Rattle.cells.specs.Table.{kind, isDefinition, isExpression, fieldA}
 use Rattle.text.specs.Bytes.{all, isAllowed, endsLines}
 use Rattle.text.specs.Pieces.{cut, fieldsAre}
 use Rattle.lines.specs.Fields.{kindCode}
-use Rattle.lines.specs.Lines.{line, labels, firstLine, rootLine, field, formsRight}
+use Rattle.lines.specs.Lines.{line, labels, firstLine, tieOf, rootLine, field, formsRight}
 use Rattle.tree.specs.Tree.{uses, IsPart, Owned, Level}
 use Rattle.paths.specs.Leads.{PathsKept}
 use Rattle.reading.specs.Read.{ownedTable, sheetCells}
@@ -24,8 +24,9 @@ pub record TextKept (s : List ℕ) : Type 0 where
   pub size : length s ≤ sizeLimit
   pub ends : endsLines s
   pub allowed : all isAllowed s ≡ true
-  -- "Line one holds the column names, exactly `kind name a b c`"
-  pub first : line s 0 ≡ firstLine
+  -- "Line one holds the column names, exactly `kind name a b c`"; order 5: "Refusal 2 now allows either line", and the sheet's
+  -- tie rule is "the rule that the sheet's own first line names"
+  pub first : line s 0 ≡ firstLine (tieOf s)
   -- "Then come 1 to 1,024 lines", which have the labels
   pub low : 1 ≤ labels s
   pub high : labels s ≤ labelLimit

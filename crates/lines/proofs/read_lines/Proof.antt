@@ -19,7 +19,7 @@ abbrev μ-loop : tie.MeasureT-loop
 -- ---- earlier places, by later ones
 
 abbrev entry-of : tie.In-loop Inv-loop μ-loop → tie.Start Inv-loop μ-loop
-entry-of c = c .before .before .before
+entry-of c = c .before .before .before .before
 
 abbrev turn-of : tie.After-known-told Inv-loop μ-loop → tie.In-loop Inv-loop μ-loop
 turn-of c = c .before .before .before .before .before .before
@@ -30,8 +30,14 @@ turn-from-known-told2 c = c .before .before .before .before .before .before
 abbrev after-step : tie.After-known-told Inv-loop μ-loop → tie.After-step Inv-loop μ-loop
 after-step c = c .before .before .before .before
 
+after-first-requires : tie.Need-after-first-requires Inv-loop μ-loop
+after-first-requires c κs = c .before .pre .0
+
 loop-holds : tie.Need-loop-holds Inv-loop μ-loop
-loop-holds c = start (c .before .args .text .now) (c .before .args .n) (headed (c .before .args .text .now) (c .before .pre .0)) (c .before .pre .1) (c .before .args .table .now)
+loop-holds c =
+    let entry = c .before .before in
+    let s = entry .args .text .now in
+    rw (c .after-first .ensures) (start s (entry .args .n) (headed s (entry .pre .0)) (entry .pre .1) (entry .args .table .now))
 
 step-requires : tie.Need-step-requires Inv-loop μ-loop
 step-requires c κs =
@@ -114,7 +120,7 @@ same-length-2 c = c .before .loop .inv .size
 
 returns-2 : tie.Need-returns-2 Inv-loop μ-loop
 returns-2 c =
-    let entry = c .before .before .before in
+    let entry = c .before .before .before .before in
     let inv = c .before .loop .inv in
     let q : c .before .loop .label - 1 ≡ entry .args .n = omega (arith, inv .high) in (
       done (entry .args .text .now) (entry .args .n) (headed (entry .args .text .now) (entry .pre .0)) (entry .pre .1) (entry .args .table .now) (c .before .loop .at) (c .before .loop .label)
@@ -128,6 +134,7 @@ read-lines-spec =
     (tie.spec
     Inv-loop
     μ-loop
+    after-first-requires
     loop-holds
     step-requires
     enum-known-row

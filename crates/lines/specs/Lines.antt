@@ -11,6 +11,8 @@ use Rattle.cells.specs.Quoted.{bytesOf}
 use Rattle.kinds.specs.declared.Fields.{Fields}
 use Rattle.kinds.specs.Kinds.{groupCode, fieldsAt}
 use Rattle.cells.specs.Cells.{zeros}
+use Rattle.numbers.specs.Arithmetic.{roundingBy}
+use Rattle.numbers.specs.declared.Arithmetic.{Arithmetic}
 use Rattle.numbers.specs.declared.Tie.{Tie}
 use Rattle.numbers.specs.declared.Tie.the-variants.{Away, Even}
 use Rattle.text.specs.Bytes.{all, countBy, isAllowed, isNewline, same}
@@ -44,6 +46,10 @@ firstLine Even = bytesOf "kind2 name a b c"
 -- "the rule that the sheet's own first line names"
 unfoldable pub tieOf : List ℕ → Tie
 tieOf s = cond (same (line s 0) (firstLine Even)) Even Away
+
+-- the arithmetic by which a sheet is evaluated: "Values are judged under the rule that the sheet's own first line names"
+abbrev pub arithmeticOf : List ℕ → Arithmetic
+arithmeticOf s = roundingBy (tieOf s)
 
 -- "Refusal 2 now allows either line."
 abbrev pub isFirstLine : List ℕ → Bool

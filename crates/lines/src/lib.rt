@@ -15,11 +15,12 @@ ghost use Rattle.cells.specs.Characters.{space};
 ghost use Rattle.numbers.specs.Decimal.{numberOf};
 ghost use Rattle.refusals.specs.Refusal.{replyOf};
 ghost use Rattle.lines.specs.Fields.{dash, blankIf, fromLabel, fromNumber, fieldOf, kindCode};
-ghost use Rattle.lines.specs.Lines.{isText, line, firstLine, tieOf, isFirstLine, labels, headBad, linesBad};
+ghost use Rattle.lines.specs.Lines.{isText, line, firstLine, tieOf, arithmeticOf, isFirstLine, labels, headBad, linesBad};
 ghost use Rattle.lines.specs.Scanned.{Scanned, ScannedAll, QuickOf};
 ghost use Rattle.lines.specs.LineSteps.{FiveAt, SplitOf, operandsAt, eightCells, cellsByEnds, otherRead, rootRead, lineRead, stepOf, lineWritten, passed, linesWritten};
 use kinds::Fields;
 use kinds::Form;
+use numbers::Arithmetic;
 use numbers::Decimal;
 use numbers::Number;
 use numbers::Tie;
@@ -529,7 +530,7 @@ fn step(text: &[u8], at: usize, n: usize, label: usize, table: &mut [i64]) -> Ne
 }
 
 // The tie rule that line one names. After row 2 the fifth byte tells the two lines apart, so that every Run can ask.
-pub fn tie_of(text: &[u8]) -> Tie
+fn tie_of(text: &[u8]) -> Tie
     requires { ⌜ headBad (now text) ≡ Verdict.Fine ⌝ }
     ensures { λ r. ⌜ r ≡ tieOf (now (text .entry)) ⌝ }
 {
@@ -537,6 +538,14 @@ pub fn tie_of(text: &[u8]) -> Tie
         return Tie::Even;
     }
     Tie::Away
+}
+
+// The arithmetic by which the sheet is evaluated: the one that rounds by its tie rule.
+pub fn arithmetic_of(text: &[u8]) -> Arithmetic
+    requires { ⌜ headBad (now text) ≡ Verdict.Fine ⌝ }
+    ensures { λ r. ⌜ r ≡ arithmeticOf (now (text .entry)) ⌝ }
+{
+    numbers::rounding_by(tie_of(text))
 }
 
 // Where the line of label 1 begins.

@@ -18,8 +18,8 @@ use Rattle.cells.proofs.Table.{cell-past}
 use Rattle.cells.proofs.Columns.{column-length, column-over, column-other}
 use Rattle.refusals.specs.declared.Verdict.the-variants.{Fine}
 use Rattle.refusals.proofs.OrElse.{both-fine}
-use Rattle.lines.specs.Lines.{isText, labels, firstLine, headBad}
-use Rattle.lines.proofs.Heads.{headed}
+use Rattle.lines.specs.Lines.{isText, labels, headBad}
+use Rattle.lines.proofs.Heads.{headed, named-first}
 use Rattle.order.specs.Order.{Answer, plan, orderOf}
 use Rattle.order.specs.Rows16to18.{cycleBad}
 use Rattle.reading.specs.Read.{tableShort, sheetBad, sheetTable, Reads, tableOf}
@@ -53,7 +53,7 @@ reads-any s e =
     record { head = record { some = h .some; ends = h .ends; allowed = h .allowed; first = h .first; low = h .low; high = h .high }; sheet = a .1 }
 
 pub any-reads : (s : List ℕ) → ReadsAtAnyLength s → length s ≤ sizeLimit → Reads s
-unfolding headBad isText firstLine
+unfolding headBad isText
 any-reads s r h =
     let k = r .head in
     rw (
@@ -61,7 +61,7 @@ any-reads s r h =
       le-leb (length s) sizeLimit h,
       eq-eqb (getD s (length s - 1) 0) newline (k .ends),
       k .allowed,
-      k .first,
+      named-first s (k .first),
       le-leb 1 (labels s) (k .low),
       le-leb (labels s) labelLimit (k .high),
     ) (r .sheet)

@@ -6,7 +6,7 @@ use lib.IntN.{ℤ}
 use lib.ListN.{getD, set}
 use Rattle.cells.specs.Table.{nameStart, withColumn, withNumber}
 use Rattle.numbers.specs.declared.Arithmetic.{Arithmetic}
-use Rattle.lines.specs.Lines.{labels}
+use Rattle.lines.specs.Lines.{labels, tieOf}
 use Rattle.order.specs.Order.{plan}
 use Rattle.reading.specs.Read.{sheetTable}
 use Rattle.figures.specs.Figures.{figures}
@@ -30,6 +30,8 @@ numberPut s l z = serialize (putNumber l z (parse s))
 pub record NumberPut (s : List ℕ) (l : ℕ) (z : ℤ) (r : List ℕ) : Type 0 where
   pub reads : ReadsAtAnyLength r
   pub count : labels r ≡ labels s
+  -- order 5: "Values are judged under the rule that the sheet's own first line names", which is the old one
+  pub tie : tieOf r ≡ tieOf s
   -- the sheet that it holds
   pub sheet : parse r ≡ putNumber l z (parse s)
   -- its table is the old one but for the byte starts and that cell

@@ -14,7 +14,7 @@ use Rattle.cells.specs.Accepted.{Accepted}
 use Rattle.refusals.specs.Refusal.{refusalOf}
 use Rattle.refusals.specs.declared.Verdict.the-variants.{Fine}
 use Rattle.refusals.proofs.OrElse.{both-fine}
-use Rattle.lines.specs.Lines.{labels}
+use Rattle.lines.specs.Lines.{labels, arithmeticOf}
 use Rattle.order.specs.Order.{NoCycle}
 use Rattle.order.specs.Following.{ProperList}
 use Rattle.order.specs.Evaluating.{labelCells}
@@ -23,6 +23,7 @@ use Rattle.reading.specs.Read.{tableShort, sheetTable, Reads}
 use Rattle.reading.specs.Keeps.{Keeps}
 use Rattle.reading.proofs.Accepted.{read-accepted}
 use Rattle.reading.proofs.Keeps.{keeps-read}
+use Rattle.numbers.specs.declared.Arithmetic.{Arithmetic}
 use Rattle.figures.specs.Figures.{figures, resultCells, Evaluated}
 use Rattle.figures.proofs.Rows.{row-of}
 use Rattle.figures.proofs.Working.{value-label, figures-solve, figures-only}
@@ -59,6 +60,9 @@ module _ (s : List ℕ) (m p q m′ q′ : ℕ) (e : Reads s) (f : runBuffers s 
 
   abbrev n : ℕ
   n = labels s
+
+  abbrev α : Arithmetic
+  α = arithmeticOf s
 
   ok : Accepted t n
   ok = read-accepted s e

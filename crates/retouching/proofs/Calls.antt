@@ -16,10 +16,11 @@ use Rattle.refusals.specs.declared.Verdict.the-variants.{Fine, Refused}
 use Rattle.refusals.specs.declared.Reply.{Reply}
 use Rattle.refusals.specs.declared.Reply.the-variants as head
 use Rattle.refusals.proofs.OrElse.{both-fine}
-use Rattle.lines.specs.Lines.{labels, headBad}
+use Rattle.lines.specs.Lines.{labels, headBad, arithmeticOf}
 use Rattle.reading.specs.Read.{sheetTable, Reads}
 use Rattle.reading.specs.ReadStages.{Passed}
 use Rattle.reading.proofs.Accepted.{read-length}
+use Rattle.numbers.specs.declared.Arithmetic.{Arithmetic}
 use Rattle.figures.specs.Figures.{resultCells}
 use Rattle.redoing.specs.Pairs.{pairCount, withPairs}
 use Rattle.redoing.specs.Redone.{changesOf}
@@ -105,16 +106,16 @@ module _ (s : List ℕ) (ps : List ℤ) (m p q w : ℕ) (x : Reply) (e : x ≡ h
 
 -- ---- rows 19 to 21 of a sheet that has been run
 
-module _ (n : ℕ) (ps t o : List ℤ) where
+module _ (α : Arithmetic) (n : ℕ) (ps t o : List ℤ) where
   -- nothing found, and the pairs applied to the table's first cells, with changes that are cleared behind theirs
   pub run-applied : (u c : List ℤ) {u′ t′ c₀ c′ : List ℤ} → pairsBad (cellsTo n t) ps ≡ Fine → 3 * pairCount ps ≤ length c → c₀ ≡ clearFrom (3 * pairCount ps) c
-      → PairsApplied (cellsTo n t) n ps (pairCount ps) u c₀ t′ u′ c′ → RunRetouches n ps t o (length u) (length c) Fine (t′ ++ drop (8 * n) t) o u′ c′
+      → PairsApplied α (cellsTo n t) n ps (pairCount ps) u c₀ t′ u′ c′ → RunRetouches α n ps t o (length u) (length c) Fine (t′ ++ drop (8 * n) t) o u′ c′
   run-applied u c {u′} {t′} {c₀} {c′} e h z a = record {
     found = sym e;
     table = ap (λ (x : List ℤ). x ++ drop (8 * n) t) (a .table);
     plan = refl;
     results = a .results;
-    changes = a .changes ∙ ap (λ (x : List ℤ). changesOf (cellsTo n t) n ps (pairCount ps) ++ x) past;
+    changes = a .changes ∙ ap (λ (x : List ℤ). changesOf α (cellsTo n t) n ps (pairCount ps) ++ x) past;
   }
     where
       past : drop (3 * pairCount ps) c₀ ≡ zeros (length c - 3 * pairCount ps)
@@ -125,7 +126,7 @@ module _ (n : ℕ) (ps t o : List ℤ) where
   -- something found, and all four buffers cleared
   pub run-cleared : (q w : ℕ) {i l : ℕ} → Refused i l ≡ pairsBad (cellsTo n t) ps → {t′ o′ u c : List ℤ}
       → (t′ ≡ zeros (length t)) × ((o′ ≡ zeros (length o)) × ((u ≡ zeros q) × (c ≡ zeros w)))
-      → RunRetouches n ps t o q w (Refused i l) t′ o′ u c
+      → RunRetouches α n ps t o q w (Refused i l) t′ o′ u c
   run-cleared q w e (a, (b, (d, g))) = record { found = e; table = a; plan = b; results = d; changes = g }
 
 pub refused-reply : {v : Verdict} (a : PlanReply) {i l : ℕ} → v ≡ Refused i l → reply.Refused i l ≡ unlessRefused v a
@@ -160,22 +161,22 @@ module _ (s : List ℕ) (ps : List ℤ) (m p q w n : ℕ) (r : PlanReply) (t o u
     rows : cellsTo n t ≡ sheetTable s
     rows = rows-sheets s m p n r t o h (st .planned) a is answers k counts
 
-    pub run-standing : n ≤ p → 3 * n ≤ q → length t ≡ m → length o ≡ p → length u ≡ q → Standing (cellsTo n t) n o k u
-    run-standing g fit _ long-o long-u =
+    pub run-standing : {α : Arithmetic} → α ≡ arithmeticOf s → n ≤ p → 3 * n ≤ q → length t ≡ m → length o ≡ p → length u ≡ q → Standing α (cellsTo n t) n o k u
+    run-standing own g fit _ long-o long-u =
         let d = run-down-ready s m p n r t o h (st .planned) a is answers k counts g in
         record {
           accepted = d .0;
           plans = omega (arith, d .1, long-o);
           proper = d .2;
           fit = omega (arith, long-u);
-          results = (rw planned at (st .results)) ∙ rw (rows, h .count, long-u) refl;
+          results = (rw planned at (st .results)) ∙ rw (own, rows, h .count, long-u) refl;
         }
 
     -- and rows 19 to 21 found v
-    pub run-retouched : (v : Verdict) (t′ o′ u′ c : List ℤ) → length t ≡ m → length o ≡ p → length u ≡ q → RunRetouches n ps t o (length u) w v t′ o′ u′ c
+    pub run-retouched : {α : Arithmetic} → α ≡ arithmeticOf s → (v : Verdict) (t′ o′ u′ c : List ℤ) → length t ≡ m → length o ≡ p → length u ≡ q → RunRetouches α n ps t o (length u) w v t′ o′ u′ c
         → SheetRetouches s ps m p q w (unlessRefused v a) t′ o′ u′ c
     unfolding sheetRetouched retouched
-    run-retouched v t′ o′ u′ c long-t long-o long-u d = go v refl
+    run-retouched own v t′ o′ u′ c long-t long-o long-u d = go v refl
       where
         found : sheetRetouched s ps ≡ v
         found = rw planned (ap (λ (x : List ℤ). pairsBad x ps) (sym rows) ∙ sym (d .found))
@@ -190,8 +191,8 @@ module _ (s : List ℕ) (ps : List ℤ) (m p q w n : ℕ) (r : PlanReply) (t o u
           reply = sym is ∙ (rw planned at (st .planned .reply));
           table = (rw z at (d .table)) ∙ (λ i. withPairs ps (pairCount ps) (rows i) ++ past i);
           plan = (rw z at (d .plan)) ∙ (rw planned at (st .planned .plan));
-          results = (rw z at (d .results)) ∙ (λ i. resultCells (withPairs ps (pairCount ps) (rows i)) (h .count i) (long-u i));
-          changes = (rw z at (d .changes)) ∙ (λ i. changesOf (rows i) (h .count i) ps (pairCount ps) ++ zeros (w - 3 * pairCount ps));
+          results = (rw z at (d .results)) ∙ (λ i. resultCells (own i) (withPairs ps (pairCount ps) (rows i)) (h .count i) (long-u i));
+          changes = (rw z at (d .changes)) ∙ (λ i. changesOf (own i) (rows i) (h .count i) ps (pairCount ps) ++ zeros (w - 3 * pairCount ps));
         })
         go (Refused i l) z = rw (found, z) (record {
           reply = refl;

@@ -18,7 +18,7 @@ use Rattle.cells.proofs.Table.{cell-past}
 use Rattle.cells.proofs.Columns.{column-length, column-over, column-other}
 use Rattle.refusals.specs.declared.Verdict.the-variants.{Fine}
 use Rattle.refusals.proofs.OrElse.{both-fine}
-use Rattle.lines.specs.Lines.{isText, labels, headBad}
+use Rattle.lines.specs.Lines.{isText, labels, headBad, tieOf, arithmeticOf}
 use Rattle.lines.proofs.Heads.{headed, named-first}
 use Rattle.order.specs.Order.{Answer, plan, orderOf}
 use Rattle.order.specs.Rows16to18.{cycleBad}
@@ -26,7 +26,10 @@ use Rattle.reading.specs.Read.{tableShort, sheetBad, sheetTable, Reads, tableOf
 use Rattle.reading.specs.AnyLength.{ReadsAtAnyLength}
 use Rattle.reading.proofs.Accepted.{any-accepted, any-length, read-accepted, read-length}
 use Rattle.evaluation.specs.declared.Value.{Value}
-use Rattle.figures.specs.Figures.{bufferOf, figures}
+use Rattle.numbers.specs.declared.Arithmetic.{Arithmetic}
+use Rattle.numbers.specs.declared.Tie.{Tie}
+use Rattle.numbers.specs.Arithmetic.{roundingBy}
+use Rattle.figures.specs.Figures.{bufferOf, figures, resultCells}
 use Rattle.sheets.specs.NumberPut.{NumberPut}
 use Rattle.sheets.proofs.NumberPut.{figures-starts, number-put}
 use Rattle.calls.specs.Buffers.{planShort, resultsShort, runBuffers}
@@ -126,7 +129,8 @@ pub record PutUpTo (s : List ℕ) (ps : List ℤ) (k : ℕ) (r : List ℕ) : Typ
   pub count : labels r ≡ labels s
   pub table : sheetTable r ≡ withColumn 1 (nameStart (sheetTable r)) (labels s) (withPairs ps k (sheetTable s))
   pub order : plan (sheetTable r) (labels r) ≡ plan (sheetTable s) (labels s)
-  pub results : (v : ℕ) → figures (sheetTable r) (labels r) v ≡ figures (withPairs ps k (sheetTable s)) (labels s) v
+  pub tie : tieOf r ≡ tieOf s
+  pub results : (α : Arithmetic) (v : ℕ) → figures α (sheetTable r) (labels r) v ≡ figures α (withPairs ps k (sheetTable s)) (labels s) v
 
 -- the byte starts that stand there, written over themselves
 starts-own : (s : List ℕ) → ReadsAtAnyLength s → sheetTable s ≡ withColumn 1 (nameStart (sheetTable s)) (labels s) (sheetTable s)
@@ -175,15 +179,16 @@ module _ (s : List ℕ) (ps : List ℤ) (reads : ReadsAtAnyLength s) (k : ℕ) (
       count = w .count ∙ v .count;
       table = next-table;
       order = w .order ∙ v .order;
-      results = λ x.
-          ap (λ (m : ℕ). figures (sheetTable r) m x) (w .count ∙ v .count)
-          ∙ ap (λ (t : List ℤ). figures t n x) next-table
-          ∙ figures-starts f n next n x;
+      tie = w .tie ∙ v .tie;
+      results = λ α x.
+          ap (λ (m : ℕ). figures α (sheetTable r) m x) (w .count ∙ v .count)
+          ∙ ap (λ (t : List ℤ). figures α t n x) next-table
+          ∙ figures-starts α f n next n x;
     }
 
 pub numbers-put : (s : List ℕ) (ps : List ℤ) → ReadsAtAnyLength s
     → (k : ℕ) → ((i : ℕ) → 1 ≤ i → i ≤ k → PairRight (sheetTable s) ps i) → PutUpTo s ps k (numbersPut s ps k)
-numbers-put s ps reads zero h = record { reads = reads; count = refl; table = starts-own s reads; order = refl; results = λ v. refl }
+numbers-put s ps reads zero h = record { reads = reads; count = refl; table = starts-own s reads; order = refl; tie = refl; results = λ α v. refl }
 numbers-put s ps reads (suc k) h =
     let u = numbersPut s ps k in
     let v = numbers-put s ps reads k (λ i a b. h i a (omega arith)) in
@@ -227,11 +232,11 @@ module _ (s : List ℕ) (ps : List ℤ) (m p q w : ℕ) (e : retouchBad s ps m p
 
   -- "After each pair": the values that are worked out again, of each pair of the list
   pub each-pair-redone : (k : ℕ) → k < pairCount ps
-      → PairRedone (withPairs ps k (sheetTable s)) (withPairs ps (suc k) (sheetTable s)) (labels s) (owner (sheetTable s) (pairLabel ps (suc k))) (orderOf (planOf s)) q
+      → PairRedone (arithmeticOf s) (withPairs ps k (sheetTable s)) (withPairs ps (suc k) (sheetTable s)) (labels s) (owner (sheetTable s) (pairLabel ps (suc k))) (orderOf (planOf s)) q
   unfolding planOf
   each-pair-redone k h =
       let ok = read-accepted s (opened .0) in
-      every-pair ps (sheetTable s) (labels s) ok (orderOf (plan (sheetTable s) (labels s))) (planned-proper (sheetTable s) (labels s) ok (opened .2)) q
+      every-pair ps (sheetTable s) (labels s) ok (arithmeticOf s) (orderOf (plan (sheetTable s) (labels s))) (planned-proper (sheetTable s) (labels s) ok (opened .2)) q
       (results-room s q (run-rooms s m p q long .2)) k (λ i a b. right i a (omega arith))
 
   any : ReadsAtAnyLength s
@@ -263,8 +268,9 @@ module _ (s : List ℕ) (ps : List ℤ) (m p q w : ℕ) (e : retouchBad s ps m p
   unfolding retouchResults retouched
   results-put =
       rw e
-      (sym (ap (λ (f : ℕ → Value). bufferOf f (labels r) q) (fun-ext (all .results))
-      ∙ ap (λ (n : ℕ). bufferOf (figures final (labels s)) n q) (all .count)))
+      (sym (ap (λ (f : ℕ → Value). bufferOf f (labels r) q) (fun-ext (all .results (arithmeticOf r)))
+      ∙ ap (λ (n : ℕ). bufferOf (figures (arithmeticOf r) final (labels s)) n q) (all .count)
+      ∙ ap (λ (tie : Tie). resultCells (roundingBy tie) final (labels s) q) (all .tie)))
 
   table-put : tableOf Fine r m ≡ withColumn 1 starts (labels s) (retouchTable s ps m p q w)
   unfolding retouchTable retouched
@@ -298,6 +304,7 @@ module _ (s : List ℕ) (ps : List ℤ) (m p q w : ℕ) (e : retouchBad s ps m p
   unfolding runReply runPlan runResults runTable
   run-of-put = record {
     reads = all .reads;
+    tie = all .tie;
     count = all .count;
     reply = reply-put;
     plan = plan-put;

@@ -8,7 +8,7 @@ use lib.ListN.{length}
 use Rattle.cells.specs.Limits.{sizeLimit}
 use Rattle.cells.specs.Table.{nameStart, withColumn}
 use Rattle.refusals.specs.declared.Verdict.the-variants.{Fine}
-use Rattle.lines.specs.Lines.{labels}
+use Rattle.lines.specs.Lines.{labels, tieOf}
 use Rattle.reading.specs.Read.{sheetTable, tableOf}
 use Rattle.reading.specs.AnyLength.{ReadsAtAnyLength}
 use Rattle.redoing.specs.Pairs.{pairLabel, pairNumber}
@@ -24,9 +24,10 @@ numbersPut s ps (suc k) = numberPut (numbersPut s ps k) (pairLabel ps (suc k)) (
 
 -- r is that text, of all pairs. What Retouch leaves, in buffers of m, p, q and w cells, where it answers:
 pub record RunOfPut (s : List ℕ) (ps : List ℤ) (m p q w : ℕ) (r : List ℕ) : Type 0 where
-  -- the text reads, row 1's length limit left aside, and has as many labels;
+  -- the text reads, row 1's length limit left aside, has as many labels and names the same tie rule;
   pub reads : ReadsAtAnyLength r
   pub count : labels r ≡ labels s
+  pub tie : tieOf r ≡ tieOf s
   -- Retouch's reply, plan and results are those of this text,
   pub reply : retouchReply s ps m p q w ≡ answerBy Fine (planOf r)
   pub plan : retouchPlan s ps m p q w ≡ listedBy Fine (planOf r) p

@@ -16,7 +16,7 @@ use Rattle.refusals.specs.Rows.{buffersRow, pairsRow, pairLabelRow, pairNumberR
 use Rattle.refusals.specs.Refusal.{orElse, firstBad}
 use Rattle.refusals.specs.declared.Verdict.{Verdict}
 use Rattle.refusals.specs.declared.Verdict.the-variants.{Fine, Refused}
-use Rattle.lines.specs.Lines.{labels}
+use Rattle.lines.specs.Lines.{labels, arithmeticOf}
 use Rattle.reading.specs.Read.{sheetTable, Reads}
 use Rattle.figures.specs.Figures.{resultCells}
 use Rattle.redoing.specs.Pairs.{pairCount, pairLabel, pairNumber, withPairs}
@@ -64,14 +64,14 @@ abbrev pub retouchedBy : Verdict → List ℕ → List ℤ → ℕ → List ℤ
 retouchedBy Fine s ps m = retouched s ps ++ zeros (m - 8 * labels s)
 retouchedBy (Refused r l) s ps m = zeros m
 
--- "the final results": those of Working out for that table
+-- "the final results": those of Working out for that table, by the sheet's own arithmetic
 abbrev pub finalBy : Verdict → List ℕ → List ℤ → ℕ → List ℤ
-finalBy Fine s ps q = resultCells (retouched s ps) (labels s) q
+finalBy Fine s ps q = resultCells (arithmeticOf s) (retouched s ps) (labels s) q
 finalBy (Refused r l) s ps q = zeros q
 
 -- three cells a pair: redone, failing, steps
 abbrev pub changesBy : Verdict → List ℕ → List ℤ → ℕ → List ℤ
-changesBy Fine s ps w = changesOf (sheetTable s) (labels s) ps (pairCount ps) ++ zeros (w - 3 * pairCount ps)
+changesBy Fine s ps w = changesOf (arithmeticOf s) (sheetTable s) (labels s) ps (pairCount ps) ++ zeros (w - 3 * pairCount ps)
 changesBy (Refused r l) s ps w = zeros w
 
 -- "It answers as Run does"

@@ -5,6 +5,7 @@ use Prim.Native.Nat.{ℕ, _-_, _*_}
 use lib.IntN.{ℤ}
 use lib.ListN.{length, drop}
 use Rattle.cells.specs.Cells.{zeros}
+use Rattle.numbers.specs.declared.Arithmetic.{Arithmetic}
 use Rattle.refusals.specs.Refusal.{orElse}
 use Rattle.refusals.specs.declared.Verdict.{Verdict}
 use Rattle.refusals.specs.declared.Verdict.the-variants.{Fine, Refused}
@@ -33,25 +34,25 @@ abbrev pub unlessRefused : Verdict → PlanReply → PlanReply
 unlessRefused Fine r = r
 unlessRefused (Refused i l) r = reply.Refused i l
 
--- what they leave of it where they find v: the table, the results r in as many cells, and changes in w cells
+-- what they leave of it where they find v, by an arithmetic α: the table, the results r in as many cells, and changes in w cells
 abbrev pub tableBy : Verdict → ℕ → List ℤ → List ℤ → List ℤ
 tableBy Fine n ps t = withPairs ps (pairCount ps) (cellsTo n t) ++ drop (8 * n) t
 tableBy (Refused i l) n ps t = zeros (length t)
 
-abbrev pub resultsAfter : Verdict → ℕ → List ℤ → List ℤ → ℕ → List ℤ
-resultsAfter Fine n ps t q = resultCells (withPairs ps (pairCount ps) (cellsTo n t)) n q
-resultsAfter (Refused i l) n ps t q = zeros q
+abbrev pub resultsAfter : Arithmetic → Verdict → ℕ → List ℤ → List ℤ → ℕ → List ℤ
+resultsAfter α Fine n ps t q = resultCells α (withPairs ps (pairCount ps) (cellsTo n t)) n q
+resultsAfter α (Refused i l) n ps t q = zeros q
 
-abbrev pub changesAfter : Verdict → ℕ → List ℤ → List ℤ → ℕ → List ℤ
-changesAfter Fine n ps t w = changesOf (cellsTo n t) n ps (pairCount ps) ++ zeros (w - 3 * pairCount ps)
-changesAfter (Refused i l) n ps t w = zeros w
+abbrev pub changesAfter : Arithmetic → Verdict → ℕ → List ℤ → List ℤ → ℕ → List ℤ
+changesAfter α Fine n ps t w = changesOf α (cellsTo n t) n ps (pairCount ps) ++ zeros (w - 3 * pairCount ps)
+changesAfter α (Refused i l) n ps t w = zeros w
 
-pub record RunRetouches (n : ℕ) (ps t o : List ℤ) (q w : ℕ) (v : Verdict) (t′ o′ u c : List ℤ) : Type 0 where
+pub record RunRetouches (α : Arithmetic) (n : ℕ) (ps t o : List ℤ) (q w : ℕ) (v : Verdict) (t′ o′ u c : List ℤ) : Type 0 where
   pub found : v ≡ pairsBad (cellsTo n t) ps
   pub table : t′ ≡ tableBy v n ps t
   pub plan : o′ ≡ keptBy v o
-  pub results : u ≡ resultsAfter v n ps t q
-  pub changes : c ≡ changesAfter v n ps t w
+  pub results : u ≡ resultsAfter α v n ps t q
+  pub changes : c ≡ changesAfter α v n ps t w
 
 -- ---- rows 5 to 21 of a text that rows 1 to 4 let pass
 unfoldable pub sheetRetouched : List ℕ → List ℤ → Verdict

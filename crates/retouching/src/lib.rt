@@ -12,6 +12,7 @@ ghost use Rattle.redoing.specs.RedoStages.{Standing};
 ghost use Rattle.retouching.specs.Retouch.{retouchBuffers, listBad, pairBad, pairsBad, RetouchLeaves};
 ghost use Rattle.retouching.specs.RetouchStages.{unlessRefused, RunRetouches, SheetRetouches};
 use calls::PlanReply;
+use numbers::Arithmetic;
 use refusals::Reply;
 use refusals::Verdict;
 
@@ -102,8 +103,9 @@ fn clear_all(table: &mut [i64], plan: &mut [i64], results: &mut [i64], changes: 
     calls::clear_both(results, changes);
 }
 
-// Rows 19 to 21 of a sheet that has been run, and the pairs applied to it.
+// Rows 19 to 21 of a sheet that has been run, and the pairs applied to it, by the arithmetic that it was run by.
 fn retouch_run(
+    arithmetic: Arithmetic,
     n: usize,
     count: usize,
     pairs: &[i64],
@@ -112,14 +114,14 @@ fn retouch_run(
     results: &mut [i64],
     changes: &mut [i64],
 ) -> Verdict
-    requires { ⌜ Standing (cellsTo n (now table)) n (now plan) count (now results) × (8 * n ≤ length (now table)) × (3 * pairCount (now pairs) ≤ length (now changes)) ⌝ }
-    ensures { λ r. ⌜ RunRetouches n (now (pairs .entry)) (now (table .entry)) (now (plan .entry)) (length (now (results .entry))) (length (now (changes .entry)))
+    requires { ⌜ Standing arithmetic (cellsTo n (now table)) n (now plan) count (now results) × (8 * n ≤ length (now table)) × (3 * pairCount (now pairs) ≤ length (now changes)) ⌝ }
+    ensures { λ r. ⌜ RunRetouches arithmetic n (now (pairs .entry)) (now (table .entry)) (now (plan .entry)) (length (now (results .entry))) (length (now (changes .entry)))
         r (now (table .exit)) (now (plan .exit)) (now (results .exit)) (now (changes .exit)) ⌝ }
 {
     match check_pairs(&table[..8 * n], pairs) {
         Verdict::Fine => {
             cells::clear_from(changes, 3 * (pairs.len() / 2));
-            redoing::apply_pairs(&mut table[..8 * n], n, plan, count, pairs, results, changes);
+            redoing::apply_pairs(arithmetic, &mut table[..8 * n], n, plan, count, pairs, results, changes);
             Verdict::Fine
         }
         Verdict::Refused(row, place) => {
@@ -153,13 +155,14 @@ fn retouch_sheet(
     ensures { λ r. ⌜ SheetRetouches (now (text .entry)) (now (pairs .entry)) (length (now (table .entry))) (length (now (plan .entry))) (length (now (results .entry)))
         (length (now (changes .entry))) r (now (table .exit)) (now (plan .exit)) (now (results .exit)) (now (changes .exit)) ⌝ }
 {
+    let arithmetic = lines::arithmetic_of(text);
     match calls::run_sheet(text, n, table, plan, results) {
         PlanReply::Whole(count) => {
-            let found = retouch_run(n, count as usize, pairs, table, plan, results, changes);
+            let found = retouch_run(arithmetic, n, count as usize, pairs, table, plan, results, changes);
             reply_by(found, PlanReply::Whole(count))
         }
         PlanReply::Mixed(count) => {
-            let found = retouch_run(n, count as usize, pairs, table, plan, results, changes);
+            let found = retouch_run(arithmetic, n, count as usize, pairs, table, plan, results, changes);
             reply_by(found, PlanReply::Mixed(count))
         }
         PlanReply::Refused(row, label) => {

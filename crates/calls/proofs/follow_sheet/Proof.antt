@@ -13,10 +13,13 @@ use Rattle.calls.proofs.follow_sheet.Tie as tie
 -- ---- earlier places, by later ones
 
 abbrev entry-of : tie.After-follow-rows → tie.Start
-entry-of c = c .before .before .before
+entry-of c = c .before .before .before .before
 
 abbrev after-follow-rows : tie.After-enum-told → tie.After-follow-rows
 after-follow-rows c = c .before .before .before
+
+arithmetic-of-requires : tie.Need-arithmetic-of-requires
+arithmetic-of-requires c κs = c .before .pre .0 .head
 
 follow-rows-requires : tie.Need-follow-rows-requires
 follow-rows-requires c κs = search needs
@@ -62,7 +65,7 @@ returns c =
     let at-enum-told = done .before .before .before in
     let judged = after-follow-rows at-enum-told in
     let entry = entry-of judged in
-    list-follows _ (entry .args .order .now) (length (entry .args .table .now)) _ (entry .pre .0) _ _ (judged .follow-rows .ensures) _ _
+    list-follows _ (entry .args .order .now) (length (entry .args .table .now)) _ (entry .pre .0) _ _ (judged .follow-rows .ensures) (judged .before .before .arithmetic-of .ensures) _ _
     (at-enum-told .enum-told .given .1) (done .run-down .ensures)
 
 same-length-3 : tie.Need-same-length-3
@@ -85,6 +88,7 @@ pub follow-sheet-spec : {M : Type 1} → statement M
 follow-sheet-spec =
     tie.close
     (tie.spec
+    arithmetic-of-requires
     follow-rows-requires
     enum-told
     mul-run-down

@@ -12,7 +12,7 @@ use Rattle.calls.proofs.run_sheet.Tie as tie
 -- ---- earlier places, by later ones
 
 abbrev entry-of : tie.After-plan-sheet → tie.Start
-entry-of c = c .before .before .before .before
+entry-of c = c .before .before .before .before .before
 
 abbrev after-plan-sheet : tie.After-count → tie.After-plan-sheet
 after-plan-sheet c = c .before .before .before .before
@@ -25,6 +25,9 @@ after-count c = c .before .before .before .before
 
 abbrev after-count2 : tie.After-run-down-arg6 → tie.After-count2
 after-count2 c = c .before .before .before .before
+
+arithmetic-of-requires : tie.Need-arithmetic-of-requires
+arithmetic-of-requires c κs = c .before .pre .0 .head
 
 plan-sheet-requires : tie.Need-plan-sheet-requires
 plan-sheet-requires c κs = search needs
@@ -101,7 +104,7 @@ returns c =
     let planned = after-plan-sheet at-count in
     let entry = entry-of planned in
     results-evaluated _ (length (entry .args .table .now)) (length (entry .args .plan .now)) _ _ _ _ (entry .pre .0) (planned .plan-sheet .ensures) _
-    (at-count .count .given .1) refl _ refl _ _ (done .run-down .ensures)
+    (at-count .count .given .1) refl _ refl (planned .before .before .before .arithmetic-of .ensures) _ _ (done .run-down .ensures)
 
 same-length-4 : tie.Need-same-length-4
 same-length-4 c = search needs
@@ -119,7 +122,7 @@ returns-2 c =
     let planned = after-plan-sheet-from-count2 at-count2 in
     let entry = entry-of planned in
     results-evaluated _ (length (entry .args .table .now)) (length (entry .args .plan .now)) _ _ _ _ (entry .pre .0) (planned .plan-sheet .ensures) _
-    (at-count2 .count2 .given .1) refl _ refl _ _ (done .run-down2 .ensures)
+    (at-count2 .count2 .given .1) refl _ refl (planned .before .before .before .arithmetic-of .ensures) _ _ (done .run-down2 .ensures)
 
 same-length-7 : tie.Need-same-length-7
 same-length-7 c = search needs
@@ -143,6 +146,7 @@ pub run-sheet-spec : {M : Type 1} → statement M
 run-sheet-spec =
     tie.close
     (tie.spec
+    arithmetic-of-requires
     plan-sheet-requires
     enum-known-count
     mul-run-down

@@ -73,7 +73,7 @@ returns c =
     let cleared = c .before .before .before .before .before .before .before .before .before in
     let told = cleared .before .before in
     let fine = sym (told .before .before .check-pairs .ensures) ∙ told .enum-told .given .1 in
-    run-applied _ _ _ _ (entry .args .results .now) (entry .args .changes .now) fine (entry .pre .2) (cleared .clear-from .ensures) (c .before .before .before .apply-pairs .ensures)
+    run-applied _ _ _ _ _ (entry .args .results .now) (entry .args .changes .now) fine (entry .pre .2) (cleared .clear-from .ensures) (c .before .before .before .apply-pairs .ensures)
 
 same-length-5 : tie.Need-same-length-5
 same-length-5 c = search needs
@@ -91,7 +91,7 @@ returns-2 : tie.Need-returns-2
 returns-2 c =
     let at-row = c .before .before .before .before .before .before .before .before .before .before in
     let found = sym (at-row .row .given .1) ∙ at-row .before .before .check-pairs .ensures in
-    run-cleared _ _ _ _ _ _ found (c .before .before .before .before .clear-all .ensures)
+    run-cleared _ _ _ _ _ _ _ found (c .before .before .before .before .clear-all .ensures)
 
 pub retouch-run-spec : {M : Type 1} → statement M
 retouch-run-spec =

@@ -12,7 +12,6 @@ use lib.Dec.{leb, eqb}
 use lib.ListN.{length, getD, take, length-append}
 use lib.Seq.{take-all, getD-take}
 use borrow.Author.Tests.{eqb-true, leb-true, le-leb, lt-leb, eq-eqb, ne-eqb, not-true}
-use Rattle.cells.specs.Quoted.{bytesOf}
 use Rattle.cells.specs.Limits.{labelLimit, sizeLimit}
 use Rattle.cells.specs.Characters.{newline}
 use Rattle.numbers.specs.declared.Tie.{Tie}
@@ -266,8 +265,8 @@ module _ (s : List ℕ) (h : Headed s) where
       go (yes k) = omega (arith, ended-long (tieOf s))
       go (no k) = absurd (true-false (sym begins ∙ sym (begins-short s begin (omega (arith, k)))))
 
-  pub fifth-tells : cond (eqb (getD s 4 0) (code "2")) Even Away ≡ tieOf s
-  fifth-tells =
+  pub fifth-tells : (b : Bool) → eqb (getD s 4 0) (code "2") ≡ b → cond b Even Away ≡ tieOf s
+  fifth-tells b e =
       let fifth : getD s 4 0 ≡ getD begin 4 0 =
       sym (getD-take (length begin) s 4 0 (omega (arith, ended-long (tieOf s)))) ∙ ap (λ (l : List ℕ). getD l 4 0) (same-eq (take (length begin) s) begin begins) in
-      ap (λ (y : ℕ). cond (eqb y (code "2")) Even Away) fifth ∙ ended-fifth (tieOf s)
+      ap (λ (a : Bool). cond a Even Away) (sym e ∙ ap (λ (y : ℕ). eqb y (code "2")) fifth) ∙ ended-fifth (tieOf s)

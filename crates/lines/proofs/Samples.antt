@@ -89,7 +89,7 @@ unfolding sheets headBad isText isAllowed labels line firstLine linesBad lineBad
 found = refl
 
 -- the rule goes by the first line alone
-rules : map tieOf
+tie-rules : map tieOf
     (textOf ("kind name a b c" ∷ "G - 0 - -" ∷ [])
     ∷ textOf ("kind2 name a b c" ∷ "G - 0 - -" ∷ [])
     ∷ textOf ("kind name a b c" ∷ "kind2 name a b c" ∷ [])
@@ -97,4 +97,4 @@ rules : map tieOf
     ∷ [])
     ≡ Away ∷ Even ∷ Away ∷ Even ∷ []
 unfolding tieOf line firstLine
-rules = refl
+tie-rules = refl

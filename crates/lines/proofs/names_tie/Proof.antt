@@ -1,5 +1,5 @@
 -- The bytes that the text has to begin with are those of the line and its end.
-use mathlib.Core.Path.{_≡_, _∙_, ap, sym}
+use mathlib.Core.Path.{_∙_, ap, sym}
 use borrow.Author.Needs.{needs}
 use Rattle.text.specs.Bytes.{same}
 use Rattle.numbers.specs.declared.Tie.{Tie}

@@ -11,7 +11,7 @@ use Rattle.cells.specs.Characters.{newline, space}
 use Rattle.kinds.specs.Kinds.{valueCode}
 use Rattle.cells.specs.Table.{kind, nameStart, nameLength}
 use Rattle.cells.specs.Accepted.{Accepted}
-use Rattle.lines.specs.Lines.{labels}
+use Rattle.lines.specs.Lines.{labels, arithmeticOf}
 use Rattle.order.specs.LabelLists.{_∈_}
 use Rattle.order.specs.Order.{NoCycle}
 use Rattle.order.specs.Following.{labelsOf}
@@ -27,6 +27,7 @@ use Rattle.evaluation.specs.Results.{stateAt, numberAt, stepsAt, stored}
 use Rattle.evaluation.specs.Evaluation.{valueOutcome, evaluated, stepLimit}
 use Rattle.evaluation.specs.declared.Value.{Value}
 use Rattle.evaluation.proofs.Range.{Good, value-recorded}
+use Rattle.numbers.specs.declared.Arithmetic.{Arithmetic}
 use Rattle.figures.specs.Figures.{resultCells}
 use Rattle.figures.proofs.Working.{value-label, figures-value, figures-stored}
 use Rattle.figures.proofs.Early.{figures-recorded}
@@ -84,15 +85,15 @@ lines-length s t r word (v ∷ l) w h =
 
 -- ---- a value of an accepted table without a cycle, with the results of Working out
 
-module _ (t : List ℤ) (n m : ℕ) (ok : Accepted t n) (nc : NoCycle t) (fit : 3 * n ≤ m) where
-  value-is : (v : ℕ) → kind t v ≡ valueCode → stored (resultCells t n m) v ≡ evaluated t (resultCells t n m) v
-  value-is v k = figures-stored t n ok m fit v ∙ figures-value t n ok m fit nc v k
+module _ (α : Arithmetic) (t : List ℤ) (n m : ℕ) (ok : Accepted t n) (nc : NoCycle t) (fit : 3 * n ≤ m) where
+  value-is : (v : ℕ) → kind t v ≡ valueCode → stored (resultCells α t n m) v ≡ evaluated α t (resultCells α t n m) v
+  value-is v k = figures-stored α t n ok m fit v ∙ figures-value α t n ok m fit nc v k
 
-  value-good : (v : ℕ) → kind t v ≡ valueCode → Good 1 (valueOutcome t (resultCells t n m) v)
-  value-good v k = value-recorded t (resultCells t n m) n ok v k (λ x j _. figures-recorded t n ok nc m fit x j)
+  value-good : (v : ℕ) → kind t v ≡ valueCode → Good 1 (valueOutcome α t (resultCells α t n m) v)
+  value-good v k = value-recorded α t (resultCells α t n m) n ok v k (λ x j _. figures-recorded α t n ok nc m fit x j)
 
   -- its name is in a table w
-  value-short : (w : List ℤ) (v : ℕ) → kind t v ≡ valueCode → nameLength w v ≤ nameLimit → Short w (resultCells t n m) v
+  value-short : (w : List ℤ) (v : ℕ) → kind t v ≡ valueCode → nameLength w v ≤ nameLimit → Short w (resultCells α t n m) v
   value-short w v k h =
       let e = value-is v k in
       let g = value-good v k in
@@ -114,7 +115,7 @@ module _ (s : List ℕ) (m p q : ℕ) (a : isAnswer (runReply s m p q) ≡ true)
   ok : Accepted (sheetTable s) (labels s)
   ok = read-accepted s (reads s m p q a)
 
-  results-are : runResults s m p q ≡ resultCells (sheetTable s) (labels s) q
+  results-are : runResults s m p q ≡ resultCells (arithmeticOf s) (sheetTable s) (labels s) q
   unfolding runResults
   results-are = rw (run-fine s m p q a)
 
@@ -125,7 +126,7 @@ module _ (s : List ℕ) (m p q : ℕ) (a : isAnswer (runReply s m p q) ≡ true)
       let name : nameLength (tableOf Fine s m) v ≤ nameLimit =
       rw (cell-padded (sheetTable s) (m - 8 * labels s) v 2) (read-short s (reads s m p q a) v k) in
       rw (table-is s m p q a, results-are)
-      (value-short (sheetTable s) (labels s) q ok (proper-no-cycle o) (results-fit s m p q a) (tableOf Fine s m) v k name)
+      (value-short (arithmeticOf s) (sheetTable s) (labels s) q ok (proper-no-cycle o) (results-fit s m p q a) (tableOf Fine s m) v k name)
 
   abbrev lines : List ℕ → List ℕ
   lines word = valueLines s (runTable s m p q) (runResults s m p q) word order

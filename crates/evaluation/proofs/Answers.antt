@@ -76,19 +76,20 @@ pub no-step : (α : Arithmetic) (t r : List ℤ) (l : ℕ) (g : Arguments) (s d 
 unfolding stepBy
 no-step α t r l g s d e q = rw e (q ∙ unrolled α t r l g 0 d)
 
-pub entered : (α : Arithmetic) (t r : List ℤ) (l : ℕ) (g : Arguments) (s d : ℕ) {s′ d′ : ℕ} {k : Clause} {u : Outcome} → (s ≡ 0 → ⊥) → s′ ≡ s - 1 → d′ ≡ d → k ≡ clauseOf (kind t l)
-    → u ≡ enteredBy α (outcome α t r) t r k l g s′ d′ → u ≡ outcome α t r l g s d
+pub entered : (α : Arithmetic) (t r : List ℤ) (l : ℕ) (g : Arguments) (s d : ℕ) {s′ d′ : ℕ} {α′ : Arithmetic} {k : Clause} {u : Outcome} → (s ≡ 0 → ⊥) → s′ ≡ s - 1 → d′ ≡ d → α′ ≡ α
+    → k ≡ clauseOf (kind t l) → u ≡ enteredBy α′ (outcome α′ t r) t r k l g s′ d′ → u ≡ outcome α t r l g s d
 unfolding stepBy
-entered α t r l g zero d ne es ed ek e = absurd (ne refl)
-entered α t r l g (suc s) d {s′} ne es ed ek e =
+entered α t r l g zero d ne es ed ea ek e = absurd (ne refl)
+entered α t r l g (suc s) d {s′} ne es ed ea ek e =
     let i : s′ ≡ s = omega arith in
-    rw i at (rw ed at (rw ek at e)) ∙ unrolled α t r l g (suc s) d
+    rw i at (rw ed at (rw ea at (rw ek at e))) ∙ unrolled α t r l g (suc s) d
 
 -- ---- a value
 
-pub value-is : (α : Arithmetic) (t r : List ℤ) (v : ℕ) {x s d : ℕ} {o : Outcome} {y : ℤ} → x ≡ fieldB t v → s ≡ stepLimit → d ≡ 0 → o ≡ outcome α t r x nothing s d → y ≡ o .number
+pub value-is : (α : Arithmetic) (t r : List ℤ) (v : ℕ) {x s d : ℕ} {α′ : Arithmetic} {o : Outcome} {y : ℤ} → x ≡ fieldB t v → s ≡ stepLimit → d ≡ 0 → α′ ≡ α
+    → o ≡ outcome α′ t r x nothing s d → y ≡ o .number
     → record { number = y; state = o .state; steps = stepLimit - o .left } ≡ evaluated α t r v
 unfolding valueOutcome
-value-is α t r v {o = o} ex es ed p ey =
+value-is α t r v {o = o} ex es ed ea p ey =
     ap (λ y. record { number = y; state = o .state; steps = stepLimit - o .left }) ey
-    ∙ ap valueOf (rw es at (rw ed at (rw ex at p)))
+    ∙ ap valueOf (rw es at (rw ed at (rw ea at (rw ex at p))))

@@ -49,10 +49,12 @@ pub struct Arguments {
     pub first: i64,
 }
 
-// What a value may still use: steps left, and how deep its calls have gone.
+// What a value may still use: steps left, and how deep its calls have gone. The arithmetic that it is evaluated by goes with
+// them: eight bytes are passed in one register, and a parameter more would not be.
 pub struct Allowance {
     pub left: u32,
-    pub depth: u32,
+    pub depth: u16,
+    pub arithmetic: Arithmetic,
 }
 
 impl Allowance {
@@ -60,26 +62,29 @@ impl Allowance {
     pub const STEPS: u32 = 20000;
 
     // How many calls may be around an expression.
-    pub const DEPTH: u32 = 64;
+    pub const DEPTH: u16 = 64;
 
     // What each value starts with, at call depth 0.
-    pub fn fresh() -> Self
-        ensures { λ r. ⌜ (r .left ≡ stepLimit) × (r .depth ≡ 0) ⌝ }
+    pub fn fresh(arithmetic: Arithmetic) -> Self
+        ensures { λ r. ⌜ (r .left ≡ stepLimit) × (r .depth ≡ 0) × (r .arithmetic ≡ arithmetic) ⌝ }
     {
         Allowance {
             left: Allowance::STEPS,
             depth: 0,
+            arithmetic: arithmetic,
         }
     }
 
     // Takes one step.
     pub fn step(self) -> Self
         requires { ⌜ 0 < self .left ⌝ }
-        ensures { λ r. ⌜ (r .left ≡ self .left - 1) × (r .depth ≡ self .depth) ⌝ }
+        ensures { λ r. ⌜ (r .left ≡ self .left - 1) × (r .depth ≡ self .depth) × (r .arithmetic ≡ self .arithmetic) ⌝ }
     {
+        let arithmetic = self.arithmetic;
         Allowance {
             left: self.left - 1,
             depth: self.depth,
+            arithmetic: arithmetic,
         }
     }
 }
@@ -181,7 +186,6 @@ fn combine(arithmetic: Arithmetic, op: Operation, a: i64, b: i64, left: u32) -> 
 
 // An expression: takes a step and goes by the clause of its kind.
 fn expression(
-    arithmetic: Arithmetic,
     table: &[i64],
     results: &[i64],
     label: usize,
@@ -189,7 +193,7 @@ fn expression(
     allowance: Allowance,
 ) -> Outcome
     requires { ⌜ Entry (now table) (now results) label given (allowance .depth) ⌝ }
-    ensures { λ r. ⌜ r ≡ outcome arithmetic (now (table .entry)) (now (results .entry)) label given (allowance .left) (allowance .depth) ⌝ }
+    ensures { λ r. ⌜ r ≡ outcome (allowance .arithmetic) (now (table .entry)) (now (results .entry)) label given (allowance .left) (allowance .depth) ⌝ }
 {
     let left = allowance.left;
     if left == 0 {
@@ -202,16 +206,15 @@ fn expression(
         Clause::Number => success(number_of(table, label), rest.left),
         Clause::Argument(_) => success(given.first, rest.left),
         Clause::Read => read(table, results, label, rest.left),
-        Clause::Call(_) => call(arithmetic, table, results, label, given, rest),
-        Clause::Operation(op) => operation(arithmetic, table, results, op, label, given, rest),
-        Clause::Choice => choice(arithmetic, table, results, label, given, rest),
+        Clause::Call(_) => call(table, results, label, given, rest),
+        Clause::Operation(op) => operation(table, results, op, label, given, rest),
+        Clause::Choice => choice(table, results, label, given, rest),
         Clause::None => failure(0, rest.left),
     }
 }
 
 // A call: its argument, then the body of its target one deeper.
 fn call(
-    arithmetic: Arithmetic,
     table: &[i64],
     results: &[i64],
     label: usize,
@@ -219,10 +222,10 @@ fn call(
     rest: Allowance,
 ) -> Outcome
     requires { ⌜ EnteredCall (now table) (now results) label given (rest .depth) ⌝ }
-    ensures { λ r. ⌜ r ≡ callBy (outcome arithmetic (now (table .entry)) (now (results .entry))) (now (table .entry)) label given (rest .left) (rest .depth) ⌝ }
+    ensures { λ r. ⌜ r ≡ callBy (outcome (rest .arithmetic) (now (table .entry)) (now (results .entry))) (now (table .entry)) label given (rest .left) (rest .depth) ⌝ }
 {
     let argument = field(table, label, cells::A);
-    let first = expression(arithmetic, table, results, argument, given, rest);
+    let first = expression(table, results, argument, given, rest);
     if first.state != NUMBER {
         return failure(first.state, first.left);
     }
@@ -235,16 +238,17 @@ fn call(
     let passed = Arguments {
         first: first.number,
     };
+    let arithmetic = rest.arithmetic;
     let deeper = Allowance {
         left: first.left,
         depth: depth + 1,
+        arithmetic: arithmetic,
     };
-    expression(arithmetic, table, results, body, passed, deeper)
+    expression(table, results, body, passed, deeper)
 }
 
 // A sum, difference, product or quotient: a, then b.
 fn operation(
-    arithmetic: Arithmetic,
     table: &[i64],
     results: &[i64],
     op: Operation,
@@ -253,19 +257,21 @@ fn operation(
     rest: Allowance,
 ) -> Outcome
     requires { ⌜ Entered (Clause.Operation op) (now table) (now results) label given (rest .depth) ⌝ }
-    ensures { λ r. ⌜ r ≡ operationBy arithmetic (outcome arithmetic (now (table .entry)) (now (results .entry))) (now (table .entry)) op label given (rest .left) (rest .depth) ⌝ }
+    ensures { λ r. ⌜ r ≡ operationBy (rest .arithmetic) (outcome (rest .arithmetic) (now (table .entry)) (now (results .entry))) (now (table .entry)) op label given (rest .left) (rest .depth) ⌝ }
 {
     let a = field(table, label, cells::A);
-    let first = expression(arithmetic, table, results, a, given, rest);
+    let first = expression(table, results, a, given, rest);
     if first.state != NUMBER {
         return failure(first.state, first.left);
     }
     let b = field(table, label, cells::B);
+    let arithmetic = rest.arithmetic;
     let next = Allowance {
         left: first.left,
         depth: rest.depth,
+        arithmetic: arithmetic,
     };
-    let second = expression(arithmetic, table, results, b, given, next);
+    let second = expression(table, results, b, given, next);
     if second.state != NUMBER {
         return failure(second.state, second.left);
     }
@@ -274,7 +280,6 @@ fn operation(
 
 // A choice: its test, then one branch only.
 fn choice(
-    arithmetic: Arithmetic,
     table: &[i64],
     results: &[i64],
     label: usize,
@@ -282,19 +287,21 @@ fn choice(
     rest: Allowance,
 ) -> Outcome
     requires { ⌜ Entered Clause.Choice (now table) (now results) label given (rest .depth) ⌝ }
-    ensures { λ r. ⌜ r ≡ choiceBy (outcome arithmetic (now (table .entry)) (now (results .entry))) (now (table .entry)) label given (rest .left) (rest .depth) ⌝ }
+    ensures { λ r. ⌜ r ≡ choiceBy (outcome (rest .arithmetic) (now (table .entry)) (now (results .entry))) (now (table .entry)) label given (rest .left) (rest .depth) ⌝ }
 {
     let tested = field(table, label, cells::A);
-    let test = expression(arithmetic, table, results, tested, given, rest);
+    let test = expression(table, results, tested, given, rest);
     if test.state != NUMBER {
         return failure(test.state, test.left);
     }
     let branch = branch_of(table, label, test.number);
+    let arithmetic = rest.arithmetic;
     let next = Allowance {
         left: test.left,
         depth: rest.depth,
+        arithmetic: arithmetic,
     };
-    expression(arithmetic, table, results, branch, given, next)
+    expression(table, results, branch, given, next)
 }
 
 // ---- a value
@@ -306,7 +313,7 @@ pub fn evaluate(arithmetic: Arithmetic, table: &[i64], results: &[i64], label: u
 {
     let body = field(table, label, cells::B);
     let none = Arguments { first: 0 };
-    let o = expression(arithmetic, table, results, body, none, Allowance::fresh());
+    let o = expression(table, results, body, none, Allowance::fresh(arithmetic));
     Value {
         number: o.number,
         state: o.state,

@@ -38,16 +38,16 @@ use Rattle.evaluation.proofs.+call+choice+expression+operation.{stateme
 use Rattle.evaluation.proofs.+call+choice+expression+operation.Tie.{close}
 
 abbrev μ-call : Measures 2 call-kinds.ps ℕ
-μ-call κs a = 2 * (a .1 .1 .1 .1 .1 .0 .left) + 1
+μ-call κs a = 2 * (a .1 .1 .1 .1 .0 .left) + 1
 
 abbrev μ-choice : Measures 2 choice-kinds.ps ℕ
-μ-choice κs a = 2 * (a .1 .1 .1 .1 .1 .0 .left) + 1
+μ-choice κs a = 2 * (a .1 .1 .1 .1 .0 .left) + 1
 
 abbrev μ-expression : Measures 2 expression-kinds.ps ℕ
-μ-expression κs a = 2 * (a .1 .1 .1 .1 .1 .0 .left)
+μ-expression κs a = 2 * (a .1 .1 .1 .1 .0 .left)
 
 abbrev μ-operation : Measures 2 operation-kinds.ps ℕ
-μ-operation κs a = 2 * (a .1 .1 .1 .1 .1 .1 .0 .left) + 1
+μ-operation κs a = 2 * (a .1 .1 .1 .1 .1 .0 .left) + 1
 
 abbrev call-at : ℕ → In 2 call-kinds.ps
 call-at t = and 2 call-kinds.ps (is 2 call-kinds.ps μ-call t) call.Pre
@@ -297,7 +297,7 @@ expression-returns-2 t c =
     let step = c .before .before .before .before .before .before .step in
     let field = c .before .before .before .before .before .field in
     let clause-of = c .before .before .before .before .clause-of in
-    entered _ _ _ _ _ _ _ (if1 .left) (step .ensures .0) (step .ensures .1) (is-kind (field .ensures) (clause-of .ensures) (c .before .before .enum-told .given .1))
+    entered _ _ _ _ _ _ _ (if1 .left) (step .ensures .0) (step .ensures .1) (step .ensures .2) (is-kind (field .ensures) (clause-of .ensures) (c .before .before .enum-told .given .1))
     (c .success .ensures ∙ ap (λ y. gives y (step .result .left)) (whole (c .before .number-of .result) (c .before .number-of .ok) ∙ c .before .number-of .ensures))
 
 expression-returns-3 : (t : ℕ) → expression-lts.Need-returns-3 (expression-claims t) (expression-at t) expression.Post
@@ -308,7 +308,7 @@ expression-returns-3 t c =
     let step = c .before .before .before .before .before .before .step in
     let field = c .before .before .before .before .before .field in
     let clause-of = c .before .before .before .before .clause-of in
-    entered _ _ _ _ _ _ _ (if1 .left) (step .ensures .0) (step .ensures .1) (is-kind (field .ensures) (clause-of .ensures) (c .before .before .enum-told2 .given .1))
+    entered _ _ _ _ _ _ _ (if1 .left) (step .ensures .0) (step .ensures .1) (step .ensures .2) (is-kind (field .ensures) (clause-of .ensures) (c .before .before .enum-told2 .given .1))
     (c .success2 .ensures ∙ ap (λ y. gives y (step .result .left)) (whole (entry .args .given .first) (c .before .struct-told .given .0 .1)))
 
 expression-returns-4 : (t : ℕ) → expression-lts.Need-returns-4 (expression-claims t) (expression-at t) expression.Post
@@ -318,7 +318,7 @@ expression-returns-4 t c =
     let step = c .before .before .before .before .before .step in
     let field = c .before .before .before .before .field in
     let clause-of = c .before .before .before .clause-of in
-    entered _ _ _ _ _ _ _ (if1 .left) (step .ensures .0) (step .ensures .1) (is-kind (field .ensures) (clause-of .ensures) (c .before .enum-told3 .given .1)) (c .read .ensures)
+    entered _ _ _ _ _ _ _ (if1 .left) (step .ensures .0) (step .ensures .1) (step .ensures .2) (is-kind (field .ensures) (clause-of .ensures) (c .before .enum-told3 .given .1)) (c .read .ensures)
 
 expression-returns-5 : (t : ℕ) → expression-lts.Need-returns-5 (expression-claims t) (expression-at t) expression.Post
 unfolding enteredBy
@@ -327,7 +327,7 @@ expression-returns-5 t c =
     let step = c .before .before .before .before .before .step in
     let field = c .before .before .before .before .field in
     let clause-of = c .before .before .before .clause-of in
-    entered _ _ _ _ _ _ _ (if1 .left) (step .ensures .0) (step .ensures .1) (is-kind (field .ensures) (clause-of .ensures) (c .before .enum-told4 .given .1)) (c .call .ensures)
+    entered _ _ _ _ _ _ _ (if1 .left) (step .ensures .0) (step .ensures .1) (step .ensures .2) (is-kind (field .ensures) (clause-of .ensures) (c .before .enum-told4 .given .1)) (c .call .ensures)
 
 expression-returns-6 : (t : ℕ) → expression-lts.Need-returns-6 (expression-claims t) (expression-at t) expression.Post
 unfolding enteredBy
@@ -336,7 +336,7 @@ expression-returns-6 t c =
     let step = c .before .before .before .before .before .before .step in
     let field = c .before .before .before .before .before .field in
     let clause-of = c .before .before .before .before .clause-of in
-    entered _ _ _ _ _ _ _ (if1 .left) (step .ensures .0) (step .ensures .1) (is-kind (field .ensures) (clause-of .ensures) (c .before .before .clause .given .1)) (c .operation .ensures)
+    entered _ _ _ _ _ _ _ (if1 .left) (step .ensures .0) (step .ensures .1) (step .ensures .2) (is-kind (field .ensures) (clause-of .ensures) (c .before .before .clause .given .1)) (c .operation .ensures)
 
 expression-returns-7 : (t : ℕ) → expression-lts.Need-returns-7 (expression-claims t) (expression-at t) expression.Post
 unfolding enteredBy
@@ -345,7 +345,7 @@ expression-returns-7 t c =
     let step = c .before .before .before .before .before .step in
     let field = c .before .before .before .before .field in
     let clause-of = c .before .before .before .clause-of in
-    entered _ _ _ _ _ _ _ (if1 .left) (step .ensures .0) (step .ensures .1) (is-kind (field .ensures) (clause-of .ensures) (c .before .enum-told5 .given .1)) (c .choice .ensures)
+    entered _ _ _ _ _ _ _ (if1 .left) (step .ensures .0) (step .ensures .1) (step .ensures .2) (is-kind (field .ensures) (clause-of .ensures) (c .before .enum-told5 .given .1)) (c .choice .ensures)
 
 expression-returns-8 : (t : ℕ) → expression-lts.Need-returns-8 (expression-claims t) (expression-at t) expression.Post
 unfolding enteredBy
@@ -354,7 +354,7 @@ expression-returns-8 t c =
     let step = c .before .before .before .before .before .step in
     let field = c .before .before .before .before .field in
     let clause-of = c .before .before .before .clause-of in
-    entered _ _ _ _ _ _ _ (if1 .left) (step .ensures .0) (step .ensures .1) (is-kind (field .ensures) (clause-of .ensures) (c .before .enum-told6 .given .1)) (c .failure2 .ensures)
+    entered _ _ _ _ _ _ _ (if1 .left) (step .ensures .0) (step .ensures .1) (step .ensures .2) (is-kind (field .ensures) (clause-of .ensures) (c .before .enum-told6 .given .1)) (c .failure2 .ensures)
 
 operation-field-requires : (t : ℕ) → operation-lts.Need-field-requires (operation-claims t) (operation-at t) operation.Post
 operation-field-requires t c κs = operand-cell (c .pre .1) refl _ (omega arith)

@@ -22,7 +22,7 @@ returns : tie.Need-returns
 returns c =
     let e = c .before .before in
     let entry = e .before .before .before in
-    value-is _ _ _ (entry .args .label) (e .before .before .field .ensures) (e .before .fresh .ensures .0) (e .before .fresh .ensures .1) (e .expression .ensures)
+    value-is _ _ _ (entry .args .label) (e .before .before .field .ensures) (e .before .fresh .ensures .0) (e .before .fresh .ensures .1) (e .before .fresh .ensures .2) (e .expression .ensures)
     (whole (e .expression .result .number) (c .struct-told .given .0 .1))
 
 pub evaluate-spec : {M : Type 1} → statement M

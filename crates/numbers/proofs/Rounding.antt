@@ -1,5 +1,5 @@
 -- THEOREM: for every sign of a and of b, b not 0, the rounded quotient is nearest to a / b, with a half taken by the tie rule
--- (`quotient-nearest`), and no other number is (`nearest-only`).
+-- (`quotient-nearest`), and no other number is (`nearest-only`); where a / b is no half, all tie rules give one number (`rules-agree`).
 -- It is shown of the sizes first, in ℕ; on ℤ a nearest number has the sign of a / b.
 use mathlib.Core.Path.{_≡_, refl, sym, ap, _∙_, subst}
 use mathlib.Core.Bool.{Bool, true, false, not, cond, Bool·beq}
@@ -13,7 +13,7 @@ use lib.IntN.{ℤ, pos, negsuc, negℤ, natAbs, _-ℤ_, _*ℤ_, negℤ-+ℤ, neg
 use Rattle.cells.specs.Cells.{isNegative, withSign}
 use Rattle.cells.proofs.Signed.{natAbs-neg, withSign-size}
 use Rattle.numbers.specs.Rounding.{onTie, roundUp, rounded, signsDiffer, quotient}
-use Rattle.numbers.specs.Nearest.{distance, Preferred, Nearest}
+use Rattle.numbers.specs.Nearest.{distance, IsHalf, Preferred, Nearest}
 use Rattle.numbers.specs.declared.Tie.{Tie}
 use Rattle.numbers.specs.declared.Tie.the-variants.{Away, Even}
 use Rattle.numbers.proofs.Sizes.{mul-size}
@@ -220,3 +220,7 @@ module _ (a b : ℤ) where
   nearest-only tie q z h =
       let e : q ≡ withSign (signsDiffer a b) (natAbs q) = has-sign tie q z h in
       e ∙ ap (withSign (signsDiffer a b)) (near-only tie (natAbs a) (natAbs b) (natAbs q) z (to-sizes tie (natAbs q) (subst (Nearest tie a b) e h)))
+
+  pub rules-agree : (tie tie′ : Tie) → 0 < natAbs b → (IsHalf a b → ⊥) → quotient tie a b ≡ quotient tie′ a b
+  rules-agree tie tie′ z none =
+      nearest-only tie′ (quotient tie a b) z (record { near = quotient-nearest tie z .near; half = λ e. absurd (none (quotient tie a b, e)) })

@@ -6,7 +6,6 @@ use Rattle.cells.specs.Quoted.{bytesOf}
 use Rattle.numbers.specs.Rounding.{rounded, quotient}
 use Rattle.numbers.specs.Arithmetic.{rangedOf, result, calculated}
 use Rattle.numbers.specs.Decimal.{allDigits, digitsValue, digitsOf, decimalOf, numberOf}
-use Rattle.numbers.specs.declared.Tie.the-variants.{Away, Even}
 use Rattle.numbers.specs.declared.Arithmetic.the-variants.{HalvesAway}
 use Rattle.kinds.specs.declared.Operation.the-variants.{Sum, Difference, Product, Quotient}
 use Rattle.numbers.specs.declared.Calculated.the-variants.{Number, OutOfRange, ZeroDivisor}
@@ -14,17 +13,6 @@ use Rattle.numbers.specs.declared.Number.the-variants.{Is, Not}
 
 abbrev minus : ℕ → ℤ
 minus n = negℤ (pos n)
-
-quotients :
-    (quotient Even (minus 3250) (pos 100) ≡ minus 32)
-    × (quotient Even (pos 3350) (pos 100) ≡ pos 34)
-    × (quotient Away (pos 5) (minus 2) ≡ minus 3)
-    × (quotient Even (pos 5) (minus 2) ≡ minus 2)
-    × (quotient Away (minus 5) (minus 2) ≡ pos 3)
-    × (quotient Away (pos 1) (minus 3) ≡ pos 0)
-    × (quotient Away (pos 1000000000) (pos 1) ≡ pos 1000000000)
-unfolding rounded quotient
-quotients = (refl, refl, refl, refl, refl, refl, refl)
 
 operations :
     (calculated HalvesAway Sum (pos 1000000000) (pos 1) ≡ OutOfRange)

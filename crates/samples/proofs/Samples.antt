@@ -6,11 +6,13 @@ use mathlib.Core.List.{map}
 use Rattle.numbers.specs.Decimal.{allDigits, digitsValue, digitsOf, decimalOf, numberOf}
 use Rattle.numbers.specs.Rounding.{rounded, quotient}
 use Rattle.numbers.specs.Arithmetic.{rangedOf, result, calculated}
+use Rattle.numbers.specs.declared.Tie.{Tie}
+use Rattle.numbers.specs.declared.Tie.the-variants.{Away, Even}
 use Rattle.text.specs.Bytes.{isAllowed, isLetter, isAlphanumeric, lowercaseByte}
 use Rattle.text.specs.Forms.{isName, isPath, labelOf}
 use Rattle.kinds.specs.Kinds.{kinds, kindAt, codeOf, isKind, isDefinition, isExpression, hasBody, hasPath, wantedBy, takes, clauseOf}
 use Rattle.lines.specs.Fields.{fieldOf}
-use Rattle.lines.specs.Lines.{isText, line, labels, firstLine, headBad, rootLine, lineBad, linesBad, fieldCells}
+use Rattle.lines.specs.Lines.{isText, line, labels, firstLine, tieOf, headBad, rootLine, lineBad, linesBad, fieldCells}
 use Rattle.tree.specs.Tree.{parts, structureBad, definitionOf, ownerOf, levelOf, treeBad}
 use Rattle.paths.specs.Names.{sameName, member}
 use Rattle.paths.specs.Paths as paths
@@ -27,12 +29,12 @@ use Rattle.numbers.specs.Numerals.{digits, decimal}
 use Rattle.printing.specs.Print.{columnsLine, refusalLine, wholeWord, mixedWord, valueLine, valueLines, printOf}
 use Rattle.redoing.specs.Redone.{failing, stepSum}
 use Rattle.retouching.specs.Retouch.{changesShort, listBad, pairBad, pairsBad, retouchBad, retouched, retouchReply, retouchTable, retouchPlan, retouchResults, retouchChanges}
-use Rattle.samples.specs.Sample.{given, said, retouchGiven, retouchSaid}
-use Rattle.samples.specs.Samples.{samples, retouches}
+use Rattle.samples.specs.Sample.{given, said, retouchGiven, retouchSaid, quotientGiven, quotientSaid}
+use Rattle.samples.specs.Samples.{samples, retouches, divisions}
 
 pub samples-hold : (map given samples ≡ map said samples) × (map retouchGiven retouches ≡ map retouchSaid retouches)
 unfolding samples retouches
-    isText isAllowed line labels firstLine headBad fieldCells kinds kindAt codeOf isKind isDefinition isExpression hasBody hasPath wantedBy takes clauseOf fieldOf labelOf numberOf
+    isText isAllowed line labels firstLine tieOf headBad fieldCells kinds kindAt codeOf isKind isDefinition isExpression hasBody hasPath wantedBy takes clauseOf fieldOf labelOf numberOf
     decimalOf digitsOf digitsValue allDigits linesBad lineBad rootLine isName isPath isLetter isAlphanumeric parts structureBad definitionOf ownerOf levelOf treeBad sameName
     lowercaseByte member paths.duplicateBad
     paths.headFrom paths.headOf paths.targetOf paths.pathHeadBad paths.laterBad paths.targetBad paths.pathsBad tableShort ownedTable resolvedTable resolvedBad sheetCells sheetBad sheetTable readBad
@@ -42,3 +44,9 @@ unfolding samples retouches
     operationBy choiceBy enteredBy stepBy withFuel outcome valueOutcome failing stepSum changesShort listBad pairBad pairsBad retouchBad retouched retouchReply retouchTable retouchPlan retouchResults
     retouchChanges
 samples-hold = (refl, refl)
+
+-- order 5's quotients, by any tie rule
+pub divisions-hold : (tie : Tie) → map (quotientGiven tie) divisions ≡ map (quotientSaid tie) divisions
+unfolding divisions rounded quotient
+divisions-hold Away = refl
+divisions-hold Even = refl

@@ -10,6 +10,9 @@ use Rattle.kinds.specs.Kinds.{isDefinition, hasBody, hasPath, wantedBy, takes}
 use Rattle.cells.specs.Quoted.{bytesOf, textOf}
 use Rattle.cells.specs.Cells.{zeros}
 use Rattle.cells.specs.Table.{kind, owner, target, lineNumber}
+use Rattle.numbers.specs.Rounding.{quotient}
+use Rattle.numbers.specs.declared.Tie.{Tie}
+use Rattle.numbers.specs.declared.Tie.the-variants.{Away, Even}
 use Rattle.refusals.specs.declared.Reply.{Reply}
 use Rattle.refusals.specs.declared.Reply.the-variants.{Answered, Refused}
 use Rattle.lines.specs.Lines.{labels}
@@ -236,3 +239,18 @@ retouchSaidOf x n ls = record {
 
 abbrev pub retouchSaid : RetouchSample → RetouchFigures
 retouchSaid x = retouchSaidOf x (length (x .sheet) - 1) (printLinesOf (x .outcome))
+
+-- ---- order 5: a quotient by either tie rule
+
+pub record Division : Type 0 where
+  pub dividend : ℤ
+  pub divisor : ℤ
+  pub away : ℤ
+  pub even : ℤ
+
+abbrev pub quotientGiven : Tie → Division → ℤ
+quotientGiven tie x = quotient tie (x .dividend) (x .divisor)
+
+abbrev pub quotientSaid : Tie → Division → ℤ
+quotientSaid Away x = x .away
+quotientSaid Even x = x .even

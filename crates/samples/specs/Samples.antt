@@ -5,7 +5,7 @@ use Prim.Native.Nat.{ℕ}
 use Prim.Native.String.{String}
 use lib.IntN.{ℤ, pos, negℤ}
 use Rattle.refusals.specs.declared.Reply.the-variants.{Answered, Refused}
-use Rattle.samples.specs.Sample.{group, value, function, reads, calls, PrintLine, refusal, whole, mixed, Sample, RetouchSample}
+use Rattle.samples.specs.Sample.{group, value, function, reads, calls, PrintLine, refusal, whole, mixed, Fact, Sample, RetouchSample, Division}
 
 abbrev printLine : ℕ → String → ℕ → ℤ → ℕ → PrintLine
 printLine label name state number steps = record { label = label; name = name; state = state; number = number; steps = steps }
@@ -305,6 +305,87 @@ frameAndLeft = record {
       ∷ [];
 }
 
+-- document 02, order 5: "-3250 / 100 is -32 under the new rule", and -33 under document 01's. The lines of a sheet under either first line:
+-- halves of either sign, a divisor below 0, and a half in a function that is called with a value which was itself a half
+abbrev halvesLines : List String
+halvesLines =
+      "G - 0 - -"
+      ∷ "V sphere 1 8 -"
+      ∷ "V thin 1 11 -"
+      ∷ "V base 1 14 -"
+      ∷ "V edge 1 17 -"
+      ∷ "V prism 1 20 -"
+      ∷ "F percent 1 26 -"
+      ∷ "D - 9 10 -"
+      ∷ "N - -3250 - -"
+      ∷ "N - 100 - -"
+      ∷ "D - 12 13 -"
+      ∷ "N - 50 - -"
+      ∷ "N - 100 - -"
+      ∷ "D - 15 16 -"
+      ∷ "N - 250 - -"
+      ∷ "N - -100 - -"
+      ∷ "D - 18 19 -"
+      ∷ "N - 150 - -"
+      ∷ "N - 100 - -"
+      ∷ "C percent 21 - -"
+      ∷ "A - 22 25 -"
+      ∷ "M - 23 24 -"
+      ∷ "R sphere - - -"
+      ∷ "N - 100 - -"
+      ∷ "N - 50 - -"
+      ∷ "D - 27 28 -"
+      ∷ "P - - - -"
+      ∷ "N - 100 - -"
+      ∷ []
+
+abbrev halvesTable : List Fact
+halvesTable = value 2 1 ∷ value 3 1 ∷ value 4 1 ∷ value 5 1 ∷ value 6 1 ∷ function 7 1 ∷ calls 6 7 ∷ reads 6 2 ∷ []
+
+abbrev pub halvesAway : Sample
+halvesAway = record {
+  sheet = "kind name a b c" ∷ halvesLines;
+  read = Answered 28;
+  table = halvesTable;
+  outcome = whole
+      (printLine 2 "sphere" 1 (minus 33) 3
+      ∷ printLine 3 "thin" 1 (pos 1) 3
+      ∷ printLine 4 "base" 1 (minus 3) 3
+      ∷ printLine 5 "edge" 1 (pos 2) 3
+      ∷ printLine 6 "prism" 1 (minus 33) 9
+      ∷ []);
+  print =
+      "label name order state number steps"
+      ∷ "2 sphere whole 1 -33 3"
+      ∷ "3 thin whole 1 1 3"
+      ∷ "4 base whole 1 -3 3"
+      ∷ "5 edge whole 1 2 3"
+      ∷ "6 prism whole 1 -33 9"
+      ∷ [];
+}
+
+abbrev pub halvesEven : Sample
+halvesEven = record {
+  sheet = "kind2 name a b c" ∷ halvesLines;
+  read = Answered 28;
+  table = halvesTable;
+  outcome = whole
+      (printLine 2 "sphere" 1 (minus 32) 3
+      ∷ printLine 3 "thin" 1 (pos 0) 3
+      ∷ printLine 4 "base" 1 (minus 2) 3
+      ∷ printLine 5 "edge" 1 (pos 2) 3
+      ∷ printLine 6 "prism" 1 (minus 32) 9
+      ∷ []);
+  print =
+      "label name order state number steps"
+      ∷ "2 sphere whole 1 -32 3"
+      ∷ "3 thin whole 1 0 3"
+      ∷ "4 base whole 1 -2 3"
+      ∷ "5 edge whole 1 2 3"
+      ∷ "6 prism whole 1 -32 9"
+      ∷ [];
+}
+
 unfoldable pub samples : List Sample
 samples =
     example
@@ -319,6 +400,8 @@ samples =
     ∷ capitalPath
     ∷ capitalClash
     ∷ frameAndLeft
+    ∷ halvesAway
+    ∷ halvesEven
     ∷ []
 
 -- for document 02, order 4: a sheet of the layout bench, and what its words give, counted by hand. The first pair puts in the number that stands there: its owner `pd` is worked out
@@ -372,3 +455,24 @@ benchMended = record {
 
 unfoldable pub retouches : List RetouchSample
 retouches = bench ∷ benchMended ∷ []
+
+-- document 02, order 5, by itself: dividend, divisor, and the quotient by either rule
+abbrev division : ℤ → ℤ → ℤ → ℤ → Division
+division dividend divisor away even = record { dividend = dividend; divisor = divisor; away = away; even = even }
+
+unfoldable pub divisions : List Division
+divisions =
+    division (minus 3250) (pos 100) (minus 33) (minus 32)
+    ∷ division (pos 3250) (pos 100) (pos 33) (pos 32)
+    ∷ division (pos 50) (pos 100) (pos 1) (pos 0)
+    ∷ division (pos 150) (pos 100) (pos 2) (pos 2)
+    ∷ division (minus 50) (pos 100) (minus 1) (pos 0)
+    ∷ division (minus 150) (pos 100) (minus 2) (minus 2)
+    ∷ division (pos 250) (minus 100) (minus 3) (minus 2)
+    ∷ division (pos 350) (minus 100) (minus 4) (minus 4)
+    ∷ division (minus 250) (minus 100) (pos 3) (pos 2)
+    ∷ division (pos 3249) (pos 100) (pos 32) (pos 32)
+    ∷ division (minus 3251) (pos 100) (minus 33) (minus 33)
+    ∷ division (pos 1) (minus 3) (pos 0) (pos 0)
+    ∷ division (pos 1000000000) (pos 1) (pos 1000000000) (pos 1000000000)
+    ∷ []

@@ -1,7 +1,7 @@
 //! Evaluation ("Working out").
 
 use crate::lines::in_range;
-use crate::sheet::{Kind, Label, Sheet};
+use crate::sheet::{Kind, Label, Sheet, Ties};
 
 /// Why a value has no number; the codes are the paper's states.
 #[derive(Debug, Clone, Copy, PartialEq, Eq)]
@@ -125,7 +125,7 @@ impl Evaluation<'_> {
             operation => {
                 let a = self.expression(line.link(0), frame)?;
                 let b = self.expression(line.link(1), frame)?;
-                operate(operation, a, b)
+                operate(operation, self.sheet.ties, a, b)
             }
         }
     }
@@ -149,13 +149,13 @@ impl Evaluation<'_> {
     }
 }
 
-fn operate(operation: Kind, a: i64, b: i64) -> Answer {
+fn operate(operation: Kind, ties: Ties, a: i64, b: i64) -> Answer {
     let result = match operation {
         Kind::Sum => a + b,
         Kind::Difference => a - b,
         Kind::Product => a * b,
         Kind::Quotient if b == 0 => return Err(Failure::ZeroDivisor),
-        Kind::Quotient => nearest(a, b),
+        Kind::Quotient => nearest(ties, a, b),
         other => unreachable!("{other:?} is no operation"),
     };
     if in_range(result) {
@@ -165,10 +165,13 @@ fn operate(operation: Kind, a: i64, b: i64) -> Answer {
     }
 }
 
-/// "The nearest whole number to a / b, halves away from zero."
-fn nearest(a: i64, b: i64) -> i64 {
+/// The nearest whole number to a / b, a half by the tie rule. It is a / b cut
+/// toward zero or its neighbour farther out; of a half, the latter under `Away`
+/// and where the former is odd.
+fn nearest(ties: Ties, a: i64, b: i64) -> i64 {
     let toward_zero = a / b;
-    if 2 * (a % b).abs() >= b.abs() {
+    let half_goes_out = i64::from(ties == Ties::Away) | (toward_zero & 1);
+    if 2 * (a % b).abs() + half_goes_out > b.abs() {
         toward_zero + a.signum() * b.signum()
     } else {
         toward_zero
@@ -177,27 +180,44 @@ fn nearest(a: i64, b: i64) -> i64 {
 
 #[cfg(test)]
 mod tests {
-    use super::nearest;
+    use super::{nearest, Ties};
 
-    /// The nearest number q has |a - q b| at most |b| / 2, and a half goes
-    /// away from zero.
+    const RULES: [Ties; 2] = [Ties::Away, Ties::Even];
+
+    /// The nearest number q has |a - q b| at most |b| / 2; a half goes away from
+    /// zero or to the even one.
     #[test]
     fn nearest_number_for_every_sign() {
         for a in -60i64..=60 {
             for b in (-25i64..=25).filter(|&b| b != 0) {
-                let q = nearest(a, b);
-                let rest = 2 * (a - q * b).abs();
-                assert!(rest <= b.abs(), "{a} / {b} gave {q}");
-                if rest == b.abs() {
-                    assert!((q * b).abs() > a.abs(), "{a} / {b} gave {q}");
+                let [away, even] = RULES.map(|ties| nearest(ties, a, b));
+                for q in [away, even] {
+                    assert!(2 * (a - q * b).abs() <= b.abs(), "{a} / {b} gave {q}");
+                }
+                if 2 * (a - away * b).abs() == b.abs() {
+                    assert!((away * b).abs() > a.abs(), "{a} / {b} gave {away}");
+                    assert!(even % 2 == 0, "{a} / {b} gave {even}");
+                } else {
+                    assert_eq!(away, even, "{a} / {b}");
                 }
             }
         }
-        let million = 1_000_000_000;
-        assert_eq!(nearest(million, 1), million);
-        assert_eq!(nearest(million, -1), -million);
-        assert_eq!(nearest(1, million), 0);
-        assert_eq!(nearest(-million / 2, million), -1);
-        assert_eq!(nearest(million / 2 - 1, million), 0);
+    }
+
+    #[test]
+    fn nearest_number_at_the_ends_of_the_range() {
+        let billion = 1_000_000_000;
+        for ties in RULES {
+            assert_eq!(nearest(ties, billion, 1), billion);
+            assert_eq!(nearest(ties, billion, -1), -billion);
+            assert_eq!(nearest(ties, 1, billion), 0);
+            assert_eq!(nearest(ties, billion / 2 - 1, billion), 0);
+            assert_eq!(nearest(ties, billion / 2 + 1, -billion), -1);
+        }
+        let halves = |a, b| RULES.map(|ties| nearest(ties, a, b));
+        assert_eq!(halves(-billion / 2, billion), [-1, 0]);
+        assert_eq!(halves(billion / 2, -billion), [-1, 0]);
+        assert_eq!(halves(billion - 1, 2), [500_000_000, 500_000_000]);
+        assert_eq!(halves(3 - billion, 2), [-499_999_999, -499_999_998]);
     }
 }

@@ -1,7 +1,7 @@
 //! The rules of order sheets in Rust: document 01, "the paper", with the orders
 //! of document 02 so far: 1, names compared without regard to the case of
-//! letters, 2, only the tangled Groups opened, 3, names compared by the word, and
-//! 4, retouching numbers.
+//! letters, 2, only the tangled Groups opened, 3, names compared by the word, 4,
+//! retouching numbers, and 5, halves to even.
 //!
 //! One module for each stage, in the order in which refusals are found:
 //! `text` (rows 1 to 3), `lines` (5 to 7), `tree` (8 to 11), `paths` (12 to
@@ -29,6 +29,7 @@ mod tree;
 use evaluate::Outcome;
 use reach::Reach;
 use sheet::{Label, Sheet};
+use text::Outline;
 
 pub use print::{print, print_into, Printed};
 
@@ -218,10 +219,10 @@ pub fn retouch(
 
 /// Rows 1 to 7.
 fn split_sheet<'a>(text: &'a [u8], lent: &Lent) -> Result<Sheet<'a>, Refusal> {
-    let count = text::count_lines(text)?;
+    let Outline { ties, start, count } = text::outline(text)?;
     lent.check(count)?;
-    let lines = lines::split(text, count)?;
-    Ok(Sheet { text, lines })
+    let lines = lines::split(text, start, count)?;
+    Ok(Sheet { text, ties, lines })
 }
 
 /// Rows 1 to 15: the sheet with owners and targets.

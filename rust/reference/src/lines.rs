@@ -3,7 +3,6 @@
 use std::ops::Range;
 
 use crate::sheet::{Kind, Label, Line, Span};
-use crate::text::FIRST_LINE;
 use crate::Refusal;
 
 /// What a kind wants in a field. `Group` and `Expression` are both label
@@ -100,10 +99,9 @@ pub fn operands(line: &Line) -> impl Iterator<Item = Label> + '_ {
     line.fields[fields].iter().map(|&label| label as Label)
 }
 
-/// The lines after line one, `count` of them.
-pub fn split(text: &[u8], count: usize) -> Result<Vec<Line>, Refusal> {
+/// The lines from `start` on, `count` of them.
+pub fn split(text: &[u8], mut start: usize, count: usize) -> Result<Vec<Line>, Refusal> {
     let mut lines = Vec::with_capacity(count);
-    let mut start = FIRST_LINE.len();
     for label in 1..=count {
         let refusal = |number| Refusal::new(number, label);
         let fields = Fields::cut(text, &mut start).ok_or(refusal(5))?;

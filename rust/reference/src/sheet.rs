@@ -29,6 +29,15 @@ impl Kind {
     }
 }
 
+/// The tie rule: which neighbour D gives where a / b is a half.
+#[derive(Debug, Clone, Copy, PartialEq, Eq)]
+pub enum Ties {
+    /// "Halves away from zero."
+    Away,
+    /// "Rounds a half to the even neighbour."
+    Even,
+}
+
 /// A part of the text; both 0 for a missing field.
 #[derive(Debug, Clone, Copy, Default)]
 pub struct Span {
@@ -56,6 +65,7 @@ impl Line {
 
 pub struct Sheet<'a> {
     pub text: &'a [u8],
+    pub ties: Ties,
     pub lines: Vec<Line>,
 }
 

@@ -2,6 +2,7 @@
 
 mod buffers;
 mod evaluation;
+mod halves;
 mod letters;
 mod orders;
 mod refusals;

@@ -78,7 +78,7 @@ fn row_2_line_one() {
         "kind name a b c d",
         "kind  name a b c",
         "Kind name a b c",
-        "kind2 name a b c",
+        "kind3 name a b c",
     ] {
         let text = format!("{first}\nG - 0 - -\n");
         assert_eq!(read_refusal(text.as_bytes()), Some((2, 0)), "{first:?}");

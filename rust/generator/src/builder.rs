@@ -1,5 +1,7 @@
 //! Sheets put together line by line, for fixed shapes.
 
+use crate::first_lines::AWAY;
+
 pub const MAX_LINES: usize = 1_024;
 
 /// Expressions are written operator first: `A C:f 1 R:x.y` adds f of 1 and the
@@ -69,12 +71,14 @@ impl Builder {
         label
     }
 
+    /// The sheet, halves away from zero.
     pub fn text(&self) -> Vec<u8> {
-        let mut text = String::from("kind name a b c\n");
+        let mut text = AWAY.to_vec();
         for line in &self.lines {
-            text += line;
-            text.push('\n');
+            text.push(b'\n');
+            text.extend_from_slice(line.as_bytes());
         }
-        text.into_bytes()
+        text.push(b'\n');
+        text
     }
 }

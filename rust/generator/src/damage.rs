@@ -1,5 +1,6 @@
 //! Sheets spoilt on purpose, so that every refusal from 1 to 16 is met.
 
+use crate::first_lines::{first_line, under, FIRST_LINES};
 use crate::letters::recase;
 use crate::near::make_near;
 use crate::random;
@@ -61,28 +62,58 @@ fn damage_text(rng: &mut Rng, mut text: Vec<u8>) -> Vec<u8> {
     text
 }
 
-/// Row 2.
+/// What line one is mistaken for: a byte or a field of either line too many, too
+/// few or another, other letters, other separators.
+const WRONG_LINES: [&[u8]; 26] = [
+    b"",
+    b"kind name a b",
+    b"kind name a b c ",
+    b" kind name a b c",
+    b"kind  name a b c",
+    b"kind name a b c d",
+    b"KIND name a b c",
+    b"Kind name a b c",
+    b"kind,name,a,b,c",
+    b"kind name a b c2",
+    b"kind1 name a b c",
+    b"kind3 name a b c",
+    b"kind02 name a b c",
+    b"kind22 name a b c",
+    b"kind 2 name a b c",
+    b"kind2name a b c",
+    b"kind2  name a b c",
+    b" kind2 name a b c",
+    b"kind2 name a b c ",
+    b"kind2 name a b",
+    b"kind2 name a b c d",
+    b"Kind2 name a b c",
+    b"KIND2 name a b c",
+    b"kind2 Name a b c",
+    b"kind2,name,a,b,c",
+    b"kind2",
+];
+
+/// Row 2: another line one, or one of the two cut short or with a byte of it
+/// replaced. Beside these, what is no matter of row 2: a line end of Windows (row
+/// 1), both lines one after the other (row 6), the other line (none).
 fn damage_line_one(rng: &mut Rng, text: Vec<u8>) -> Vec<u8> {
-    const OTHERS: [&[u8]; 9] = [
-        b"",
-        b"kind name a b",
-        b"kind name a b c ",
-        b" kind name a b c",
-        b"kind  name a b c",
-        b"kind name a b c d",
-        b"KIND name a b c",
-        b"Kind name a b c",
-        b"kind2 name a b c",
-    ];
-    let end = text.iter().position(|&byte| byte == b'\n');
-    let rest = &text[end.unwrap_or(0)..];
-    [rng.pick(&OTHERS), rest].concat()
+    let [line, other] = [(); 2].map(|()| *rng.pick(&FIRST_LINES));
+    let at = rng.below(line.len());
+    let line = match rng.below(10) {
+        0 => [line, b"\r"].concat(),
+        1 => [line, other].join(&b'\n'),
+        2 => line.to_vec(),
+        3 => line[..at].to_vec(),
+        4 => [&line[..at], &[rng.range(32, 126) as u8], &line[at + 1..]].concat(),
+        _ => rng.pick(&WRONG_LINES).to_vec(),
+    };
+    under(&line, &text)
 }
 
 /// Row 3.
 fn damage_count(rng: &mut Rng, mut text: Vec<u8>) -> Vec<u8> {
     if rng.chance(70) {
-        return b"kind name a b c\n".to_vec();
+        return [rng.pick(&FIRST_LINES), &b"\n"[..]].concat();
     }
     let lines = MAX_LINES + rng.below(3);
     while crate::line_count(&text) < lines {
@@ -113,7 +144,8 @@ fn damage_bytes(rng: &mut Rng, mut text: Vec<u8>) -> Vec<u8> {
 /// Row 5: a space or line end left out, put in or doubled.
 fn damage_spaces(rng: &mut Rng, mut text: Vec<u8>) -> Vec<u8> {
     let is_gap = |&at: &usize| matches!(text[at], b' ' | b'\n');
-    let gaps: Vec<usize> = (16..text.len()).filter(is_gap).collect();
+    let lines = first_line(&text).len() + 1;
+    let gaps: Vec<usize> = (lines..text.len()).filter(is_gap).collect();
     if gaps.is_empty() {
         return text;
     }
@@ -146,7 +178,7 @@ fn damage_fields(rng: &mut Rng, text: Vec<u8>) -> Vec<u8> {
         8 => change_name(rng, &mut rows),
         _ => change_path(rng, &mut rows),
     }
-    rows::join(&rows)
+    rows::join_under(first_line(&text), &rows)
 }
 
 /// A label of one of these kinds, 0-based.

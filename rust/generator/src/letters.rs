@@ -1,5 +1,6 @@
 //! The case of letters in names and paths.
 
+use crate::first_lines::first_line;
 use crate::rng::Rng;
 use crate::rows;
 
@@ -62,7 +63,7 @@ pub fn capital_paths(text: &[u8]) -> Vec<u8> {
     {
         row[1].make_ascii_uppercase();
     }
-    rows::join(&rows)
+    rows::join_under(first_line(text), &rows)
 }
 
 /// How many names in the paths of a sheet are in other letters than the

@@ -1,8 +1,9 @@
 //! Random order sheets from a seed, so that a failure can be run again, and
 //! fixed shapes for speed figures.
 //!
-//! `random` makes sheets that read, `damage` spoils them, `letters` writes their
-//! names in capitals and small letters, `rows` takes them apart, `lent` chooses
+//! `random` makes sheets that read, `damage` spoils them, `first_lines` puts them
+//! under the one or the other tie rule, `letters` writes their names in capitals and
+//! small letters, `rows` takes them apart, `lent` chooses
 //! buffer lengths and orders for Follow, `pairs` makes lists for Retouch, `tangles`
 //! says where a sheet is tangled, `near` makes names that are nearly the same,
 //! `everyday`, `shapes`, `tangled` and `long_names` hold the fixed sheets, `slots`
@@ -13,6 +14,7 @@
 mod builder;
 mod damage;
 mod everyday;
+mod first_lines;
 mod lent;
 mod letters;
 mod long_names;
@@ -28,6 +30,7 @@ mod tangles;
 
 pub use damage::{damage, damaged};
 pub use everyday::{everyday, everyday_on_one};
+pub use first_lines::{first_line, is_one_byte_off, under, under_other, AWAY, EVEN, FIRST_LINES};
 pub use lent::{buffer_length, order, planned, print_length, proper_order};
 pub use letters::{capital_paths, is_same_name, recase, recased, recased_name, OtherLetters};
 pub use long_names::{near_names, near_paths, one_hash, one_slot};
@@ -36,8 +39,8 @@ pub use pairs::{number_labels, pairs, put_numbers};
 pub use random::{sheet, sheet_within};
 pub use rng::Rng;
 pub use shapes::{
-    backward, deepest_calls, dense, flat, forward, late_refusal, nested, nested_values, shapes,
-    short_values, spent, Shape,
+    backward, deepest_calls, dense, flat, forward, halves, halves_in_calls, late_refusal, nested,
+    nested_values, shapes, short_values, spent, Shape,
 };
 pub use tangled::{
     every_second_in_ring, nested_tangle, ring, ring_among, rings, rings_in_every_second, tangled,

@@ -1,5 +1,6 @@
 //! Lists of pairs for Retouch (order 4): label, number, label, number.
 
+use crate::first_lines::first_line;
 use crate::rng::Rng;
 use crate::rows;
 
@@ -35,13 +36,13 @@ pub fn number_labels(table: &[i64]) -> Vec<i64> {
 }
 
 /// The text with the numbers of a list of pairs put into their lines in turn, in
-/// decimal.
+/// decimal; line one stays.
 pub fn put_numbers(text: &[u8], pairs: &[i64]) -> Vec<u8> {
     let mut rows = rows::split(text).expect("lines of five fields");
     for pair in pairs.chunks_exact(2) {
         rows[pair[0] as usize - 1][2] = pair[1].to_string().into_bytes();
     }
-    rows::join(&rows)
+    rows::join_under(first_line(text), &rows)
 }
 
 /// How many pairs: a few, none, as many as there may be and one more.
@@ -72,7 +73,8 @@ fn proper(rng: &mut Rng, table: &mut [i64], labels: &[i64]) -> Vec<i64> {
 }
 
 /// A number that is allowed: the one that is there, one that divides nothing, one
-/// whose sums leave the range, a small one, or any.
+/// whose sums leave the range, the next to the one that is there, whose half is a
+/// half where its is none, a small one, or any.
 fn number(rng: &mut Rng, now: i64) -> i64 {
     let small = rng.below(41) as i64 - 20;
     let any = rng.below(2_000_000_001) as i64 - MOST_NUMBER;
@@ -81,7 +83,8 @@ fn number(rng: &mut Rng, now: i64) -> i64 {
         3..=5 => 0,
         6..=7 => *rng.pick(&[MOST_NUMBER, -MOST_NUMBER, MOST_NUMBER - 1]),
         8 => -now,
-        9..=10 => any,
+        9 => any,
+        10..=11 => (now + *rng.pick(&[1, -1])).clamp(-MOST_NUMBER, MOST_NUMBER),
         _ => small,
     }
 }

@@ -7,6 +7,7 @@
 
 use std::io::Write;
 
+use crate::first_lines::{under, AWAY, FIRST_LINES};
 use crate::letters::{is_same_name, recase};
 use crate::near::{long_name, make_near};
 use crate::rng::Rng;
@@ -62,6 +63,8 @@ struct Manner {
     spread: bool,
     /// Mentions as they come, so that values may reach themselves.
     wild: bool,
+    /// Quotients by an even number, many of them halves, among the operations.
+    halving: usize,
     /// How long names are and how often they repeat.
     naming: usize,
     /// Names and paths in other letters than their lists and definitions have.
@@ -85,6 +88,7 @@ impl Manner {
             function_ranks: 3,
             spread: false,
             wild: rng.chance(6),
+            halving: *rng.pick(&[0, 30, 60, 90]),
             naming: rng.below(5),
             recasing: *rng.pick(&[0, 0, 0, 0, 10, 50, 100]),
         };
@@ -213,7 +217,9 @@ pub fn sheet_of(rng: &mut Rng, lines: usize) -> Vec<u8> {
     grower.grow_definitions(lines);
     grower.deal_ranks();
     grower.grow_bodies(lines);
-    grower.render()
+    let text = grower.render();
+    let line = *rng.pick(&FIRST_LINES);
+    under(line, &text)
 }
 
 impl Grower<'_> {
@@ -555,6 +561,9 @@ impl Grower<'_> {
                 None => self.leaf(owner),
             };
         }
+        if self.rng.chance(self.manner.halving) {
+            return self.quotient(owner, level, budget);
+        }
         let choice = budget >= 4 && self.rng.chance(25);
         let node = if choice {
             self.add(b'I', 0)
@@ -572,6 +581,26 @@ impl Grower<'_> {
             self.nodes[node].operands.push(operand);
             left -= share;
         }
+        node
+    }
+
+    /// A quotient by an even number, most often 2: of an expression, or of a number
+    /// that makes it a half.
+    fn quotient(&mut self, owner: usize, level: usize, budget: usize) -> usize {
+        let [node, divisor] = [b'D', b'N'].map(|kind| self.add(kind, 0));
+        let even = *self.rng.pick(&[2, 2, 2, -2, -2, 4, -6, 10, 100]);
+        self.nodes[divisor].number = even;
+        let dividend = match self.rng.below(3) {
+            0 => {
+                let odd = 2 * self.rng.below(40) as i64 - 39;
+                let dividend = self.add(b'N', 0);
+                self.nodes[dividend].number = odd * even / 2;
+                dividend
+            }
+            1 => self.leaf(owner),
+            _ => self.expression(owner, level + 1, budget - 2),
+        };
+        self.nodes[node].operands = vec![dividend, divisor];
         node
     }
 
@@ -705,7 +734,7 @@ impl Grower<'_> {
         for (label, &node) in (1..).zip(&sequence) {
             labels[node] = label;
         }
-        let mut text = b"kind name a b c\n".to_vec();
+        let mut text = [AWAY, b"\n"].concat();
         for &node in &sequence {
             self.render_line(&labels, node, &mut text);
         }

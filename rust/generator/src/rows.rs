@@ -1,5 +1,7 @@
 //! A sheet as rows of fields, for changes to it.
 
+use crate::first_lines::AWAY;
+
 /// The five fields of a line.
 pub type Row = [Vec<u8>; 5];
 
@@ -16,9 +18,14 @@ pub fn split(text: &[u8]) -> Option<Vec<Row>> {
     rows.filter(|rows| !rows.is_empty())
 }
 
-/// The sheet of these rows.
+/// The sheet of these rows, halves away from zero.
 pub fn join(rows: &[Row]) -> Vec<u8> {
-    let mut text = b"kind name a b c\n".to_vec();
+    join_under(AWAY, rows)
+}
+
+/// The sheet of these rows under this line one.
+pub fn join_under(first_line: &[u8], rows: &[Row]) -> Vec<u8> {
+    let mut text = [first_line, b"\n"].concat();
     for row in rows {
         text.extend_from_slice(&row.join(&b' '));
         text.push(b'\n');

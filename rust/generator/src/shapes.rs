@@ -1,6 +1,7 @@
 //! Fixed sheets for speed figures and for small stacks: the worst shapes.
 
 use crate::builder::{Builder, MAX_LINES};
+use crate::first_lines::{under, EVEN};
 use crate::letters::capital_paths;
 use crate::long_names::{near_names, near_paths, one_hash, one_slot};
 use crate::tangled::{
@@ -43,6 +44,12 @@ pub fn shapes() -> Vec<Shape> {
         shape("deepest calls", deepest_calls()),
         shape("deepest nesting", deepest_nesting()),
         shape("500 short values", short_values(500)),
+        shape("676 halves away from zero", halves(676)),
+        shape("676 halves to even", under(EVEN, &halves(676))),
+        shape(
+            "halves in the deepest calls",
+            under(EVEN, &halves_in_calls(320)),
+        ),
         shape("refusal 9 at label 1,024", late_refusal(9)),
         shape("refusal 15 at label 1,024", late_refusal(15)),
         shape("refusal 16 at label 1,023", late_refusal(16)),
@@ -242,6 +249,31 @@ pub fn short_values(values: usize) -> Vec<u8> {
     let mut builder = Builder::new();
     for value in 0..values {
         builder.value(&short_name(value), 1, "1");
+    }
+    builder.text()
+}
+
+/// Values of two quotients each that are halves, by a function: of either sign,
+/// with an even number toward zero or an odd one, in no sequence that a processor
+/// can foresee. 676 fill a sheet.
+pub fn halves(quotients: usize) -> Vec<u8> {
+    let mut builder = Builder::new();
+    builder.function("both", 1, "S D P 2 D P -2");
+    for value in 0..quotients / 2 {
+        let odd = 2 * (value * 7_919 % 1_009) as i64 - 1_007;
+        builder.value(&short_name(value), 1, &format!("C:both {odd}"));
+    }
+    builder.text()
+}
+
+/// This many values, 324 at most, that each call down 64 deep, with ten quotients at
+/// every depth that are halves.
+pub fn halves_in_calls(values: usize) -> Vec<u8> {
+    let mut builder = Builder::new();
+    let body = "A D P 2 ".repeat(10) + "I S P 1 C:down S P 2 0";
+    builder.function("down", 1, &body);
+    for value in 0..values {
+        builder.value(&short_name(value), 1, "C:down 127");
     }
     builder.text()
 }

@@ -3,7 +3,7 @@
 //! blocks and plans by looking at every pair, evaluation as a function of what is
 //! left.
 
-use generator::{any_sheet, line_count, rows, sheet, Rng};
+use generator::{any_sheet, line_count, rows, sheet, Rng, EVEN};
 use reference::{Order, Refusal};
 
 /// A name as it is compared: "without regard to the case of ASCII letters".
@@ -222,7 +222,10 @@ impl Facts {
                 operand(if test == 0 { 5 } else { 4 }, left)
             }),
             kind => then(operand(3, left), |a, left| {
-                then(operand(4, left), |b, left| (operate(kind, a, b), left))
+                let even = self.text.starts_with(EVEN);
+                then(operand(4, left), |b, left| {
+                    (operate(kind, even, a, b), left)
+                })
             }),
         }
     }
@@ -251,19 +254,31 @@ fn then((answer, left): Reply, next: impl FnOnce(i64, u32) -> Reply) -> Reply {
     }
 }
 
-fn operate(kind: usize, a: i64, b: i64) -> Result<i64, i64> {
+/// An operation, halves to even or away from zero.
+fn operate(kind: usize, even: bool, a: i64, b: i64) -> Result<i64, i64> {
     let result = match kind {
         8 => a + b,
         9 => a - b,
         10 => a * b,
         _ if b == 0 => return Err(3),
-        // |a / b| + 1/2, rounded down, with the sign of a / b.
-        _ => a.signum() * b.signum() * ((2 * a.abs() + b.abs()) / (2 * b.abs())),
+        _ => a.signum() * b.signum() * nearest(even, a.abs(), b.abs()),
     };
     let limit = 1_000_000_000;
     Some(result)
         .filter(|result| (-limit..=limit).contains(result))
         .ok_or(2)
+}
+
+/// The nearest whole number to a / b, neither below 0: a / b + 1/2 rounded down; of
+/// a half the one before that where it is odd and "the even neighbour" is wanted.
+fn nearest(even: bool, a: i64, b: i64) -> i64 {
+    let up = (2 * a + b) / (2 * b);
+    let is_half = (2 * a + b) % (2 * b) == 0;
+    if even && is_half && up % 2 == 1 {
+        up - 1
+    } else {
+        up
+    }
 }
 
 /// Run's plan, order and results, or the place of its refusal 16.

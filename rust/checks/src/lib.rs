@@ -15,6 +15,7 @@
 
 mod calls;
 mod crates;
+mod halves;
 mod lent;
 mod letters;
 mod retouches;
@@ -27,6 +28,7 @@ use generator::Rng;
 
 pub use calls::{Call, Lent};
 pub use crates::Crates;
+pub use halves::Halves;
 pub use letters::Letters;
 pub use retouches::Retouches;
 pub use tally::Tally;

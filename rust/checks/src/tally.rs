@@ -6,7 +6,7 @@ use generator::{NearNames, Tangles};
 
 use crate::calls::{MIXED, WHOLE};
 use crate::letters::Letters;
-use crate::{Call, Outcome, Retouches};
+use crate::{Call, Halves, Outcome, Retouches};
 
 /// With at least this many random trials everything is met.
 const ENOUGH: u64 = 5_000;
@@ -33,8 +33,8 @@ const NEAR: [&str; NearNames::COUNT] = [
 /// How the calls replied, what Plan and Run came to, how many labels Name was
 /// asked for and gave a part to, how many prints there was room for, how many
 /// sheets had names in other letters than those that they are the same as, or names
-/// that are nearly the same, where mixed plans were tangled, and what lists of pairs
-/// brought about.
+/// that are nearly the same, where mixed plans were tangled, what lists of pairs
+/// brought about, and what was met under each first line.
 #[derive(Debug, Default, Clone, PartialEq, Eq)]
 pub struct Tally {
     trials: u64,
@@ -57,6 +57,10 @@ pub struct Tally {
     tangles: [u64; Tangles::COUNT],
     /// Lists of pairs by what is told in `Retouches::WORDS`.
     retouches: [u64; Retouches::COUNT],
+    /// Under each first line, what is told in `Halves::WORDS`; first lines that are
+    /// near misses of both.
+    halves: [[u64; Halves::WORDS.len()]; 2],
+    near_both: u64,
 }
 
 impl Tally {
@@ -85,6 +89,10 @@ impl Tally {
         }
         add_all(&mut self.tangles, &outcome.tangles.counts());
         add_all(&mut self.retouches, &outcome.retouches.counts());
+        for (counts, more) in self.halves.iter_mut().zip(outcome.halves.counts()) {
+            add_all(counts, &more);
+        }
+        self.near_both += u64::from(outcome.halves.near_both);
     }
 
     pub fn merge(&mut self, other: &Tally) {
@@ -104,14 +112,19 @@ impl Tally {
         }
         add_all(&mut self.tangles, &other.tangles);
         add_all(&mut self.retouches, &other.retouches);
+        for (counts, more) in self.halves.iter_mut().zip(&other.halves) {
+            add_all(counts, more);
+        }
+        self.near_both += other.near_both;
     }
 
     /// Whether every call answered and refused by each of its rows, plans were
     /// whole and mixed, values came to every state, Name gave parts, empty ones
     /// too, prints had room and had not, names were in other letters and nearly the
-    /// same wherever they are compared, sheets were tangled wherever they can be, and
-    /// lists of pairs brought about all that they can; a short run need not have met
-    /// all of them.
+    /// same wherever they are compared, sheets were tangled wherever they can be,
+    /// lists of pairs brought about all that they can, and of both first lines there
+    /// were sheets, near misses, and halves on which the tie rules part; a short run
+    /// need not have met all of them.
     pub fn is_complete(&self) -> bool {
         let mut calls = Call::ALL.into_iter().zip(&self.replies);
         let replies = calls.all(|(call, counts)| call.has_met(counts));
@@ -123,8 +136,9 @@ impl Tally {
         let near = !self.near.as_flattened().contains(&0);
         let tangles = !self.tangles.contains(&0);
         let retouches = !self.retouches.contains(&0);
+        let halves = !self.halves.as_flattened().contains(&0) && self.near_both > 0;
         let named = names && letters && near;
-        let evaluated = prints && states && retouches;
+        let evaluated = prints && states && retouches && halves;
         let is_all = replies && orders && named && evaluated && tangles;
         self.trials < ENOUGH || is_all
     }
@@ -172,6 +186,10 @@ impl fmt::Display for Tally {
         writeln!(f, "values: {}", listed(&STATES, &self.states))?;
         let retouches = listed(&Retouches::WORDS, &self.retouches);
         writeln!(f, "lists of pairs: {retouches}")?;
+        let [away, even] = &self.halves;
+        writeln!(f, "halves away from zero: {}", listed(&Halves::WORDS, away))?;
+        writeln!(f, "halves to even: {}", listed(&Halves::WORDS, even))?;
+        writeln!(f, "near misses of both first lines: {}", self.near_both)?;
         let cut = self.trials - self.printed;
         writeln!(f, "prints: {} whole, {cut} cut short", self.printed)?;
         let [heads, later, clashes] = self.letters;

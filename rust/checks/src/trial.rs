@@ -4,6 +4,7 @@ use generator::{Case, NearNames, Tangles};
 use lindypo::raw::{Part, Printed, Reply};
 
 use crate::calls::{Call, Lent, MIXED};
+use crate::halves::Halves;
 use crate::lent::{LentCells, LentPart, SURROUNDINGS};
 use crate::letters::Letters;
 use crate::retouches::Retouches;
@@ -53,6 +54,7 @@ pub struct Outcome {
     pub near: NearNames,
     pub tangles: Tangles,
     pub retouches: Retouches,
+    pub halves: Halves,
 }
 
 impl Outcome {
@@ -81,6 +83,7 @@ impl Outcome {
             near: near_names(text, &calls[0]),
             tangles: tangles(&calls[1]),
             retouches: Retouches::of(trial.pairs, calls),
+            halves: Halves::of(text, calls, trial.under_other(run).as_deref()),
         }
     }
 
@@ -241,6 +244,18 @@ impl<'a> Trial<'a> {
                 self.pairs
             ),
         }
+    }
+
+    /// What the reference wants of the calls that evaluate for the same sheet under
+    /// the other first line; none where Run refuses it under its own.
+    fn under_other(&self, run: Reply) -> Option<Vec<Wanted>> {
+        let text = generator::under_other(self.text).filter(|_| run.refusal == 0)?;
+        let other = Trial {
+            text: &text,
+            ..*self
+        };
+        let calls = [Call::Run, Call::Follow, Call::Retouch];
+        Some(calls.map(|call| other.wanted_of(call)).into())
     }
 
     fn lengths(&self) -> [usize; 4] {

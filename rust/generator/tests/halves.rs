@@ -47,11 +47,14 @@ fn half_of_the_sheets_under_each_line() {
     assert!(away > 1_800 && even > 1_800, "{away}, {even}");
 }
 
-/// Whether the two rules part on a case in Run, in Follow, and in what Retouch alone does
+/// Whether the two rules part on a case in Run, in Follow, and in what Retouch does
 /// after its Run.
 fn parts(case: &Case, other: &[u8]) -> [bool; 3] {
     let text = &case.text;
-    let is_parted = |ours: Option<Vec<i64>>, theirs| ours.is_some() && ours != theirs;
+    let is_parted = |ours: Option<Vec<i64>>, theirs| {
+        let both = ours.zip(theirs);
+        both.is_some_and(|(ours, theirs)| ours != theirs)
+    };
     let runs = is_parted(run(text), run(other));
     let follows = is_parted(follow(text, &case.order), follow(other, &case.order));
     let retouches = is_parted(retouch(text, &case.pairs), retouch(other, &case.pairs));

@@ -1,6 +1,7 @@
 //! The library's calls against the reference, and against what the paper says.
 
 mod buffers;
+mod halves;
 mod letters;
 mod names;
 mod orders;

@@ -1,7 +1,7 @@
 //! Random sheets, and random bytes.
 
 use checks::Trial;
-use generator::{buffer_length, line_count, Rng};
+use generator::{buffer_length, line_count, Rng, FIRST_LINES};
 
 use crate::setting;
 
@@ -16,7 +16,7 @@ fn random_sheets() {
 }
 
 /// Bytes as they come, and bytes of a sheet in any sequence, with and without
-/// the first line.
+/// either first line.
 #[test]
 fn random_bytes() {
     let rng = &mut Rng::new(setting("LINDYPO_SEED", 0));
@@ -25,7 +25,7 @@ fn random_bytes() {
         let any = rng.chance(30);
         let mut text = Vec::new();
         if rng.chance(70) {
-            text.extend(b"kind name a b c\n");
+            text.extend([*rng.pick(&FIRST_LINES), b"\n"].concat());
         }
         if rng.chance(50) {
             text.extend(b"G - 0 - -\n");

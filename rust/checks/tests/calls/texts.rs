@@ -1,6 +1,6 @@
 //! Texts of all sorts, one byte changed at a time and at the edges.
 
-use generator::late_refusal;
+use generator::{late_refusal, FIRST_LINES};
 use lindypo::raw::Refusal;
 
 use crate::{agree, example, refusal, sheets, RUBBISH};
@@ -76,11 +76,11 @@ fn every_truncation() {
     }
 }
 
-/// A sheet that reads, of this many bytes, from 65,000 on: the longest path,
-/// read by 400 values, then Groups up to the length.
-fn long_text(length: usize) -> Vec<u8> {
+/// A sheet that reads, of this many bytes, from 65,000 on, under this first line:
+/// the longest path, read by 400 values, then Groups up to the length.
+fn long_text(line: &str, length: usize) -> Vec<u8> {
     let name = "p".repeat(16);
-    let mut text = "kind name a b c\nG - 0 - -\n".to_string();
+    let mut text = format!("{line}\nG - 0 - -\n");
     for group in 1..8 {
         text += &format!("G {name} {group} - -\n");
     }
@@ -109,11 +109,11 @@ fn padding(bytes: usize, number: usize) -> String {
 #[test]
 fn text_lengths() {
     assert_eq!(refusal(b""), Some((1, 0)));
-    for length in [65_535, 65_536, 65_537] {
-        let text = long_text(length);
+    for (line, length) in both_lines([65_535, 65_536, 65_537]) {
+        let text = long_text(line, length);
         assert_eq!(text.len(), length);
         let wanted = (length > 65_536).then_some((1, 0));
-        assert_eq!(refusal(&text), wanted, "{length} bytes");
+        assert_eq!(refusal(&text), wanted, "{line}, {length} bytes");
     }
     for length in [1, 65_536, 65_537] {
         agree(&vec![b'\n'; length]);
@@ -121,17 +121,21 @@ fn text_lengths() {
     }
 }
 
+/// Each of these under each of the two first lines.
+fn both_lines<const N: usize>(list: [usize; N]) -> impl Iterator<Item = (&'static str, usize)> {
+    let lines = FIRST_LINES.map(|line| std::str::from_utf8(line).expect("ASCII"));
+    list.into_iter()
+        .flat_map(move |item| lines.map(|line| (line, item)))
+}
+
 #[test]
 fn label_counts() {
-    let mut text = "kind name a b c\n".to_string();
-    assert_eq!(refusal(text.as_bytes()), Some((3, 0)));
-    text += "G - 0 - -\n";
-    for label in 2..=1_026 {
-        let wanted = (label > 1_025).then_some((3, 0));
-        if [2, 3, 1_024, 1_025, 1_026].contains(&label) {
-            assert_eq!(refusal(text.as_bytes()), wanted, "label {label} is next");
-        }
-        text += &format!("G g{label} 1 - -\n");
+    for (line, count) in both_lines([0, 1, 2, 1_023, 1_024, 1_025]) {
+        let groups = (2..=count).map(|label| format!("G g{label} 1 - -\n"));
+        let outermost = if count > 0 { "G - 0 - -\n" } else { "" };
+        let text = format!("{line}\n{outermost}{}", groups.collect::<String>());
+        let wanted = (count == 0 || count > 1_024).then_some((3, 0));
+        assert_eq!(refusal(text.as_bytes()), wanted, "{line}, {count} labels");
     }
 }
 

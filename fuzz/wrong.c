@@ -8,7 +8,7 @@
 
 #include "lindypo.h"
 
-#define FAULTS 42
+#define FAULTS 52
 
 static const char *const words[FAULTS + 1] = {
     "",
@@ -54,6 +54,16 @@ static const char *const words[FAULTS + 1] = {
     "Retouch takes one pair more than there may be",
     "Retouch reads the cell after the pairs",
     "Retouch writes the cell after the changes",
+    "Run takes halves away from zero where they go to even",
+    "Run takes halves to the odd neighbour where they go to even",
+    "Run takes halves to even below zero alone",
+    "Run takes halves to even where they go away from zero",
+    "Follow goes by the other tie rule",
+    "Retouch goes by the other tie rule",
+    "The print goes by the other tie rule",
+    "Read takes kind3 for kind2",
+    "Read takes Kind2 for kind2",
+    "Read gives byte starts under kind2 as under kind",
 };
 
 static int fault;
@@ -291,6 +301,120 @@ static lindypo_reply wrong_refusal(const uint8_t *text, const int64_t *table,
     }
 }
 
+/* What a list of pairs leaves, in buffers that are long enough. */
+#define PAIRS_MOST 1024
+typedef struct {
+    int64_t table[LINDYPO_TABLE_MOST], plan[LINDYPO_PLAN_MOST];
+    int64_t results[LINDYPO_RESULTS_MOST], changes[3 * PAIRS_MOST];
+} left;
+
+static void leave(left *left, const uint8_t *text, size_t text_length,
+                  const int64_t *pairs, size_t pairs_length)
+{
+    __real_lindypo_retouch(text, text_length, pairs, pairs_length,
+                           left->table, LINDYPO_TABLE_MOST, left->plan, LINDYPO_PLAN_MOST,
+                           left->results, LINDYPO_RESULTS_MOST, left->changes, 3 * PAIRS_MOST);
+}
+
+/* No list of pairs. */
+#define NO_PAIRS ((const int64_t[]){0})
+
+/* The line of a label. */
+static int64_t *line_of(int64_t *table, int64_t label)
+{
+    return table + 8 * (label - 1);
+}
+
+/* Whether a sheet's halves go to even; its first line is one of the two. */
+static int is_even(const uint8_t *text)
+{
+    return text[4] == '2';
+}
+
+/* The text with so many bytes of its own line one left out, and these in their
+ * place. */
+static uint8_t changed[LINDYPO_TEXT_MOST + 8];
+
+static size_t change_start(const char *start, const uint8_t *text, size_t text_length,
+                           size_t left_out)
+{
+    size_t length = strlen(start);
+    memcpy(changed, start, length);
+    memcpy(changed + length, text + left_out, text_length - left_out);
+    return length + text_length - left_out;
+}
+
+/* The same sheet under the other tie rule. */
+static size_t turn_over(const uint8_t *text, size_t text_length)
+{
+    return is_even(text) ? change_start("kind", text, text_length, 5)
+                         : change_start("kind2", text, text_length, 4);
+}
+
+/* The results of this many labels as they are under the other tie rule. */
+static void go_by_other_rule(const uint8_t *text, size_t text_length, const int64_t *pairs,
+                             size_t pairs_length, uint64_t lines, int64_t *results)
+{
+    static left other;
+    leave(&other, changed, turn_over(text, text_length), pairs, pairs_length);
+    memcpy(results, other.results, 3 * lines * sizeof *results);
+}
+
+/* What a half of a quotient goes to by a wrong rule: the odd neighbour, or the even
+ * one below zero alone. */
+static int64_t wrong_half(int64_t a, int64_t b)
+{
+    int64_t toward_zero = a / b, is_below = (a < 0) != (b < 0);
+    int64_t out = toward_zero + (is_below ? -1 : 1);
+    int64_t odd = toward_zero % 2 != 0 ? toward_zero : out;
+    if (fault == 44)
+        return odd;
+    return is_below ? toward_zero + out - odd : out;
+}
+
+/* Rounds so the values that are a quotient of two numbers. */
+static void round_wrongly(int64_t *table, uint64_t lines, int64_t *results)
+{
+    for (uint64_t label = 1; label <= lines; label++) {
+        int64_t *value = line_of(table, (int64_t)label);
+        if (value[0] != LINDYPO_KIND_VALUE)
+            continue;
+        int64_t *body = line_of(table, value[4]);
+        if (body[0] != LINDYPO_KIND_QUOTIENT)
+            continue;
+        int64_t *a = line_of(table, body[3]), *b = line_of(table, body[4]);
+        int is_of_numbers = a[0] == LINDYPO_KIND_NUMBER && b[0] == LINDYPO_KIND_NUMBER;
+        if (is_of_numbers && b[3] != 0 && 2 * llabs(a[3] % b[3]) == llabs(b[3]))
+            results[3 * (label - 1) + 1] = wrong_half(a[3], b[3]);
+    }
+}
+
+/* The faults of a Run that is answered: the rule of a sheet of the one or the other
+ * sort is not its own, or it is wrong. */
+static void spoil_halves(const uint8_t *text, size_t text_length, int64_t *table,
+                         size_t table_length, int64_t *results)
+{
+    uint64_t lines = line_count(table, table_length);
+    if (fault == (is_even(text) ? 43 : 46))
+        go_by_other_rule(text, text_length, NO_PAIRS, 0, lines, results);
+    if (is_even(text) && (fault == 44 || fault == 45))
+        round_wrongly(table, lines, results);
+}
+
+/* Byte starts as they are under the shorter line. */
+static void move_starts(int64_t *table, size_t table_length)
+{
+    for (int64_t *line = table; line < table + 8 * line_count(table, table_length); line += 8)
+        if (line[2] > 0)
+            line[1]--;
+}
+
+/* Whether line one has this beginning. */
+static int begins_with(const uint8_t *text, size_t text_length, const char *start)
+{
+    return text_length >= strlen(start) && memcmp(text, start, strlen(start)) == 0;
+}
+
 lindypo_reply __wrap_lindypo_read(const uint8_t *text, size_t text_length,
                                   int64_t *table, size_t table_length)
 {
@@ -314,6 +438,13 @@ lindypo_reply __wrap_lindypo_read(const uint8_t *text, size_t text_length,
     }
     if (fault == 29 && is_answer)
         lead_astray(text, table, table_length);
+    const char *taken = fault == 50 ? "kind3 name" : "Kind2 name";
+    int is_fault = fault == 50 || fault == 51;
+    if (is_fault && reply.refusal == 2 && begins_with(text, text_length, taken))
+        reply = __real_lindypo_read(changed, change_start("kind2", text, text_length, 5), table,
+                                    table_length);
+    if (fault == 52 && is_answer && is_even(text))
+        move_starts(table, table_length);
     if (fault == 20 && reply.refusal == 12 && !clashes_in_same_letters(text, reply.place))
         reply = (lindypo_reply){.count = reply.place};
     return reply;
@@ -365,6 +496,8 @@ lindypo_reply __wrap_lindypo_run(const uint8_t *text, size_t text_length,
     }
     if (fault == 10 && reply.refusal == 16)
         __real_lindypo_read(text, text_length, table, table_length);
+    if (reply.refusal == 0)
+        spoil_halves(text, text_length, table, table_length, results);
     uint64_t label = 0;
     if (fault == 22 && reply.refusal == 0)
         label = first_other_letters(text, table, table_length, 1);
@@ -388,28 +521,10 @@ lindypo_reply __wrap_lindypo_follow(const uint8_t *text, size_t text_length,
         reply.place--;
     if (fault == 14 && reply.refusal == 0)
         *(volatile uint8_t *)alloca(2 << 20) = 0;
+    if (fault == 47 && reply.refusal == 0)
+        go_by_other_rule(text, text_length, NO_PAIRS, 0, line_count(table, table_length),
+                         results);
     return reply;
-}
-
-/* What a list of pairs leaves, in buffers that are long enough. */
-#define PAIRS_MOST 1024
-typedef struct {
-    int64_t table[LINDYPO_TABLE_MOST], plan[LINDYPO_PLAN_MOST];
-    int64_t results[LINDYPO_RESULTS_MOST], changes[3 * PAIRS_MOST];
-} left;
-
-static void leave(left *left, const uint8_t *text, size_t text_length,
-                  const int64_t *pairs, size_t pairs_length)
-{
-    __real_lindypo_retouch(text, text_length, pairs, pairs_length,
-                           left->table, LINDYPO_TABLE_MOST, left->plan, LINDYPO_PLAN_MOST,
-                           left->results, LINDYPO_RESULTS_MOST, left->changes, 3 * PAIRS_MOST);
-}
-
-/* The line of a label. */
-static int64_t *line_of(int64_t *table, int64_t label)
-{
-    return table + 8 * (label - 1);
 }
 
 /* Whether a value mentions a definition itself. */
@@ -553,6 +668,9 @@ lindypo_reply __wrap_lindypo_retouch(const uint8_t *text, size_t text_length,
                                        results_length, changes, changes_length);
     if (fault == 42 && row == 0)
         changes[changes_length] = 0;
+    if (fault == 48 && row == 0)
+        go_by_other_rule(text, text_length, pairs, pairs_length,
+                         line_count(table, table_length), results);
     return reply;
 }
 
@@ -561,6 +679,8 @@ lindypo_printed __wrap_lindypo_print(const uint8_t *text, size_t text_length,
 {
     uint8_t last = out_length > 0 ? out[out_length - 1] : 0;
     lindypo_printed printed = __real_lindypo_print(text, text_length, out, out_length);
+    if (fault == 49 && printed.refusal == 0)
+        printed = __real_lindypo_print(changed, turn_over(text, text_length), out, out_length);
     int is_short = printed.length > out_length;
     if (fault == 15 && is_short)
         printed.length = out_length;

@@ -3,7 +3,7 @@
 //! too seldom.
 
 use generator::rows::{self, Row};
-use generator::Rng;
+use generator::{first_line, Rng};
 
 use crate::settings::Settings;
 
@@ -16,13 +16,14 @@ pub fn change(rng: &mut Rng, input: &[u8]) -> Vec<u8> {
         1..=7 => settings.change(rng),
         8 => text = generator::any_sheet(rng),
         9..=13 => text = generator::damage(rng, text),
+        14 => text = generator::damage_line_one(rng, text),
         _ => text = vary(rng, text),
     }
     [settings.to_bytes(), text].concat()
 }
 
-/// The settings of the first input, and the lines of both: the second's after
-/// the first's, with one outermost Group for all.
+/// The settings and line one of the first input, and the lines of both: the second's
+/// after the first's, with one outermost Group for all.
 pub fn join(first: &[u8], second: &[u8]) -> Vec<u8> {
     let (settings, text) = Settings::split(first);
     let (_, other) = Settings::split(second);
@@ -32,7 +33,8 @@ pub fn join(first: &[u8], second: &[u8]) -> Vec<u8> {
     let by = rows.len() - 1;
     relabel(&mut more, |label| if label == 1 { 1 } else { label + by });
     rows.extend(more.into_iter().skip(1));
-    [settings.to_bytes(), rows::join(&rows)].concat()
+    let joined = rows::join_under(first_line(text), &rows);
+    [settings.to_bytes(), joined].concat()
 }
 
 /// A change after which a sheet that read will often still read.
@@ -40,7 +42,7 @@ fn vary(rng: &mut Rng, text: Vec<u8>) -> Vec<u8> {
     let Some(mut rows) = rows::split(&text) else {
         return generator::damage(rng, text);
     };
-    match rng.below(13) {
+    match rng.below(15) {
         0 | 1 => swap_labels(rng, &mut rows),
         2 => grow(rng, &mut rows),
         3 => change_number(rng, &mut rows),
@@ -52,9 +54,11 @@ fn vary(rng: &mut Rng, text: Vec<u8>) -> Vec<u8> {
         9 => tangle(rng, &mut rows),
         10 => define_near(rng, &mut rows),
         11 => make_near(rng, &mut rows),
+        12 => halve(rng, &mut rows),
+        13 => return generator::under_other(&text).unwrap_or(text),
         _ => define(rng, &mut rows),
     }
-    rows::join(&rows)
+    rows::join_under(first_line(&text), &rows)
 }
 
 fn row(fields: [&str; 5]) -> Row {
@@ -125,6 +129,21 @@ fn grow(rng: &mut Rng, rows: &mut Vec<Row>) {
         });
     }
     rows[at] = grown;
+}
+
+/// A number becomes a half: an odd number of times half an even one, by that.
+fn halve(rng: &mut Rng, rows: &mut Vec<Row>) {
+    let Some(at) = find(rng, rows, b"N") else {
+        return;
+    };
+    let half = *rng.pick(&[1, 1, -1, 2, 50, 250_000_000]);
+    let odd = *rng.pick(&[1, -1, 3, -3]);
+    let next = rows.len() + 1;
+    for number in [half * odd, 2 * half] {
+        rows.push(row(["N", "-", &number.to_string(), "-", "-"]));
+    }
+    let operands = [next, next + 1].map(|label| label.to_string());
+    rows[at] = row(["D", "-", &operands[0], &operands[1], "-"]);
 }
 
 /// A number near an edge, now and then in a form that is not allowed.
@@ -367,6 +386,54 @@ mod tests {
         assert!(met.iter().all(|&count| count > 10), "{met:?}");
     }
 
+    /// Sheets that run under the other line than those they come of, and of these
+    /// some on which the tie rules part, by steps that leave them running.
+    #[test]
+    fn changed_sheets_go_by_both_rules() {
+        let rng = &mut Rng::new(7);
+        let mut met = [[0; 2]; 2];
+        for seed in 0..1_000 {
+            let mut text = generator::everyday(40, seed);
+            for _ in 0..20 {
+                let varied = vary(rng, text.clone());
+                if checks::Trial::new(&varied, &[]).wanted()[2].reply.refusal == 0 {
+                    text = varied;
+                }
+            }
+            let trial = checks::Trial::new(&text, &[]);
+            let expected = trial.expected(|_| vec![1]).expect("one table for all");
+            let checks::Halves { reads, run, .. } = checks::Outcome::new(&trial, &expected).halves;
+            for line in [0, 1] {
+                met[line][0] += usize::from(reads[line]);
+                met[line][1] += usize::from(run[line]);
+            }
+        }
+        for [sheets, parted] in met {
+            assert!(sheets > 300 && parted > 100, "{met:?}");
+        }
+    }
+
+    /// Refusal 2 by lines that are nearly one of the two or both comes of sheets.
+    #[test]
+    fn changed_sheets_have_near_first_lines() {
+        let rng = &mut Rng::new(8);
+        let mut met = [0; 3];
+        for _ in 0..4_000 {
+            let input = [Settings::default().to_bytes(), generator::flat(3)].concat();
+            let case = crate::decode(&change(rng, &input));
+            let line = first_line(&case.text);
+            match generator::FIRST_LINES.map(|known| generator::is_one_byte_off(line, known)) {
+                _ if generator::FIRST_LINES.contains(&line) => {}
+                [true, true] => met[2] += 1,
+                [near, near_even] => {
+                    met[0] += usize::from(near);
+                    met[1] += usize::from(near_even);
+                }
+            }
+        }
+        assert!(met.iter().all(|&count| count > 5), "{met:?}");
+    }
+
     #[test]
     fn joined_sheets_have_the_lines_of_both() {
         let head = Settings::default().to_bytes();
@@ -381,5 +448,8 @@ mod tests {
         assert_eq!(joined[Settings::BYTES..], wanted[..]);
         assert!(reads(&joined));
         assert_eq!(join(b"any", &joined), b"any");
+        let even = generator::under(generator::EVEN, first);
+        let joined = join(&[&head, &even[..]].concat(), &joined);
+        assert_eq!(first_line(&joined[Settings::BYTES..]), generator::EVEN);
     }
 }

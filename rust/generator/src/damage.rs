@@ -64,7 +64,7 @@ fn damage_text(rng: &mut Rng, mut text: Vec<u8>) -> Vec<u8> {
 
 /// What line one is mistaken for: a byte or a field of either line too many, too
 /// few or another, other letters, other separators.
-const WRONG_LINES: [&[u8]; 26] = [
+pub const WRONG_LINES: [&[u8]; 26] = [
     b"",
     b"kind name a b",
     b"kind name a b c ",
@@ -96,7 +96,7 @@ const WRONG_LINES: [&[u8]; 26] = [
 /// Row 2: another line one, or one of the two cut short or with a byte of it
 /// replaced. Beside these, what is no matter of row 2: a line end of Windows (row
 /// 1), both lines one after the other (row 6), the other line (none).
-fn damage_line_one(rng: &mut Rng, text: Vec<u8>) -> Vec<u8> {
+pub fn damage_line_one(rng: &mut Rng, text: Vec<u8>) -> Vec<u8> {
     let [line, other] = [(); 2].map(|()| *rng.pick(&FIRST_LINES));
     let at = rng.below(line.len());
     let line = match rng.below(10) {

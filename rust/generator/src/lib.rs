@@ -28,7 +28,7 @@ pub mod slots;
 mod tangled;
 mod tangles;
 
-pub use damage::{damage, damaged};
+pub use damage::{damage, damage_line_one, damaged, WRONG_LINES};
 pub use everyday::{everyday, everyday_on_one};
 pub use first_lines::{first_line, is_one_byte_off, under, under_other, AWAY, EVEN, FIRST_LINES};
 pub use lent::{buffer_length, order, planned, print_length, proper_order};

@@ -1,12 +1,13 @@
 //! `seeds FOLDER FILE...`: writes inputs to begin with to a folder: the sheets of
-//! the files, the shapes of the speed figures and sheets of the generator.
+//! the files, the shapes of the speed figures, an everyday order under each first
+//! line that is allowed or taken for one, and sheets of the generator.
 
 use std::path::Path;
 use std::process::ExitCode;
 use std::{env, fs, io};
 
 use fuzz::Settings;
-use generator::Rng;
+use generator::{Rng, FIRST_LINES, WRONG_LINES};
 
 /// How many sheets of the generator.
 const SHEETS: u64 = 400;
@@ -33,6 +34,12 @@ fn write_all(folder: &Path, files: &[String]) -> io::Result<()> {
     }
     for (at, shape) in generator::shapes().iter().enumerate() {
         write(folder, &format!("shape-{at:03}"), plain, &shape.text)?;
+    }
+    let everyday = generator::everyday(60, 1);
+    let lines = FIRST_LINES.iter().chain(&WRONG_LINES);
+    for (at, line) in lines.enumerate() {
+        let text = generator::under(line, &everyday);
+        write(folder, &format!("line-{at:03}"), plain, &text)?;
     }
     for seed in 0..SHEETS {
         let rng = &mut Rng::new(seed);

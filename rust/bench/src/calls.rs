@@ -81,6 +81,9 @@ impl Call {
     pub const PLANNED: [Call; 3] = [Call::Plan, Call::Run, Call::Follow];
     pub const EVALUATED: [Call; 2] = [Call::Run, Call::Follow];
 
+    /// Those that show what line one costs: the shortest call and a whole one.
+    pub const READ_AND_RUN: [Call; 2] = [Call::Read, Call::Run];
+
     pub fn name(self) -> String {
         format!("{self:?}")
     }

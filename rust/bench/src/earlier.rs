@@ -66,7 +66,6 @@ mod linked {
         };
     }
 
-    /// Before order 4 there was no Retouch.
     pub fn function(call: Call) -> Option<Function> {
         let function: Function = match call {
             Call::Read => |lent| {
@@ -102,8 +101,35 @@ mod linked {
                 ))
                 .count()
             },
-            Call::Retouch => return None,
+            Call::Retouch => return retouch(),
         };
         Some(function)
+    }
+
+    #[cfg(earlier_retouch)]
+    fn retouch() -> Option<Function> {
+        #[rustfmt::skip]
+        extern "C" {
+            fn earlier_retouch(_: Bytes, _: usize, _: *const i64, _: usize, _: Cells, _: usize, _: Cells, _: usize, _: Cells, _: usize, _: Cells, _: usize) -> Reply;
+        }
+        Some(|lent| {
+            let (text, pairs, changes) = (lent.text, lent.pairs, lent.changes);
+            let (table, plan, results) = (lent.table, lent.plan, lent.results);
+            lend!(earlier_retouch(
+                text.as_ptr,
+                pairs.as_ptr,
+                table.as_mut_ptr,
+                plan.as_mut_ptr,
+                results.as_mut_ptr,
+                changes.as_mut_ptr
+            ))
+            .count()
+        })
+    }
+
+    /// Before order 4 there was none.
+    #[cfg(not(earlier_retouch))]
+    fn retouch() -> Option<Function> {
+        None
     }
 }

@@ -11,6 +11,9 @@
 //! again and again is soon known by heart to the processor; several in turn are
 //! not.
 //!
+//! Sheets of halves come under both first lines, and everyday orders under the one
+//! whose halves go to even too: what the tie rule costs, and what line one does.
+//!
 //! Built with `LINDYPO_EARLIER` set to the archive of an earlier library, it
 //! times that one too, in the same turns, on sheets of which it answers the same:
 //! the last column is our time to its.

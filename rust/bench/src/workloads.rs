@@ -3,7 +3,7 @@
 use std::fs;
 use std::path::Path;
 
-use generator::{capital_paths, Rng};
+use generator::{capital_paths, under, Rng, EVEN};
 
 use crate::calls::Call;
 
@@ -123,6 +123,8 @@ pub fn workloads() -> Vec<Workload> {
     list.extend(tangled());
     list.extend(in_other_letters());
     list.extend(near_names());
+    list.extend(halves());
+    list.extend(LINES.map(everyday_to_even));
     list.extend([7, 9, 15, 16].map(refused));
     list.extend(retouched());
     list
@@ -224,6 +226,28 @@ fn near_names() -> [Workload; 4] {
         one("names in one slot", generator::one_slot(511)).without_bar(),
         one("names of one hash", generator::one_hash()).without_bar(),
     ]
+}
+
+/// Quotients that are halves, under each tie rule: of 250 values that read little
+/// else, and in the deepest calls of ten values, where they are most of the time.
+fn halves() -> [Workload; 4] {
+    let evaluated = &Call::EVALUATED;
+    let few = generator::halves(500);
+    let many = generator::halves_in_calls(10);
+    let [few_even, many_even] = [&few, &many].map(|text| under(EVEN, text));
+    [
+        ("500 halves away from zero", few),
+        ("500 halves to even", few_even),
+        ("6,400 halves away from zero", many),
+        ("6,400 halves to even", many_even),
+    ]
+    .map(|(name, text)| Workload::one(name, evaluated, text))
+}
+
+/// The everyday order under the longer first line.
+fn everyday_to_even(lines: usize) -> Workload {
+    let text = under(EVEN, &generator::everyday(lines, 1));
+    Workload::one("everyday order, halves to even", &Call::READ_AND_RUN, text)
 }
 
 /// Everyday orders with pairs for Retouch: the first is that of which one Run after
@@ -342,6 +366,31 @@ mod tests {
         let answer = lindypo::raw::retouch(text, pairs, table, plan, results, changes);
         let (values, _) = answer.expect("a sheet that runs");
         (changes.iter().step_by(3).copied().collect(), values as i64)
+    }
+
+    /// The steps of all values of a workload, and the sum of their numbers.
+    fn evaluated(workload: &Workload) -> (i64, i64) {
+        let text = &workload.sheets[0].text;
+        let lines = workload.lines();
+        let mut buffers = [8 * lines, lines, 3 * lines].map(|length| vec![0; length]);
+        let [table, plan, results] = &mut buffers;
+        lindypo::raw::run(text, table, plan, results).expect("a sheet that runs");
+        let sum = |cell: usize| results.iter().skip(cell).step_by(3).sum();
+        (sum(2), sum(1))
+    }
+
+    /// Each pair of workloads of halves is one sheet under both lines: as many
+    /// steps, other numbers.
+    #[test]
+    fn halves_go_by_both_rules() {
+        let [few, few_even, many, many_even] = halves();
+        for (away, even) in [(few, few_even), (many, many_even)] {
+            assert_eq!(away.lines(), even.lines());
+            assert_eq!(away.bytes() + 1, even.bytes());
+            let [(steps, sum), (even_steps, even_sum)] = [&away, &even].map(evaluated);
+            assert_eq!(steps, even_steps);
+            assert_ne!(sum, even_sum);
+        }
     }
 
     /// The pairs for Retouch are what their names say.

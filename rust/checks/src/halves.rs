@@ -32,7 +32,7 @@ impl Halves {
         "rounded otherwise in Run",
         "in Follow",
         "in Retouch alone",
-        "near misses",
+        "near misses of line one",
     ];
 
     /// Those of a text, of which the calls have to give this, and this under the

@@ -189,7 +189,7 @@ impl fmt::Display for Tally {
         let [away, even] = &self.halves;
         writeln!(f, "halves away from zero: {}", listed(&Halves::WORDS, away))?;
         writeln!(f, "halves to even: {}", listed(&Halves::WORDS, even))?;
-        writeln!(f, "near misses of both first lines: {}", self.near_both)?;
+        writeln!(f, "near misses of either line one: {}", self.near_both)?;
         let cut = self.trials - self.printed;
         writeln!(f, "prints: {} whole, {cut} cut short", self.printed)?;
         let [heads, later, clashes] = self.letters;

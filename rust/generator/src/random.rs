@@ -88,7 +88,7 @@ impl Manner {
             function_ranks: 3,
             spread: false,
             wild: rng.chance(6),
-            halving: *rng.pick(&[0, 30, 60, 90]),
+            halving: *rng.pick(&[0, 0, 30, 80]),
             naming: rng.below(5),
             recasing: *rng.pick(&[0, 0, 0, 0, 10, 50, 100]),
         };

@@ -171,11 +171,10 @@ fn operate(operation: Kind, ties: Ties, a: i64, b: i64) -> Answer {
 fn nearest(ties: Ties, a: i64, b: i64) -> i64 {
     let toward_zero = a / b;
     let half_goes_out = i64::from(ties == Ties::Away) | (toward_zero & 1);
-    if 2 * (a % b).abs() + half_goes_out > b.abs() {
-        toward_zero + a.signum() * b.signum()
-    } else {
-        toward_zero
-    }
+    let goes_out = 2 * (a % b).abs() + half_goes_out > b.abs();
+    // -1 where the signs of a and b differ, else 1, with no branch to foresee
+    let outward = ((a ^ b) >> 63) | 1;
+    toward_zero + i64::from(goes_out) * outward
 }
 
 #[cfg(test)]

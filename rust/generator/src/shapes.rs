@@ -44,17 +44,12 @@ pub fn shapes() -> Vec<Shape> {
         shape("deepest calls", deepest_calls()),
         shape("deepest nesting", deepest_nesting()),
         shape("500 short values", short_values(500)),
-        shape("676 halves away from zero", halves(676)),
-        shape("676 halves to even", under(EVEN, &halves(676))),
-        shape(
-            "halves in the deepest calls",
-            under(EVEN, &halves_in_calls(320)),
-        ),
         shape("refusal 9 at label 1,024", late_refusal(9)),
         shape("refusal 15 at label 1,024", late_refusal(15)),
         shape("refusal 16 at label 1,023", late_refusal(16)),
     ];
     shapes.extend(endless_calls());
+    shapes.extend(shapes_of_halves());
     shapes
 }
 
@@ -251,6 +246,17 @@ pub fn short_values(values: usize) -> Vec<u8> {
         builder.value(&short_name(value), 1, "1");
     }
     builder.text()
+}
+
+fn shapes_of_halves() -> [Shape; 3] {
+    let (halves, in_calls) = (halves(676), halves_in_calls(320));
+    let even = |text: &[u8]| under(EVEN, text);
+    [
+        ("676 halves to even", even(&halves)),
+        ("676 halves away from zero", halves),
+        ("halves in the deepest calls", even(&in_calls)),
+    ]
+    .map(|(name, text)| Shape { name, text })
 }
 
 /// Values of two quotients each that are halves, by a function: of either sign,

@@ -154,11 +154,25 @@ pub fn run_sheet(
     let arithmetic = lines::arithmetic_of(text);
     match plan_sheet(text, n, table, plan) {
         PlanReply::Whole(count) => {
-            figures::run_down(arithmetic, &table[..8 * n], n, plan, count as usize, results);
+            figures::run_down(
+                arithmetic,
+                &table[..8 * n],
+                n,
+                plan,
+                count as usize,
+                results,
+            );
             PlanReply::Whole(count)
         }
         PlanReply::Mixed(count) => {
-            figures::run_down(arithmetic, &table[..8 * n], n, plan, count as usize, results);
+            figures::run_down(
+                arithmetic,
+                &table[..8 * n],
+                n,
+                plan,
+                count as usize,
+                results,
+            );
             PlanReply::Mixed(count)
         }
         PlanReply::Refused(row, label) => {

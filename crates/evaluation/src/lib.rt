@@ -214,13 +214,7 @@ fn expression(
 }
 
 // A call: its argument, then the body of its target one deeper.
-fn call(
-    table: &[i64],
-    results: &[i64],
-    label: usize,
-    given: Arguments,
-    rest: Allowance,
-) -> Outcome
+fn call(table: &[i64], results: &[i64], label: usize, given: Arguments, rest: Allowance) -> Outcome
     requires { ⌜ EnteredCall (now table) (now results) label given (rest .depth) ⌝ }
     ensures { λ r. ⌜ r ≡ callBy (outcome (rest .arithmetic) (now (table .entry)) (now (results .entry))) (now (table .entry)) label given (rest .left) (rest .depth) ⌝ }
 {

@@ -269,7 +269,18 @@ fn retouch_pair(
     };
     let from = marks::widen(windows[2 * d]);
     let to = marks::widen(windows[2 * d + 1]) - 1;
-    let change = redo_down(arithmetic, table, n, plan, from, to, square, d, results, start);
+    let change = redo_down(
+        arithmetic,
+        table,
+        n,
+        plan,
+        from,
+        to,
+        square,
+        d,
+        results,
+        start,
+    );
     put_change(changes, k, change);
     change
 }
@@ -462,19 +473,59 @@ pub fn apply_pairs(
     }
     if n <= 127 {
         let mut square = [0u64; 256];
-        apply_in(arithmetic, table, n, plan, count, &mut square, pairs, results, changes);
+        apply_in(
+            arithmetic,
+            table,
+            n,
+            plan,
+            count,
+            &mut square,
+            pairs,
+            results,
+            changes,
+        );
         return;
     }
     if n <= 255 {
         let mut square = [0u64; 1024];
-        apply_in(arithmetic, table, n, plan, count, &mut square, pairs, results, changes);
+        apply_in(
+            arithmetic,
+            table,
+            n,
+            plan,
+            count,
+            &mut square,
+            pairs,
+            results,
+            changes,
+        );
         return;
     }
     if n <= 511 {
         let mut square = [0u64; 4096];
-        apply_in(arithmetic, table, n, plan, count, &mut square, pairs, results, changes);
+        apply_in(
+            arithmetic,
+            table,
+            n,
+            plan,
+            count,
+            &mut square,
+            pairs,
+            results,
+            changes,
+        );
         return;
     }
     let mut square = [0u64; 17425];
-    apply_in(arithmetic, table, n, plan, count, &mut square, pairs, results, changes);
+    apply_in(
+        arithmetic,
+        table,
+        n,
+        plan,
+        count,
+        &mut square,
+        pairs,
+        results,
+        changes,
+    );
 }

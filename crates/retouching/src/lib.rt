@@ -121,7 +121,16 @@ fn retouch_run(
     match check_pairs(&table[..8 * n], pairs) {
         Verdict::Fine => {
             cells::clear_from(changes, 3 * (pairs.len() / 2));
-            redoing::apply_pairs(arithmetic, &mut table[..8 * n], n, plan, count, pairs, results, changes);
+            redoing::apply_pairs(
+                arithmetic,
+                &mut table[..8 * n],
+                n,
+                plan,
+                count,
+                pairs,
+                results,
+                changes,
+            );
             Verdict::Fine
         }
         Verdict::Refused(row, place) => {
@@ -158,11 +167,29 @@ fn retouch_sheet(
     let arithmetic = lines::arithmetic_of(text);
     match calls::run_sheet(text, n, table, plan, results) {
         PlanReply::Whole(count) => {
-            let found = retouch_run(arithmetic, n, count as usize, pairs, table, plan, results, changes);
+            let found = retouch_run(
+                arithmetic,
+                n,
+                count as usize,
+                pairs,
+                table,
+                plan,
+                results,
+                changes,
+            );
             reply_by(found, PlanReply::Whole(count))
         }
         PlanReply::Mixed(count) => {
-            let found = retouch_run(arithmetic, n, count as usize, pairs, table, plan, results, changes);
+            let found = retouch_run(
+                arithmetic,
+                n,
+                count as usize,
+                pairs,
+                table,
+                plan,
+                results,
+                changes,
+            );
             reply_by(found, PlanReply::Mixed(count))
         }
         PlanReply::Refused(row, label) => {

@@ -9,7 +9,7 @@ use lib.ListN.{length, getD, take, drop}
 use lib.Seq.{sets}
 use Rattle.kinds.specs.Kinds.{valueCode}
 use Rattle.cells.specs.Cells.{natAt}
-use Rattle.cells.specs.Limits.{labelLimit}
+use Rattle.cells.specs.Limits.{labelLimit, pairLimit}
 use Rattle.cells.specs.Table.{kind, owner, withNumber}
 use Rattle.cells.specs.Accepted.{Accepted, HasBody}
 use Rattle.order.specs.Following.{ProperList, labelsOf}
@@ -21,9 +21,10 @@ use Rattle.evaluation.specs.Results.{stateAt, stepsAt, stored}
 use Rattle.evaluation.specs.Evaluation.{stepLimit}
 use Rattle.evaluation.specs.Ready.{Ready}
 use Rattle.figures.specs.Figures.{resultCells, evaluateInto}
-use Rattle.redoing.specs.Pairs.{pairLabel, pairNumber, withPairs}
+use Rattle.redoing.specs.Pairs.{pairCount, pairLabel, pairNumber, PairsRight, withPairs}
 use Rattle.redoing.specs.Redone.{redoneOf, failing, stepSum, changeCells, changesOf}
 use Rattle.redoing.specs.declared.Change.{Change}
+use Rattle.redoing.specs.declared.Settled.{Settled}
 
 -- the stored figures are sums over the results r
 pub record Tallied (n : ℕ) (r : List ℤ) (c : Change) : Type 0 where
@@ -127,3 +128,13 @@ pub record PairsApplied (α : Arithmetic) (t : List ℤ) (n : ℕ) (ps : List �
   pub table : u ≡ withPairs ps i t
   pub results : r′ ≡ resultCells α (withPairs ps i t) n (length r)
   pub changes : w′ ≡ changesOf α t n ps i ++ drop (3 * i) w
+
+-- ---- all of them, of what a Run has settled
+
+-- a sheet that has been run, a list of pairs with nothing wrong in it, and changes w with room for what they bring about
+abbrev pub Appliable : Settled → List ℤ → List ℤ → List ℤ → List ℤ → List ℤ → Type 0
+Appliable x t plan ps r w =
+    Standing (x .arithmetic) t (x .n) plan (x .count) r × PairsRight t ps × (pairCount ps ≤ pairLimit) × (3 * pairCount ps ≤ length w)
+
+abbrev pub AllApplied : Settled → List ℤ → List ℤ → List ℤ → List ℤ → List ℤ → List ℤ → List ℤ → Type 0
+AllApplied x t ps r w = PairsApplied (x .arithmetic) t (x .n) ps (pairCount ps) r w

@@ -22,7 +22,7 @@ ghost use Rattle.figures.specs.Figures.{evaluateInto};
 ghost use Rattle.redoing.specs.Pairs.{pairCount, pairLabel, pairNumber, PairRight, PairsRight};
 ghost use Rattle.redoing.specs.Redone.{isFailure};
 ghost use Rattle.redoing.specs.RedoStages.{Tallied, Turned, turns, Redoable, Redid, between, PlanRow, NoneDepends, Window, Windows};
-ghost use Rattle.redoing.specs.RedoStages.{FoundWindow, OwnersMarked, OwnersWindows, Standing, PairApplied, PairsApplied};
+ghost use Rattle.redoing.specs.RedoStages.{FoundWindow, OwnersMarked, OwnersWindows, Standing, PairApplied, PairsApplied, Appliable, AllApplied};
 
 // "For each pair, how many values were redone, how many now fail, and the sum of all step counts."
 pub struct Change {
@@ -416,24 +416,31 @@ fn apply(
     }
 }
 
+// What a Run has settled of a sheet: how many labels it has, how many values its plan lists, and the arithmetic that it was evaluated by.
+pub struct Settled {
+    pub n: usize,
+    pub count: usize,
+    pub arithmetic: Arithmetic,
+}
+
 // The same, in a blank square.
 fn apply_in(
-    arithmetic: Arithmetic,
+    settled: Settled,
     table: &mut [i64],
-    n: usize,
     plan: &[i64],
-    count: usize,
     square: &mut [u64],
     pairs: &[i64],
     results: &mut [i64],
     changes: &mut [i64],
 )
-    requires { ⌜ Standing arithmetic (now table) n (now plan) count (now results) × PairsRight (now table) (now pairs) × (pairCount (now pairs) ≤ pairLimit)
-        × (3 * pairCount (now pairs) ≤ length (now changes)) ⌝ }
-    requires { ⌜ ((n + 1) * width n ≤ length (now square)) × ((d : ℕ) → Blank n (now square) d) ⌝ }
-    ensures { λ _. ⌜ PairsApplied arithmetic (now (table .entry)) n (now (pairs .entry)) (pairCount (now (pairs .entry))) (now (results .entry)) (now (changes .entry))
+    requires { ⌜ Appliable settled (now table) (now plan) (now pairs) (now results) (now changes) ⌝ }
+    requires { ⌜ ((settled .n + 1) * width (settled .n) ≤ length (now square)) × ((d : ℕ) → Blank (settled .n) (now square) d) ⌝ }
+    ensures { λ _. ⌜ AllApplied settled (now (table .entry)) (now (pairs .entry)) (now (results .entry)) (now (changes .entry))
         (now (table .exit)) (now (results .exit)) (now (changes .exit)) ⌝ }
 {
+    let n = settled.n;
+    let count = settled.count;
+    let arithmetic = settled.arithmetic;
     mark_pairs(table, n, pairs, square);
     let mut windows = [0u16; 2050];
     find_windows(table, n, plan, count, square, pairs, &mut windows);
@@ -454,78 +461,36 @@ fn apply_in(
 // Applies the pairs in turn to a table whose plan and results stand, and writes what each brought about. The square goes by the size of
 // the sheet, since it is zeroed at each call; a list without a pair has none.
 pub fn apply_pairs(
-    arithmetic: Arithmetic,
+    settled: Settled,
     table: &mut [i64],
-    n: usize,
     plan: &[i64],
-    count: usize,
     pairs: &[i64],
     results: &mut [i64],
     changes: &mut [i64],
 )
-    requires { ⌜ Standing arithmetic (now table) n (now plan) count (now results) × PairsRight (now table) (now pairs) × (pairCount (now pairs) ≤ pairLimit)
-        × (3 * pairCount (now pairs) ≤ length (now changes)) ⌝ }
-    ensures { λ _. ⌜ PairsApplied arithmetic (now (table .entry)) n (now (pairs .entry)) (pairCount (now (pairs .entry))) (now (results .entry)) (now (changes .entry))
+    requires { ⌜ Appliable settled (now table) (now plan) (now pairs) (now results) (now changes) ⌝ }
+    ensures { λ _. ⌜ AllApplied settled (now (table .entry)) (now (pairs .entry)) (now (results .entry)) (now (changes .entry))
         (now (table .exit)) (now (results .exit)) (now (changes .exit)) ⌝ }
 {
+    let n = settled.n;
     if pairs.len() < 2 {
         return;
     }
     if n <= 127 {
         let mut square = [0u64; 256];
-        apply_in(
-            arithmetic,
-            table,
-            n,
-            plan,
-            count,
-            &mut square,
-            pairs,
-            results,
-            changes,
-        );
+        apply_in(settled, table, plan, &mut square, pairs, results, changes);
         return;
     }
     if n <= 255 {
         let mut square = [0u64; 1024];
-        apply_in(
-            arithmetic,
-            table,
-            n,
-            plan,
-            count,
-            &mut square,
-            pairs,
-            results,
-            changes,
-        );
+        apply_in(settled, table, plan, &mut square, pairs, results, changes);
         return;
     }
     if n <= 511 {
         let mut square = [0u64; 4096];
-        apply_in(
-            arithmetic,
-            table,
-            n,
-            plan,
-            count,
-            &mut square,
-            pairs,
-            results,
-            changes,
-        );
+        apply_in(settled, table, plan, &mut square, pairs, results, changes);
         return;
     }
     let mut square = [0u64; 17425];
-    apply_in(
-        arithmetic,
-        table,
-        n,
-        plan,
-        count,
-        &mut square,
-        pairs,
-        results,
-        changes,
-    );
+    apply_in(settled, table, plan, &mut square, pairs, results, changes);
 }

@@ -13,6 +13,7 @@ ghost use Rattle.retouching.specs.Retouch.{retouchBuffers, listBad, pair
 ghost use Rattle.retouching.specs.RetouchStages.{unlessRefused, RunRetouches, SheetRetouches};
 use calls::PlanReply;
 use numbers::Arithmetic;
+use redoing::Settled;
 use refusals::Reply;
 use refusals::Verdict;
 
@@ -121,16 +122,12 @@ fn retouch_run(
     match check_pairs(&table[..8 * n], pairs) {
         Verdict::Fine => {
             cells::clear_from(changes, 3 * (pairs.len() / 2));
-            redoing::apply_pairs(
-                arithmetic,
-                &mut table[..8 * n],
-                n,
-                plan,
-                count,
-                pairs,
-                results,
-                changes,
-            );
+            let settled = Settled {
+                n: n,
+                count: count,
+                arithmetic: arithmetic,
+            };
+            redoing::apply_pairs(settled, &mut table[..8 * n], plan, pairs, results, changes);
             Verdict::Fine
         }
         Verdict::Refused(row, place) => {

@@ -1,5 +1,5 @@
 -- Document 01, "Working out", by open recursion: each rule is told how the expressions inside are evaluated, and `withFuel` alone
--- counts entries, so that the recursion ends.
+-- counts entries, so that the recursion ends. The rules are the same for any arithmetic α: what two operands give is its own to say.
 use mathlib.Core.Bool.{Bool, true, false, cond}
 use mathlib.Core.List.{List}
 use Prim.Native.Nat.{ℕ, zero, suc, _+_, _-_}

@@ -1,4 +1,5 @@
--- Document 01's results per label, state, number "and steps taken; lines other than V have three zeros", free of any order.
+-- Document 01's results per label, state, number "and steps taken; lines other than V have three zeros", free of any order, by any
+-- arithmetic α.
 use mathlib.Core.Path.{_≡_}
 use mathlib.Core.Bool.{cond}
 use mathlib.Core.List.{List, [], _∷_, _++_}

@@ -9,13 +9,17 @@ use native.Mathlib.Numerals.{add-one}
 use native.Mathlib.Omega.{arith}
 use native.Mathlib.Decide.{decLe}
 use lib.Dec.{leb, eqb}
+use lib.IntN.{ℤ}
 use lib.ListN.{length, getD, take, length-append}
 use lib.Seq.{take-all, getD-take}
 use borrow.Author.Tests.{eqb-true, leb-true, le-leb, lt-leb, eq-eqb, ne-eqb, not-true}
 use Rattle.cells.specs.Limits.{labelLimit, sizeLimit}
 use Rattle.cells.specs.Characters.{newline}
+use Rattle.numbers.specs.Rounding.{quotient}
+use Rattle.numbers.specs.Arithmetic.{roundingBy, result}
 use Rattle.numbers.specs.declared.Tie.{Tie}
 use Rattle.numbers.specs.declared.Tie.the-variants.{Away, Even}
+use Rattle.kinds.specs.declared.Operation.the-variants.{Quotient}
 use Rattle.refusals.specs.Rows.{textRow, firstLineRow, labelsRow}
 use Rattle.refusals.specs.Refusal.{replyOf}
 use Rattle.refusals.specs.declared.Verdict.{Verdict}
@@ -28,7 +32,7 @@ use Rattle.text.specs.Pieces.{cut, cutAt, firstOf}
 use Rattle.text.proofs.Bytes.{true-false, and-left, and-right, and-false, all-allowed, count-some, same-lengths, same-eq, same-itself}
 use Rattle.cells.proofs.Tests.{or-cases}
 use Rattle.text.proofs.Cuts.{first-onto}
-use Rattle.lines.specs.Lines.{isText, line, firstLine, tieOf, isFirstLine, labels, headBad}
+use Rattle.lines.specs.Lines.{isText, line, firstLine, tieOf, arithmeticOf, isFirstLine, labels, headBad}
 
 -- ---- row 1
 
@@ -175,6 +179,15 @@ module _ (s : List ℕ) where
 
   pub named-first : line s 0 ≡ firstLine (tieOf s) → isFirstLine (line s 0) ≡ true
   named-first e = ap (λ (l : List ℕ). isFirstLine l) e ∙ named-right (tieOf s)
+
+  -- "Sheets whose first line is `kind2 name a b c` use it in D": D rounds by the sheet's own rule
+  pub own-quotient : (a b : ℤ) → result (arithmeticOf s) Quotient a b ≡ quotient (tieOf s) a b
+  unfolding result
+  own-quotient a b = go (tieOf s)
+    where
+      go : (tie : Tie) → result (roundingBy tie) Quotient a b ≡ quotient tie a b
+      go Away = refl
+      go Even = refl
 
 -- ---- rows 1 to 3 together
 

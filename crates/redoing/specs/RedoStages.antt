@@ -24,7 +24,7 @@ use Rattle.figures.specs.Figures.{resultCells, evaluateInto}
 use Rattle.redoing.specs.Pairs.{pairCount, pairLabel, pairNumber, PairsRight, withPairs}
 use Rattle.redoing.specs.Redone.{redoneOf, failing, stepSum, changeCells, changesOf}
 use Rattle.redoing.specs.declared.Change.{Change}
-use Rattle.redoing.specs.declared.Settled.{Settled}
+use Rattle.redoing.specs.declared.Completed.{Completed}
 
 -- the stored figures are sums over the results r
 pub record Tallied (n : ℕ) (r : List ℤ) (c : Change) : Type 0 where
@@ -129,12 +129,12 @@ pub record PairsApplied (α : Arithmetic) (t : List ℤ) (n : ℕ) (ps : List �
   pub results : r′ ≡ resultCells α (withPairs ps i t) n (length r)
   pub changes : w′ ≡ changesOf α t n ps i ++ drop (3 * i) w
 
--- ---- all of them, of what a Run has settled
+-- ---- all of them, of what a Run has completed
 
 -- a sheet that has been run, a list of pairs with nothing wrong in it, and changes w with room for what they bring about
-abbrev pub Appliable : Settled → List ℤ → List ℤ → List ℤ → List ℤ → List ℤ → Type 0
+abbrev pub Appliable : Completed → List ℤ → List ℤ → List ℤ → List ℤ → List ℤ → Type 0
 Appliable x t plan ps r w =
     Standing (x .arithmetic) t (x .n) plan (x .count) r × PairsRight t ps × (pairCount ps ≤ pairLimit) × (3 * pairCount ps ≤ length w)
 
-abbrev pub AllApplied : Settled → List ℤ → List ℤ → List ℤ → List ℤ → List ℤ → List ℤ → List ℤ → Type 0
+abbrev pub AllApplied : Completed → List ℤ → List ℤ → List ℤ → List ℤ → List ℤ → List ℤ → List ℤ → Type 0
 AllApplied x t ps r w = PairsApplied (x .arithmetic) t (x .n) ps (pairCount ps) r w

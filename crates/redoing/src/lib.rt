@@ -416,8 +416,8 @@ fn apply(
     }
 }
 
-// What a Run has settled of a sheet: how many labels it has, how many values its plan lists, and the arithmetic that it was evaluated by.
-pub struct Settled {
+// What a Run has completed of a sheet: how many labels it has, how many values its plan lists, and the arithmetic that it was evaluated by.
+pub struct Completed {
     pub n: usize,
     pub count: usize,
     pub arithmetic: Arithmetic,
@@ -425,7 +425,7 @@ pub struct Settled {
 
 // The same, in a blank square.
 fn apply_in(
-    settled: Settled,
+    completed: Completed,
     table: &mut [i64],
     plan: &[i64],
     square: &mut [u64],
@@ -433,14 +433,14 @@ fn apply_in(
     results: &mut [i64],
     changes: &mut [i64],
 )
-    requires { ⌜ Appliable settled (now table) (now plan) (now pairs) (now results) (now changes) ⌝ }
-    requires { ⌜ ((settled .n + 1) * width (settled .n) ≤ length (now square)) × ((d : ℕ) → Blank (settled .n) (now square) d) ⌝ }
-    ensures { λ _. ⌜ AllApplied settled (now (table .entry)) (now (pairs .entry)) (now (results .entry)) (now (changes .entry))
+    requires { ⌜ Appliable completed (now table) (now plan) (now pairs) (now results) (now changes) ⌝ }
+    requires { ⌜ ((completed .n + 1) * width (completed .n) ≤ length (now square)) × ((d : ℕ) → Blank (completed .n) (now square) d) ⌝ }
+    ensures { λ _. ⌜ AllApplied completed (now (table .entry)) (now (pairs .entry)) (now (results .entry)) (now (changes .entry))
         (now (table .exit)) (now (results .exit)) (now (changes .exit)) ⌝ }
 {
-    let n = settled.n;
-    let count = settled.count;
-    let arithmetic = settled.arithmetic;
+    let n = completed.n;
+    let count = completed.count;
+    let arithmetic = completed.arithmetic;
     mark_pairs(table, n, pairs, square);
     let mut windows = [0u16; 2050];
     find_windows(table, n, plan, count, square, pairs, &mut windows);
@@ -461,36 +461,36 @@ fn apply_in(
 // Applies the pairs in turn to a table whose plan and results stand, and writes what each brought about. The square goes by the size of
 // the sheet, since it is zeroed at each call; a list without a pair has none.
 pub fn apply_pairs(
-    settled: Settled,
+    completed: Completed,
     table: &mut [i64],
     plan: &[i64],
     pairs: &[i64],
     results: &mut [i64],
     changes: &mut [i64],
 )
-    requires { ⌜ Appliable settled (now table) (now plan) (now pairs) (now results) (now changes) ⌝ }
-    ensures { λ _. ⌜ AllApplied settled (now (table .entry)) (now (pairs .entry)) (now (results .entry)) (now (changes .entry))
+    requires { ⌜ Appliable completed (now table) (now plan) (now pairs) (now results) (now changes) ⌝ }
+    ensures { λ _. ⌜ AllApplied completed (now (table .entry)) (now (pairs .entry)) (now (results .entry)) (now (changes .entry))
         (now (table .exit)) (now (results .exit)) (now (changes .exit)) ⌝ }
 {
-    let n = settled.n;
+    let n = completed.n;
     if pairs.len() < 2 {
         return;
     }
     if n <= 127 {
         let mut square = [0u64; 256];
-        apply_in(settled, table, plan, &mut square, pairs, results, changes);
+        apply_in(completed, table, plan, &mut square, pairs, results, changes);
         return;
     }
     if n <= 255 {
         let mut square = [0u64; 1024];
-        apply_in(settled, table, plan, &mut square, pairs, results, changes);
+        apply_in(completed, table, plan, &mut square, pairs, results, changes);
         return;
     }
     if n <= 511 {
         let mut square = [0u64; 4096];
-        apply_in(settled, table, plan, &mut square, pairs, results, changes);
+        apply_in(completed, table, plan, &mut square, pairs, results, changes);
         return;
     }
     let mut square = [0u64; 17425];
-    apply_in(settled, table, plan, &mut square, pairs, results, changes);
+    apply_in(completed, table, plan, &mut square, pairs, results, changes);
 }

@@ -13,7 +13,7 @@ ghost use Rattle.retouching.specs.Retouch.{retouchBuffers, listBad, pair
 ghost use Rattle.retouching.specs.RetouchStages.{unlessRefused, RunRetouches, SheetRetouches};
 use calls::PlanReply;
 use numbers::Arithmetic;
-use redoing::Settled;
+use redoing::Completed;
 use refusals::Reply;
 use refusals::Verdict;
 
@@ -122,12 +122,19 @@ fn retouch_run(
     match check_pairs(&table[..8 * n], pairs) {
         Verdict::Fine => {
             cells::clear_from(changes, 3 * (pairs.len() / 2));
-            let settled = Settled {
+            let completed = Completed {
                 n: n,
                 count: count,
                 arithmetic: arithmetic,
             };
-            redoing::apply_pairs(settled, &mut table[..8 * n], plan, pairs, results, changes);
+            redoing::apply_pairs(
+                completed,
+                &mut table[..8 * n],
+                plan,
+                pairs,
+                results,
+                changes,
+            );
             Verdict::Fine
         }
         Verdict::Refused(row, place) => {

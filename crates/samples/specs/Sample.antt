@@ -242,15 +242,15 @@ retouchSaid x = retouchSaidOf x (length (x .sheet) - 1) (printLinesOf (x .outcom
 
 -- ---- order 5: a quotient by either tie rule
 
-pub record Division : Type 0 where
+pub record QuotientSample : Type 0 where
   pub dividend : ℤ
   pub divisor : ℤ
   pub away : ℤ
   pub even : ℤ
 
-abbrev pub quotientGiven : Tie → Division → ℤ
+abbrev pub quotientGiven : Tie → QuotientSample → ℤ
 quotientGiven tie x = quotient tie (x .dividend) (x .divisor)
 
-abbrev pub quotientSaid : Tie → Division → ℤ
+abbrev pub quotientSaid : Tie → QuotientSample → ℤ
 quotientSaid Away x = x .away
 quotientSaid Even x = x .even

@@ -5,7 +5,7 @@ use Prim.Native.Nat.{ℕ}
 use Prim.Native.String.{String}
 use lib.IntN.{ℤ, pos, negℤ}
 use Rattle.refusals.specs.declared.Reply.the-variants.{Answered, Refused}
-use Rattle.samples.specs.Sample.{group, value, function, reads, calls, PrintLine, refusal, whole, mixed, Fact, Sample, RetouchSample, Division}
+use Rattle.samples.specs.Sample.{group, value, function, reads, calls, PrintLine, refusal, whole, mixed, Fact, Sample, RetouchSample, QuotientSample}
 
 abbrev printLine : ℕ → String → ℕ → ℤ → ℕ → PrintLine
 printLine label name state number steps = record { label = label; name = name; state = state; number = number; steps = steps }
@@ -457,22 +457,22 @@ unfoldable pub retouches : List RetouchSample
 retouches = bench ∷ benchMended ∷ []
 
 -- document 02, order 5, by itself: dividend, divisor, and the quotient by either rule
-abbrev division : ℤ → ℤ → ℤ → ℤ → Division
-division dividend divisor away even = record { dividend = dividend; divisor = divisor; away = away; even = even }
+abbrev dividing : ℤ → ℤ → ℤ → ℤ → QuotientSample
+dividing dividend divisor away even = record { dividend = dividend; divisor = divisor; away = away; even = even }
 
-unfoldable pub divisions : List Division
+unfoldable pub divisions : List QuotientSample
 divisions =
-    division (minus 3250) (pos 100) (minus 33) (minus 32)
-    ∷ division (pos 3250) (pos 100) (pos 33) (pos 32)
-    ∷ division (pos 50) (pos 100) (pos 1) (pos 0)
-    ∷ division (pos 150) (pos 100) (pos 2) (pos 2)
-    ∷ division (minus 50) (pos 100) (minus 1) (pos 0)
-    ∷ division (minus 150) (pos 100) (minus 2) (minus 2)
-    ∷ division (pos 250) (minus 100) (minus 3) (minus 2)
-    ∷ division (pos 350) (minus 100) (minus 4) (minus 4)
-    ∷ division (minus 250) (minus 100) (pos 3) (pos 2)
-    ∷ division (pos 3249) (pos 100) (pos 32) (pos 32)
-    ∷ division (minus 3251) (pos 100) (minus 33) (minus 33)
-    ∷ division (pos 1) (minus 3) (pos 0) (pos 0)
-    ∷ division (pos 1000000000) (pos 1) (pos 1000000000) (pos 1000000000)
+    dividing (minus 3250) (pos 100) (minus 33) (minus 32)
+    ∷ dividing (pos 3250) (pos 100) (pos 33) (pos 32)
+    ∷ dividing (pos 50) (pos 100) (pos 1) (pos 0)
+    ∷ dividing (pos 150) (pos 100) (pos 2) (pos 2)
+    ∷ dividing (minus 50) (pos 100) (minus 1) (pos 0)
+    ∷ dividing (minus 150) (pos 100) (minus 2) (minus 2)
+    ∷ dividing (pos 250) (minus 100) (minus 3) (minus 2)
+    ∷ dividing (pos 350) (minus 100) (minus 4) (minus 4)
+    ∷ dividing (minus 250) (minus 100) (pos 3) (pos 2)
+    ∷ dividing (pos 3249) (pos 100) (pos 32) (pos 32)
+    ∷ dividing (minus 3251) (pos 100) (minus 33) (minus 33)
+    ∷ dividing (pos 1) (minus 3) (pos 0) (pos 0)
+    ∷ dividing (pos 1000000000) (pos 1) (pos 1000000000) (pos 1000000000)
     ∷ []

@@ -17,7 +17,7 @@ apply-in-requires : tie.Need-apply-in-requires
 apply-in-requires c κs =
     let entry = c .before .before .before .before .before .before in
     let small = c .before .before .before .before .if2 .taken in
-    (entry .pre, zero-square (entry .args .settled .n) 128 2 (omega (arith, small)) (omega (arith, small)))
+    (entry .pre, zero-square (entry .args .completed .n) 128 2 (omega (arith, small)) (omega (arith, small)))
 
 same-length : tie.Need-same-length
 same-length c = search needs
@@ -38,7 +38,7 @@ apply-in-requires-2 : tie.Need-apply-in-requires-2
 apply-in-requires-2 c κs =
     let entry = c .before .before .before .before .before .before .before in
     let small = c .before .before .before .before .if3 .taken in
-    (entry .pre, zero-square (entry .args .settled .n) 256 4 (omega (arith, small)) (omega (arith, small)))
+    (entry .pre, zero-square (entry .args .completed .n) 256 4 (omega (arith, small)) (omega (arith, small)))
 
 same-length-4 : tie.Need-same-length-4
 same-length-4 c = search needs
@@ -59,7 +59,7 @@ apply-in-requires-3 : tie.Need-apply-in-requires-3
 apply-in-requires-3 c κs =
     let entry = c .before .before .before .before .before .before .before .before in
     let small = c .before .before .before .before .if4 .taken in
-    (entry .pre, zero-square (entry .args .settled .n) 512 8 (omega (arith, small)) (omega (arith, small)))
+    (entry .pre, zero-square (entry .args .completed .n) 512 8 (omega (arith, small)) (omega (arith, small)))
 
 same-length-7 : tie.Need-same-length-7
 same-length-7 c = search needs
@@ -80,7 +80,7 @@ apply-in-requires-4 : tie.Need-apply-in-requires-4
 apply-in-requires-4 c κs =
     let entry = c .before .before .before .before .before .before .before .before in
     let few = entry .pre .0 .accepted .few in
-    (entry .pre, zero-square (entry .args .settled .n) 1025 17 (omega (arith, few)) (omega (arith, few)))
+    (entry .pre, zero-square (entry .args .completed .n) 1025 17 (omega (arith, few)) (omega (arith, few)))
 
 same-length-10 : tie.Need-same-length-10
 same-length-10 c = search needs

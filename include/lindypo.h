@@ -35,9 +35,9 @@ extern "C" {
 
 /* The version of this header. lindypo_version() gives that of the library. */
 #define LINDYPO_VERSION_MAJOR 0
-#define LINDYPO_VERSION_MINOR 5
+#define LINDYPO_VERSION_MINOR 6
 #define LINDYPO_VERSION_PATCH 0
-#define LINDYPO_VERSION "0.5.0"
+#define LINDYPO_VERSION "0.6.0"
 
 /* Limits of a sheet. */
 #define LINDYPO_TEXT_MOST 65536        /* bytes of the text */
@@ -304,7 +304,7 @@ lindypo_printed lindypo_print(const uint8_t *text, size_t text_length,
  * and are not to be freed. target/staticlib/liblindypo.a has the proved calls
  * alone; the libraries that ./install makes have these as well. */
 
-/* The version of the library: "0.5.0" and the like. */
+/* The version of the library: "0.6.0" and the like. */
 const char *lindypo_version(void);
 
 /* A refusal in general, in words: "a value that reaches itself". For 0 "no

@@ -2,7 +2,7 @@
 
 from enum import IntEnum
 
-VERSION = "0.5.0"
+VERSION = "0.6.0"
 
 # limits of a sheet
 TEXT_MOST = 65536

@@ -3,7 +3,7 @@
 
 use generator::Rng;
 use lindypo::build::{argument, call, choice, number, read, Expression, Group};
-use lindypo::Sheet;
+use lindypo::{Sheet, State, Ties};
 
 const TRIALS: u64 = 10_000;
 
@@ -62,6 +62,61 @@ fn of_a_sheet() {
     let text = outermost.text().expect("a sheet that can be built");
     let sheet = Sheet::read(&text).expect("a sheet that reads");
     assert_eq!(Group::of_sheet(&sheet), outermost);
+}
+
+/// The outermost Group's rule is the sheet's, and comes back from it.
+#[test]
+fn tie_rules() {
+    let mut inner = value("b", number(50) / 100);
+    inner.ties(Ties::Even);
+    let mut outermost = Group::new();
+    outermost.group("a", inner.clone());
+    is_built(
+        &outermost,
+        "G a 1 - -\nV b 2 4 -\nD - 5 6 -\nN - 50 - -\nN - 100 - -\n",
+    );
+    for (ties, number) in [(Ties::Even, 0), (Ties::Away, 1)] {
+        let text = outermost.ties(ties).text().expect("a sheet");
+        assert!(text.starts_with(format!("{}\nG - 0 - -\n", ties.first_line()).as_bytes()));
+        let sheet = Sheet::read(&text).expect("a sheet that reads");
+        assert_eq!(Group::of_sheet(&sheet), outermost);
+        let results = sheet.run().expect("a plan").results;
+        let outcome = results.of(3).expect("a value");
+        assert_eq!(outcome.state, State::Number(number));
+    }
+}
+
+/// A Group whose sheet has all the bytes that are allowed.
+fn longest() -> Group {
+    let left = |group: &Group| 65_536 - group.text().expect("a sheet").len();
+    let path = ["abcdefghijklmnop"; 8].join(".");
+    let (mut group, mut count) = (Group::new(), 0);
+    for (body, least) in [(read(path), 400), (number(0), 50)] {
+        while left(&group) > least {
+            group.value(format!("v{count}"), body.clone());
+            count += 1;
+        }
+    }
+    // the last value takes what is left, by its name and by its number
+    let last = |more: usize| {
+        let (name, digits) = ("n".repeat(1 + more.min(15)), more.saturating_sub(15));
+        let mut group = group.clone();
+        group.value(name, 10_i64.pow(digits as u32));
+        group
+    };
+    last(left(&last(0)))
+}
+
+/// Line one of halves to even has one byte more, which counts.
+#[test]
+fn bytes_of_line_one() {
+    let mut longest = longest();
+    assert_eq!(longest.text().map(|text| text.len()), Ok(65_536));
+    says(
+        longest.ties(Ties::Even),
+        1,
+        "the sheet would have 65537 bytes; at most 65536 are allowed",
+    );
 }
 
 #[test]

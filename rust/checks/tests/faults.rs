@@ -6,7 +6,7 @@ mod common;
 use common::is_in_text;
 use generator::rows::{self, Row};
 use generator::{recased, Rng};
-use lindypo::{faults, Kind, Refusal, Sheet};
+use lindypo::{faults, Kind, Refusal, Sheet, Ties};
 
 const CASES: u64 = 4_000;
 
@@ -53,6 +53,36 @@ fn random_sheets() {
     println!("{many} sheets with several faults, by refusal {met:?}");
     assert!(many > 300);
     for number in (1..=16).filter(|&number| number != 4) {
+        assert!(met[number] > 0, "refusal {number} was not met");
+    }
+}
+
+/// Whichever rule line one names, the faults are the same, but for the length of a
+/// text.
+#[test]
+fn either_line_one() {
+    let mut met = [0; 17];
+    for seed in 0..CASES {
+        let text = generator::case(seed).text;
+        let Some(ties) = Ties::of_text(&text) else {
+            continue;
+        };
+        let rest = &text[ties.first_line().len()..];
+        let [away, even] = Ties::ALL.map(|ties| {
+            let text = [ties.first_line().as_bytes(), rest].concat();
+            let faults = faults(&text);
+            is_proper(&text, &faults);
+            faults
+        });
+        if text.len() < 65_536 {
+            assert_eq!(places(&away), places(&even), "seed {seed}");
+        }
+        for fault in &even {
+            met[fault.number() as usize] += 1;
+        }
+    }
+    println!("by refusal {met:?}");
+    for number in (1..=16).filter(|number| ![2, 4].contains(number)) {
         assert!(met[number] > 0, "refusal {number} was not met");
     }
 }

@@ -6,7 +6,7 @@ use std::collections::BTreeMap;
 use std::fs;
 use std::path::{Path, PathBuf};
 
-use lindypo::{Kind, State};
+use lindypo::{Kind, State, Ties};
 
 fn root() -> PathBuf {
     Path::new(env!("CARGO_MANIFEST_DIR")).join("../..")
@@ -160,6 +160,19 @@ fn kinds() {
             .find(|line| line.contains(&format!("KIND_{name} =")));
         let letter = format!("/* {} */", kind.letter());
         assert!(line.is_some_and(|line| line.ends_with(&letter)), "{name}");
+    }
+}
+
+/// The tie rules, and in C the lines that name them.
+#[test]
+fn ties() {
+    let (words, numbers) = (read("c/lindypo_words.c"), header_of("TIES_"));
+    assert_eq!(numbers.len(), Ties::ALL.len());
+    for (number, ties) in (1..).zip(Ties::ALL) {
+        let name = format!("{ties:?}").to_uppercase();
+        assert_eq!(numbers[&name], number);
+        let line = format!("{{LINDYPO_TIES_{name}, \"{}\\n\"}}", ties.first_line());
+        assert!(words.contains(&line), "{line}");
     }
 }
 

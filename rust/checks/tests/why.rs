@@ -1,8 +1,8 @@
 //! How values came to what they are: the trace agrees with the library.
 
 use generator::Rng;
-use lindypo::why::{self, Call, Cause, Failure, Handed, Read, Why};
-use lindypo::{Kind, Label, Results, Sheet, State};
+use lindypo::why::{self, Call, Cause, Failure, Half, Handed, Read, Why};
+use lindypo::{Kind, Label, Results, Sheet, State, Ties};
 
 const CASES: u64 = 3_000;
 
@@ -31,10 +31,26 @@ fn is_so(sheet: &Sheet, results: &Results, why: &Why) {
         assert!((1..=64).contains(&call.depth));
     }
     assert!(why.calls.len() == why::CALLS || why.more_calls == 0);
+    for half in &why.halves {
+        is_half(sheet, half);
+    }
     assert_eq!(why.failure.is_some(), outcome.state.number().is_none());
     if let Some(failure) = &why.failure {
         began(sheet, results, why.label, failure);
     }
+}
+
+/// A quotient that is a half, and the one of its neighbours that the rule names.
+fn is_half(sheet: &Sheet, half: &Half) {
+    let line = sheet.line(half.line).expect("a line");
+    assert_eq!(line.kind, Kind::Quotient);
+    let Half { a, b, result, .. } = *half;
+    assert_eq!((2 * a - 2 * b * result).abs(), b.abs());
+    match sheet.ties() {
+        Ties::Away => assert!((b * result).abs() > a.abs(), "{half:?}"),
+        Ties::Even => assert_eq!(result % 2, 0, "{half:?}"),
+    }
+    assert!(half.times > 0);
 }
 
 /// A failure is handed on from read to read, and the same one all along.
@@ -69,10 +85,22 @@ struct Met {
     states: [usize; 6],
     handed_on: usize,
     cut: usize,
+    halves: usize,
 }
 
 impl Met {
+    /// A sheet under either rule.
     fn sheet(&mut self, text: &[u8]) {
+        let Ok(sheet) = Sheet::read(text) else {
+            return;
+        };
+        for ties in Ties::ALL {
+            self.under_rule(&sheet.with_ties(ties));
+        }
+    }
+
+    fn under_rule(&mut self, text: &[u8]) {
+        // the line with the 2 may be a byte too long
         let Ok(sheet) = Sheet::read(text) else {
             return;
         };
@@ -88,6 +116,7 @@ impl Met {
             self.values += 1;
             self.states[why.outcome.state.code() as usize] += 1;
             self.cut += usize::from(why.more_calls > 0);
+            self.halves += usize::from(!why.halves.is_empty());
             let handed_on = why.failure.map_or(0, |failure| failure.handed_on.len());
             self.handed_on += usize::from(handed_on > 1);
         }
@@ -102,7 +131,7 @@ fn random_sheets() {
     }
     println!("{} values in states {:?}", met.values, met.states);
     assert!(met.states[1..].iter().all(|&count| count > 50));
-    assert!(met.handed_on > 50 && met.cut > 50);
+    assert!(met.handed_on > 50 && met.cut > 50 && met.halves > 50);
 }
 
 /// The longest and the deepest evaluations, in a thread's usual stack.
@@ -121,7 +150,12 @@ fn edges() {
 /// What is said of one value of a sheet.
 #[track_caller]
 fn said(lines: &str, name: &str) -> Why {
-    let text = format!("kind name a b c\nG - 0 - -\n{lines}\n").into_bytes();
+    said_under(Ties::Away, lines, name)
+}
+
+#[track_caller]
+fn said_under(ties: Ties, lines: &str, name: &str) -> Why {
+    let text = format!("{}\nG - 0 - -\n{lines}\n", ties.first_line()).into_bytes();
     let sheet = Sheet::read(&text).expect("a sheet that reads");
     let results = sheet.run().expect("a sheet that runs").results;
     let label = sheet.find(name).expect("a value");
@@ -208,6 +242,65 @@ fn a_failure_in_a_function() {
     };
     assert_eq!(failure.handed_on, [handed]);
     assert_eq!(said(lines, "second").failure.expect("one").handed_on, []);
+}
+
+/// The figures of the order, and their like: a, b, and a / b under either rule.
+/// What is no half is one number under both.
+#[test]
+fn quotients() {
+    for (a, b, away, even) in [
+        (-3250, 100, -33, -32),
+        (3250, 100, 33, 32),
+        (50, 100, 1, 0),
+        (150, 100, 2, 2),
+        (-50, 100, -1, 0),
+        (-150, 100, -2, -2),
+        (350, -100, -4, -4),
+        (250, -100, -3, -2),
+        (-250, -100, 3, 2),
+        (999_999_999, 2, 500_000_000, 500_000_000),
+        (-999_999_997, 2, -499_999_999, -499_999_998),
+        (3249, 100, 32, 32),
+        (-3251, 100, -33, -33),
+        (0, -100, 0, 0),
+        (300, 100, 3, 3),
+    ] {
+        let lines = format!("V x 1 3 -\nD - 4 5 -\nN - {a} - -\nN - {b} - -");
+        let is_half = 2 * (a % b) == b || 2 * (a % b) == -b;
+        for (ties, result) in [(Ties::Away, away), (Ties::Even, even)] {
+            let why = said_under(ties, &lines, "x");
+            assert_eq!(why.outcome.state, State::Number(result), "{a} / {b}");
+            let half = Half {
+                line: 3,
+                a,
+                b,
+                result,
+                times: 1,
+            };
+            assert_eq!(why.halves, vec![half; usize::from(is_half)], "{a} / {b}");
+        }
+    }
+}
+
+/// Each D line once, with the figures of its first half; halves of a value that is
+/// read are its own.
+#[test]
+fn halves_of_a_function() {
+    let lines = "V x 1 5 -\nV y 1 9 -\nF half 1 11 -\nA - 6 7 -\nC half 8 - -\nC half 14 - -\n\
+                 N - 5 - -\nR x - - -\nV z 1 15 -\nD - 12 13 -\nP - - - -\nN - 2 - -\nN - 7 - -\n\
+                 C half 16 - -\nN - 4 - -";
+    let why = said_under(Ties::Even, lines, "x");
+    let half = Half {
+        line: 11,
+        a: 5,
+        b: 2,
+        result: 2,
+        times: 2,
+    };
+    assert_eq!(why.halves, [half]);
+    assert_eq!(why.outcome.state, State::Number(2 + 4));
+    assert_eq!(said_under(Ties::Even, lines, "y").halves, []);
+    assert_eq!(said_under(Ties::Even, lines, "z").halves, []);
 }
 
 /// Only the branch that is taken is entered.

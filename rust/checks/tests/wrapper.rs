@@ -5,7 +5,7 @@ mod common;
 
 use common::is_in_text;
 use generator::{recased, recased_name, Case, Rng};
-use lindypo::{raw, same_name, Label, Line, Order, Refusal, Results, Run, Sheet};
+use lindypo::{raw, same_name, Kind, Label, Line, Order, Refusal, Results, Run, Sheet, Ties};
 
 const CASES: u64 = 6_000;
 
@@ -167,6 +167,56 @@ fn random_sheets() {
     for number in numbers {
         assert!(met.refusals[number] > 0, "refusal {number} was not met");
     }
+}
+
+/// A sheet under the rule that its line one names: retouched it is the run of the
+/// text with the new numbers, which keeps that line.
+fn keeps_its_rule(sheet: &Sheet, run: &Run, rng: &mut Rng) {
+    assert_eq!(sheet.follow(&run.plan.labels).as_ref(), Ok(&run.results));
+    let is_number = |line: &Line| line.kind == Kind::Number;
+    let numbers: Vec<Label> = sheet.lines().filter(is_number).map(|it| it.label).collect();
+    let pairs: Vec<(Label, i64)> = numbers
+        .iter()
+        .filter_map(|&label| rng.chance(30).then(|| (label, rng.below(200) as i64 - 100)))
+        .collect();
+    let text = sheet.with_numbers(&pairs);
+    let again = Sheet::read(&text).expect("a sheet that reads");
+    assert_eq!(again.ties(), sheet.ties());
+    let retouched = sheet.retouch(&pairs).expect("pairs of N lines");
+    assert_eq!(again.run().expect("a plan"), retouched.run);
+}
+
+/// The same sheet under either rule: lines, plan and steps are the same, the text
+/// of each name stands a byte further on, and only numbers may be others.
+#[test]
+fn either_tie_rule() {
+    let mut differing = 0;
+    for seed in 0..CASES {
+        let rng = &mut Rng::new(seed);
+        let text = generator::sheet_within(rng, 60);
+        let sheet = Sheet::read(&text).expect("a sheet that reads");
+        let texts = Ties::ALL.map(|ties| sheet.with_ties(ties));
+        let [away, even] = [&texts[0], &texts[1]].map(|text| Sheet::read(text).expect("a sheet"));
+        assert_eq!([away.ties(), even.ties()], Ties::ALL);
+        assert!(away.lines().eq(even.lines()), "seed {seed}");
+        let start = |sheet: &Sheet| {
+            let name = sheet.lines().find_map(|line| line.name)?;
+            Some(name.as_ptr() as usize - sheet.text().as_ptr() as usize)
+        };
+        assert_eq!(start(&away).map(|at| at + 1), start(&even));
+        match (away.run(), even.run()) {
+            (Ok(run), Ok(other)) => {
+                assert_eq!(run.plan, other.plan, "seed {seed}");
+                keeps_its_rule(&away, &run, rng);
+                keeps_its_rule(&even, &other, rng);
+                differing += usize::from(run.results != other.results);
+            }
+            (Err(refusal), Err(other)) => is_same_refusal(&refusal, &other),
+            (run, other) => panic!("seed {seed}: {run:?}, then {other:?}"),
+        }
+    }
+    println!("{differing} sheets have other values under the other rule");
+    assert!(differing > 50);
 }
 
 /// Two sheets that differ in the case of names alone: every cell is the same,

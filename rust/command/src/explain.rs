@@ -23,7 +23,8 @@ pub const WORD: Word = Word {
 Says in words what `lindypo run` says in numbers. A refused sheet is shown with the place to mend
 marked. One that runs is shown as the tree of its Groups: members stand in the order in which the
 plan evaluates them, functions and Groups without values after them. Long formulas are cut; --json
-has them whole. `lindypo why` says where the failure of a value began.
+has them whole. `lindypo why` says where the failure of a value began. The first line ends with the
+tie rule that line one of the sheet names: halves away from zero, or to even.
 
 Where the plan is mixed, some members of a Group need each other around a cycle. They are named
 after the tree, with the lines by which each needs the next, and a value whose move undoes it.
@@ -47,7 +48,7 @@ as it takes. PICTURE is written over only where it is a picture that was drawn s
         Example {
             words: "explain sheets/01-example.sheet",
             print: "\
-3 of 3 values have a number; whole plan: the values of every Group stand together
+3 of 3 values have a number; whole plan: the values of every Group stand together; halves away from zero
 
 definition       label  position  number  steps  state     formula
 outermost Group      1       1-3                 Group
@@ -75,6 +76,7 @@ refusal 14: the Group `right` has no member `prism`
     fields: &[
         &sheets::FIELDS,
         &values::ORDER_FIELDS,
+        &values::TIES_FIELDS,
         &outline::FIELDS,
         &tangles::FIELDS,
     ],
@@ -121,24 +123,20 @@ impl Answer for Explained<'_> {
     fn text(&self, paint: Paint) -> String {
         let values = values::of_run(&self.sheet, &self.run);
         let outermost = Node::outermost(&self.sheet, &self.run);
-        let (headline, meaning) = (
-            values::headline_of(&values),
-            values::meaning(self.run.plan.order),
-        );
+        let headline = values::run_headline(&self.sheet, &self.run);
         let rows = match self.is_list {
             true => values::table(&self.sheet, &values, paint),
             false => outline::table(&self.sheet, &outermost, paint),
         };
         let tangles = tangles::text(&self.sheet, &outermost, &self.tangles, paint);
-        format!("{headline}; {meaning}\n\n{rows}{tangles}")
+        format!("{headline}\n\n{rows}{tangles}")
     }
 
     fn fields(&self) -> Object {
         let outermost = Node::outermost(&self.sheet, &self.run);
         let definitions = outline::json(&self.sheet, &outermost);
         let tangles = tangles::json(&self.sheet, &outermost, &self.tangles);
-        Object::new()
-            .with("order", self.run.plan.order.to_string())
+        values::run_object(&self.sheet, &self.run)
             .with("definitions", definitions)
             .with("tangles", tangles)
     }

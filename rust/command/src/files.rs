@@ -137,6 +137,7 @@ mod tests {
             (Some("<pag"), false),
             (Some(""), false),
             (Some("kind name a b c\n"), false),
+            (Some("kind2 name a b c\n"), false),
             (Some(" <page>"), false),
         ] {
             let path = folder.join("x");

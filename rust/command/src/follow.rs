@@ -34,7 +34,7 @@ position it does not; the results are then those of `lindypo run`, whichever suc
         Example {
             words: "follow --order right.sphere,right.prism,total sheets/01-example.sheet",
             print: "\
-3 of 3 values have a number
+3 of 3 values have a number; halves away from zero
 
 position  label  name          number  steps  state     formula
        1      5  right.sphere    -325      1  a number  = -325
@@ -57,6 +57,7 @@ refusal 18: `right.prism` reaches `right.sphere`, which is not listed earlier
     ],
     fields: &[
         &sheets::FIELDS,
+        &values::TIES_FIELDS,
         &values::NAME_FIELDS,
         &values::OUTCOME_FIELDS,
     ],
@@ -141,10 +142,11 @@ impl Answer for Followed<'_> {
 
     fn text(&self, paint: Paint) -> String {
         let table = values::table(&self.sheet, &self.values, paint);
-        format!("{}\n\n{table}", values::headline_of(&self.values))
+        let (headline, ties) = (values::headline_of(&self.values), self.sheet.ties());
+        format!("{headline}; {ties}\n\n{table}")
     }
 
     fn fields(&self) -> Object {
-        Object::new().with("values", values::json(&self.values))
+        values::ties_object(&self.sheet).with("values", values::json(&self.values))
     }
 }

@@ -101,6 +101,6 @@ impl Answer for Planned {
         let names = self
             .named()
             .map(|(label, name)| values::name_object(label, name));
-        values::ordered(self.plan.order, names.collect::<Json>())
+        values::order_object(self.plan.order).with("values", names.collect::<Json>())
     }
 }

@@ -15,7 +15,10 @@ pub const RULES: [Rule; 21] = [
         "a sheet is 1 to 65,536 bytes, printable ASCII in lines that each end with \
          byte 10",
     ),
-    rule("line one", "line one is `kind name a b c`"),
+    rule(
+        "line one",
+        "line one is `kind name a b c` or `kind2 name a b c`",
+    ),
     rule("number of lines", "1 to 1,024 lines follow line one"),
     rule("length of a buffer", "every buffer is long enough"),
     rule(

@@ -1,13 +1,13 @@
 //! `lindypo run`: the print of document 01's program.
 
-use lindypo::{raw, Order, Refusal};
+use lindypo::{raw, Refusal, Run, Sheet};
 
 use crate::json::Object;
 use crate::options::Call;
 use crate::output::{Output, Paint};
 use crate::sheets::{self, Answer, Asked, Refused, Text};
 use crate::status::Status;
-use crate::values::{self, Value};
+use crate::values;
 use crate::words::{Example, Word};
 
 pub const WORD: Word = Word {
@@ -42,6 +42,7 @@ refusal place
     fields: &[
         &sheets::FIELDS,
         &values::ORDER_FIELDS,
+        &values::TIES_FIELDS,
         &values::NAME_FIELDS,
         &values::OUTCOME_FIELDS,
     ],
@@ -57,28 +58,20 @@ fn call(call: &Call, out: &mut Output) -> Result<Status, String> {
 }
 
 fn ask(text: &Text) -> Asked<'_> {
-    let ran = sheets::ran(&text.bytes).map(|(sheet, run)| Ran {
-        order: run.plan.order,
-        values: values::of_run(&sheet, &run),
-    });
+    let ran = sheets::ran(&text.bytes);
     Ok(Box::new(Printed { text, ran }))
-}
-
-struct Ran {
-    order: Order,
-    values: Vec<Value>,
 }
 
 /// A sheet with what it comes to. A refusal is part of the print.
 struct Printed<'a> {
     text: &'a Text,
-    ran: Result<Ran, Refusal>,
+    ran: Result<(Sheet<'a>, Run), Refusal>,
 }
 
 impl Answer for Printed<'_> {
     fn status(&self) -> Status {
         match &self.ran {
-            Ok(ran) => values::status(&ran.values),
+            Ok((sheet, run)) => values::status(&values::of_run(sheet, run)),
             Err(_) => Status::Failed,
         }
     }
@@ -89,7 +82,10 @@ impl Answer for Printed<'_> {
 
     fn fields(&self) -> Object {
         match &self.ran {
-            Ok(ran) => values::ordered(ran.order, values::json(&ran.values)),
+            Ok((sheet, run)) => {
+                let values = values::json(&values::of_run(sheet, run));
+                values::run_object(sheet, run).with("values", values)
+            }
             Err(refusal) => Refused::new(self.text, refusal).fields(),
         }
     }

@@ -4,11 +4,11 @@ use lindypo::{formula, Sheet};
 
 use crate::document::{self, Document, Made, Maker};
 use crate::input::Source;
-use crate::json::Object;
 use crate::options::Call;
 use crate::output::Output;
 use crate::sheets;
 use crate::status::Status;
+use crate::values;
 use crate::words::{Example, Field, Word};
 
 pub const WORD: Word = Word {
@@ -18,12 +18,14 @@ pub const WORD: Word = Word {
     about: "\
 Shows what a sheet defines as formulas: values, functions and Groups, the members of each Group in
 the sequence of their labels. docs/LANGUAGE.md has the grammar. `lindypo write` makes a sheet of
-them again, the same but for its labels. A refused sheet is explained on standard error.
+them again, the same but for its labels. A sheet that has halves go to the even neighbour is shown
+with the words `halves to even` first. A refused sheet is explained on standard error.
 ",
     options: &document::OPTIONS,
-    examples: &[Example {
-        words: "show sheets/04b-even-of-1.sheet",
-        print: "\
+    examples: &[
+        Example {
+            words: "show sheets/04b-even-of-1.sheet",
+            print: "\
 first {
     even(x) = if x then second.odd(x - 1) else 1
 }
@@ -32,8 +34,15 @@ second {
 }
 answer = first.even(1)
 ",
-    }],
-    fields: &[&sheets::FIELDS, &FIELDS],
+        },
+        Example {
+            words: "show sheets/order-5-even.sheet",
+            print: "\
+TODO
+",
+        },
+    ],
+    fields: &[&sheets::FIELDS, &values::TIES_FIELDS, &FIELDS],
     call,
 };
 
@@ -53,7 +62,7 @@ fn make(text: &[u8], source: &Source) -> Made {
     let sheet = read.map_err(|refusal| document::refused(text, source, &refusal))?;
     let formulas = formula::show(&sheet);
     Ok(Document {
-        fields: Object::new().with("formulas", formulas.as_str()),
+        fields: values::ties_object(&sheet).with("formulas", formulas.as_str()),
         text: formulas.into_bytes(),
         status: Status::Answered,
     })

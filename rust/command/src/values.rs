@@ -1,6 +1,6 @@
 //! The values of a sheet one beneath the other, with their full names.
 
-use lindypo::{Label, Order, Outcome, Results, Run, Sheet, State};
+use lindypo::{Label, Order, Outcome, Results, Run, Sheet, State, Ties};
 
 use crate::formulas;
 use crate::json::{Json, Object};
@@ -30,6 +30,11 @@ pub const FAILURES: [State; 4] = [
 
 /// The JSON of a plan, of a value, and of one that has been evaluated.
 pub const ORDER_FIELDS: [Field; 1] = [("order", "whole or mixed")];
+/// The JSON of what is evaluated.
+pub const TIES_FIELDS: [Field; 1] = [(
+    "ties",
+    "where line one has a quotient go that is a half: away (from zero) or even",
+)];
 pub const NAME_FIELDS: [Field; 4] = [
     ("values", "the values in this order:"),
     ("values.label", "its label"),
@@ -91,6 +96,21 @@ pub fn meaning(order: Order) -> &'static str {
     match order {
         Order::Whole => "whole plan: the values of every Group stand together",
         Order::Mixed => "mixed plan: no order keeps the values of every Group together",
+    }
+}
+
+/// How many values of a run have a number, what its order means, and by which tie
+/// rule they were evaluated.
+pub fn run_headline(sheet: &Sheet, run: &Run) -> String {
+    let headline = headline_of(&of_run(sheet, run));
+    format!("{headline}; {}; {}", meaning(run.plan.order), sheet.ties())
+}
+
+/// The tie rule as one word, for programs.
+pub fn ties_word(ties: Ties) -> &'static str {
+    match ties {
+        Ties::Away => "away",
+        Ties::Even => "even",
     }
 }
 
@@ -161,11 +181,18 @@ pub fn json(values: &[Value]) -> Json {
     values.iter().map(object).collect()
 }
 
-/// The values of a plan under its order.
-pub fn ordered(order: Order, values: Json) -> Object {
-    Object::new()
-        .with("order", order.to_string())
-        .with("values", values)
+/// The order of a plan.
+pub fn order_object(order: Order) -> Object {
+    Object::new().with("order", order.to_string())
+}
+
+/// The order of a plan, and the tie rule that its values were evaluated by.
+pub fn run_object(sheet: &Sheet, run: &Run) -> Object {
+    order_object(run.plan.order).and(ties_object(sheet))
+}
+
+pub fn ties_object(sheet: &Sheet) -> Object {
+    Object::new().with("ties", ties_word(sheet.ties()))
 }
 
 /// How many of the values are numbers.

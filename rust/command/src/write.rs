@@ -24,7 +24,9 @@ pub const WORD: Word = Word {
 Makes a sheet of a text of formulas; docs/LANGUAGE.md has their grammar. Labels are numbered down
 the text: label 1, then all definitions, each Group followed by its members, then their bodies.
 What is written is a sheet that reads and plans. Where the formulas give none, nothing is written:
-the place to mend is shown on standard error. `lindypo show` gives the formulas of a sheet.
+the place to mend is shown on standard error. Formulas that begin with `halves to even` make a
+sheet with that tie rule, `kind2` in line one; else halves go away from zero. `lindypo show` gives
+the formulas of a sheet.
 ",
     options: &document::OPTIONS,
     examples: &[Example {

@@ -30,6 +30,11 @@
 //! # Ok::<(), lindypo::Refusal>(())
 //! ```
 //!
+//! Line one names the tie rule, which says where a quotient goes that is a half:
+//! under `kind name a b c` away from zero, so that 7 / 2 is 4 and 5 / 2 is 3, under
+//! `kind2 name a b c` to the even neighbour, so that 7 / 2 is 4 and 5 / 2 is 2. See
+//! [`Ties`].
+//!
 //! A sheet that breaks a rule is refused. The [`Refusal`] has the number and
 //! the place that the library proves, and says in words what is wrong and where:
 //!
@@ -64,6 +69,7 @@ mod names;
 pub mod raw;
 mod refusal;
 mod sheet;
+mod ties;
 pub mod why;
 
 pub use answer::{Change, Order, Outcome, Plan, Results, Retouched, Run, State};
@@ -74,6 +80,7 @@ pub use line::{Kind, Line};
 pub use names::same_name;
 pub use refusal::{Fault, Help, Mark, Refusal};
 pub use sheet::Sheet;
+pub use ties::Ties;
 
 /// Counts the lines after line one from 1: label k stands in line k + 1.
 pub type Label = usize;

@@ -10,7 +10,7 @@ use std::fmt;
 pub enum Refusal {
     /// 1: the text's length, its last byte, or a byte that is not allowed.
     Text(Fault),
-    /// 2: line one is not `kind name a b c`.
+    /// 2: line one is neither `kind name a b c` nor `kind2 name a b c`.
     FirstLine(Fault),
     /// 3: no labels, or more than 1,024.
     Count(Fault),

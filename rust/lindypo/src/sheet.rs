@@ -6,7 +6,7 @@ use std::str;
 use crate::diagnosis;
 use crate::diagnosis::forms::NUMBER;
 use crate::raw;
-use crate::{same_name, Change, Kind, Label, Line, Plan, Refusal, Results, Retouched, Run};
+use crate::{same_name, Change, Kind, Label, Line, Plan, Refusal, Results, Retouched, Run, Ties};
 
 /// Cells for each label in the table and in the results, and for each pair in the
 /// changes.
@@ -45,6 +45,25 @@ impl<'text> Sheet<'text> {
     /// The text that was read.
     pub fn text(&self) -> &'text [u8] {
         self.text
+    }
+
+    /// The tie rule that line one names: where a quotient goes that is a half.
+    ///
+    /// ```
+    /// use lindypo::{Sheet, State, Ties};
+    ///
+    /// let lines = "G - 0 - -\nV prism 1 3 -\nD - 4 5 -\nN - -3250 - -\nN - 100 - -\n";
+    /// for (ties, prism) in [(Ties::Away, -33), (Ties::Even, -32)] {
+    ///     let text = format!("{}\n{lines}", ties.first_line());
+    ///     let sheet = Sheet::read(text.as_bytes())?;
+    ///     assert_eq!(sheet.ties(), ties);
+    ///     assert_eq!(sheet.run()?.results.of(2).unwrap().state, State::Number(prism));
+    /// }
+    /// # Ok::<(), lindypo::Refusal>(())
+    /// ```
+    pub fn ties(&self) -> Ties {
+        // Read lets no other line one pass
+        Ties::of_text(self.text).unwrap_or_default()
     }
 
     /// The number n of labels, 1 to 1,024.
@@ -319,6 +338,24 @@ impl<'text> Sheet<'text> {
             }
         }
         lines.concat()
+    }
+
+    /// The text under a tie rule: with the line one that names it, and else as it
+    /// is. It may be longer than a sheet may be.
+    ///
+    /// ```
+    /// use lindypo::{Sheet, Ties};
+    ///
+    /// let text = b"kind name a b c\nG - 0 - -\nV x 1 3 -\nN - 7 - -\n";
+    /// let sheet = Sheet::read(text)?;
+    /// let even = sheet.with_ties(Ties::Even);
+    /// assert_eq!(even, b"kind2 name a b c\nG - 0 - -\nV x 1 3 -\nN - 7 - -\n");
+    /// assert_eq!(Sheet::read(&even)?.with_ties(sheet.ties()), text);
+    /// # Ok::<(), lindypo::Refusal>(())
+    /// ```
+    pub fn with_ties(&self, ties: Ties) -> Vec<u8> {
+        let rest = &self.text[self.ties().first_line().len()..];
+        [ties.first_line().as_bytes(), rest].concat()
     }
 
     fn cells(&self, label: Label) -> Option<&[i64]> {

@@ -2,6 +2,8 @@
 
 use lindypo::{Help, Label, Refusal, Sheet};
 
+const LINE_ONE: &str = "line one has to be `kind name a b c` or `kind2 name a b c`";
+
 /// A sheet of these lines after line one.
 fn sheet(lines: &str) -> Vec<u8> {
     format!("kind name a b c\n{lines}\n").into_bytes()
@@ -56,6 +58,11 @@ fn refusal_1_bytes() {
         "refusal 1, line 1, column 16: \
          2 of 2 lines end with a carriage return (byte 13; Windows line ends)",
     );
+    text_says(
+        b"kind2 name a b c\r\nG - 0 - -\n",
+        "refusal 1, line 1, column 17: \
+         1 of 2 lines ends with a carriage return (byte 13; Windows line ends)",
+    );
     for (byte, name) in [
         (0, "0"),
         (9, "9 (a tab)"),
@@ -69,7 +76,8 @@ fn refusal_1_bytes() {
     }
 }
 
-/// The mark is on the rest of the line, from where it differs.
+/// The mark is on the rest of the line, from where it differs from the one that is
+/// meant; on the first name where that has a wrong number.
 #[test]
 fn refusal_2() {
     for (first, column) in [
@@ -78,12 +86,23 @@ fn refusal_2() {
         ("kind  name a b c", 6),
         ("kind name a b", 14),
         ("kind name a b c d", 16),
+        ("Kind2 name a b c", 1),
+        ("kind2  name a b c", 7),
+        ("kind2 name a b", 15),
+        ("kind2 name a b c d", 17),
+        ("kind 2 name a b c", 1),
+        ("kind3 name a b c", 1),
+        ("kind02 name a b c", 1),
     ] {
         let text = format!("{first}\nG - 0 - -\n");
-        let words =
-            format!("refusal 2, line 1, column {column}: line one has to be `kind name a b c`");
+        let words = format!("refusal 2, line 1, column {column}: {LINE_ONE}");
         text_says(text.as_bytes(), &words);
     }
+    let marked = |first: &str| refusal(format!("{first}\nG - 0 - -\n").as_bytes()).mark();
+    let width = |first: &str| marked(first).map(|mark| mark.width);
+    assert_eq!(width("kind 2 name a b c"), Some("kind 2".len()));
+    assert_eq!(width("kind02 name a b c"), Some("kind02".len()));
+    assert_eq!(width("kind2 name a b c d"), Some(" d".len()));
 }
 
 #[test]
@@ -323,7 +342,7 @@ fn refusal_12_capitals() {
     );
     text_says(
         b"Kind name a b c\nG - 0 - -\n",
-        "refusal 2, line 1, column 1: line one has to be `kind name a b c`",
+        &format!("refusal 2, line 1, column 1: {LINE_ONE}"),
     );
 }
 

@@ -1,7 +1,7 @@
 //! What is said of a text that gives no sheet: the very words, with line and
 //! column.
 
-use lindypo::formula;
+use lindypo::{formula, Mark};
 
 #[track_caller]
 fn says(formulas: &str, words: &str) {
@@ -200,6 +200,7 @@ fn definitions() {
 fn a_sheet() {
     let sentence = "line 1, column 1: this is the first line of a sheet, not of formulas";
     says("kind name a b c\nG - 0 - -\n", sentence);
+    says("kind2 name a b c\nG - 0 - -\n", sentence);
 }
 
 #[test]
@@ -373,5 +374,124 @@ fn deep_texts() {
     assert_eq!(
         formula::write(text.as_bytes()).expect_err("a mistake").row,
         Some(3)
+    );
+}
+
+/// The tie rule, with a word that is another.
+#[test]
+fn tie_rules_misspelt() {
+    let rules = "the tie rule is written `halves away from zero` or `halves to even`";
+    for (formulas, column, word) in [
+        ("halves even", 8, "`even`"),
+        ("halves up", 8, "`up`"),
+        ("halves `to` even", 8, "`to`"),
+        ("halves to.even", 8, "`to.even`"),
+        ("halves - even", 8, "`-`"),
+        ("halves if", 8, "`if`"),
+        ("halves\n", 7, "the end of the text"),
+    ] {
+        let words = format!("`away` or `to` has to stand here, not {word}; {rules}");
+        says(formulas, &format!("line 1, column {column}: {words}"));
+    }
+    for (formulas, column, words) in [
+        ("halves to evn", 11, "`even` has to stand here, not `evn`"),
+        ("halves to zero", 11, "`even` has to stand here, not `zero`"),
+        ("halves to = 5", 11, "`even` has to stand here, not `=`"),
+    ] {
+        let rule = "the tie rule is written `halves to even`";
+        says(
+            formulas,
+            &format!("line 1, column {column}: {words}; {rule}"),
+        );
+    }
+    for (formulas, column, words) in [
+        (
+            "halves away of zero",
+            13,
+            "`from` has to stand here, not `of`",
+        ),
+        (
+            "halves away from\nx = 5",
+            1,
+            "`zero` has to stand here, not `x`",
+        ),
+    ] {
+        let line = 1 + formulas.matches('\n').count();
+        let rule = "the tie rule is written `halves away from zero`";
+        says(
+            formulas,
+            &format!("line {line}, column {column}: {words}; {rule}"),
+        );
+    }
+    for word in ["halfs", "half", "ties", "Halve"] {
+        let words = format!("`halves` has to stand here, not `{word}`; {rules}");
+        says(
+            &format!("{word} to even  x = 5"),
+            &format!("line 1, column 1: {words}"),
+        );
+    }
+    // near enough further down too, where a sign may be missing
+    says(
+        "x = 5  halvs to even",
+        &format!("line 1, column 8: `halves` has to stand here, not `halvs`; {rules}"),
+    );
+}
+
+/// What is said of a tie rule, and the other place that it has to do with.
+#[track_caller]
+fn ties_say(formulas: &str, words: &str, place: (Mark, &str)) {
+    let mistake = formula::write(formulas.as_bytes()).expect_err("a mistake");
+    assert_eq!(mistake.to_string(), words, "{formulas}");
+    let help = mistake.help.first().expect("another place");
+    assert_eq!(
+        (help.mark, help.sentence.as_str()),
+        (Some(place.0), place.1)
+    );
+}
+
+/// The tie rule after a definition, in a Group, or twice.
+#[test]
+fn tie_rules_out_of_place() {
+    let mark = |column: usize, width: usize| Mark {
+        line: 1,
+        column,
+        width,
+    };
+    let first = "the first definition is here";
+    let before = "the tie rule stands before the first definition";
+    ties_say(
+        "sphere = -325\nhalves to even",
+        &format!("line 2, column 1: {before}: put `halves to even` first"),
+        (mark(1, 6), first),
+    );
+    ties_say(
+        "right { halves away from zero }",
+        &format!("line 1, column 9: {before}: put `halves away from zero` first"),
+        (mark(1, 5), first),
+    );
+    let twice = "the tie rule is said already: leave out one of the two";
+    for rule in ["halves to even", "halves away from zero"] {
+        ties_say(
+            &format!("halves to even  {rule}"),
+            &format!("line 1, column 17: {twice}"),
+            (mark(1, 14), "it is here"),
+        );
+    }
+    let mistake = formula::write(b"x = 5 halves to even y = 1").expect_err("a mistake");
+    assert_eq!(mistake.mark, Some(mark(7, 14)));
+}
+
+/// A name that belongs to the formula before it is no rule.
+#[test]
+fn names_like_a_tie_rule() {
+    says(
+        "total = prism halves\nprism = 5",
+        "line 2, column 1: after the name `halves` of a definition comes `=`, `(` or `{`, \
+         not `prism`; if `halves` belongs to the formula before it, a sign is missing between them",
+    );
+    says(
+        "`halves` to even",
+        "line 1, column 10: after the name `halves` of a definition comes `=`, `(` or `{`, \
+         not `to`; if `halves` belongs to the formula before it, a sign is missing between them",
     );
 }

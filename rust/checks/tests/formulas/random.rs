@@ -4,7 +4,7 @@ use std::collections::BTreeMap;
 
 use generator::{recased, recased_name, rows, Rng};
 use lindypo::{
-    build::Group, formula, same_name, Kind, Label, Mark, Order, Outcome, Refusal, Sheet,
+    build::Group, formula, same_name, Kind, Label, Mark, Order, Outcome, Refusal, Sheet, Ties,
 };
 
 const SHEETS: u64 = 4_000;
@@ -14,7 +14,7 @@ const TEXTS: u64 = 20_000;
 /// two names of one sheet become one, whatever their case.
 const CLOSE_NAMES: [(&str, &str); 20] = [
     ("a", "x"),
-    ("b", "y"),
+    ("b", "halves"),
     ("c", "if"),
     ("sphere", "x"),
     ("prism", "then"),
@@ -22,7 +22,7 @@ const CLOSE_NAMES: [(&str, &str); 20] = [
     ("left", "else"),
     ("frame", "x1"),
     ("axis", "if"),
-    ("total", "z"),
+    ("total", "halves"),
     ("abcdefghijklmnop", "x"),
     ("v0", "x"),
     ("v1", "y"),
@@ -30,7 +30,7 @@ const CLOSE_NAMES: [(&str, &str); 20] = [
     ("v3", "x1"),
     ("v4", "x2"),
     ("v5", "if"),
-    ("v6", "z1"),
+    ("v6", "halves"),
     ("v7", "then"),
     ("v8", "else"),
 ];
@@ -40,8 +40,21 @@ fn close_name(name: &str) -> &str {
     found.map_or(name, |(_, to)| to)
 }
 
-/// A random sheet that reads; every second one has close names, in any case.
+/// A random sheet that reads, under either tie rule; every second one has close
+/// names, in any case.
 fn random_sheet(seed: u64) -> Vec<u8> {
+    let text = close_sheet(seed);
+    let sheet = Sheet::read(&text).expect("a sheet that reads");
+    let ties = Ties::ALL[seed as usize / 2 % 2];
+    let under = sheet.with_ties(ties);
+    match Sheet::read(&under) {
+        Ok(_) => under,
+        // a byte too long
+        Err(_) => text,
+    }
+}
+
+fn close_sheet(seed: u64) -> Vec<u8> {
     let rng = &mut Rng::new(seed);
     let text = generator::sheet(rng);
     if seed.is_multiple_of(2) {
@@ -123,6 +136,7 @@ fn shown_then_written() {
         let built = group.text().expect("a sheet that can be built");
         let again = Sheet::read(&built).expect("a sheet that reads");
         assert_eq!(unlabelled(&again), unlabelled(&sheet), "{seed}");
+        assert_eq!(again.ties(), sheet.ties(), "{seed}");
         assert_eq!(formula::show(&again), shown, "{seed}");
         assert!(is_same_run(&again, &sheet), "{seed}");
         match (sheet.plan(), formula::write(shown.as_bytes())) {
@@ -196,6 +210,17 @@ impl Scribbler<'_, '_> {
             names.push(self.name(name, is_hidden));
         }
         self.put(&names.join("."));
+    }
+
+    /// Halves to even have to be said, halves away from zero may be.
+    fn tie_rule(&mut self) {
+        let ties = self.sheet.ties();
+        if ties == Ties::Even || self.rng.chance(30) {
+            for word in ties.to_string().split(' ') {
+                let word = recased_name(self.rng, word);
+                self.word(&word);
+            }
+        }
     }
 
     fn group(&mut self, group: Label) {
@@ -286,6 +311,7 @@ fn scribbled(sheet: &Sheet, rng: &mut Rng) -> String {
         text: String::new(),
     };
     scribbler.blank();
+    scribbler.tie_rule();
     scribbler.group(1);
     scribbler.text
 }
@@ -304,15 +330,35 @@ fn written_then_shown() {
         let again = Sheet::read(&built).expect("a sheet that reads");
         assert_eq!(formula::show(&again), formula::show(&sheet), "{seed}");
         assert_eq!(unlabelled(&again), unlabelled(&sheet), "{seed}");
+        assert_eq!(again.ties(), sheet.ties(), "{seed}");
         assert!(is_same_run(&again, &sheet), "{seed}");
     }
 }
 
 /// Some bytes of a text exchanged, left out, doubled or put in.
 fn damaged(text: &mut Vec<u8>, rng: &mut Rng) {
-    const TOKENS: [&str; 18] = [
-        "(", ")", "{", "}", "=", "+", "-", "*", "/", ",", ".", "`", "#", "\n", "if ", "then ", "0",
+    const TOKENS: [&str; 21] = [
+        "(",
+        ")",
+        "{",
+        "}",
+        "=",
+        "+",
+        "-",
+        "*",
+        "/",
+        ",",
+        ".",
+        "`",
+        "#",
+        "\n",
+        "if ",
+        "then ",
+        "0",
         "x",
+        " halves ",
+        " to ",
+        "halves to even\n",
     ];
     for _ in 0..rng.range(1, 3) {
         let at = rng.below(text.len() + 1);
@@ -332,7 +378,7 @@ fn any_text(seed: u64) -> Vec<u8> {
     if rng.chance(5) {
         return (0..rng.below(200)).map(|_| rng.below(256) as u8).collect();
     }
-    let sheet = generator::sheet(rng);
+    let sheet = random_sheet(seed);
     let sheet = Sheet::read(&sheet).expect("a sheet that reads");
     let mut text = match rng.chance(50) {
         true => formula::show(&sheet).into_bytes(),

@@ -138,3 +138,20 @@ fn deep_groups() {
     assert_eq!(shown.lines().map(str::len).max(), Some(83));
     assert_eq!(formula::write(shown.as_bytes()), Ok(text.clone()));
 }
+
+/// The rule stands first, where it does not go without saying.
+#[test]
+fn tie_rules() {
+    for (line, wanted) in [
+        ("kind name a b c", "halves = 5\n"),
+        ("kind2 name a b c", "halves to even\nhalves = 5\n"),
+    ] {
+        let text = format!("{line}\nG - 0 - -\nV halves 1 3 -\nN - 5 - -\n");
+        let sheet = Sheet::read(text.as_bytes()).expect("a sheet that reads");
+        assert_eq!(formula::show(&sheet), wanted);
+        assert_eq!(
+            formula::write(wanted.as_bytes()).ok(),
+            Some(text.into_bytes())
+        );
+    }
+}

@@ -1,6 +1,6 @@
 //! What a text of formulas stands for.
 
-use lindypo::formula;
+use lindypo::{formula, Ties};
 
 use crate::sheet;
 
@@ -109,4 +109,42 @@ fn marks() {
         "V x 1 7 -\nF f 1 8 -\nG if 1 - -\nV Then 4 11 -\nV z 4 12 -\n\
          N - 1 - -\nA - 9 10 -\nP - - - -\nR x - - -\nN - 2 - -\nR if.Then - - -\n",
     );
+}
+
+/// The rule is said first, in any case and layout, or goes without saying.
+#[test]
+fn tie_rules() {
+    for (said, ties) in [
+        ("", Ties::Away),
+        ("halves away from zero\n", Ties::Away),
+        ("halves to even\n", Ties::Even),
+        ("HALVES To Even ", Ties::Even),
+        (
+            "# the next rule\nhalves # of a quotient\n to\r\n\teven\n\n",
+            Ties::Even,
+        ),
+    ] {
+        let text = formula::write(format!("{said}v = 5").as_bytes()).expect("a sheet");
+        let wanted = format!("{}\nG - 0 - -\nV v 1 3 -\nN - 5 - -\n", ties.first_line());
+        assert_eq!(String::from_utf8_lossy(&text), wanted);
+    }
+    let empty = formula::write(b"halves to even").expect("a sheet");
+    assert_eq!(empty, b"kind2 name a b c\nG - 0 - -\n");
+}
+
+/// Its words are names too, with and without the rule before them.
+#[test]
+fn words_of_a_tie_rule_as_names() {
+    let lines = "V halves 1 6 -\nG to 1 - -\nV even 3 7 -\nF away 1 8 -\n\
+                 N - 5 - -\nR halves - - -\nA - 9 10 -\nR to.even - - -\nP - - - -\n";
+    let formulas = "halves = 5 to { even = halves } away(from) = to.even + from";
+    is_written(formulas, lines);
+    let text = formula::write(format!("halves to even {formulas}").as_bytes());
+    let text = String::from_utf8(text.expect("a sheet")).expect("ASCII");
+    assert_eq!(text, format!("kind2 name a b c\nG - 0 - -\n{lines}"));
+    is_written(
+        "halves { to = 1 }",
+        "G halves 1 - -\nV to 2 4 -\nN - 1 - -\n",
+    );
+    is_written("halves(to) = to", "F halves 1 3 -\nP - - - -\n");
 }

@@ -48,8 +48,7 @@ pub const FIELDS: [Field; 23] = [
 pub fn of(sheet: &Sheet, stages: &Stages) -> Object {
     let pairs = stages.list.iter().map(|stage| pair(sheet, stage));
     let values = values::json(&values::of_run(sheet, &stages.run));
-    Object::new()
-        .with("order", stages.run.plan.order.to_string())
+    values::run_object(sheet, &stages.run)
         .with("pairs", pairs.collect::<Json>())
         .with("values", values)
 }

@@ -99,6 +99,7 @@ refusal 20: the body of `right.prism` is not a number: line 10 is a quotient (D)
     fields: &[
         &sheets::FIELDS,
         &values::ORDER_FIELDS,
+        &values::TIES_FIELDS,
         &json::FIELDS,
         &values::NAME_FIELDS,
         &values::OUTCOME_FIELDS,

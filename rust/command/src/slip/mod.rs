@@ -26,10 +26,10 @@ pub const WORD: Word = Word {
 Makes a page to print on A4, as HTML that needs nothing else: the values of each sheet in the order
 of the plan, with full names, numbers and formulas, under the Groups as they are loaded. A Group
 that was left and is loaded again says AGAIN, a value without a number NOT TO BE CUT. Every page
-has the name of the sheet, WHOLE or MIXED and the digest: SHA-256 of the sheet's bytes, the one
-that `sha256sum FILE` prints. The same sheet makes the same page. A refused sheet has no slip: the
-refusal is on standard error. With -o, a file that is there already is written over only where it
-is a slip.
+has the name of the sheet, WHOLE or MIXED, the tie rule (halves away from zero, or to even) and
+the digest: SHA-256 of the sheet's bytes, the one that `sha256sum FILE` prints. The same sheet
+makes the same page. A refused sheet has no slip: the refusal is on standard error. With -o, a
+file that is there already is written over only where it is a slip.
 
     lindypo slip -o slip.html order.sheet
 
@@ -41,6 +41,7 @@ Any browser prints it; those that know page margins of CSS (Chromium does) numbe
     fields: &[
         &sheets::FIELDS,
         &values::ORDER_FIELDS,
+        &values::TIES_FIELDS,
         &LOAD_FIELDS,
         &values::NAME_FIELDS,
         &values::OUTCOME_FIELDS,
@@ -164,8 +165,7 @@ impl<'a> Slip<'a> {
 
     fn fields(&self) -> Object {
         let load = |load: &Load| self.load(load);
-        Object::new()
-            .with("order", self.run.plan.order.to_string())
+        values::run_object(&self.sheet, &self.run)
             .with("digest", self.digest.as_str())
             .with("loads", self.loads.iter().map(load).collect::<Json>())
             .with(

@@ -56,11 +56,11 @@ fn heading(slip: &Slip) -> String {
         Order::Whole => "no Group is loaded again",
         Order::Mixed => "Groups are loaded again, where it says AGAIN",
     };
-    let headline = values::headline_of(&slip.values);
+    let (headline, ties) = (values::headline_of(&slip.values), slip.sheet.ties());
     let loads = counted(slip.loads.len() as u64, "load");
     format!(
         "<header>\n<div>\n<h1><bdi>{name}</bdi></h1>\n<p>{headline}; {loads}</p>\n</div>\n\
-         <div class=\"order\">\n<strong>{word}</strong>\n<p>{meaning}</p>\n</div>\n</header>\n"
+         <div class=\"order\">\n<strong>{word}</strong>\n<p>{meaning}</p>\n<p>{ties}</p>\n</div>\n</header>\n"
     )
 }
 
@@ -86,8 +86,9 @@ fn alarm(slip: &Slip) -> String {
 /// At the top of every sheet of paper: which sheet this is.
 fn running(slip: &Slip) -> String {
     let (name, word, digest) = (escaped(&slip.name), shout(slip), &slip.digest);
+    let ties = slip.sheet.ties();
     format!(
-        "<tr class=\"running\"><th colspan=\"2\"><bdi>{name}</bdi> <b>{word}</b></th>\
+        "<tr class=\"running\"><th colspan=\"2\"><bdi>{name}</bdi> <b>{word}</b>, {ties}</th>\
          <th colspan=\"2\" class=\"digest\">SHA-256 <code>{digest}</code></th></tr>\n"
     )
 }

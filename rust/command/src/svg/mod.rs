@@ -23,7 +23,7 @@ mod wires;
 
 use std::collections::{BTreeMap, BTreeSet};
 
-use lindypo::{Label, Run, Sheet, State};
+use lindypo::{Label, Run, Sheet, State, Ties};
 
 use crate::blocks;
 use crate::files::Sort;
@@ -67,7 +67,7 @@ pub fn picture(sheet: &Sheet, run: &Run, wanted: &Wanted, caption: &str) -> (Str
         None => folds::automatic(&view, wanted.focus),
     };
     view.fold(&folded);
-    let summary = summary(&view, run);
+    let summary = summary(&view, sheet, run);
     let focus = wanted.focus.map(|label| sheet.full_name(label));
     let parts = [caption, focus.as_deref().unwrap_or("")];
     let parts: Vec<&str> = parts.into_iter().filter(|part| !part.is_empty()).collect();
@@ -81,19 +81,21 @@ pub fn picture(sheet: &Sheet, run: &Run, wanted: &Wanted, caption: &str) -> (Str
     (svg, unasked)
 }
 
-/// "3 of 7 values, whole plan".
-fn summary(view: &View, run: &Run) -> String {
+/// "3 of 7 values, whole plan", and the tie rule where it is not the one that goes
+/// without saying.
+fn summary(view: &View, sheet: &Sheet, run: &Run) -> String {
     let (drawn, all) = (view.counts().values, view.counts_of_all().values);
     let of = if drawn < all {
         format!("{drawn} of ")
     } else {
         String::new()
     };
-    format!(
-        "{of}{}, {} plan",
-        counted(all as u64, "value"),
-        run.plan.order
-    )
+    let ties = match sheet.ties() {
+        Ties::Away => String::new(),
+        ties => format!(", {ties}"),
+    };
+    let (values, order) = (counted(all as u64, "value"), run.plan.order);
+    format!("{of}{values}, {order} plan{ties}")
 }
 
 fn drawn(

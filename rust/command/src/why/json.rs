@@ -1,6 +1,6 @@
 //! How a value came to what it is, for programs.
 
-use lindypo::why::{Call, Failure, Handed, Read, Why};
+use lindypo::why::{Call, Failure, Half, Handed, Read, Why};
 use lindypo::{formula, Label, Sheet};
 
 use super::text;
@@ -8,7 +8,7 @@ use crate::json::{Json, Object};
 use crate::values::{self, STATES};
 use crate::words::Field;
 
-pub const FIELDS: [Field; 42] = [
+pub const FIELDS: [Field; 48] = [
     ("label", "the value's label"),
     ("name", "its full name"),
     ("line", "the line that it stands in, from 1"),
@@ -41,6 +41,15 @@ pub const FIELDS: [Field; 42] = [
     ("calls.number", "the number that it came to"),
     ("calls.failure", "why it came to none"),
     ("more_calls", "how many more calls it entered"),
+    (
+        "halves",
+        "the quotients that were a half, each D line once:",
+    ),
+    ("halves.line", "the D line, from 1"),
+    ("halves.dividend", "what was divided, the first time"),
+    ("halves.divisor", "by what it was divided"),
+    ("halves.number", "what that came to, by the tie rule"),
+    ("halves.times", "how often its quotient was a half"),
     ("began", "of a value without a number, where that began:"),
     ("began.line", "the line of the expression, from 1"),
     (
@@ -83,12 +92,17 @@ pub fn of(sheet: &Sheet, why: &Why) -> Object {
         .map(|call| call_object(sheet, call).and(values::state_object(call.state)))
         .collect();
     let began = why.failure.as_ref().map(|failure| began(sheet, failure));
-    values::name_object(why.label, &sheet.full_name(why.label))
+    values::ties_object(sheet)
+        .and(values::name_object(why.label, &sheet.full_name(why.label)))
         .with("formula", formula)
         .and(values::outcome_object(why.outcome))
         .with("reads", reads)
         .with("calls", calls)
         .with("more_calls", why.more_calls)
+        .with(
+            "halves",
+            why.halves.iter().map(half_object).collect::<Json>(),
+        )
         .with_some("began", began)
 }
 
@@ -110,6 +124,15 @@ fn call_object(sheet: &Sheet, call: &Call) -> Object {
     line_object(sheet, call.line, call.function)
         .with("argument", call.argument)
         .with("depth", call.depth)
+}
+
+fn half_object(half: &Half) -> Object {
+    Object::new()
+        .with("line", half.line + 1)
+        .with("dividend", half.a)
+        .with("divisor", half.b)
+        .with("number", half.result)
+        .with("times", half.times)
 }
 
 fn began(sheet: &Sheet, failure: &Failure) -> Object {

@@ -13,6 +13,7 @@ use crate::options::Call;
 use crate::output::{Output, Paint};
 use crate::sheets::{self, Answer, Asked, Stop, Text};
 use crate::status::Status;
+use crate::values;
 use crate::words::{Example, Word};
 
 pub const WORD: Word = Word {
@@ -24,7 +25,8 @@ Evaluates one value once more and shows its formula, what it read with the value
 that it entered with their arguments. Of a value without a number it says at which line that
 began, in which calls, and by which reads it was handed on. NAME is the value's full name, as
 `lindypo plan` lists it, in capitals or small letters, or its label. Of many calls the first are
-shown, and the number of the others.
+shown, and the number of the others. Where a quotient was a half, it shows what that came to by
+the tie rule of line one.
 ",
     options: &[],
     examples: &[Example {
@@ -35,9 +37,13 @@ right.prism = sphere * 10 / 100
 
 line  read          number  state     times
   12  right.sphere    -325  a number      1
+
+line  half         number  times
+  10  -3250 / 100     -33      1
+line one is `kind name a b c`: halves away from zero
 ",
     }],
-    fields: &[&sheets::FIELDS, &json::FIELDS],
+    fields: &[&sheets::FIELDS, &values::TIES_FIELDS, &json::FIELDS],
     call,
 };
 

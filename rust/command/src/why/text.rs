@@ -28,6 +28,13 @@ const CALLS: [Column; 5] = [
     words("state"),
 ];
 
+const HALVES: [Column; 4] = [
+    figures("line"),
+    words("half"),
+    figures("number"),
+    figures("times"),
+];
+
 pub fn of(sheet: &Sheet, why: &Why, paint: Paint) -> String {
     let mut parts = vec![headline(sheet, why, paint)];
     if !why.reads.is_empty() {
@@ -35,6 +42,9 @@ pub fn of(sheet: &Sheet, why: &Why, paint: Paint) -> String {
     }
     if !why.calls.is_empty() {
         parts.push(calls(sheet, why, paint));
+    }
+    if !why.halves.is_empty() {
+        parts.push(halves(sheet, why, paint));
     }
     if let Some(failure) = &why.failure {
         parts.push(began(sheet, failure, paint));
@@ -88,6 +98,24 @@ fn calls(sheet: &Sheet, why: &Why, paint: Paint) -> String {
         0 => calls,
         more => format!("{calls}and {}\n", counted(more, "more call")),
     }
+}
+
+/// Which quotients were a half, and the line that settles them.
+fn halves(sheet: &Sheet, why: &Why, paint: Paint) -> String {
+    let rows = why.halves.iter().map(|half| {
+        [
+            Cell::from(half.line + 1),
+            Cell::from(format!("{} / {}", half.a, half.b)),
+            Cell::from(half.result),
+            Cell::from(half.times),
+        ]
+    });
+    let (rows, ties) = (rows.collect::<Vec<_>>(), sheet.ties());
+    format!(
+        "{}line one is `{}`: {ties}\n",
+        table::aligned(HALVES, &rows, paint),
+        ties.first_line()
+    )
 }
 
 /// `lib.abs(-325)`.

@@ -3,11 +3,13 @@
 use std::mem;
 
 use super::{check, lines, Expression, Mistake, MOST_LINES};
-use crate::{Kind, Label, Line, Sheet};
+use crate::{Kind, Label, Line, Sheet, Ties};
 
 /// The members of a Group, in sequence; the outermost Group is a sheet.
 #[derive(Debug, Clone, Default, PartialEq, Eq, Hash)]
 pub struct Group {
+    /// As the outermost Group: of the sheet.
+    ties: Ties,
     /// Each Group followed by all under it. Of more than a sheet can have none
     /// is kept.
     definitions: Vec<Definition>,
@@ -53,6 +55,27 @@ impl Group {
         Group::default()
     }
 
+    /// The tie rule of the sheet whose outermost Group this is: `text` writes the
+    /// line that names it. A sheet has one rule, so that of a Group in another does
+    /// not count. Where nothing is said, halves go away from zero.
+    ///
+    /// ```
+    /// use lindypo::build::{number, Group};
+    /// use lindypo::{Sheet, State, Ties};
+    ///
+    /// let mut outermost = Group::new();
+    /// outermost.ties(Ties::Even).value("prism", number(-3250) / 100);
+    /// let text = outermost.text()?;
+    /// assert!(text.starts_with(b"kind2 name a b c\nG - 0 - -\n"));
+    /// let run = Sheet::read(&text)?.run()?;
+    /// assert_eq!(run.results.of(2).unwrap().state, State::Number(-32));
+    /// # Ok::<(), Box<dyn std::error::Error>>(())
+    /// ```
+    pub fn ties(&mut self, ties: Ties) -> &mut Self {
+        self.ties = ties;
+        self
+    }
+
     /// Adds a value after the members that are there.
     pub fn value(&mut self, name: impl Into<String>, body: impl Into<Expression>) -> &mut Self {
         self.add(0, name.into(), Content::Value(body.into()))
@@ -63,7 +86,7 @@ impl Group {
         self.add(0, name.into(), Content::Function(body.into()))
     }
 
-    /// Adds a Group after the members that are there.
+    /// Adds a Group after the members that are there. Its tie rule does not count.
     pub fn group(&mut self, name: impl Into<String>, members: Group) -> &mut Self {
         self.add(0, name.into(), Content::Group);
         let deeper = members.definitions.into_iter().map(|mut definition| {
@@ -98,13 +121,13 @@ impl Group {
     pub fn text(&self) -> Result<Vec<u8>, Mistake> {
         check::lines(self.lines)?;
         check::definitions(&self.definitions)?;
-        let text = lines::text(&self.definitions);
+        let text = lines::text(self.ties, &self.definitions);
         check::bytes(&text)?;
         Ok(text)
     }
 
-    /// What a sheet holds. The members of each Group keep their sequence; how
-    /// those of different Groups stand among each other is not kept.
+    /// What a sheet holds, and its tie rule. The members of each Group keep their
+    /// sequence; how those of different Groups stand among each other is not kept.
     pub fn of_sheet(sheet: &Sheet) -> Self {
         // the members of each Group, the first one last
         let mut members: Vec<Vec<Line>> = vec![vec![]; sheet.labels() + 1];
@@ -113,6 +136,7 @@ impl Group {
             members[line.owner.unwrap_or(0)].push(*line);
         }
         let mut group = Group::new();
+        group.ties(sheet.ties());
         // the Groups entered, by what is still to come of them
         let mut entered = vec![mem::take(&mut members[1])];
         while let Some(left) = entered.last_mut() {
@@ -125,6 +149,10 @@ impl Group {
             entered.push(mem::take(&mut members[line.label]));
         }
         group
+    }
+
+    pub(crate) fn tie_rule(&self) -> Ties {
+        self.ties
     }
 
     pub(crate) fn definitions(&self) -> &[Definition] {

@@ -1,15 +1,14 @@
 //! Labels for all, and the text.
 
 use super::{Content, Definition, Expression, Node};
-use crate::{Kind, Label};
+use crate::{Kind, Label, Ties};
 
-pub(crate) const FIRST_LINE: &str = "kind name a b c\n";
 const OUTERMOST: Label = 1;
 const MISSING: &str = "-";
 
-/// The sheet of these definitions: label 1, they, then their bodies.
-pub fn text(definitions: &[Definition]) -> Vec<u8> {
-    let mut lines = FIRST_LINE.to_string();
+/// The sheet of these definitions: line one, label 1, they, then their bodies.
+pub fn text(ties: Ties, definitions: &[Definition]) -> Vec<u8> {
+    let mut lines = format!("{}\n", ties.first_line());
     line(&mut lines, Kind::Group, MISSING, &[0]);
     let mut groups = vec![OUTERMOST];
     let mut body = definitions.len() + 2;

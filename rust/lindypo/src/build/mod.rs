@@ -38,6 +38,5 @@ pub(crate) use expression::Node;
 pub use expression::{argument, call, choice, number, read, Expression};
 pub use group::Group;
 pub(crate) use group::{Content, Definition};
-pub(crate) use lines::FIRST_LINE;
 pub use mistake::Mistake;
 pub(crate) use mistake::Place;

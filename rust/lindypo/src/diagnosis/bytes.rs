@@ -40,7 +40,8 @@ struct Sort {
 /// nothing.
 pub fn all(text: &[u8]) -> Vec<Finding> {
     if text.is_empty() {
-        let smallest = "a sheet begins with the line `kind name a b c`, then `G - 0 - -`";
+        let lines = words::first_lines();
+        let smallest = format!("a sheet begins with the line {lines}, then `G - 0 - -`");
         return vec![Finding::new("the text is empty").help(smallest)];
     }
     let mut found: Vec<Finding> = too_long(text).into_iter().collect();

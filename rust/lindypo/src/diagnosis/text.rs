@@ -2,7 +2,7 @@
 
 use super::rows::{self, FIELDS};
 use super::{files, words, Finding};
-use crate::{Kind, Mark};
+use crate::{Kind, Mark, Ties};
 
 pub const MOST_LINES: usize = 1_024;
 
@@ -12,9 +12,9 @@ pub fn line_one(text: &[u8]) -> &[u8] {
     rows::lines_of(text).next().unwrap_or(b"")
 }
 
-/// Whether a line is what line one has to be.
+/// Whether a line is one of those that line one may be.
 pub fn is_first_line(line: &[u8]) -> bool {
-    line == FIELDS.join(" ").as_bytes()
+    Ties::of_line(line).is_some()
 }
 
 /// How many lines there are after line one, whatever the text.
@@ -25,21 +25,13 @@ pub fn line_count(text: &[u8]) -> usize {
 /// Refusal 2.
 pub fn first_line(text: &[u8]) -> Finding {
     let line = String::from_utf8_lossy(line_one(text));
-    let wanted = FIELDS.join(" ");
-    let same = line.bytes().zip(wanted.bytes());
-    let agree = same.take_while(|(a, b)| a == b).count();
-    let mark = Mark {
-        line: 1,
-        column: agree + 1,
-        width: line.len().saturating_sub(agree).max(1),
-    };
-    let sentence = "line one has to be `kind name a b c`";
-    let found = Finding::at(mark, sentence);
-    if let Some(later) = later_first_line(text) {
+    let sentence = format!("line one has to be {}", words::first_lines());
+    let found = Finding::at(differing(&line), sentence);
+    if let Some((later, width)) = later_first_line(text) {
         let mark = Mark {
             line: later,
             column: 1,
-            width: wanted.len(),
+            width,
         };
         let help = "the column names stand here: leave out what is before them";
         return found.see(mark, help);
@@ -48,10 +40,39 @@ pub fn first_line(text: &[u8]) -> Finding {
     found.help(help.unwrap_or_else(|| differing_name(&line)))
 }
 
-/// The first line after line one that is the column names.
-fn later_first_line(text: &[u8]) -> Option<usize> {
-    let mut later = rows::lines_of(text).skip(1).take(MOST_LINES);
-    later.position(is_first_line).map(|at| at + 2)
+/// What to look at: a first name with a wrong number, else all from where the
+/// line meant has something else.
+fn differing(line: &str) -> Mark {
+    let same = line.bytes().zip(meant(line).first_line().bytes());
+    let agree = same.take_while(|(a, b)| a == b).count();
+    let (before, width) = match misnumbered(line) {
+        Some(first) => (0, first.len()),
+        None => (agree, line.len().saturating_sub(agree).max(1)),
+    };
+    Mark {
+        line: 1,
+        column: before + 1,
+        width,
+    }
+}
+
+/// The rule whose line is meant: the one with the 2 where there is one, whatever
+/// stands around it.
+fn meant(line: &str) -> Ties {
+    let column = Ties::Even.column();
+    let letters = line.chars().filter(char::is_ascii_alphanumeric);
+    let start: String = letters.take(column.len()).collect();
+    match start.ends_with('2') {
+        true => Ties::Even,
+        false => Ties::Away,
+    }
+}
+
+/// The first line after line one that is the column names, and its width.
+fn later_first_line(text: &[u8]) -> Option<(usize, usize)> {
+    let later = (2..).zip(rows::lines_of(text).skip(1).take(MOST_LINES));
+    let mut names = later.filter(|(_, line)| is_first_line(line));
+    names.next().map(|(at, line)| (at, line.len()))
 }
 
 /// What happens to column names.
@@ -59,7 +80,10 @@ fn slip(line: &str) -> Option<String> {
     let fields: Vec<&str> = line.split(' ').collect();
     let is_line = fields.len() == FIELDS.len() && Kind::of_field(fields[0]).is_some();
     if is_line {
-        return Some("the column names are missing: put the line `kind name a b c` first".into());
+        let lines = words::first_lines();
+        return Some(format!(
+            "the column names are missing: put the line {lines} first"
+        ));
     }
     if line.is_empty() {
         return Some("line one is empty: write the column names there".into());
@@ -67,32 +91,72 @@ fn slip(line: &str) -> Option<String> {
     if words::is_comment(line) {
         return Some("a sheet has no comments: leave the line out".into());
     }
+    spacing(line).or_else(|| misnumbered(line).map(number))
+}
+
+/// The column names with other spaces, in capitals, or with signs between them.
+fn spacing(line: &str) -> Option<String> {
     let squeezed = |line: &str| line.split_whitespace().collect::<Vec<_>>().join(" ");
-    let is_names = |line: &str| squeezed(line).to_lowercase() == FIELDS.join(" ");
+    let is_first_line = |line: String| is_first_line(line.as_bytes());
+    let is_names = |line: &str| is_first_line(squeezed(line).to_lowercase());
     if is_names(line) {
         let is_spaced = squeezed(line) == line;
-        return Some(match squeezed(line) == FIELDS.join(" ") {
+        return Some(match is_first_line(squeezed(line)) {
             true => "write one space between names, and none before or after".into(),
             false if is_spaced => "write it in small letters".into(),
             false => "write it in small letters, with one space between names".into(),
         });
     }
     let separator = line.chars().find(|letter| ",;|:".contains(*letter))?;
-    let spaced = line.replace(separator, " ");
-    let is_separated = is_names(&spaced);
+    let is_separated = is_names(&line.replace(separator, " "));
     is_separated.then(|| format!("one space stands between names, not `{separator}`"))
 }
 
-/// The first of the column names that is another.
+/// What stands for the first of the column names, where that is `kind` and a
+/// number that it does not have, and the others are as they should be.
+fn misnumbered(line: &str) -> Option<&str> {
+    let (kind, small) = (Ties::Away.column(), line.to_ascii_lowercase());
+    let others = Ties::Away.first_line().strip_prefix(kind)?;
+    let first = &line[..small.strip_suffix(others)?.len()];
+    let number = small[..first.len()].strip_prefix(kind)?;
+    let has = |is_it: fn(&char) -> bool| number.chars().any(|letter| is_it(&letter));
+    let is_number = has(char::is_ascii_digit) && !has(char::is_ascii_alphabetic);
+    (is_number && number.trim_end() != "2").then_some(first)
+}
+
+/// Which number is meant, or which there are.
+fn number(first: &str) -> String {
+    let is_digit = |letter: &char| letter.is_ascii_digit();
+    let digits: String = first.chars().filter(is_digit).collect();
+    match digits.as_str() {
+        "2" => {
+            let line = Ties::Even.first_line();
+            format!("nothing stands between `kind` and `2`: write `{line}`")
+        }
+        _ => {
+            let rules = Ties::ALL.map(|ties| format!("`{}` for {ties}", ties.column()));
+            let first = words::quoted(first);
+            format!("{first} names no tie rule: write {}", words::or(&rules))
+        }
+    }
+}
+
+/// The first of the column names that is another, or all that are missing.
 fn differing_name(line: &str) -> String {
     let names: Vec<&str> = line.split(' ').collect();
-    let differs = |&at: &usize| names.get(at) != FIELDS.get(at);
-    let at = (0..=FIELDS.len()).find(differs).unwrap_or(0);
-    match (names.get(at), FIELDS.get(at)) {
+    let columns: Vec<&str> = meant(line).first_line().split(' ').collect();
+    let differs = |&at: &usize| names.get(at) != columns.get(at);
+    let at = (0..=columns.len()).find(differs).unwrap_or(0);
+    match (names.get(at), columns.get(at)) {
+        (Some(name), Some(_)) if at == 0 && meant(line) == Ties::Away => {
+            let columns = Ties::ALL.map(|ties| format!("`{}`", ties.column()));
+            let (name, columns) = (words::quoted(name), words::or(&columns));
+            format!("{name} stands where {columns} has to")
+        }
         (Some(name), Some(wanted)) => {
             format!("{} stands where `{wanted}` has to", words::quoted(name))
         }
-        (None, Some(wanted)) => format!("`{wanted}` is missing at the end"),
+        (None, Some(_)) => format!("`{}` is missing at the end", columns[at..].join(" ")),
         (name, None) => {
             let name = words::quoted(name.unwrap_or(&""));
             format!("{name} is too many: a sheet has five columns")

@@ -2,8 +2,7 @@
 
 use std::fmt::Display;
 
-use super::rows::FIELDS;
-use crate::Kind;
+use crate::{Kind, Ties};
 
 /// The most bytes of a field that a sentence repeats.
 const QUOTED: usize = 40;
@@ -116,9 +115,14 @@ pub fn is_comment(word: &str) -> bool {
     COMMENTS.iter().any(|beginning| word.starts_with(beginning))
 }
 
-/// Whether a line, cut into fields, is the column names.
+/// Whether a line, cut into fields, is the column names of either tie rule.
 pub fn is_first_line(fields: &[&str]) -> bool {
-    fields == FIELDS
+    Ties::of_line(fields.join(" ").as_bytes()).is_some()
+}
+
+/// What line one has to be: "`kind name a b c` or `kind2 name a b c`".
+pub fn first_lines() -> String {
+    or(&Ties::ALL.map(|ties| format!("`{}`", ties.first_line())))
 }
 
 #[cfg(test)]

@@ -29,6 +29,15 @@ impl Mistake {
             help: vec![],
         }
     }
+
+    /// With another place of the text.
+    pub(super) fn see(mut self, mark: Mark, sentence: &str) -> Self {
+        self.help.push(Help {
+            sentence: sentence.to_string(),
+            mark: Some(mark),
+        });
+        self
+    }
 }
 
 /// Line, column and the sentence.

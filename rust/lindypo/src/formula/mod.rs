@@ -1,6 +1,7 @@
 //! Formulas as text: `lib.abs(sphere) + frame.minimum`.
 
 mod expression;
+mod halves;
 mod mistake;
 mod names;
 mod parse;
@@ -69,7 +70,8 @@ fn owned(sheet: &Sheet, label: Label) -> Option<(Label, Label)> {
 }
 
 /// All definitions of a sheet as text, the members of each Group in the
-/// sequence of their labels.
+/// sequence of their labels; before them `halves to even`, where that is the
+/// sheet's tie rule.
 ///
 /// [`write`] gives the same sheet again, but for its labels: definitions are
 /// then numbered in the sequence of the text, each Group followed by its
@@ -83,13 +85,17 @@ fn owned(sheet: &Sheet, label: Label) -> Option<(Label, Label)> {
 ///       P - - - -\nN - 2 - -\nV total 1 8 -\nN - -7 - -\n",
 /// )?;
 /// assert_eq!(formula::show(&sheet), "right {\n    half(x) = x / 2\n}\ntotal = -7\n");
+///
+/// let even = Sheet::read(b"kind2 name a b c\nG - 0 - -\nV total 1 3 -\nN - -7 - -\n")?;
+/// assert_eq!(formula::show(&even), "halves to even\ntotal = -7\n");
 /// # Ok::<(), lindypo::Refusal>(())
 /// ```
 pub fn show(sheet: &Sheet) -> String {
     print::definitions(&Group::of_sheet(sheet))
 }
 
-/// The definitions of a text of formulas, for a program to add to.
+/// The definitions of a text of formulas, with its tie rule, for a program to add
+/// to.
 pub fn parse(text: &[u8]) -> Result<Group, Mistake> {
     Ok(parse::parse(text)?.0)
 }
@@ -103,6 +109,8 @@ pub fn parse(text: &[u8]) -> Result<Group, Mistake> {
 /// let text = b"right { prism = sphere * 10 / 100  sphere = -325 } # dioptres\n";
 /// let sheet = formula::write(text)?;
 /// assert!(sheet.starts_with(b"kind name a b c\nG - 0 - -\nG right 1 - -\nV prism 2 5 -\n"));
+/// let sheet = formula::write(b"halves to even  prism = -3250 / 100\n")?;
+/// assert!(sheet.starts_with(b"kind2 name a b c\nG - 0 - -\nV prism 1 3 -\n"));
 ///
 /// let mistake = formula::write(b"prism = sphere * 10\n").unwrap_err();
 /// assert_eq!(

@@ -1,12 +1,13 @@
 //! A text of formulas taken apart.
 
 use super::expression::{take_line, Formula};
+use super::halves;
 use super::tokens::{is_word, Names, Token, Tokens};
 use super::Mistake;
-use crate::build::{Content, Expression, Group, Place, FIRST_LINE, MOST_LINES};
+use crate::build::{Content, Expression, Group, Place, MOST_LINES};
 use crate::diagnosis::forms::Form;
 use crate::diagnosis::words::quoted;
-use crate::{Label, Mark};
+use crate::{Label, Mark, Ties};
 
 /// Where all that a text defines stands in it.
 #[derive(Default)]
@@ -34,11 +35,11 @@ impl Marks {
 
 /// The definitions of a text, and where they stand.
 pub fn parse(text: &[u8]) -> Result<(Group, Marks), Mistake> {
-    if text.starts_with(FIRST_LINE.as_bytes()) {
+    if let Some(ties) = Ties::of_text(text) {
         let mark = Mark {
             line: 1,
             column: 1,
-            width: FIRST_LINE.trim_end().len(),
+            width: ties.first_line().len(),
         };
         let sentence = "this is the first line of a sheet, not of formulas";
         return Err(Mistake::at(mark, sentence));
@@ -48,6 +49,7 @@ pub fn parse(text: &[u8]) -> Result<(Group, Marks), Mistake> {
         left: MOST_LINES - 1,
         group: Group::new(),
         marks: Marks::default(),
+        ties: None,
         open: vec![],
     };
     while parser.definition()? {}
@@ -60,15 +62,18 @@ struct Parser<'text> {
     left: usize,
     group: Group,
     marks: Marks,
+    /// Where the tie rule stands.
+    ties: Option<Mark>,
     /// The names of the Groups that are not closed.
     open: Vec<Mark>,
 }
 
 impl<'text> Parser<'text> {
-    /// The next definition or `}`; whether there is one.
+    /// The next definition or `}`, or the tie rule; whether there is one.
     fn definition(&mut self) -> Result<bool, Mistake> {
         let (token, mark) = self.tokens.take()?;
         match token {
+            token if self.is_tie_rule(&token)? => self.tie_rule((token, mark))?,
             Token::Names(names) => self.named(&names, mark)?,
             Token::Symbol('}') if self.open.pop().is_some() => {}
             Token::End => return self.end(),
@@ -87,6 +92,36 @@ impl<'text> Parser<'text> {
             )),
             None => Ok(false),
         }
+    }
+
+    fn is_tie_rule(&mut self, token: &Token) -> Result<bool, Mistake> {
+        let is_first = self.marks.definitions.is_empty();
+        // what follows any other token is looked at when it is its turn
+        if !halves::may_begin(token, is_first) {
+            return Ok(false);
+        }
+        let (next, _) = self.tokens.peek()?;
+        Ok(halves::is_meant(token, &next, is_first))
+    }
+
+    /// Once, before the first definition.
+    fn tie_rule(&mut self, first: (Token<'text>, Mark)) -> Result<(), Mistake> {
+        let (ties, mark) = halves::read(first, &mut self.tokens)?;
+        let said = self.ties.map(|mark| {
+            let sentence = "the tie rule is said already: leave out one of the two";
+            (sentence.to_string(), mark, "it is here")
+        });
+        let defined = self.marks.definitions.first().map(|(name, _)| {
+            let sentence =
+                format!("the tie rule stands before the first definition: put `{ties}` first");
+            (sentence, *name, "the first definition is here")
+        });
+        if let Some((sentence, other, what)) = said.or(defined) {
+            return Err(Mistake::at(mark, sentence).see(other, what));
+        }
+        self.group.ties(ties);
+        self.ties = Some(mark);
+        Ok(())
     }
 
     fn named(&mut self, names: &Names<'text>, mark: Mark) -> Result<(), Mistake> {

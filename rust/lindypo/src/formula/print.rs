@@ -4,14 +4,19 @@
 use super::names;
 use super::signs::{self, Strength};
 use crate::build::{Content, Expression, Group, Node};
+use crate::Ties;
 
 /// One more Group around, up to a depth from which on it is not shown.
 const INDENT: &str = "    ";
 const DEEPEST: usize = 20;
 
-/// All definitions, each on a line of its own.
+/// The tie rule, where it is not the one that goes without saying, then all
+/// definitions, each on a line of its own.
 pub fn definitions(group: &Group) -> String {
-    let mut text = String::new();
+    let mut text = match group.tie_rule() {
+        Ties::Away => String::new(),
+        ties => format!("{ties}\n"),
+    };
     let mut depth = 0;
     for definition in group.definitions() {
         close(&mut text, depth, definition.depth);

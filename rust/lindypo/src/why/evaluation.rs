@@ -1,8 +1,10 @@
 //! The rules of evaluation ("Working out"), with a trace.
 
-use super::{Call, Read, CALLS};
+use std::cmp::Ordering;
+
+use super::{Call, Half, Read, CALLS};
 use crate::diagnosis::forms::NUMBER;
-use crate::{Kind, Label, Line, Outcome, Results, Sheet, State};
+use crate::{Kind, Label, Line, Outcome, Results, Sheet, State, Ties};
 
 /// What a value may take, and how deep its calls may go.
 const STEPS: u32 = 20_000;
@@ -53,11 +55,13 @@ struct Frame {
 
 pub struct Evaluation<'sheet> {
     lines: Vec<Line<'sheet>>,
+    ties: Ties,
     results: &'sheet Results,
     steps_left: u32,
     pub reads: Vec<Read>,
     pub calls: Vec<Call>,
     pub more_calls: usize,
+    pub halves: Vec<Half>,
     /// The calls that are entered and not left.
     within: Vec<Call>,
     pub stop: Option<Stop>,
@@ -70,11 +74,13 @@ impl<'sheet> Evaluation<'sheet> {
         let is_known = |line: &Line| line.kind != Kind::Value || results.of(line.label).is_some();
         lines.iter().all(is_known).then(|| Evaluation {
             lines,
+            ties: sheet.ties(),
             results,
             steps_left: STEPS,
             reads: vec![],
             calls: vec![],
             more_calls: 0,
+            halves: vec![],
             within: vec![],
             stop: None,
         })
@@ -118,7 +124,8 @@ impl<'sheet> Evaluation<'sheet> {
             _ => {
                 let a = self.expression(line.a as Label, frame)?;
                 let b = self.expression(line.b as Label, frame)?;
-                operate(line.kind, a, b).or_else(|cause| self.fail(label, cause))
+                let result = self.operate(line, a, b);
+                result.or_else(|cause| self.fail(label, cause))
             }
         }
     }
@@ -180,6 +187,40 @@ impl<'sheet> Evaluation<'sheet> {
         place
     }
 
+    /// The result of a sum, difference, product or quotient.
+    fn operate(&mut self, line: Line, a: i64, b: i64) -> Result<i64, Cause> {
+        let result = match line.kind {
+            Kind::Sum => a + b,
+            Kind::Difference => a - b,
+            Kind::Product => a * b,
+            _ if b == 0 => return Err(Cause::ZeroDivisor { a }),
+            _ => self.quotient(line.label, a, b),
+        };
+        match (-NUMBER..=NUMBER).contains(&result) {
+            true => Ok(result),
+            false => Err(Cause::OutOfRange { a, b, result }),
+        }
+    }
+
+    /// Notes a quotient that is a half.
+    fn quotient(&mut self, label: Label, a: i64, b: i64) -> i64 {
+        let (result, is_half) = nearest(self.ties, a, b);
+        if !is_half {
+            return result;
+        }
+        match self.halves.iter_mut().find(|half| half.line == label) {
+            Some(half) => half.times += 1,
+            None => self.halves.push(Half {
+                line: label,
+                a,
+                b,
+                result,
+                times: 1,
+            }),
+        }
+        result
+    }
+
     fn fail(&mut self, line: Label, cause: Cause) -> Answer {
         Err(self.stop(line, Ok(cause), cause.state()))
     }
@@ -196,25 +237,15 @@ impl<'sheet> Evaluation<'sheet> {
     }
 }
 
-fn operate(kind: Kind, a: i64, b: i64) -> Result<i64, Cause> {
-    let result = match kind {
-        Kind::Sum => a + b,
-        Kind::Difference => a - b,
-        Kind::Product => a * b,
-        _ if b == 0 => return Err(Cause::ZeroDivisor { a }),
-        _ => nearest(a, b),
-    };
-    match (-NUMBER..=NUMBER).contains(&result) {
-        true => Ok(result),
-        false => Err(Cause::OutOfRange { a, b, result }),
-    }
-}
-
-/// The nearest whole number to a / b, halves away from zero.
-fn nearest(a: i64, b: i64) -> i64 {
+/// The nearest whole number to a / b, a half by the tie rule; and whether it is a
+/// half.
+fn nearest(ties: Ties, a: i64, b: i64) -> (i64, bool) {
     let toward_zero = a / b;
-    match 2 * (a % b).abs() >= b.abs() {
-        true => toward_zero + a.signum() * b.signum(),
-        false => toward_zero,
+    let away = toward_zero + a.signum() * b.signum();
+    match (2 * (a % b).abs()).cmp(&b.abs()) {
+        Ordering::Less => (toward_zero, false),
+        Ordering::Greater => (away, false),
+        Ordering::Equal if ties == Ties::Even && toward_zero % 2 == 0 => (toward_zero, true),
+        Ordering::Equal => (away, true),
     }
 }

@@ -28,6 +28,9 @@ pub struct Why {
     pub calls: Vec<Call>,
     /// How many more it entered.
     pub more_calls: usize,
+    /// The quotients that were a half, which the sheet's tie rule settled: each D
+    /// line once, in the sequence in which they came up.
+    pub halves: Vec<Half>,
     /// Where it has no number: where that began.
     pub failure: Option<Failure>,
 }
@@ -54,6 +57,18 @@ pub struct Call {
     pub depth: u32,
     /// What it came to.
     pub state: State,
+}
+
+/// A D line whose quotient was a half, in the value itself or in a function.
+#[derive(Debug, Clone, Copy, PartialEq, Eq)]
+pub struct Half {
+    pub line: Label,
+    /// What was divided the first time, by what, and what that came to.
+    pub a: i64,
+    pub b: i64,
+    pub result: i64,
+    /// How often its quotient was a half.
+    pub times: usize,
 }
 
 /// Where a failure began, and how it came to the value that is asked about.
@@ -97,6 +112,14 @@ pub struct Handed {
 /// assert_eq!((failure.value, failure.line), (2, 4));
 /// assert_eq!(failure.cause, why::Cause::ZeroDivisor { a: 7 });
 /// assert_eq!(failure.handed_on[0].line, 9);
+///
+/// // 5 / 2 is a half, which the rule of line one takes to the even neighbour
+/// let sheet = Sheet::read(
+///     b"kind2 name a b c\nG - 0 - -\nV x 1 3 -\nD - 4 5 -\nN - 5 - -\nN - 2 - -\n",
+/// )?;
+/// let why = why::of(&sheet, &sheet.run()?.results, 2).unwrap();
+/// assert_eq!(why.outcome.state, State::Number(2));
+/// assert_eq!(why.halves, [why::Half { line: 3, a: 5, b: 2, result: 2, times: 1 }]);
 /// # Ok::<(), lindypo::Refusal>(())
 /// ```
 pub fn of(sheet: &Sheet, results: &Results, label: Label) -> Option<Why> {
@@ -109,6 +132,7 @@ pub fn of(sheet: &Sheet, results: &Results, label: Label) -> Option<Why> {
         reads: std::mem::take(&mut evaluation.reads),
         calls: std::mem::take(&mut evaluation.calls),
         more_calls: evaluation.more_calls,
+        halves: std::mem::take(&mut evaluation.halves),
         failure: stop.and_then(|stop| began(evaluation, label, stop)),
     })
 }

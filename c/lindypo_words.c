@@ -1,5 +1,5 @@
-/* Words for refusals and states, the version, and the way from a full name to a
- * label. This file is tested and not proved: it stands beside the proved calls,
+/* Words for refusals and states, the version, the tie rule that a text names, and
+ * the way from a full name to a label. This file is tested and not proved: it stands beside the proved calls,
  * which do not rest on it. */
 #include "lindypo.h"
 
@@ -12,7 +12,7 @@ const char *lindypo_version(void)
 static const char *const refusals[] = {
     "no refusal",
     "the text's length, its last byte, or a byte that is not allowed",
-    "line one is not `kind name a b c`",
+    "line one is neither `kind name a b c` nor `kind2 name a b c`",
     "no labels, or more than 1,024",
     "a buffer that is too short",
     "not five fields, or an empty one",
@@ -56,6 +56,35 @@ const char *lindypo_state_words(int64_t state)
     if (state >= 0 && (uint64_t)state < sizeof states / sizeof states[0])
         return states[state];
     return "no state has this number";
+}
+
+/* Each tie rule's line one, with its line end. */
+struct first_line {
+    enum lindypo_ties ties;
+    const char *line;
+};
+
+static const struct first_line first_lines[] = {
+    {LINDYPO_TIES_AWAY, "kind name a b c\n"},
+    {LINDYPO_TIES_EVEN, "kind2 name a b c\n"},
+};
+
+static int begins_with(const uint8_t *text, size_t text_length, const char *line)
+{
+    size_t at = 0;
+    while (line[at] != '\0' && at < text_length && text[at] == (uint8_t)line[at])
+        at++;
+    return line[at] == '\0';
+}
+
+int64_t lindypo_tie_rule(const uint8_t *text, size_t text_length)
+{
+    if (text == NULL)
+        return 0;
+    for (size_t at = 0; at < sizeof first_lines / sizeof first_lines[0]; at++)
+        if (begins_with(text, text_length, first_lines[at].line))
+            return first_lines[at].ties;
+    return 0;
 }
 
 /* A sheet as its text and table; label 1 to `labels` can be looked at. */

@@ -19,6 +19,11 @@
  * the calls give of a name is as it was sent. Kinds and column names are
  * compared byte by byte.
  *
+ * Line one names the tie rule, and nothing else does: under `kind name a b c` a
+ * quotient that is a half goes away from zero, under `kind2 name a b c` to its even
+ * neighbour. -3250 / 100 is -33 under the one and -32 under the other. Run, Follow,
+ * Retouch and the print go by the line of the text that they are lent.
+ *
  * A call writes every cell of every buffer lent for writing, so nothing of what
  * they held before is left: cells that an answer does not use are 0, and a
  * refusal leaves every cell 0.
@@ -139,6 +144,12 @@ enum lindypo_order {
     LINDYPO_ORDER_MIXED = 2  /* no order that has each value after those it reaches can have that */
 };
 
+/* The tie rule: where a quotient goes that is a half. */
+enum lindypo_ties {
+    LINDYPO_TIES_AWAY = 1, /* away from zero; line one is `kind name a b c` */
+    LINDYPO_TIES_EVEN = 2  /* to the even neighbour; line one is `kind2 name a b c` */
+};
+
 /* Refusals. A call gives the first that applies; Read looks at 1 to 15, Plan
  * and Run at 1 to 16, Follow at 1 to 18, Retouch at 1 to 16 and 19 to 21. The
  * place is 0 for the text and for the list of pairs as a whole, one of
@@ -150,7 +161,8 @@ enum lindypo_order {
 enum lindypo_refusal {
     /* the text */
     LINDYPO_REFUSAL_TEXT = 1,       /* its length, its last byte or a byte is not allowed */
-    LINDYPO_REFUSAL_FIRST_LINE = 2, /* line one is not `kind name a b c` */
+    LINDYPO_REFUSAL_FIRST_LINE = 2, /* line one is neither `kind name a b c` nor
+                                       `kind2 name a b c` */
     LINDYPO_REFUSAL_LABELS = 3,     /* there are no labels, or more than 1,024 */
     /* the buffers */
     LINDYPO_REFUSAL_BUFFERS = 4, /* one is too short */
@@ -314,6 +326,10 @@ const char *lindypo_refusal_words(uint64_t refusal);
 /* A state in words: "divided by zero". For 0, which is that of a line that is no
  * value, "no value"; for a number that none has "no state has this number". */
 const char *lindypo_state_words(int64_t state);
+
+/* The tie rule that line one of a text names, one of lindypo_ties, whatever follows
+ * it; 0 where it is neither line, or has no line end, or the pointer is null. */
+int64_t lindypo_tie_rule(const uint8_t *text, size_t text_length);
 
 /* The label of the definition with this full name, its own name after those of
  * the Groups around it, outermost first, joined by dots: `right.prism`. The case

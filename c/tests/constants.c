@@ -1,6 +1,6 @@
 /* Holds the constants of include/lindypo.h to what the library does: for each
  * limit what just keeps it and what does not, for each kind, column, state,
- * order, change and refusal a sheet that has it. Prints what is wrong and how many
+ * order, tie rule, change and refusal a sheet that has it. Prints what is wrong and how many
  * facts were looked at; status 1 where one fails. */
 #include <inttypes.h>
 #include <stdarg.h>
@@ -313,6 +313,41 @@ static void orders(void)
     CHECK(run_sheet().order == LINDYPO_ORDER_MIXED);
 }
 
+/* ---- tie rules */
+
+/* a / b under a line one, by Run, else -1. */
+static int64_t quotient(const char *first_line, int64_t a, int64_t b)
+{
+    length = (size_t)sprintf(text,
+                             "%s\nG - 0 - -\nV x 1 3 -\nD - 4 5 -\nN - %" PRId64
+                             " - -\nN - %" PRId64 " - -\n",
+                             first_line, a, b);
+    return run_sheet().refusal == 0 ? result(2, LINDYPO_RESULT_NUMBER) : -1;
+}
+
+/* LINDYPO_TIES_AWAY and LINDYPO_TIES_EVEN, by the lines that name them. */
+static void ties(void)
+{
+    const char *away = "kind name a b c", *even = "kind2 name a b c";
+    CHECK(quotient(away, -3250, 100) == -33);
+    CHECK(text[cell(2, LINDYPO_COLUMN_NAME_START)] == 'x');
+    CHECK(quotient(even, -3250, 100) == -32);
+    CHECK(text[cell(2, LINDYPO_COLUMN_NAME_START)] == 'x');
+    CHECK(quotient(away, 250, -100) == -3);
+    CHECK(quotient(even, 250, -100) == -2);
+    CHECK(quotient(away, 350, -100) == -4);
+    CHECK(quotient(even, 350, -100) == -4);
+    CHECK(quotient("kind3 name a b c", 350, -100) == -1);
+    pairs[0] = 4;
+    pairs[1] = 50;
+    CHECK(quotient(away, 0, 100) == 0);
+    CHECK(retouch_sheet(LINDYPO_PAIR_CELLS).refusal == 0);
+    CHECK(result(2, LINDYPO_RESULT_NUMBER) == 1);
+    CHECK(quotient(even, 200, 100) == 2);
+    CHECK(retouch_sheet(LINDYPO_PAIR_CELLS).refusal == 0);
+    CHECK(result(2, LINDYPO_RESULT_NUMBER) == 0);
+}
+
 /* ---- pairs and changes */
 
 static int64_t change(int pair, enum lindypo_change column)
@@ -421,6 +456,7 @@ int main(void)
     kinds();
     columns();
     orders();
+    ties();
     pairs_and_changes();
     refusals_of_pairs();
     refusals();

@@ -1,5 +1,5 @@
-/* Tests c/lindypo_words.c: prints the version and all words, then looks for
- * definitions by their full names, in the table that Read writes and in tables
+/* Tests c/lindypo_words.c: prints the version and all words, tries the tie rule of
+ * line one, then looks for definitions by their full names, in the table that Read writes and in tables
  * that no Read writes. Every text, table and path is as long as is said, in
  * memory of its own, so that AddressSanitizer sees what is read beside it.
  * Status 1 where something is found that should not be, or is not found. */
@@ -51,6 +51,54 @@ static void print_words(void)
     for (int64_t state = -1; state <= LINDYPO_STATE_TOO_DEEP + 1; state++)
         printf("state %" PRId64 ": %s\n", state, lindypo_state_words(state));
     printf("state %" PRId64 ": %s\n", INT64_MIN, lindypo_state_words(INT64_MIN));
+}
+
+/* The tie rule of a text, in memory of its own. */
+static int64_t rule_of(const char *text, size_t length)
+{
+    uint8_t *own = copy(text, length);
+    int64_t ties = lindypo_tie_rule(own, length);
+    free(own);
+    return ties;
+}
+
+struct text {
+    const char *text;
+    int64_t ties;
+};
+
+static const struct text texts[] = {
+    {"kind name a b c\n", LINDYPO_TIES_AWAY},
+    {"kind name a b c\nG - 0 - -\n", LINDYPO_TIES_AWAY},
+    {"kind2 name a b c\n", LINDYPO_TIES_EVEN},
+    {"kind2 name a b c\nkind name a b c\n", LINDYPO_TIES_EVEN},
+    /* lines that refusals 1 and 2 are about */
+    {"", 0},
+    {"\n", 0},
+    {"kind name a b c", 0},
+    {"kind2 name a b c", 0},
+    {"kind2 name a b c\r\n", 0},
+    {"kind2 name a b c \n", 0},
+    {"kind2 name a b\n", 0},
+    {"kind2  name a b c\n", 0},
+    {"Kind2 name a b c\n", 0},
+    {"kind3 name a b c\n", 0},
+    {"kind02 name a b c\n", 0},
+    {"kind 2 name a b c\n", 0},
+    {" kind name a b c\n", 0},
+};
+
+/* Whole texts, and the start of each, which has no line one yet. */
+static void tie_rules(void)
+{
+    for (size_t at = 0; at < sizeof texts / sizeof texts[0]; at++) {
+        const char *text = texts[at].text;
+        const char *end = strchr(text, '\n');
+        expect(text, rule_of(text, strlen(text)), texts[at].ties);
+        for (size_t length = 0; end != NULL && length <= (size_t)(end - text); length++)
+            expect("the start of a line", rule_of(text, length), 0);
+    }
+    expect("no text", lindypo_tie_rule(NULL, 16), 0);
 }
 
 /* `far` stands in the outermost Group and in `left`, `right.deep` is a Group in
@@ -267,6 +315,7 @@ static void past_the_text(void)
 int main(void)
 {
     print_words();
+    tie_rules();
     lindypo_reply reply = lindypo_read((const uint8_t *)sheet, strlen(sheet), table, CELLS + 20);
     expect("the sheet reads", (int64_t)reply.refusal, 0);
     expect("the labels", (int64_t)reply.count, LABELS);

@@ -27,6 +27,15 @@ total: 4 in 3 steps
 >>> run.values["total"].number
 4
 
+Line one names the tie rule, which says where a quotient goes that is a half: away
+from zero under `kind name a b c`, to the even neighbour under `kind2 name a b c`:
+
+>>> sheet.ties
+<Ties.AWAY: 1>
+>>> even = lindypo.Sheet.read(sheet.with_ties(lindypo.Ties.EVEN))
+>>> [it.retouch({"part": 5}).values["total"].number for it in (sheet, even)]
+[3, 2]
+
 New numbers are put in one after the other, and only what depends on them is
 evaluated again:
 
@@ -52,7 +61,7 @@ proved.
 """
 
 from .constants import VERSION as __version__
-from .constants import Kind, Order, State
+from .constants import Kind, Order, State, Ties
 from .library import LibraryError
 from .sheet import Change, Line, Outcome, Plan, Refusal, Retouched, Run, Sheet, print_text
 
@@ -69,6 +78,7 @@ __all__ = [
     "Run",
     "Sheet",
     "State",
+    "Ties",
     "__version__",
     "print_text",
 ]

@@ -24,7 +24,7 @@ from operator import index
 from typing import NamedTuple, Optional
 
 from .constants import LABELS_MOST, LEVELS_MOST, NAME_MOST, NUMBER_MOST, PATH_MOST, TEXT_MOST
-from .constants import Kind, RefusalNumber
+from .constants import Kind, RefusalNumber, Ties
 
 _NAME = f"[A-Za-z][A-Za-z0-9]{{0,{NAME_MOST - 1}}}"
 _IS_NAME = re.compile(_NAME)
@@ -147,6 +147,20 @@ class Group:
         self._definitions = []
         # how many lines they take
         self._lines = 0
+        self._ties = Ties.AWAY
+
+    def ties(self, ties):
+        """The tie rule of the sheet whose outermost Group this is; gives this Group.
+
+        A sheet has one rule, so that of a Group in another does not count. Where
+        nothing is said, halves go away from zero.
+
+        >>> outermost = Group().ties(Ties.EVEN).value("prism", number(-3250) / 100)
+        >>> outermost.text().splitlines()[0]
+        b'kind2 name a b c'
+        """
+        self._ties = Ties(ties)
+        return self
 
     def value(self, name, body):
         """Adds a value after the members that are there; gives this Group."""
@@ -157,7 +171,7 @@ class Group:
         return self._add(0, Kind.FUNCTION, name, _expression(body))
 
     def group(self, name, members):
-        """Adds a Group with the members that another has now."""
+        """Adds a Group with the members that another has now, and not its tie rule."""
         if not isinstance(members, Group):
             raise TypeError(f"the members of a Group are a Group, not {type(members).__name__}")
         deeper = [it._replace(depth=it.depth + 1) for it in members._definitions]
@@ -188,19 +202,19 @@ class Group:
         _check_within(1 + self._lines, LABELS_MOST, "lines", RefusalNumber.LABELS)
         for at, definition in enumerate(self._definitions):
             _check_definition(definition, lambda at=at: _title(self._definitions, at))
-        text = _text_of(self._definitions)
+        text = _text_of(self._ties, self._definitions)
         _check_within(len(text), TEXT_MOST, "bytes", RefusalNumber.TEXT)
         return text
 
     @classmethod
     def of_sheet(cls, sheet):
-        """What a sheet holds. The members of each Group keep their sequence; how those
-        of different Groups stand among each other is not kept."""
+        """What a sheet holds, and its tie rule. The members of each Group keep their
+        sequence; how those of different Groups stand among each other is not kept."""
         members = {line.label: [] for line in sheet.lines if line.kind.is_definition}
         for line in sheet.lines:
             if line.kind.is_definition and line.owner is not None:
                 members[line.owner].append(line)
-        group = cls()
+        group = cls().ties(sheet.ties)
         # the Groups entered, by what is still to come of them
         entered = [iter(members[_OUTERMOST])]
         while entered:
@@ -319,8 +333,8 @@ def _in_sequence(body):
         waiting += [(operand, level + 1) for operand in reversed(expression._operands)]
 
 
-def _text_of(definitions):
-    lines = ["kind name a b c", _line(Kind.GROUP, None, [0])]
+def _text_of(ties, definitions):
+    lines = [ties.first_line, _line(Kind.GROUP, None, [0])]
     # the labels of the Groups around, by depth
     groups = [_OUTERMOST]
     body = len(definitions) + 2

@@ -100,6 +100,18 @@ class Order(IntEnum):
     MIXED = 2
 
 
+class Ties(IntEnum):
+    """The tie rule: where a quotient goes that is a half."""
+
+    AWAY = 1
+    EVEN = 2
+
+    @property
+    def first_line(self):
+        """Line one of a sheet with this rule, without its line end."""
+        return "kind name a b c" if self is Ties.AWAY else "kind2 name a b c"
+
+
 class RefusalNumber(IntEnum):
     """The rows of the table of refusals."""
 

@@ -52,6 +52,7 @@ _CALLS = {
     "lindypo_follow": (Reply, _TEXT + _CELLS + _CELLS + _CELLS),
     "lindypo_retouch": (Reply, _TEXT + _CELLS + _CELLS + _CELLS + _CELLS + _CELLS),
     "lindypo_print": (Printed, _TEXT + [ctypes.c_char_p, ctypes.c_size_t]),
+    "lindypo_tie_rule": (ctypes.c_int64, _TEXT),
     "lindypo_find": (ctypes.c_int64, _TEXT + _CELLS + [ctypes.c_char_p]),
     "lindypo_refusal_words": (ctypes.c_char_p, [ctypes.c_uint64]),
     "lindypo_state_words": (ctypes.c_char_p, [ctypes.c_int64]),

@@ -7,7 +7,7 @@ from operator import index
 from typing import Dict, NamedTuple, Optional, Tuple
 
 from .constants import CHANGE_CELLS, LABELS_MOST, NUMBER_MOST, PRINT_MOST, RESULT_CELLS, TABLE_CELLS, TEXT_MOST
-from .constants import Column, Kind, Order, RefusalNumber, Result, State
+from .constants import Column, Kind, Order, RefusalNumber, Result, State, Ties
 from .library import cells, library
 
 _NOT_ALLOWED = re.compile(rb"[^\n -~]")
@@ -133,6 +133,15 @@ class Sheet:
         return self._text
 
     @property
+    def ties(self):
+        """The tie rule that line one names: where a quotient goes that is a half.
+
+        >>> Sheet.read("kind2 name a b c\\nG - 0 - -\\n").ties
+        <Ties.EVEN: 2>
+        """
+        return Ties(library().lindypo_tie_rule(*self._lent_text()))
+
+    @property
     def lines(self):
         """All lines, label 1 first."""
         return self._lines
@@ -254,6 +263,16 @@ class Sheet:
             if line and line.kind is Kind.NUMBER and abs(number) <= NUMBER_MOST:
                 lines[label] = b"N - %d - -\n" % number
         return b"".join(lines)
+
+    def with_ties(self, ties):
+        """The text under a tie rule, as bytes: with the line one that names it, and else
+        as it is. It may be longer than a sheet may be.
+
+        >>> sheet = Sheet.read("kind name a b c\\nG - 0 - -\\n")
+        >>> sheet.with_ties(Ties.EVEN)
+        b'kind2 name a b c\\nG - 0 - -\\n'
+        """
+        return Ties(ties).first_line.encode() + self._text[len(self.ties.first_line) :]
 
     def _call(self, name, *lent):
         """Makes a call that may refuse."""

@@ -4,7 +4,7 @@ import json
 import random
 import unittest
 
-from lindypo import Refusal, Sheet, State
+from lindypo import Refusal, Sheet, State, Ties
 from lindypo.build import Expression, Group, Mistake, argument, call, choice, number, read
 
 from places import CASES
@@ -40,6 +40,18 @@ class Built(unittest.TestCase):
         with self.assertRaises(Refusal) as twice:
             Sheet.read(Group().value("right", 1).value("Right", 2).text())
         self.assertEqual((twice.exception.number, twice.exception.place), (12, 3))
+
+    def test_tie_rules(self):
+        half = Group().value("x", number(50) / 100)
+        for ties, wanted in ((Ties.AWAY, 1), (Ties.EVEN, 0)):
+            self.assertIs(half.ties(ties), half)
+            self.assertEqual(half.text().splitlines()[0].decode(), ties.first_line)
+            self.assertEqual(number_of(half), wanted)
+            self.assertEqual(Group.of_sheet(Sheet.read(half.text())).text(), half.text())
+        # that of a Group in another does not count
+        self.assertEqual(number_of(Group().group("g", half), "g.x"), 1)
+        with self.assertRaises(ValueError):
+            half.ties(0)
 
     def test_nothing(self):
         self.assertEqual(Group().text(), b"kind name a b c\nG - 0 - -\n")

@@ -16,6 +16,7 @@ ENUMS = {
     "CHANGE": constants.ChangeCell,
     "STATE": constants.State,
     "ORDER": constants.Order,
+    "TIES": constants.Ties,
     "REFUSAL": constants.RefusalNumber,
 }
 
@@ -36,6 +37,10 @@ class Constants(unittest.TestCase):
             declared = re.findall(rf"^    LINDYPO_{prefix}_(\w+) = (\d+)\b", HEADER, re.M)
             members = {name: int(number) for name, number in declared}
             self.assertEqual(members, {it.name: it.value for it in enum}, prefix)
+
+    def test_first_lines(self):
+        lines = re.findall(r"^    LINDYPO_TIES_(\w+) = \d+,? +/\* .*; line one is `(.*)` \*/$", HEADER, re.M)
+        self.assertEqual(dict(lines), {ties.name: ties.first_line for ties in constants.Ties})
 
     def test_letters(self):
         letters = re.findall(r"^    LINDYPO_KIND_(\w+) = \d+,? +/\* (\w) \*/$", HEADER, re.M)

@@ -3,7 +3,7 @@
 import threading
 import unittest
 
-from lindypo import Kind, Order, Refusal, Sheet, State, print_text
+from lindypo import Kind, Order, Refusal, Sheet, State, Ties, print_text
 
 from places import ROOT
 from prints import printed
@@ -45,6 +45,52 @@ class Text(unittest.TestCase):
     def test_any_text_is_judged(self):
         for text in ("", "\0", "\ud800", "\u00e4\n", b"\xff", "x" * 1_000_000):
             self.assertEqual(refusal_of(Sheet.read, text).number, 1, text[:9])
+
+
+class TieRules(unittest.TestCase):
+    """Quotients that are a half, under either line one."""
+
+    LINES = "G - 0 - -\nV x 1 3 -\nD - 4 5 -\nN - {} - -\nN - {} - -\n"
+
+    def sheet(self, ties, a, b):
+        return Sheet.read(f"{ties.first_line}\n{self.LINES.format(a, b)}")
+
+    def test_quotients(self):
+        for a, b, away, even in (
+            (-3250, 100, -33, -32),
+            (3250, 100, 33, 32),
+            (50, 100, 1, 0),
+            (150, 100, 2, 2),
+            (-50, 100, -1, 0),
+            (-150, 100, -2, -2),
+            (350, -100, -4, -4),
+            (250, -100, -3, -2),
+            (3249, 100, 32, 32),
+        ):
+            for ties, number in ((Ties.AWAY, away), (Ties.EVEN, even)):
+                sheet = self.sheet(ties, a, b)
+                self.assertIs(sheet.ties, ties)
+                values = {"x": (State.NUMBER, number, 3)}
+                self.assertEqual(sheet.run().values, values, (a, b, ties))
+                self.assertEqual(sheet.follow(["x"]), values)
+                other = self.sheet(ties, 0, b).retouch([(4, a)])
+                self.assertEqual(other.values, values)
+
+    def test_line_one_is_kept(self):
+        for ties in Ties:
+            sheet = self.sheet(ties, 5, 2)
+            self.assertIs(Sheet.read(sheet.with_numbers([(4, 7)])).ties, ties)
+            for other in Ties:
+                again = Sheet.read(sheet.with_ties(other))
+                self.assertIs(again.ties, other)
+                self.assertEqual(again.with_ties(ties), sheet.text)
+        with self.assertRaises(ValueError):
+            sheet.with_ties(3)
+
+    def test_other_lines(self):
+        for line in ("Kind2 name a b c", "kind3 name a b c", "kind 2 name a b c", "kind2 name a b"):
+            self.assertEqual(refused(f"{line}\nG - 0 - -\n"), (2, 0, 1))
+        self.assertEqual(refused("kind2 name a b c\r\nG - 0 - -\r\n"), (1, 0, 1))
 
 
 class Lines(unittest.TestCase):

@@ -174,11 +174,12 @@ fn random_sheets() {
 fn keeps_its_rule(sheet: &Sheet, run: &Run, rng: &mut Rng) {
     assert_eq!(sheet.follow(&run.plan.labels).as_ref(), Ok(&run.results));
     let is_number = |line: &Line| line.kind == Kind::Number;
-    let numbers: Vec<Label> = sheet.lines().filter(is_number).map(|it| it.label).collect();
-    let pairs: Vec<(Label, i64)> = numbers
-        .iter()
-        .filter_map(|&label| rng.chance(30).then(|| (label, rng.below(200) as i64 - 100)))
-        .collect();
+    let mut pairs: Vec<(Label, i64)> = vec![];
+    for line in sheet.lines().filter(is_number) {
+        if rng.chance(30) {
+            pairs.push((line.label, rng.below(200) as i64 - 100));
+        }
+    }
     let text = sheet.with_numbers(&pairs);
     let again = Sheet::read(&text).expect("a sheet that reads");
     assert_eq!(again.ties(), sheet.ties());

@@ -46,16 +46,26 @@ as it takes. PICTURE is written over only where it is a picture that was drawn s
     ],
     examples: &[
         Example {
-            words: "explain sheets/01-example.sheet",
+            words: "explain sheets/order-5-even.sheet",
             print: "\
-3 of 3 values have a number; whole plan: the values of every Group stand together; halves away from zero
+11 of 11 values have a number; whole plan: the values of every Group stand together; halves to even
 
 definition       label  position  number  steps  state     formula
-outermost Group      1       1-3                 Group
-├─ right             3       1-2                 Group
-│  ├─ sphere         5         1    -325      1  a number  = -325
-│  └─ prism          4         2     -33      5  a number  = sphere * 10 / 100
-└─ total             2         3     -28      3  a number  = right.prism + 5
+outermost Group      1      1-11                 Group
+├─ above             2       1-7                 Group
+│  ├─ m3250          3         1     -32      3  a number  = -3250 / 100
+│  ├─ p3250          4         2      32      3  a number  = 3250 / 100
+│  ├─ p50            5         3       0      3  a number  = 50 / 100
+│  ├─ p150           6         4       2      3  a number  = 150 / 100
+│  ├─ m50            7         5       0      3  a number  = -50 / 100
+│  ├─ m150           8         6      -2      3  a number  = -150 / 100
+│  └─ p3249          9         7      32      3  a number  = 3249 / 100
+├─ below            10      8-10                 Group
+│  ├─ p350          11         8      -4      3  a number  = 350 / -100
+│  ├─ p250          12         9      -2      3  a number  = 250 / -100
+│  └─ m250          13        10       2      3  a number  = -250 / -100
+├─ called           14        11      32      9  a number  = hundredth(above.p3250 * 100 + 50)
+└─ hundredth        15                           function  (x) = x / 100
 ",
         },
         Example {
@@ -123,13 +133,17 @@ impl Answer for Explained<'_> {
     fn text(&self, paint: Paint) -> String {
         let values = values::of_run(&self.sheet, &self.run);
         let outermost = Node::outermost(&self.sheet, &self.run);
-        let headline = values::run_headline(&self.sheet, &self.run);
+        let (headline, meaning, ties) = (
+            values::headline_of(&values),
+            values::meaning(self.run.plan.order),
+            self.sheet.ties(),
+        );
         let rows = match self.is_list {
             true => values::table(&self.sheet, &values, paint),
             false => outline::table(&self.sheet, &outermost, paint),
         };
         let tangles = tangles::text(&self.sheet, &outermost, &self.tangles, paint);
-        format!("{headline}\n\n{rows}{tangles}")
+        format!("{headline}; {meaning}; {ties}\n\n{rows}{tangles}")
     }
 
     fn fields(&self) -> Object {

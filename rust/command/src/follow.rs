@@ -34,7 +34,7 @@ position it does not; the results are then those of `lindypo run`, whichever suc
         Example {
             words: "follow --order right.sphere,right.prism,total sheets/01-example.sheet",
             print: "\
-3 of 3 values have a number; halves away from zero
+3 of 3 values have a number
 
 position  label  name          number  steps  state     formula
        1      5  right.sphere    -325      1  a number  = -325
@@ -142,8 +142,7 @@ impl Answer for Followed<'_> {
 
     fn text(&self, paint: Paint) -> String {
         let table = values::table(&self.sheet, &self.values, paint);
-        let (headline, ties) = (values::headline_of(&self.values), self.sheet.ties());
-        format!("{headline}; {ties}\n\n{table}")
+        format!("{}\n\n{table}", values::headline_of(&self.values))
     }
 
     fn fields(&self) -> Object {

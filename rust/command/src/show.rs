@@ -38,7 +38,23 @@ answer = first.even(1)
         Example {
             words: "show sheets/order-5-even.sheet",
             print: "\
-TODO
+halves to even
+above {
+    m3250 = -3250 / 100
+    p3250 = 3250 / 100
+    p50 = 50 / 100
+    p150 = 150 / 100
+    m50 = -50 / 100
+    m150 = -150 / 100
+    p3249 = 3249 / 100
+}
+below {
+    p350 = 350 / -100
+    p250 = 250 / -100
+    m250 = -250 / -100
+}
+called = hundredth(above.p3250 * 100 + 50)
+hundredth(x) = x / 100
 ",
         },
     ],

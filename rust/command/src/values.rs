@@ -33,7 +33,7 @@ pub const ORDER_FIELDS: [Field; 1] = [("order", "whole or mixed")];
 /// The JSON of what is evaluated.
 pub const TIES_FIELDS: [Field; 1] = [(
     "ties",
-    "where line one has a quotient go that is a half: away (from zero) or even",
+    "where a quotient goes that is a half: away (from zero) or even",
 )];
 pub const NAME_FIELDS: [Field; 4] = [
     ("values", "the values in this order:"),
@@ -97,13 +97,6 @@ pub fn meaning(order: Order) -> &'static str {
         Order::Whole => "whole plan: the values of every Group stand together",
         Order::Mixed => "mixed plan: no order keeps the values of every Group together",
     }
-}
-
-/// How many values of a run have a number, what its order means, and by which tie
-/// rule they were evaluated.
-pub fn run_headline(sheet: &Sheet, run: &Run) -> String {
-    let headline = headline_of(&of_run(sheet, run));
-    format!("{headline}; {}; {}", meaning(run.plan.order), sheet.ties())
 }
 
 /// The tie rule as one word, for programs.

@@ -18,7 +18,9 @@ const COLUMNS: [Column; 5] = [
 ];
 
 pub fn of(sheet: &Sheet, stages: &Stages, paint: Paint) -> String {
-    let headline = values::run_headline(sheet, &stages.run);
+    let values = values::of_run(sheet, &stages.run);
+    let headline = values::headline_of(&values);
+    let meaning = values::meaning(stages.run.plan.order);
     let pairs = (1..).zip(&stages.list);
     let pairs: String = pairs
         .map(|(number, stage)| pair(sheet, number, stage, paint))
@@ -27,7 +29,7 @@ pub fn of(sheet: &Sheet, stages: &Stages, paint: Paint) -> String {
         0 | 1 => String::new(),
         _ => end(sheet, stages, paint),
     };
-    format!("{headline}\n{pairs}{end}")
+    format!("{headline}; {meaning}\n{pairs}{end}")
 }
 
 /// What all pairs together changed.

@@ -6,7 +6,7 @@ use std::collections::{BTreeMap, BTreeSet};
 use command::blocks::{self, Tangle};
 use command::picture;
 use command::svg::{Wanted, MOST};
-use lindypo::{formula, Kind, Label, Line, Sheet, State};
+use lindypo::{formula, Kind, Label, Line, Sheet, State, Ties};
 
 use crate::markup::{parts, tags, words_in, Tag};
 use crate::{read, read_text};
@@ -224,6 +224,8 @@ fn check(text: &[u8], wanted: &Wanted, focus: Option<&BTreeSet<Label>>) -> Optio
     let (svg, _) = picture::picture(text, wanted, CAPTION).ok()?;
     assert!(svg.contains(">a &lt; &quot;b&quot; &amp; &apos;c&apos;\u{fffd}"));
     let sheet = Sheet::read(text).expect("a sheet that reads");
+    let is_even = sheet.ties() == Ties::Even;
+    assert_eq!(svg.contains(" plan, halves to even<"), is_even);
     let tags = tags(&svg);
     let (cards, arrows) = (cards(&tags), arrows(&tags));
     let folded = wanted.folded.clone().unwrap_or_default();
@@ -242,9 +244,11 @@ fn check(text: &[u8], wanted: &Wanted, focus: Option<&BTreeSet<Label>>) -> Optio
     Some(arrows.len())
 }
 
-/// A random sheet that runs.
+/// A random sheet that runs, under either tie rule.
 fn random(seed: u64) -> Option<Vec<u8>> {
     let text = generator::sheet(&mut generator::Rng::new(seed));
+    let sheet = Sheet::read(&text).expect("a sheet that reads");
+    let text = sheet.with_ties(Ties::ALL[seed as usize % 2]);
     let runs = Sheet::read(&text).and_then(|sheet| sheet.run()).is_ok();
     runs.then_some(text)
 }

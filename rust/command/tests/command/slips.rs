@@ -4,7 +4,7 @@
 use std::process::Command;
 
 use command::slip;
-use lindypo::{formula, Kind, Label, Order, Run, Sheet};
+use lindypo::{formula, Kind, Label, Order, Run, Sheet, Ties};
 
 use crate::markup::{parts, words_in, Part};
 use crate::{output, read, read_text, sheets, stdout, top};
@@ -126,8 +126,14 @@ fn check(text: &[u8]) -> Option<usize> {
     let [running] = &words_in(&page.parts, "tr", "running")[..] else {
         panic!("one line that every sheet of paper has");
     };
-    let order = run.plan.order.to_string().to_uppercase();
-    assert!(running.starts_with(&format!("a < \"b\" & 'c'\u{fffd} {order}SHA-256 ")));
+    let (order, ties) = (run.plan.order.to_string().to_uppercase(), sheet.ties());
+    let start = format!("a < \"b\" & 'c'\u{fffd} {order}, {ties}SHA-256 ");
+    assert!(running.starts_with(&start), "{running}");
+    let [heading] = &words_in(&page.parts, "div", "order")[..] else {
+        panic!("one heading");
+    };
+    let (heading, ties) = (heading.trim(), ties.to_string());
+    assert!(heading.starts_with(&order) && heading.ends_with(&ties));
     loads_are_the_groups(&sheet, &run, &page);
     Some(count)
 }
@@ -137,7 +143,9 @@ fn random_slips() {
     let (mut made, mut values) = (0, 0);
     for seed in 0..CASES {
         let text = generator::sheet(&mut generator::Rng::new(seed));
-        if let Some(count) = check(&text) {
+        let sheet = Sheet::read(&text).expect("a sheet that reads");
+        let under = sheet.with_ties(Ties::ALL[seed as usize % 2]);
+        if let Some(count) = check(&under) {
             (made, values) = (made + 1, values + count);
         }
     }

@@ -53,6 +53,11 @@ fn sheets_in_json() {
 }
 
 #[test]
+fn halves_away_and_to_even() {
+    is_replayed("ties.txt");
+}
+
+#[test]
 fn values_and_why() {
     is_replayed("why.txt");
 }

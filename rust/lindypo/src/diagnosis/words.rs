@@ -2,6 +2,7 @@
 
 use std::fmt::Display;
 
+use crate::names::lowercase;
 use crate::{Kind, Ties};
 
 /// The most bytes of a field that a sentence repeats.
@@ -115,9 +116,10 @@ pub fn is_comment(word: &str) -> bool {
     COMMENTS.iter().any(|beginning| word.starts_with(beginning))
 }
 
-/// Whether a line, cut into fields, is the column names of either tie rule.
+/// Whether a line after line one, cut into fields, is the column names once more,
+/// of either tie rule and in any case.
 pub fn is_first_line(fields: &[&str]) -> bool {
-    Ties::of_line(fields.join(" ").as_bytes()).is_some()
+    Ties::of_line(lowercase(&fields.join(" ")).as_bytes()).is_some()
 }
 
 /// What line one has to be: "`kind name a b c` or `kind2 name a b c`".

@@ -55,10 +55,8 @@ impl Ties {
 
     /// The first of the column names, which is what the two lines differ in.
     pub(crate) fn column(self) -> &'static str {
-        match self {
-            Ties::Away => "kind",
-            Ties::Even => "kind2",
-        }
+        let line = self.first_line();
+        line.split(' ').next().unwrap_or(line)
     }
 }
 

@@ -49,8 +49,8 @@ pub fn is_meant(token: &Token, next: &Token, is_first: bool) -> bool {
 pub fn read(first: (Token, Mark), tokens: &mut Tokens) -> Result<(Ties, Mark), Mistake> {
     let (mut token, mut mark) = first;
     let start = mark;
-    let mut meant = Ties::ALL.to_vec();
-    for at in 0.. {
+    let (mut meant, mut at) = (Ties::ALL.to_vec(), 0);
+    loop {
         let wanted = meant.clone();
         meant.retain(|&ties| is_word(&token, &words(ties)[at]));
         let Some(&ties) = meant.first() else {
@@ -60,8 +60,8 @@ pub fn read(first: (Token, Mark), tokens: &mut Tokens) -> Result<(Ties, Mark), M
             return Ok((ties, joined(start, mark)));
         }
         (token, mark) = tokens.take()?;
+        at += 1;
     }
-    unreachable!("a rule has an end")
 }
 
 /// What is wrong where another token stands for a word of these rules.

@@ -8,6 +8,9 @@
 //! results 3n; 1,024 labels at most. For k pairs the changes need 3k; 1,024
 //! pairs at most.
 //!
+//! Line one of the text says where a quotient goes that is a half: away from zero
+//! under `kind name a b c`, to the even neighbour under `kind2 name a b c`.
+//!
 //! Each call is here twice: with its answer as a `Result`, and with its reply
 //! as the C interface gives it. The program's print, which is no call of
 //! document 01, is here once.

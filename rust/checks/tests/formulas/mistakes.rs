@@ -377,10 +377,12 @@ fn deep_texts() {
     );
 }
 
-/// The tie rule, with a word that is another.
+const RULES: &str = "the tie rule is written `halves away from zero` or `halves to even`";
+
+/// The second word of the tie rule is another, and says of neither rule that it is
+/// meant.
 #[test]
-fn tie_rules_misspelt() {
-    let rules = "the tie rule is written `halves away from zero` or `halves to even`";
+fn tie_rules_of_another_word() {
     for (formulas, column, word) in [
         ("halves even", 8, "`even`"),
         ("halves up", 8, "`up`"),
@@ -390,51 +392,56 @@ fn tie_rules_misspelt() {
         ("halves if", 8, "`if`"),
         ("halves\n", 7, "the end of the text"),
     ] {
-        let words = format!("`away` or `to` has to stand here, not {word}; {rules}");
+        let words = format!("`away` or `to` has to stand here, not {word}; {RULES}");
         says(formulas, &format!("line 1, column {column}: {words}"));
     }
-    for (formulas, column, words) in [
-        ("halves to evn", 11, "`even` has to stand here, not `evn`"),
-        ("halves to zero", 11, "`even` has to stand here, not `zero`"),
-        ("halves to = 5", 11, "`even` has to stand here, not `=`"),
-    ] {
-        let rule = "the tie rule is written `halves to even`";
-        says(
-            formulas,
-            &format!("line 1, column {column}: {words}; {rule}"),
-        );
-    }
-    for (formulas, column, words) in [
+}
+
+/// A later word is another, so that one rule is meant.
+#[test]
+fn tie_rules_misspelt() {
+    for (formulas, place, wanted, word, rule) in [
+        ("halves to evn", (1, 11), "even", "evn", "to even"),
+        ("halves to zero", (1, 11), "even", "zero", "to even"),
+        ("halves to = 5", (1, 11), "even", "=", "to even"),
         (
             "halves away of zero",
-            13,
-            "`from` has to stand here, not `of`",
+            (1, 13),
+            "from",
+            "of",
+            "away from zero",
         ),
         (
             "halves away from\nx = 5",
-            1,
-            "`zero` has to stand here, not `x`",
+            (2, 1),
+            "zero",
+            "x",
+            "away from zero",
         ),
     ] {
-        let line = 1 + formulas.matches('\n').count();
-        let rule = "the tie rule is written `halves away from zero`";
-        says(
-            formulas,
-            &format!("line {line}, column {column}: {words}; {rule}"),
+        let words = format!(
+            "line {}, column {}: `{wanted}` has to stand here, not `{word}`; \
+             the tie rule is written `halves {rule}`",
+            place.0, place.1
         );
+        says(formulas, &words);
     }
-    for word in ["halfs", "half", "ties", "Halve"] {
-        let words = format!("`halves` has to stand here, not `{word}`; {rules}");
-        says(
-            &format!("{word} to even  x = 5"),
-            &format!("line 1, column 1: {words}"),
-        );
+}
+
+/// The first word is another. Further down it has to be near, since a sign may be
+/// missing before it.
+#[test]
+fn tie_rules_by_another_name() {
+    for (formulas, column, word) in [
+        ("halfs to even  x = 5", 1, "halfs"),
+        ("half to even  x = 5", 1, "half"),
+        ("ties to even  x = 5", 1, "ties"),
+        ("Halve away from zero", 1, "Halve"),
+        ("x = 5  halvs to even", 8, "halvs"),
+    ] {
+        let words = format!("`halves` has to stand here, not `{word}`; {RULES}");
+        says(formulas, &format!("line 1, column {column}: {words}"));
     }
-    // near enough further down too, where a sign may be missing
-    says(
-        "x = 5  halvs to even",
-        &format!("line 1, column 8: `halves` has to stand here, not `halvs`; {rules}"),
-    );
 }
 
 /// What is said of a tie rule, and the other place that it has to do with.

@@ -48,24 +48,16 @@ as it takes. PICTURE is written over only where it is a picture that was drawn s
         Example {
             words: "explain sheets/order-5-even.sheet",
             print: "\
-11 of 11 values have a number; whole plan: the values of every Group stand together; halves to even
+5 of 5 values have a number; whole plan: the values of every Group stand together; halves to even
 
 definition       label  position  number  steps  state     formula
-outermost Group      1      1-11                 Group
-├─ above             2       1-7                 Group
-│  ├─ m3250          3         1     -32      3  a number  = -3250 / 100
-│  ├─ p3250          4         2      32      3  a number  = 3250 / 100
-│  ├─ p50            5         3       0      3  a number  = 50 / 100
-│  ├─ p150           6         4       2      3  a number  = 150 / 100
-│  ├─ m50            7         5       0      3  a number  = -50 / 100
-│  ├─ m150           8         6      -2      3  a number  = -150 / 100
-│  └─ p3249          9         7      32      3  a number  = 3249 / 100
-├─ below            10      8-10                 Group
-│  ├─ p350          11         8      -4      3  a number  = 350 / -100
-│  ├─ p250          12         9      -2      3  a number  = 250 / -100
-│  └─ m250          13        10       2      3  a number  = -250 / -100
-├─ called           14        11      32      9  a number  = hundredth(above.p3250 * 100 + 50)
-└─ hundredth        15                           function  (x) = x / 100
+outermost Group      1       1-5                 Group
+├─ sphere            2         1     -32      3  a number  = -3250 / 100
+├─ thin              3         2       0      3  a number  = 50 / 100
+├─ base              4         3      -2      3  a number  = 250 / -100
+├─ edge              5         4       2      3  a number  = 150 / 100
+├─ prism             6         5     -32      9  a number  = percent(sphere * 100 + 50)
+└─ percent           7                           function  (x) = x / 100
 ",
         },
         Example {

@@ -39,22 +39,12 @@ answer = first.even(1)
             words: "show sheets/order-5-even.sheet",
             print: "\
 halves to even
-above {
-    m3250 = -3250 / 100
-    p3250 = 3250 / 100
-    p50 = 50 / 100
-    p150 = 150 / 100
-    m50 = -50 / 100
-    m150 = -150 / 100
-    p3249 = 3249 / 100
-}
-below {
-    p350 = 350 / -100
-    p250 = 250 / -100
-    m250 = -250 / -100
-}
-called = hundredth(above.p3250 * 100 + 50)
-hundredth(x) = x / 100
+sphere = -3250 / 100
+thin = 50 / 100
+base = 250 / -100
+edge = 150 / 100
+prism = percent(sphere * 100 + 50)
+percent(x) = x / 100
 ",
         },
     ],

@@ -127,8 +127,9 @@ fn states() {
     let mut named = code("evaluation", "u32");
     let limits = header();
     assert_eq!(named.remove("STEPS"), Some(limits["STEPS_MOST"]));
-    assert_eq!(named.remove("DEPTH"), Some(limits["DEPTH_MOST"]));
     assert_eq!(header_of("STATE_"), named);
+    let depth = code("evaluation", "u16");
+    assert_eq!(depth.get("DEPTH"), Some(&limits["DEPTH_MOST"]));
 }
 
 #[test]

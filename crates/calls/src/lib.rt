@@ -151,28 +151,14 @@ pub fn run_sheet(
     ensures { λ r. ⌜ SheetRuns (now (text .entry)) (length (now (table .entry))) (length (now (plan .entry))) (length (now (results .entry)))
         r (now (table .exit)) (now (plan .exit)) (now (results .exit)) ⌝ }
 {
-    let arithmetic = lines::arithmetic_of(text);
+    let own = lines::arithmetic_of(text);
     match plan_sheet(text, n, table, plan) {
         PlanReply::Whole(count) => {
-            figures::run_down(
-                arithmetic,
-                &table[..8 * n],
-                n,
-                plan,
-                count as usize,
-                results,
-            );
+            figures::run_down(own, &table[..8 * n], n, plan, count as usize, results);
             PlanReply::Whole(count)
         }
         PlanReply::Mixed(count) => {
-            figures::run_down(
-                arithmetic,
-                &table[..8 * n],
-                n,
-                plan,
-                count as usize,
-                results,
-            );
+            figures::run_down(own, &table[..8 * n], n, plan, count as usize, results);
             PlanReply::Mixed(count)
         }
         PlanReply::Refused(row, label) => {
@@ -221,10 +207,10 @@ fn follow_sheet(
     requires { ⌜ Passed (now text) n × (8 * n ≤ length (now table)) × (3 * n ≤ length (now results)) ⌝ }
     ensures { λ r. ⌜ SheetFollows (now (text .entry)) (now (order .entry)) (length (now (table .entry))) (length (now (results .entry))) r (now (table .exit)) (now (results .exit)) ⌝ }
 {
-    let arithmetic = lines::arithmetic_of(text);
+    let own = lines::arithmetic_of(text);
     match follow_rows(text, n, order, table) {
         Verdict::Fine => {
-            figures::run_down(arithmetic, &table[..8 * n], n, order, order.len(), results);
+            figures::run_down(own, &table[..8 * n], n, order, order.len(), results);
             Reply::Answered(order.len() as u64)
         }
         Verdict::Refused(row, place) => {

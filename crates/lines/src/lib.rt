@@ -529,12 +529,19 @@ fn step(text: &[u8], at: usize, n: usize, label: usize, table: &mut [i64]) -> Ne
     }
 }
 
-// The tie rule that line one names. After row 2 the fifth byte tells the two lines apart, so that every Run can ask.
+// The byte of line one that tells the two lines apart, from 0, and where the line after each begins.
+const TELLING: usize = 4;
+
+const AFTER_AWAY: usize = 16;
+
+const AFTER_EVEN: usize = 17;
+
+// The tie rule that line one names. After row 2 one byte tells the two lines apart, so that every Run can ask.
 fn tie_of(text: &[u8]) -> Tie
     requires { ⌜ headBad (now text) ≡ Verdict.Fine ⌝ }
     ensures { λ r. ⌜ r ≡ tieOf (now (text .entry)) ⌝ }
 {
-    if text[4] == b'2' {
+    if text[TELLING] == b'2' {
         return Tie::Even;
     }
     Tie::Away
@@ -554,8 +561,8 @@ fn after_first(text: &[u8]) -> usize
     ensures { λ r. ⌜ r ≡ length (firstLine (tieOf (now (text .entry)))) + 1 ⌝ }
 {
     match tie_of(text) {
-        Tie::Away => 16,
-        Tie::Even => 17,
+        Tie::Away => AFTER_AWAY,
+        Tie::Even => AFTER_EVEN,
     }
 }
 

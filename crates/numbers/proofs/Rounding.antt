@@ -28,9 +28,17 @@ by-remainder P tie q r d f g h = go (ltb (2 * r) d) (ltb d (2 * r)) refl refl
     go false true e k = g (ltb-true d (2 * r) k)
     go false false e k = h (omega (arith, ltb-false (2 * r) d e, ltb-false d (2 * r) k))
 
-tie-size : (tie : Tie) (q : ℕ) → onTie tie q ≤ 1
+pub tie-size : (tie : Tie) (q : ℕ) → onTie tie q ≤ 1
 tie-size Away q = omega arith
 tie-size Even q = omega arith
+
+-- one comparison, as the code makes it
+pub up-more : (tie : Tie) (q r d : ℕ) → d < 2 * r + onTie tie q → 1 ≡ roundUp tie q r d
+up-more tie q r d h =
+    by-remainder (λ x. 1 ≡ x) tie q r d (λ g. absurd (omega (arith, tie-size tie q))) (λ _. refl) (λ g. omega (arith, tie-size tie q))
+
+pub up-not : (tie : Tie) (q r d : ℕ) → 2 * r + onTie tie q ≤ d → 0 ≡ roundUp tie q r d
+up-not tie q r d h = by-remainder (λ x. 0 ≡ x) tie q r d (λ _. refl) (λ g. absurd (omega arith)) (λ g. omega arith)
 
 pub up-size : (tie : Tie) (q r d : ℕ) → roundUp tie q r d ≤ 1
 up-size tie q r d = by-remainder (λ x. x ≤ 1) tie q r d (λ _. omega arith) (λ _. omega arith) (λ _. tie-size tie q)

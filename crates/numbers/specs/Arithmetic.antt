@@ -13,7 +13,7 @@ use Rattle.kinds.specs.declared.Operation.the-variants.{Sum, Difference, Produc
 use Rattle.numbers.specs.declared.Calculated.{Calculated}
 use Rattle.numbers.specs.declared.Calculated.the-variants.{Number, OutOfRange, ZeroDivisor}
 
--- "Both come from one definition with the tie rule as its parameter": the rule of an arithmetic, and the arithmetic that rounds by a rule
+-- the tie rule of an arithmetic, and the arithmetic that rounds by a tie rule
 abbrev pub tieRule : Arithmetic → Tie
 tieRule HalvesAway = Away
 tieRule HalvesToEven = Even

@@ -23,6 +23,7 @@ rounded tie n d = n / d + roundUp tie (n / d) (n % d) d
 abbrev pub signsDiffer : ℤ → ℤ → Bool
 signsDiffer a b = not (Bool·beq (isNegative a) (isNegative b))
 
--- a / b to the nearest whole number, b not 0; with Away, document 01's "halves away from zero"
+-- a / b to the nearest whole number, b not 0; with Away, document 01's "halves away from zero"; with Even, order 5's rule, which "rounds
+-- a half to the even neighbour". "Both come from one definition with the tie rule as its parameter."
 unfoldable pub quotient : Tie → ℤ → ℤ → ℤ
 quotient tie a b = withSign (signsDiffer a b) (rounded tie (natAbs a) (natAbs b))

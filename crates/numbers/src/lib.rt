@@ -7,7 +7,7 @@ ghost use lib.Seq.{slice};
 ghost use lib.IntN.{natAbs};
 ghost use Rattle.cells.specs.Limits.{numberLimit};
 ghost use Rattle.numbers.specs.Range.{inRange};
-ghost use Rattle.numbers.specs.Rounding.{roundUp, quotient};
+ghost use Rattle.numbers.specs.Rounding.{onTie, roundUp, quotient};
 ghost use Rattle.numbers.specs.Arithmetic.{tieRule, roundingBy, rangedOf, calculated};
 ghost use Rattle.numbers.specs.Decimal.{digitsOf, decimalOf, signedOf, numberOf};
 ghost use Rattle.numbers.specs.Bounds.{AtMost};
@@ -43,22 +43,27 @@ pub enum Tie {
     Even,
 }
 
-// What rounding adds to the size q of a quotient with a remainder of size r, by a divisor of size d: 0 or 1.
+// What a half that falls between q and q + 1 adds to q: 0 or 1.
+fn on_tie(tie: Tie, q: u64) -> u64
+    ensures { λ x. ⌜ x ≡ onTie tie q ⌝ }
+{
+    match tie {
+        Tie::Away => 1,
+        Tie::Even => q % 2,
+    }
+}
+
+// What rounding adds to the size q of a quotient with a remainder of size r, by a divisor of size d: 0 or 1. One comparison settles
+// halves too: what a half adds counts only where twice the remainder is just d.
 fn round_up(tie: Tie, q: u64, r: u64, d: u64) -> u64
     requires { ⌜ r < 2 ^ 62 ⌝ }
     ensures { λ x. ⌜ x ≡ roundUp tie q r d ⌝ }
 {
     let twice = 2 * r;
-    if twice < d {
-        return 0;
-    }
-    if d < twice {
+    if d < twice + on_tie(tie, q) {
         return 1;
     }
-    match tie {
-        Tie::Away => 1,
-        Tie::Even => q % 2,
-    }
+    0
 }
 
 // a / b to the nearest whole number. Signed division rounds toward zero; its remainder tells the rest.

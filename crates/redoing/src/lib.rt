@@ -78,7 +78,7 @@ fn tally(results: &[i64], n: usize) -> Change
 
 // Evaluates a value again. What it gave to the sums goes, and what it gives now comes.
 fn redo(
-    arithmetic: Arithmetic,
+    own: Arithmetic,
     table: &[i64],
     n: usize,
     results: &mut [i64],
@@ -87,12 +87,12 @@ fn redo(
 ) -> Change
     requires { ⌜ Evaluable (now table) (now results) label × (label ≤ n) × (n ≤ labelLimit) ⌝ }
     requires { ⌜ Tallied n (now results) before × (before .redone ≤ labelLimit) ⌝ }
-    ensures { λ r. ⌜ now (results .exit) ≡ evaluateInto arithmetic (now (table .entry)) (now (results .entry)) label ⌝ }
+    ensures { λ r. ⌜ now (results .exit) ≡ evaluateInto own (now (table .entry)) (now (results .entry)) label ⌝ }
     ensures { λ r. ⌜ (r .redone ≡ before .redone + 1) × Tallied n (now (results .exit)) r ⌝ }
 {
     let failing = before.failing - failed(results, label);
     let steps = before.steps - steps_of(results, label);
-    evaluation::evaluate_into(arithmetic, table, results, label);
+    evaluation::evaluate_into(own, table, results, label);
     Change {
         redone: before.redone + 1,
         failing: failing + failed(results, label),
@@ -113,7 +113,7 @@ fn depends(square: &[u64], n: usize, d: usize, v: usize) -> bool
 
 // Evaluates value v again if it depends on d.
 fn redo_dependent(
-    arithmetic: Arithmetic,
+    own: Arithmetic,
     table: &[i64],
     n: usize,
     square: &[u64],
@@ -124,17 +124,17 @@ fn redo_dependent(
 ) -> Change
     requires { ⌜ Evaluable (now table) (now results) v × (v ≤ n) × (d ≤ n) × (n ≤ labelLimit) × ((n + 1) * width n ≤ length (now square)) ⌝ }
     requires { ⌜ Tallied n (now results) before × (before .redone ≤ labelLimit) ⌝ }
-    ensures { λ r. ⌜ Turned arithmetic (turns (now (square .entry)) n d v) (now (table .entry)) n v (now (results .entry)) before (now (results .exit)) r ⌝ }
+    ensures { λ r. ⌜ Turned own (turns (now (square .entry)) n d v) (now (table .entry)) n v (now (results .entry)) before (now (results .exit)) r ⌝ }
 {
     if depends(square, n, d, v) {
-        return redo(arithmetic, table, n, results, v, before);
+        return redo(own, table, n, results, v, before);
     }
     before
 }
 
 // Goes down the plan between two positions and evaluates again what depends on d.
 fn redo_down(
-    arithmetic: Arithmetic,
+    own: Arithmetic,
     table: &[i64],
     n: usize,
     plan: &[i64],
@@ -147,13 +147,13 @@ fn redo_down(
 ) -> Change
     requires { ⌜ Redoable (now table) n (now results) (now plan) to (now square) d × (from ≤ to) ⌝ }
     requires { ⌜ Tallied n (now results) before × (before .redone ≡ 0) ⌝ }
-    ensures { λ r. ⌜ Redid arithmetic (now (table .entry)) n (now (results .entry)) (between (now (plan .entry)) from to) d before (now (results .exit)) r ⌝ }
+    ensures { λ r. ⌜ Redid own (now (table .entry)) n (now (results .entry)) (between (now (plan .entry)) from to) d before (now (results .exit)) r ⌝ }
 {
     let mut change = before;
     let mut i = from;
     while i < to {
         let v = cells::nat_at(plan, i);
-        change = redo_dependent(arithmetic, table, n, square, d, results, v, change);
+        change = redo_dependent(own, table, n, square, d, results, v, change);
         i += 1;
     }
     change
@@ -238,7 +238,7 @@ fn put_change(changes: &mut [i64], k: usize, change: Change)
 
 // Applies the pair at index k.
 fn retouch_pair(
-    arithmetic: Arithmetic,
+    own: Arithmetic,
     table: &mut [i64],
     n: usize,
     plan: &[i64],
@@ -251,12 +251,12 @@ fn retouch_pair(
     changes: &mut [i64],
     before: Change,
 ) -> Change
-    requires { ⌜ Standing arithmetic (now table) n (now plan) count (now results) ⌝ }
+    requires { ⌜ Standing own (now table) n (now plan) count (now results) ⌝ }
     requires { ⌜ (k < pairCount (now pairs)) × PairRight (now table) (now pairs) (k + 1) × (3 * pairCount (now pairs) ≤ length (now changes)) ⌝ }
     requires { ⌜ ((n + 1) * width n ≤ length (now square)) × MarkRow (now table) n 6 (now square) (owner (now table) (pairLabel (now pairs) (k + 1))) ⌝ }
     requires { ⌜ (2 * n + 1 < length (now windows)) × Window (now square) n (now plan) count (now windows) (owner (now table) (pairLabel (now pairs) (k + 1))) ⌝ }
     requires { ⌜ Tallied n (now results) before ⌝ }
-    ensures { λ r. ⌜ PairApplied arithmetic (now (table .entry)) n (now (pairs .entry)) (k + 1) (now (results .entry)) (now (changes .entry))
+    ensures { λ r. ⌜ PairApplied own (now (table .entry)) n (now (pairs .entry)) (k + 1) (now (results .entry)) (now (changes .entry))
         (now (table .exit)) (now (results .exit)) (now (changes .exit)) r ⌝ }
 {
     let label = label_of(pairs, k);
@@ -269,18 +269,7 @@ fn retouch_pair(
     };
     let from = marks::widen(windows[2 * d]);
     let to = marks::widen(windows[2 * d + 1]) - 1;
-    let change = redo_down(
-        arithmetic,
-        table,
-        n,
-        plan,
-        from,
-        to,
-        square,
-        d,
-        results,
-        start,
-    );
+    let change = redo_down(own, table, n, plan, from, to, square, d, results, start);
     put_change(changes, k, change);
     change
 }
@@ -377,7 +366,7 @@ fn find_windows(
 
 // Applies the pairs in turn.
 fn apply(
-    arithmetic: Arithmetic,
+    own: Arithmetic,
     table: &mut [i64],
     n: usize,
     plan: &[i64],
@@ -388,18 +377,18 @@ fn apply(
     results: &mut [i64],
     changes: &mut [i64],
 )
-    requires { ⌜ Standing arithmetic (now table) n (now plan) count (now results) × PairsRight (now table) (now pairs) × (pairCount (now pairs) ≤ pairLimit)
+    requires { ⌜ Standing own (now table) n (now plan) count (now results) × PairsRight (now table) (now pairs) × (pairCount (now pairs) ≤ pairLimit)
         × (3 * pairCount (now pairs) ≤ length (now changes)) ⌝ }
     requires { ⌜ ((n + 1) * width n ≤ length (now square)) × OwnersMarked (now table) n (now pairs) (pairCount (now pairs)) (now square) ⌝ }
     requires { ⌜ (2 * n + 1 < length (now windows)) × OwnersWindows (now table) n (now plan) count (now square) (now pairs) (pairCount (now pairs)) (now windows) ⌝ }
-    ensures { λ _. ⌜ PairsApplied arithmetic (now (table .entry)) n (now (pairs .entry)) (pairCount (now (pairs .entry))) (now (results .entry)) (now (changes .entry))
+    ensures { λ _. ⌜ PairsApplied own (now (table .entry)) n (now (pairs .entry)) (pairCount (now (pairs .entry))) (now (results .entry)) (now (changes .entry))
         (now (table .exit)) (now (results .exit)) (now (changes .exit)) ⌝ }
 {
     let mut change = tally(results, n);
     let mut k = 0;
     while k < pairs.len() / 2 {
         change = retouch_pair(
-            arithmetic,
+            own,
             table,
             n,
             plan,
@@ -423,7 +412,7 @@ pub struct Completed {
     pub arithmetic: Arithmetic,
 }
 
-// The same, in a blank square.
+// Applies the pairs in turn, in a blank square.
 fn apply_in(
     completed: Completed,
     table: &mut [i64],

@@ -106,7 +106,7 @@ fn clear_all(table: &mut [i64], plan: &mut [i64], results: &mut [i64], changes: 
 
 // Rows 19 to 21 of a sheet that has been run, and the pairs applied to it, by the arithmetic that it was run by.
 fn retouch_run(
-    arithmetic: Arithmetic,
+    own: Arithmetic,
     n: usize,
     count: usize,
     pairs: &[i64],
@@ -115,8 +115,8 @@ fn retouch_run(
     results: &mut [i64],
     changes: &mut [i64],
 ) -> Verdict
-    requires { ⌜ Standing arithmetic (cellsTo n (now table)) n (now plan) count (now results) × (8 * n ≤ length (now table)) × (3 * pairCount (now pairs) ≤ length (now changes)) ⌝ }
-    ensures { λ r. ⌜ RunRetouches arithmetic n (now (pairs .entry)) (now (table .entry)) (now (plan .entry)) (length (now (results .entry))) (length (now (changes .entry)))
+    requires { ⌜ Standing own (cellsTo n (now table)) n (now plan) count (now results) × (8 * n ≤ length (now table)) × (3 * pairCount (now pairs) ≤ length (now changes)) ⌝ }
+    ensures { λ r. ⌜ RunRetouches own n (now (pairs .entry)) (now (table .entry)) (now (plan .entry)) (length (now (results .entry))) (length (now (changes .entry)))
         r (now (table .exit)) (now (plan .exit)) (now (results .exit)) (now (changes .exit)) ⌝ }
 {
     match check_pairs(&table[..8 * n], pairs) {
@@ -125,7 +125,7 @@ fn retouch_run(
             let completed = Completed {
                 n: n,
                 count: count,
-                arithmetic: arithmetic,
+                arithmetic: own,
             };
             redoing::apply_pairs(
                 completed,
@@ -168,32 +168,14 @@ fn retouch_sheet(
     ensures { λ r. ⌜ SheetRetouches (now (text .entry)) (now (pairs .entry)) (length (now (table .entry))) (length (now (plan .entry))) (length (now (results .entry)))
         (length (now (changes .entry))) r (now (table .exit)) (now (plan .exit)) (now (results .exit)) (now (changes .exit)) ⌝ }
 {
-    let arithmetic = lines::arithmetic_of(text);
+    let own = lines::arithmetic_of(text);
     match calls::run_sheet(text, n, table, plan, results) {
         PlanReply::Whole(count) => {
-            let found = retouch_run(
-                arithmetic,
-                n,
-                count as usize,
-                pairs,
-                table,
-                plan,
-                results,
-                changes,
-            );
+            let found = retouch_run(own, n, count as usize, pairs, table, plan, results, changes);
             reply_by(found, PlanReply::Whole(count))
         }
         PlanReply::Mixed(count) => {
-            let found = retouch_run(
-                arithmetic,
-                n,
-                count as usize,
-                pairs,
-                table,
-                plan,
-                results,
-                changes,
-            );
+            let found = retouch_run(own, n, count as usize, pairs, table, plan, results, changes);
             reply_by(found, PlanReply::Mixed(count))
         }
         PlanReply::Refused(row, label) => {

@@ -306,7 +306,7 @@ frameAndLeft = record {
 }
 
 -- document 02, order 5: "-3250 / 100 is -32 under the new rule", and -33 under document 01's. The lines of a sheet under either first line:
--- halves of either sign, a divisor below 0, and a half in a function that is called with a value which was itself a half
+-- halves of either sign, a divisor below 0, and a half in a function that is called with a number made of a value which was itself a half
 abbrev halvesLines : List String
 halvesLines =
     "G - 0 - -"

@@ -229,7 +229,7 @@ fn near_names() -> [Workload; 4] {
 }
 
 /// Quotients that are halves, under each tie rule: of 250 values that read little
-/// else, and in the deepest calls of ten values, where they are most of the time.
+/// else, and in the deepest calls of ten values, where they are much of the time.
 fn halves() -> [Workload; 4] {
     let evaluated = &Call::EVALUATED;
     let few = generator::halves(500);

@@ -187,8 +187,8 @@ fn keeps_its_rule(sheet: &Sheet, run: &Run, rng: &mut Rng) {
     assert_eq!(again.run().expect("a plan"), retouched.run);
 }
 
-/// The same sheet under either rule: lines, plan and steps are the same, the text
-/// of each name stands a byte further on, and only numbers may be others.
+/// The same sheet under either rule: lines and plan are the same, the text of each
+/// name stands a byte further on, and only results may be others.
 #[test]
 fn either_tie_rule() {
     let mut differing = 0;

@@ -22,7 +22,7 @@ sub-failing c =
       arith,
       c .before .failed .ensures .0,
       entry .pre .1 .0 .failed,
-      failing-moves (entry .args .arithmetic) (entry .args .table .now) (entry .args .results .now) (entry .args .label) (entry .args .n) (value-room (entry .pre .0 .0)) (entry .pre .0 .1) .0,
+      failing-moves (entry .args .own) (entry .args .table .now) (entry .args .results .now) (entry .args .label) (entry .args .n) (value-room (entry .pre .0 .0)) (entry .pre .0 .1) .0,
     )
 
 steps-of-requires : tie.Need-steps-of-requires
@@ -35,7 +35,7 @@ sub-steps c =
       arith,
       c .before .steps-of .ensures,
       entry .pre .1 .0 .taken,
-      steps-move (entry .args .arithmetic) (entry .args .table .now) (entry .args .results .now) (entry .args .label) (entry .args .n) (value-room (entry .pre .0 .0)) (entry .pre .0 .1) .0,
+      steps-move (entry .args .own) (entry .args .table .now) (entry .args .results .now) (entry .args .label) (entry .args .n) (value-room (entry .pre .0 .0)) (entry .pre .0 .1) .0,
     )
 
 evaluate-into-requires : tie.Need-evaluate-into-requires
@@ -63,7 +63,7 @@ add-t24 : tie.Need-add-t24
 add-t24 c =
     let done = c .before .before .before .before .before .before in
     let entry = entry-of done in
-    let took = took-few (entry .args .arithmetic) (entry .args .table .now) (entry .args .results .now) (entry .args .label) (entry .args .n) (value-room (entry .pre .0 .0)) (entry .pre .0 .1)
+    let took = took-few (entry .args .own) (entry .args .table .now) (entry .args .results .now) (entry .args .label) (entry .args .n) (value-room (entry .pre .0 .0)) (entry .pre .0 .1)
     (entry .pre .1 .0 .short) (done .evaluate-into .ensures) (c .steps-of2 .ensures) in
     omega (arith, took, entry .pre .1 .0 .taken, steps-few (stored (entry .args .results .now)) (entry .args .n) (entry .pre .1 .0 .short), entry .pre .0 .2)
 
@@ -76,7 +76,7 @@ returns c =
     let steps = done .before .before .before in
     let failing = steps .before .before .before in
     let entry = entry-of done in
-    let tallied = redone-tally (entry .args .arithmetic) (entry .args .table .now) (entry .args .results .now) (entry .args .label) (entry .args .n) (value-room (entry .pre .0 .0)) (entry .pre .0 .1)
+    let tallied = redone-tally (entry .args .own) (entry .args .table .now) (entry .args .results .now) (entry .args .label) (entry .args .n) (value-room (entry .pre .0 .0)) (entry .pre .0 .1)
     (entry .args .before) (entry .pre .1 .0) (done .evaluate-into .ensures) (failing .failed .ensures .0) (steps .steps-of .ensures) (c .before .before .failed2 .ensures .0)
     (c .steps-of2 .ensures) in
     (done .evaluate-into .ensures, (refl, tallied))

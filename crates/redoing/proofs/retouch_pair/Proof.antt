@@ -75,9 +75,9 @@ whole-done : (c : tie.After-widen2) {c₀ c₁ : Change} {r : List ℤ} →
     let found = found-at c in
     let entry = entry-of found in
     let line = pairLabel (entry .args .pairs .now) (entry .args .k + 1) in
-    Redid (entry .args .arithmetic) (found .before .before .before .put-number .last .0) (entry .args .n) (entry .args .results .now)
+    Redid (entry .args .own) (found .before .before .before .put-number .last .0) (entry .args .n) (entry .args .results .now)
     (between (entry .args .plan .now) (c .before .before .widen .result) (c .widen2 .result - 1)) (found .cell-of .result) c₀ r c₁
-    → Redid (entry .args .arithmetic) (withNumber line (pairNumber (entry .args .pairs .now) (entry .args .k + 1)) (entry .args .table .now)) (entry .args .n) (entry .args .results .now)
+    → Redid (entry .args .own) (withNumber line (pairNumber (entry .args .pairs .now) (entry .args .k + 1)) (entry .args .table .now)) (entry .args .n) (entry .args .results .now)
     (labelsOf (take (entry .args .count) (entry .args .plan .now))) (owner (entry .args .table .now) line) c₀ r c₁
 whole-done c did =
     let found = found-at c in

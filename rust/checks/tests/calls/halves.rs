@@ -110,7 +110,7 @@ fn large_quotients() {
     }
 }
 
-/// "-3250 / 100 is -32 under the new rule", and 33 under the old one.
+/// "-3250 / 100 is -32 under the new rule", and -33 under the old one.
 #[test]
 fn the_papers_halves() {
     let pairs = [
@@ -303,15 +303,15 @@ fn check_line(line: &[u8]) {
 /// Row 1 comes first; both lines one after the other are a line with an unknown kind.
 #[test]
 fn what_is_not_row_2() {
-    for line in FIRST_LINES {
-        let [first, other] = [line, AWAY].map(|line| String::from_utf8_lossy(line).to_string());
-        for (text, wanted) in [
+    let lines = FIRST_LINES.map(|line| String::from_utf8_lossy(line).to_string());
+    for first in &lines {
+        let mut texts = vec![
             (first.clone(), (1, 0)),
             (format!("{first}\n"), (3, 0)),
             (format!("{first}\r\nG - 0 - -\r\n"), (1, 0)),
-            (format!("{first}\n{first}\nG - 0 - -\n"), (6, 1)),
-            (format!("{first}\n{other}\nG - 0 - -\n"), (6, 1)),
-        ] {
+        ];
+        texts.extend(lines.iter().map(|second| (format!("{first}\n{second}\nG - 0 - -\n"), (6, 1))));
+        for (text, wanted) in texts {
             assert_eq!(refusal(text.as_bytes()), Some(wanted), "{text:?}");
         }
     }

@@ -30,7 +30,7 @@ const CALLS: [Column; 5] = [
 
 const HALVES: [Column; 4] = [
     figures("line"),
-    words("half"),
+    words("first half"),
     figures("number"),
     figures("times"),
 ];

@@ -1,7 +1,7 @@
 //! Refusals 2 and 3: line one, and how many lines there are.
 
 use super::rows::{self, FIELDS};
-use super::{files, words, Finding};
+use super::{files, near, words, Finding};
 use crate::{Kind, Mark, Ties};
 
 pub const MOST_LINES: usize = 1_024;
@@ -56,13 +56,13 @@ fn differing(line: &str) -> Mark {
     }
 }
 
-/// The rule whose line is meant: the one with the 2 where there is one, whatever
-/// stands around it.
+/// The rule whose line is meant: the one with the 2 where the line begins nearly
+/// so, whatever stands around it.
 fn meant(line: &str) -> Ties {
     let column = Ties::Even.column();
     let letters = line.chars().filter(char::is_ascii_alphanumeric);
     let start: String = letters.take(column.len()).collect();
-    match start.ends_with('2') {
+    match start.ends_with('2') && near::nearest(&start, [((), column)]).is_some() {
         true => Ties::Even,
         false => Ties::Away,
     }
@@ -128,11 +128,12 @@ fn misnumbered(line: &str) -> Option<&str> {
 fn number(first: &str) -> String {
     let is_digit = |letter: &char| letter.is_ascii_digit();
     let digits: String = first.chars().filter(is_digit).collect();
+    let line = Ties::Even.first_line();
     match digits.as_str() {
-        "2" => {
-            let line = Ties::Even.first_line();
+        "2" if first.ends_with('2') => {
             format!("nothing stands between `kind` and `2`: write `{line}`")
         }
+        "2" => format!("{} is not `kind2`: write `{line}`", words::quoted(first)),
         _ => {
             let rules = Ties::ALL.map(|ties| format!("`{}` for {ties}", ties.column()));
             let first = words::quoted(first);

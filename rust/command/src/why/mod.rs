@@ -38,7 +38,7 @@ right.prism = sphere * 10 / 100
 line  read          number  state     times
   12  right.sphere    -325  a number      1
 
-line  half         number  times
+line  first half   number  times
   10  -3250 / 100     -33      1
 line one is `kind name a b c`: halves away from zero
 ",

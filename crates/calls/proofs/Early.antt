@@ -35,7 +35,8 @@ ordered-fine : (v : Verdict) (a : Answer) → 1 ≤ wholeOrMixed (answerBy v a) 
 ordered-fine Fine a h = refl
 ordered-fine (Refused r l) a h = absurd (omega arith)
 
-evaluated-down : (α : Arithmetic) (t : List ℤ) (n : ℕ) → Accepted t n → (o : List ℕ) → Proper t o → (q : ℕ) → 3 * n ≤ q → (u : List ℤ) → u ≡ resultCells α t n q → EvaluatedDown α t o q u
+evaluated-down : (α : Arithmetic) (t : List ℤ) (n : ℕ) → Accepted t n → (o : List ℕ) → Proper t o → (q : ℕ) → 3 * n ≤ q → (u : List ℤ) → u ≡ resultCells α t n q
+    → EvaluatedDown α t o q u
 evaluated-down α t n ok o p q fit u e = record { reached = e ∙ sym (down-figures α t n ok q fit o p); never = never-early α t n ok o p q fit }
 
 module _ (s : List ℕ) (m : ℕ) where

@@ -68,7 +68,8 @@ module _ (s : List ℕ) (o : List ℤ) (m n : ℕ) (h : Passed s n) where
         let proper = order-proper (sheetTable s) (labels s) ok o (parts (sym (b .found) ∙ f) .1) in
         (rw (list-rows f, h .count) ok, rw (list-rows f, take-length o) proper)
 
-    pub list-follows : {α : Arithmetic} → α ≡ arithmeticOf s → (j : ℕ) (u : List ℤ) → v ≡ Fine → u ≡ resultCells α (cellsTo n t) n j → SheetFollows s o m j (reply.Answered (length o)) t u
+    pub list-follows : {α : Arithmetic} → α ≡ arithmeticOf s → (j : ℕ) (u : List ℤ) → v ≡ Fine → u ≡ resultCells α (cellsTo n t) n j
+        → SheetFollows s o m j (reply.Answered (length o)) t u
     list-follows own j u f e =
         let g = sym (b .found) ∙ f in
         record { reply = rw g; table = rw g (b .left f); results = rw g (e ∙ rw (own, list-rows f, h .count)) }

@@ -76,7 +76,8 @@ pub no-step : (α : Arithmetic) (t r : List ℤ) (l : ℕ) (g : Arguments) (s d 
 unfolding stepBy
 no-step α t r l g s d e q = rw e (q ∙ unrolled α t r l g 0 d)
 
-pub entered : (α : Arithmetic) (t r : List ℤ) (l : ℕ) (g : Arguments) (s d : ℕ) {s′ d′ : ℕ} {α′ : Arithmetic} {k : Clause} {u : Outcome} → (s ≡ 0 → ⊥) → s′ ≡ s - 1 → d′ ≡ d → α′ ≡ α
+pub entered : (α : Arithmetic) (t r : List ℤ) (l : ℕ) (g : Arguments) (s d : ℕ) {s′ d′ : ℕ} {α′ : Arithmetic} {k : Clause} {u : Outcome} → (s ≡ 0 → ⊥) → s′ ≡ s - 1
+    → d′ ≡ d → α′ ≡ α
     → k ≡ clauseOf (kind t l) → u ≡ enteredBy α′ (outcome α′ t r) t r k l g s′ d′ → u ≡ outcome α t r l g s d
 unfolding stepBy
 entered α t r l g zero d ne es ed ea ek e = absurd (ne refl)

@@ -81,7 +81,8 @@ module _ (α : Arithmetic) (t t′ r r′ : List ℤ) (n : ℕ) (w : Accepted t 
       let e = entered-agreed t t′ r r′ Own α (outcome α t r) (outcome α t′ r′) s (λ l g n d o i. up-to f l g n d o (omega arith)) k l g d
       (asks k l o (leads t n w (From t v) (Reaches t v) (from-closed t v) l o)) in
       record {
-        same = sym (unrolled α t r l g (suc s) d) ∙ e .same ∙ ap (λ k. enteredBy α (outcome α t′ r′) t′ r′ (clauseOf k) l g s d) (same l o .kinds) ∙ unrolled α t′ r′ l g (suc s) d;
+        same =
+            sym (unrolled α t r l g (suc s) d) ∙ e .same ∙ ap (λ k. enteredBy α (outcome α t′ r′) t′ r′ (clauseOf k) l g s d) (same l o .kinds) ∙ unrolled α t′ r′ l g (suc s) d;
         less = left-less α t r l g (suc s) d;
       }
 

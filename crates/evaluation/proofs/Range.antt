@@ -100,7 +100,8 @@ module _ (α : Arithmetic) (low : ℕ) (small : low ≤ hasNumber) where
 
 -- ---- an expression, from results that are ready
 
-pub in-range : (α : Arithmetic) (t r : List ℤ) (q : Ready t r) (l : ℕ) (g : Arguments) (s d : ℕ) → ExpressionAt t (q .count) l → natAbs (g .first) ≤ numberLimit → Good 0 (outcome α t r l g s d)
+pub in-range : (α : Arithmetic) (t r : List ℤ) (q : Ready t r) (l : ℕ) (g : Arguments) (s d : ℕ) → ExpressionAt t (q .count) l → natAbs (g .first) ≤ numberLimit
+    → Good 0 (outcome α t r l g s d)
 in-range α t r q l g s d h k =
     good α 0 (omega arith) t r (q .count) (q .accepted) All All (all-closed t) (λ x _ _. q .recorded x) l g s d (record { line = h; owned = tt }) k
 

@@ -251,7 +251,8 @@ fn operation(
     rest: Allowance,
 ) -> Outcome
     requires { ⌜ Entered (Clause.Operation op) (now table) (now results) label given (rest .depth) ⌝ }
-    ensures { λ r. ⌜ r ≡ operationBy (rest .arithmetic) (outcome (rest .arithmetic) (now (table .entry)) (now (results .entry))) (now (table .entry)) op label given (rest .left) (rest .depth) ⌝ }
+    ensures { λ r. ⌜ r ≡ operationBy (rest .arithmetic) (outcome (rest .arithmetic) (now (table .entry)) (now (results .entry)))
+        (now (table .entry)) op label given (rest .left) (rest .depth) ⌝ }
 {
     let a = field(table, label, cells::A);
     let first = expression(table, results, a, given, rest);

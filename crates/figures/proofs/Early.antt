@@ -136,5 +136,6 @@ module _ (α : Arithmetic) (t : List ℤ) (n : ℕ) (ok : Accepted t n) (o : Lis
         subst (λ (r : List ℤ). Recorded 1 r v) (down-figures α t n ok m fit o p)
         (recorded-down o [] [] (sym (append-nil o)) (zeros m) (ready-zeros t n m ok fit) (λ y j. absurd (omega arith)) v (omega (arith, listed-once p v k)))
 
-pub figures-recorded : (α : Arithmetic) (t : List ℤ) (n : ℕ) → Accepted t n → NoCycle t → (m : ℕ) → 3 * n ≤ m → (v : ℕ) → kind t v ≡ valueCode → Recorded 1 (resultCells α t n m) v
+pub figures-recorded : (α : Arithmetic) (t : List ℤ) (n : ℕ) → Accepted t n → NoCycle t → (m : ℕ) → 3 * n ≤ m → (v : ℕ) → kind t v ≡ valueCode
+    → Recorded 1 (resultCells α t n m) v
 figures-recorded α t n ok nc m fit v k = end-recorded α t n ok (planOrder t n) (order-proper t n ok nc) m fit v k

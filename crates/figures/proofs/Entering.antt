@@ -75,6 +75,7 @@ module _ (α : Arithmetic) (t r r′ : List ℤ) where
       ∙ entered-same s (λ l g n d i q. up-to b l g n d (omega arith) q) l g d f (clauseOf (kind t l)) refl
       ∙ unrolled α t r′ l g (suc s) d
 
-  pub entered-only : (v : ℕ) → ((x : ℕ) → EntersRead α t r v x → (q : ℕ) → answerAt r (target t x) q ≡ answerAt r′ (target t x) q) → valueOutcome α t r v ≡ valueOutcome α t r′ v
+  pub entered-only : (v : ℕ) → ((x : ℕ) → EntersRead α t r v x → (q : ℕ) → answerAt r (target t x) q ≡ answerAt r′ (target t x) q)
+      → valueOutcome α t r v ≡ valueOutcome α t r′ v
   unfolding valueOutcome
   entered-only v f = up-to stepLimit (fieldB t v) nothing stepLimit 0 (le-refl stepLimit) (λ x h i. f x (record { read = h; entered = i }))

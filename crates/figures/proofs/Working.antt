@@ -49,7 +49,8 @@ module _ (α : Arithmetic) (t : List ℤ) (n : ℕ) (ok : Accepted t n) where
   pub value-rows : (r r′ : List ℤ) (v : ℕ) → kind t v ≡ valueCode → ((w : ℕ) → kind t w ≡ valueCode → Reaches t v w → labelCells 3 r w ≡ labelCells 3 r′ w)
       → evaluated α t r v ≡ evaluated α t r′ v
   value-rows r r′ v k h =
-      ap valueOf (results-local α t r r′ n ok v k (λ w i j. let e = same-stored r r′ w (h w i j) in record { state = ap (λ (x : Value). x .state) e; number = ap (λ (x : Value). x .number) e }))
+      ap valueOf (results-local α t r r′ n ok v k
+      (λ w i j. let e = same-stored r r′ w (h w i j) in record { state = ap (λ (x : Value). x .state) e; number = ap (λ (x : Value). x .number) e }))
 
   -- results in a buffer, three cells a label, as `order` asks for them
   abbrev pub working : Evaluation t (List ℤ) (List ℤ)

@@ -215,7 +215,8 @@ module _ (t : List ℤ) (n : ℕ) (ps : List ℤ) (i : ℕ) {l : ℕ} {u : List 
         → Redid α (withNumber (pairLabel ps i) (pairNumber ps i) t) n r o (owner t (pairLabel ps i)) c r′ c′
     redid-still {α} {o} {c} {c′} {r′} w = transport (λ j. Redid α (table-is j) n r o (owner-is own j) c r′ c′) w
 
-    pub applied-still : {α : Arithmetic} {w r′ w′ : List ℤ} {c : Change} → PairApplied α t n ps i r w (withNumber (pairLabel ps i) (pairNumber ps i) t) r′ w′ c → PairApplied α t n ps i r w u r′ w′ c
+    pub applied-still : {α : Arithmetic} {w r′ w′ : List ℤ} {c : Change} → PairApplied α t n ps i r w (withNumber (pairLabel ps i) (pairNumber ps i) t) r′ w′ c
+        → PairApplied α t n ps i r w u r′ w′ c
     applied-still {α} {w} {r′} {w′} {c} a = subst (λ (x : List ℤ). PairApplied α t n ps i r w x r′ w′ c) (sym table-is) a
 
 -- ---- pairs in turn

@@ -23,7 +23,8 @@ use Rattle.redoing.specs.Redone.{isRedone, redoneOf}
 use Rattle.redoing.specs.RedoStages.{Tallied, Turned, turns, Redoable, Redid, between}
 use Rattle.redoing.specs.declared.Change.{Change}
 
-pub record Going (α : Arithmetic) (t : List ℤ) (n : ℕ) (plan : List ℤ) (from k : ℕ) (square : List ℕ) (d : ℕ) (r₀ : List ℤ) (c₀ : Change) (r : List ℤ) (c : Change) (i : ℕ) : Type 0 where
+pub record Going (α : Arithmetic) (t : List ℤ) (n : ℕ) (plan : List ℤ) (from k : ℕ) (square : List ℕ) (d : ℕ) (r₀ : List ℤ) (c₀ : Change)
+    (r : List ℤ) (c : Change) (i : ℕ) : Type 0 where
   pub asked : Redoable t n r₀ plan k square d
   pub upto : i ≤ k
   pub long : length r ≡ length r₀

@@ -125,12 +125,14 @@ module _ (α : Arithmetic) (t r : List ℤ) (v n : ℕ) (room : ResultsRoom r v)
 pub room-still : {r r′ : List ℤ} {l : ℕ} → ResultsRoom r l → length r′ ≡ length r → ResultsRoom r′ l
 room-still w e = record { low = w .low; room = omega (arith, w .room, e) }
 
-pub took-few : (α : Arithmetic) (t r : List ℤ) (v n : ℕ) → ResultsRoom r v → v ≤ n → ((l : ℕ) → stepsAt r l ≤ stepLimit) → {r′ : List ℤ} {y : ℕ} → r′ ≡ evaluateInto α t r v
+pub took-few : (α : Arithmetic) (t r : List ℤ) (v n : ℕ) → ResultsRoom r v → v ≤ n → ((l : ℕ) → stepsAt r l ≤ stepLimit) → {r′ : List ℤ} {y : ℕ}
+    → r′ ≡ evaluateInto α t r v
     → y ≡ stepsAt r′ v → y ≤ stepLimit
 took-few α t r v n room high h {r′} e q = omega (arith, steps-short α t r v n room high h v, ap (λ (z : List ℤ). stepsAt z v) e)
 
 -- the sums of a value evaluated again, as the code carries them
-pub redone-tally : (α : Arithmetic) (t r : List ℤ) (v n : ℕ) → ResultsRoom r v → v ≤ n → (c : Change) → Tallied n r c → {r′ : List ℤ} {x y x′ y′ : ℕ} → r′ ≡ evaluateInto α t r v
+pub redone-tally : (α : Arithmetic) (t r : List ℤ) (v n : ℕ) → ResultsRoom r v → v ≤ n → (c : Change) → Tallied n r c → {r′ : List ℤ} {x y x′ y′ : ℕ}
+    → r′ ≡ evaluateInto α t r v
     → x ≡ one (isFailure (stored r v)) → y ≡ stepsAt r v → x′ ≡ one (isFailure (stored r′ v)) → y′ ≡ stepsAt r′ v
     → Tallied n r′ (record { redone = c .redone + 1; failing = c .failing - x + x′; steps = c .steps - y + y′ })
 redone-tally α t r v n room high c w {r′} e p q p′ q′ =

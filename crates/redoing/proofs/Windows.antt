@@ -76,7 +76,8 @@ window-redone t n ok plan k h values square d row windows w =
     (λ j a b. sym (row-redone t n ok square d row (natAt plan j) (values j b)) ∙ w .behind j a b)
 
 -- going down the window is going down the plan
-pub redid-window : {α : Arithmetic} {t : List ℤ} {n : ℕ} {r plan : List ℤ} {k : ℕ} {square : List ℕ} {d : ℕ} (windows : List ℕ) → Redoable t n r plan k square d → Window square n plan k windows d
+pub redid-window : {α : Arithmetic} {t : List ℤ} {n : ℕ} {r plan : List ℤ} {k : ℕ} {square : List ℕ} {d : ℕ} (windows : List ℕ) → Redoable t n r plan k square d
+    → Window square n plan k windows d
     → {from to : ℕ} {c c′ : Change} {r′ : List ℤ} → from ≡ getD windows (2 * d) 0 → to ≡ getD windows (2 * d + 1) 0 - 1 → Redid α t n r (between plan from to) d c r′ c′
     → Redid α t n r (labelsOf (take k plan)) d c r′ c′
 redid-window {α} {t} {n} {r} {plan} {k} {square} {d} windows w h {from} {to} e f did =

@@ -173,7 +173,8 @@ module _ (s : List ℕ) (ps : List ℤ) (m p q w n : ℕ) (r : PlanReply) (t o u
         }
 
     -- and rows 19 to 21 found v
-    pub run-retouched : {α : Arithmetic} → α ≡ arithmeticOf s → (v : Verdict) (t′ o′ u′ c : List ℤ) → length t ≡ m → length o ≡ p → length u ≡ q → RunRetouches α n ps t o (length u) w v t′ o′ u′ c
+    pub run-retouched : {α : Arithmetic} → α ≡ arithmeticOf s → (v : Verdict) (t′ o′ u′ c : List ℤ) → length t ≡ m → length o ≡ p → length u ≡ q
+        → RunRetouches α n ps t o (length u) w v t′ o′ u′ c
         → SheetRetouches s ps m p q w (unlessRefused v a) t′ o′ u′ c
     unfolding sheetRetouched retouched
     run-retouched own v t′ o′ u′ c long-t long-o long-u d = go v refl

@@ -336,7 +336,8 @@ expression-returns-6 t c =
     let step = c .before .before .before .before .before .before .step in
     let field = c .before .before .before .before .before .field in
     let clause-of = c .before .before .before .before .clause-of in
-    entered _ _ _ _ _ _ _ (if1 .left) (step .ensures .0) (step .ensures .1) (step .ensures .2) (is-kind (field .ensures) (clause-of .ensures) (c .before .before .clause .given .1)) (c .operation .ensures)
+    entered _ _ _ _ _ _ _ (if1 .left) (step .ensures .0) (step .ensures .1) (step .ensures .2) (is-kind (field .ensures) (clause-of .ensures) (c .before .before .clause .given .1))
+    (c .operation .ensures)
 
 expression-returns-7 : (t : ℕ) → expression-lts.Need-returns-7 (expression-claims t) (expression-at t) expression.Post
 unfolding enteredBy

@@ -310,7 +310,11 @@ fn what_is_not_row_2() {
             (format!("{first}\n"), (3, 0)),
             (format!("{first}\r\nG - 0 - -\r\n"), (1, 0)),
         ];
-        texts.extend(lines.iter().map(|second| (format!("{first}\n{second}\nG - 0 - -\n"), (6, 1))));
+        texts.extend(
+            lines
+                .iter()
+                .map(|second| (format!("{first}\n{second}\nG - 0 - -\n"), (6, 1))),
+        );
         for (text, wanted) in texts {
             assert_eq!(refusal(text.as_bytes()), Some(wanted), "{text:?}");
         }

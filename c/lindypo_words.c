@@ -20,12 +20,12 @@ static const char *const refusals[] = {
     "a field of wrong form, or label 1 is not `G - 0 - -`",
     "a Group, body or operand that is none, or on the wrong side",
     "an expression that no field uses, or two or more",
-    "the argument of a function in a value, or a second one in what is no function of two",
+    "the argument of a function in a value",
     "nested deeper than 32 levels",
     "a name that its Group has already, whatever the case of its letters",
     "the head of a path is not found",
     "a later name of a path is not found, or is asked of a value or function",
-    "a read that leads to no value, or a call that leads to no function of as many arguments",
+    "a read that leads to no value, or a call that leads to no function",
     "a value that reaches itself",
     "an order with a label that is no value's, with one twice, or without a value",
     "an order with a value before one that it reaches",
@@ -106,7 +106,6 @@ static int is_definition(const struct sheet *sheet, int64_t label)
     case LINDYPO_KIND_GROUP:
     case LINDYPO_KIND_VALUE:
     case LINDYPO_KIND_FUNCTION:
-    case LINDYPO_KIND_FUNCTION_OF_TWO:
         return 1;
     default:
         return 0;

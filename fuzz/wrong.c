@@ -6,7 +6,9 @@
 #include <stdlib.h>
 #include <string.h>
 
-#include "wrong.h"
+#include "lindypo.h"
+
+#define FAULTS 52
 
 static const char *const words[FAULTS + 1] = {
     "",
@@ -62,24 +64,9 @@ static const char *const words[FAULTS + 1] = {
     "Read takes kind3 for kind2",
     "Read takes Kind2 for kind2",
     "Read gives byte starts under kind2 as under kind",
-    "Run evaluates the second argument before the first",
-    "Run gives the first argument for the second",
-    "Run leaves the second argument of the call around",
-    "Run goes no deeper by a call of two",
-    "Run judges the depth before the second argument",
-    "Run takes no step for a call of two",
-    "Read lets a function of one have a second argument",
-    "Read lets a call of one lead to a function of two",
-    "Read lets a call of two lead to a function of one",
-    "Read refuses the first argument in a function of two",
-    "Read does not count the second argument of a call as a use",
-    "Read finds the wrong kind where a function of two is asked for a member",
-    "Plan lists a function of two",
-    "Follow does not see what is reached through functions of two",
-    "Retouch redoes nothing for a number of a function of two",
 };
 
-int fault;
+static int fault;
 
 /* Status 3 where there is no such fault. */
 __attribute__((constructor)) static void choose(void)
@@ -91,7 +78,7 @@ __attribute__((constructor)) static void choose(void)
     fprintf(stderr, "fault: %s\n", words[fault]);
 }
 
-__typeof__(lindypo_read) __wrap_lindypo_read;
+__typeof__(lindypo_read) __real_lindypo_read, __wrap_lindypo_read;
 __typeof__(lindypo_name) __real_lindypo_name, __wrap_lindypo_name;
 __typeof__(lindypo_plan) __real_lindypo_plan, __wrap_lindypo_plan;
 __typeof__(lindypo_run) __real_lindypo_run, __wrap_lindypo_run;
@@ -119,7 +106,8 @@ static int has_other_letters(const uint8_t *text, const int64_t *table, uint64_t
     return 0;
 }
 
-uint64_t line_count(const int64_t *table, size_t table_length)
+/* The lines of a table: they have a kind, cells after them have not. */
+static uint64_t line_count(const int64_t *table, size_t table_length)
 {
     uint64_t lines = 0;
     while (8 * (lines + 1) <= table_length && table[8 * lines] != 0)
@@ -137,11 +125,6 @@ static uint64_t first_other_letters(const uint8_t *text, const int64_t *table,
         if (has_other_letters(text, table, label, least))
             return label;
     return 0;
-}
-
-int is_definition(const int64_t *line)
-{
-    return line[0] <= LINDYPO_KIND_FUNCTION || line[0] == LINDYPO_KIND_FUNCTION_OF_TWO;
 }
 
 /* What two names longer than a word of eight bytes agree in, but for case. */
@@ -166,7 +149,7 @@ static uint64_t half_namesake(const uint8_t *text, const int64_t *table, uint64_
     const int64_t *line = table + 8 * (label - 1);
     for (uint64_t other = 2; other <= last; other++) {
         const int64_t *beside = table + 8 * (other - 1);
-        int is_member = is_definition(beside) && beside[6] == line[6];
+        int is_member = beside[0] <= LINDYPO_KIND_FUNCTION && beside[6] == line[6];
         if (other != label && is_member && agree(text, line, beside, part))
             return other;
     }
@@ -179,8 +162,8 @@ static uint64_t first_half_namesake(const uint8_t *text, const int64_t *table,
 {
     uint64_t lines = line_count(table, table_length);
     for (uint64_t label = 2; label <= lines; label++) {
-        int is_named = is_definition(table + 8 * (label - 1));
-        if (is_named && half_namesake(text, table, label, label - 1, part) != 0)
+        int is_definition = table[8 * (label - 1)] <= LINDYPO_KIND_FUNCTION;
+        if (is_definition && half_namesake(text, table, label, label - 1, part) != 0)
             return label;
     }
     return 0;
@@ -295,7 +278,7 @@ static int is_whole_outside(const int64_t *table, const int64_t *plan, uint64_t 
     return 1;
 }
 
-lindypo_reply refused(uint64_t row, uint64_t label)
+static lindypo_reply refused(uint64_t row, uint64_t label)
 {
     return (lindypo_reply){.refusal = row, .place = label};
 }
@@ -336,12 +319,14 @@ static void leave(left *left, const uint8_t *text, size_t text_length,
 /* No list of pairs. */
 #define NO_PAIRS ((const int64_t[]){0})
 
-int64_t *line_of(int64_t *table, int64_t label)
+/* The line of a label. */
+static int64_t *line_of(int64_t *table, int64_t label)
 {
     return table + 8 * (label - 1);
 }
 
-int is_even(const uint8_t *text)
+/* Whether a sheet's halves go to even; its first line is one of the two. */
+static int is_even(const uint8_t *text)
 {
     return text[4] == '2';
 }
@@ -462,7 +447,7 @@ lindypo_reply __wrap_lindypo_read(const uint8_t *text, size_t text_length,
         move_starts(table, table_length);
     if (fault == 20 && reply.refusal == 12 && !clashes_in_same_letters(text, reply.place))
         reply = (lindypo_reply){.count = reply.place};
-    return read_two(text, text_length, table, table_length, reply);
+    return reply;
 }
 
 lindypo_part __wrap_lindypo_name(const uint8_t *text, size_t text_length,
@@ -495,11 +480,6 @@ lindypo_reply __wrap_lindypo_plan(const uint8_t *text, size_t text_length,
         open_every_group(table, table_length, plan, reply.count);
     if (fault == 25 && is_mixed && is_whole_outside(table, plan, reply.count))
         reply.order = 1;
-    int64_t of_two = 0;
-    if (fault == FAULT_TWO_LISTED && reply.refusal == 0)
-        of_two = first_of_two(table, table_length);
-    if (of_two != 0)
-        plan[reply.count++] = of_two;
     return reply;
 }
 
@@ -518,36 +498,12 @@ lindypo_reply __wrap_lindypo_run(const uint8_t *text, size_t text_length,
         __real_lindypo_read(text, text_length, table, table_length);
     if (reply.refusal == 0)
         spoil_halves(text, text_length, table, table_length, results);
-    int is_call = fault >= FAULT_SECOND_FIRST && fault <= FAULT_NO_STEP;
-    if (is_call && reply.refusal == 0)
-        evaluate_two(text, table, plan, reply.count, results);
     uint64_t label = 0;
     if (fault == 22 && reply.refusal == 0)
         label = first_other_letters(text, table, table_length, 1);
     if (label != 0)
         table[8 * (label - 1) + 7] = 0;
     return reply;
-}
-
-/* Whether an order is proper where mentions of functions of two are none. */
-static int is_proper_without_two(const uint8_t *text, size_t text_length, const int64_t *order,
-                                 size_t order_length)
-{
-    static int64_t table[LINDYPO_TABLE_MOST];
-    uint8_t is_left[LINDYPO_LABELS_MOST + 1] = {0};
-    uint64_t lines = __real_lindypo_read(text, text_length, table, LINDYPO_TABLE_MOST).count;
-    for (int64_t *line = table; line < table + 8 * lines; line += 8)
-        if (line[0] == LINDYPO_KIND_CALL_OF_TWO)
-            line[7] = 0;
-    fill_reaches(table, lines);
-    for (size_t at = 0; at < order_length; at++)
-        is_left[order[at]] = 1;
-    for (size_t at = 0; at < order_length; at++) {
-        if (!is_ready(is_left, lines, (uint64_t)order[at]))
-            return 0;
-        is_left[order[at]] = 0;
-    }
-    return 1;
 }
 
 lindypo_reply __wrap_lindypo_follow(const uint8_t *text, size_t text_length,
@@ -568,9 +524,6 @@ lindypo_reply __wrap_lindypo_follow(const uint8_t *text, size_t text_length,
     if (fault == 47 && reply.refusal == 0)
         go_by_other_rule(text, text_length, NO_PAIRS, 0, line_count(table, table_length),
                          results);
-    if (fault == FAULT_NO_MENTION && reply.refusal == 18 &&
-        is_proper_without_two(text, text_length, order, order_length))
-        reply = (lindypo_reply){.count = order_length};
     return reply;
 }
 
@@ -601,15 +554,6 @@ static void leave_out_distant(int64_t *table, uint64_t lines, const int64_t *pla
         if (value != owner && reaches[value][owner] && !mentions(table, lines, value, owner))
             leave_out(results, change, before, value);
     }
-}
-
-/* The last pair redoes no value. */
-static void leave_out_all(const int64_t *plan, uint64_t count, int64_t *results, int64_t *change,
-                          const left *before)
-{
-    for (uint64_t at = 0; at < count; at++)
-        leave_out(results, change, before, plan[at]);
-    change[0] = 0;
 }
 
 /* A figure of each pair that goes up and never down. */
@@ -675,7 +619,7 @@ static void spoil_answer(const uint8_t *text, size_t text_length, const int64_t 
     int64_t label = pairs[2 * (count - 1)];
     int64_t owner = line_of(table, label)[6];
     int64_t *change = changes + 3 * (count - 1);
-    int is_last = fault == 30 || fault == 31 || fault == 39 || fault == FAULT_TWO_NOT_REDONE;
+    int is_last = fault == 30 || fault == 31 || fault == 39;
     leave(&before, text, text_length, pairs, is_last ? 2 * (count - 1) : 0);
     if (fault == 30 && line_of(table, owner)[0] == LINDYPO_KIND_VALUE)
         leave_out(results, change, &before, owner);
@@ -688,9 +632,6 @@ static void spoil_answer(const uint8_t *text, size_t text_length, const int64_t 
         skip_unchanged(pairs, count, before.table, changes);
     if (fault == 39)
         line_of(table, label)[3] = line_of(before.table, label)[3];
-    int is_of_two = line_of(table, owner)[0] == LINDYPO_KIND_FUNCTION_OF_TWO;
-    if (fault == FAULT_TWO_NOT_REDONE && is_of_two)
-        leave_out_all(plan, planned, results, change, &before);
 }
 
 lindypo_reply __wrap_lindypo_retouch(const uint8_t *text, size_t text_length,

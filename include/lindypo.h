@@ -40,9 +40,9 @@ extern "C" {
 
 /* The version of this header. lindypo_version() gives that of the library. */
 #define LINDYPO_VERSION_MAJOR 0
-#define LINDYPO_VERSION_MINOR 7
+#define LINDYPO_VERSION_MINOR 6
 #define LINDYPO_VERSION_PATCH 0
-#define LINDYPO_VERSION "0.7.0"
+#define LINDYPO_VERSION "0.6.0"
 
 /* Limits of a sheet. */
 #define LINDYPO_TEXT_MOST 65536        /* bytes of the text */
@@ -80,31 +80,26 @@ extern "C" {
 #define LINDYPO_READ_STACK 32768
 #define LINDYPO_NAME_STACK 32768
 #define LINDYPO_PLAN_STACK 327680
-#define LINDYPO_RUN_STACK 425984
-#define LINDYPO_FOLLOW_STACK 557056
-#define LINDYPO_RETOUCH_STACK 589824
-#define LINDYPO_PRINT_STACK 524288
+#define LINDYPO_RUN_STACK 327680
+#define LINDYPO_FOLLOW_STACK 425984
+#define LINDYPO_RETOUCH_STACK 458752
+#define LINDYPO_PRINT_STACK 425984
 
-/* The kind of a line, by its letter's code. G, V, F and H lines are definitions,
- * all others are expressions. An F takes one number, an H two: C calls the one, K
- * the other, whose field a is evaluated before b. P is the argument, of an H the
- * first, Y the second. */
+/* The kind of a line, by its letter's code. G, V and F lines are definitions,
+ * all others are expressions. */
 enum lindypo_kind {
-    LINDYPO_KIND_GROUP = 1,            /* G */
-    LINDYPO_KIND_VALUE = 2,            /* V */
-    LINDYPO_KIND_FUNCTION = 3,         /* F */
-    LINDYPO_KIND_NUMBER = 4,           /* N */
-    LINDYPO_KIND_ARGUMENT = 5,         /* P */
-    LINDYPO_KIND_READ = 6,             /* R */
-    LINDYPO_KIND_CALL = 7,             /* C */
-    LINDYPO_KIND_SUM = 8,              /* A */
-    LINDYPO_KIND_DIFFERENCE = 9,       /* S */
-    LINDYPO_KIND_PRODUCT = 10,         /* M */
-    LINDYPO_KIND_QUOTIENT = 11,        /* D */
-    LINDYPO_KIND_CHOICE = 12,          /* I */
-    LINDYPO_KIND_FUNCTION_OF_TWO = 13, /* H */
-    LINDYPO_KIND_CALL_OF_TWO = 14,     /* K */
-    LINDYPO_KIND_SECOND_ARGUMENT = 15  /* Y */
+    LINDYPO_KIND_GROUP = 1,      /* G */
+    LINDYPO_KIND_VALUE = 2,      /* V */
+    LINDYPO_KIND_FUNCTION = 3,   /* F */
+    LINDYPO_KIND_NUMBER = 4,     /* N */
+    LINDYPO_KIND_ARGUMENT = 5,   /* P */
+    LINDYPO_KIND_READ = 6,       /* R */
+    LINDYPO_KIND_CALL = 7,       /* C */
+    LINDYPO_KIND_SUM = 8,        /* A */
+    LINDYPO_KIND_DIFFERENCE = 9, /* S */
+    LINDYPO_KIND_PRODUCT = 10,   /* M */
+    LINDYPO_KIND_QUOTIENT = 11,  /* D */
+    LINDYPO_KIND_CHOICE = 12     /* I */
 };
 
 /* The cells of a label in the table. */
@@ -116,7 +111,7 @@ enum lindypo_column {
     LINDYPO_COLUMN_B = 4,           /* b: a label; 0 for `-` */
     LINDYPO_COLUMN_C = 5,           /* c: a label; 0 for `-` */
     LINDYPO_COLUMN_OWNER = 6,       /* a definition's Group, an expression's definition; 0 for label 1 */
-    LINDYPO_COLUMN_TARGET = 7       /* what the path of an R, C or K leads to; 0 for other kinds */
+    LINDYPO_COLUMN_TARGET = 7       /* what the path of an R or C leads to; 0 for other kinds */
 };
 
 /* The cells of a label in the results. */
@@ -179,13 +174,13 @@ enum lindypo_refusal {
     LINDYPO_REFUSAL_STRUCTURE = 8, /* a Group field is no Group with a smaller label, or a body or
                                       operand no expression with a larger one */
     LINDYPO_REFUSAL_USES = 9,      /* an expression that no field uses, or two or more */
-    LINDYPO_REFUSAL_ARGUMENT = 10, /* a P owned by a V, or a Y owned by no H */
+    LINDYPO_REFUSAL_ARGUMENT = 10, /* a P owned by a V */
     LINDYPO_REFUSAL_LEVEL = 11,    /* nested deeper than 32 levels */
     /* names and paths */
     LINDYPO_REFUSAL_DUPLICATE = 12, /* a smaller label in its Group has that name, in any case */
     LINDYPO_REFUSAL_HEAD = 13,      /* the first name of a path is not found */
-    LINDYPO_REFUSAL_LATER = 14,     /* a later name is not found, or asked of a V, F or H */
-    LINDYPO_REFUSAL_TARGET = 15,    /* an R that leads to no V, a C to no F, or a K to no H */
+    LINDYPO_REFUSAL_LATER = 14,     /* a later name is not found, or asked of a V or F */
+    LINDYPO_REFUSAL_TARGET = 15,    /* an R that leads to no V, or a C that leads to no F */
     /* the values */
     LINDYPO_REFUSAL_CYCLE = 16, /* a value that reaches itself */
     /* the order list */
@@ -321,7 +316,7 @@ lindypo_printed lindypo_print(const uint8_t *text, size_t text_length,
  * and are not to be freed. target/staticlib/liblindypo.a has the proved calls
  * alone; the libraries that ./install makes have these as well. */
 
-/* The version of the library: "0.7.0" and the like. */
+/* The version of the library: "0.6.0" and the like. */
 const char *lindypo_version(void);
 
 /* A refusal in general, in words: "a value that reaches itself". For 0 "no

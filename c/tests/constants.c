@@ -176,18 +176,6 @@ static int64_t state_of_depth(int functions)
     return run_sheet().refusal == 0 ? result(2, LINDYPO_RESULT_STATE) : -1;
 }
 
-/* The same with functions of two, by calls of two. */
-static int64_t state_of_depth_of_two(int functions)
-{
-    begin();
-    add("V x 1 3 -\nK f1 4 5 -\nN - 7 - -\nN - 8 - -\n");
-    for (int at = 1; at < functions; at++)
-        add("H f%d 1 %d -\nK f%d %d %d -\nP - - - -\nY - - - -\n", at, 4 * at + 3, at + 1,
-            4 * at + 4, 4 * at + 5);
-    add("H f%d 1 %d -\nY - - - -\n", functions, 4 * functions + 3);
-    return run_sheet().refusal == 0 ? result(2, LINDYPO_RESULT_STATE) : -1;
-}
-
 /* A value that would take 2^18 steps and more: each function calls the one
  * before it twice. */
 static void endless(void)
@@ -211,9 +199,6 @@ static void limits_of_evaluating(void)
 {
     CHECK(state_of_depth(LINDYPO_DEPTH_MOST) == LINDYPO_STATE_NUMBER);
     CHECK(state_of_depth(LINDYPO_DEPTH_MOST + 1) == LINDYPO_STATE_TOO_DEEP);
-    CHECK(state_of_depth_of_two(LINDYPO_DEPTH_MOST) == LINDYPO_STATE_NUMBER);
-    CHECK(result(2, LINDYPO_RESULT_NUMBER) == 8);
-    CHECK(state_of_depth_of_two(LINDYPO_DEPTH_MOST + 1) == LINDYPO_STATE_TOO_DEEP);
     CHECK(state_of_sum(LINDYPO_NUMBER_MOST, 0) == LINDYPO_STATE_NUMBER);
     CHECK(result(2, LINDYPO_RESULT_NUMBER) == LINDYPO_NUMBER_MOST);
     CHECK(result(2, LINDYPO_RESULT_STEPS) == 3);
@@ -283,81 +268,24 @@ static void length_of_a_print(void)
 
 /* ---- kinds, columns and orders */
 
-/* Each kind by its letter. */
-struct kind {
-    char letter;
-    enum lindypo_kind kind;
-};
-
-static const struct kind all_kinds[] = {
-    {'G', LINDYPO_KIND_GROUP},
-    {'V', LINDYPO_KIND_VALUE},
-    {'F', LINDYPO_KIND_FUNCTION},
-    {'N', LINDYPO_KIND_NUMBER},
-    {'P', LINDYPO_KIND_ARGUMENT},
-    {'R', LINDYPO_KIND_READ},
-    {'C', LINDYPO_KIND_CALL},
-    {'A', LINDYPO_KIND_SUM},
-    {'S', LINDYPO_KIND_DIFFERENCE},
-    {'M', LINDYPO_KIND_PRODUCT},
-    {'D', LINDYPO_KIND_QUOTIENT},
-    {'I', LINDYPO_KIND_CHOICE},
-    {'H', LINDYPO_KIND_FUNCTION_OF_TWO},
-    {'K', LINDYPO_KIND_CALL_OF_TWO},
-    {'Y', LINDYPO_KIND_SECOND_ARGUMENT},
-};
-
-/* The first label whose line begins with this letter, 0 where none does. */
-static int64_t label_of(char letter)
-{
-    int64_t label = 0;
-    for (size_t at = 0; at + 1 < length; at++)
-        if (text[at] == '\n') {
-            label++;
-            if (text[at + 1] == letter)
-                return label;
-        }
-    return 0;
-}
-
 static void kinds(void)
 {
-    sheet("V v 1 5 -\nF f 1 6 -\nH h 1 19 -\nN - 7 - -\nI - 7 8 9\nP - - - -\nA - 10 11 -\n"
-          "S - 12 13 -\nR v - - -\nC f 14 - -\nN - 1 - -\nD - 15 16 -\nM - 17 18 -\n"
-          "N - 2 - -\nN - 3 - -\nN - 4 - -\nN - 5 - -\nK h 20 21 -\nP - - - -\nY - - - -\n");
+    sheet("V v 1 4 -\nF f 1 5 -\nN - 7 - -\nI - 6 7 10\nP - - - -\nA - 8 9 -\nR v - - -\n"
+          "C f 12 - -\nS - 11 13 -\nN - 1 - -\nM - 14 15 -\nD - 16 17 -\n"
+          "N - 2 - -\nN - 3 - -\nN - 4 - -\nN - 5 - -\n");
     CHECK(refusal() == 0);
-    for (size_t at = 0; at < CELLS(all_kinds); at++) {
-        char fact[] = "the code of the kind ?";
-        int64_t label = label_of(all_kinds[at].letter);
-        fact[sizeof fact - 2] = all_kinds[at].letter;
-        check(label > 0 && cell(label, LINDYPO_COLUMN_KIND) == all_kinds[at].kind, fact);
-    }
-}
-
-/* x is h of 7 and 5, where h gives one of its arguments. */
-static int64_t number_of_two(char argument)
-{
-    begin();
-    add("V x 1 4 -\nH h 1 7 -\nK h 5 6 -\nN - 7 - -\nN - 5 - -\n%c - - - -\n", argument);
-    return run_sheet().refusal == 0 ? result(2, LINDYPO_RESULT_NUMBER) : -1;
-}
-
-static void functions_of_two(void)
-{
-    CHECK(number_of_two('P') == 7);
-    CHECK(number_of_two('Y') == 5);
-    CHECK(result(2, LINDYPO_RESULT_STEPS) == 4);
-    CHECK(cell(4, LINDYPO_COLUMN_A) == 5 && cell(4, LINDYPO_COLUMN_B) == 6);
-    CHECK(cell(4, LINDYPO_COLUMN_C) == 0);
-    CHECK(cell(4, LINDYPO_COLUMN_TARGET) == 3);
-    CHECK(cell(7, LINDYPO_COLUMN_OWNER) == 3);
-    CHECK(plan[0] == 2 && plan[1] == 0);
-    /* the first argument fails before the second one does */
-    sheet("V x 1 4 -\nH h 1 11 -\nK h 5 8 -\nD - 6 7 -\nN - 1 - -\nN - 0 - -\nM - 9 10 -\n"
-          "N - 1000000000 - -\nN - 2 - -\nN - 3 - -\n");
-    CHECK(run_sheet().refusal == 0);
-    CHECK(result(2, LINDYPO_RESULT_STATE) == LINDYPO_STATE_ZERO_DIVISOR);
-    CHECK(result(2, LINDYPO_RESULT_STEPS) == 4);
+    CHECK(cell(1, LINDYPO_COLUMN_KIND) == LINDYPO_KIND_GROUP);
+    CHECK(cell(2, LINDYPO_COLUMN_KIND) == LINDYPO_KIND_VALUE);
+    CHECK(cell(3, LINDYPO_COLUMN_KIND) == LINDYPO_KIND_FUNCTION);
+    CHECK(cell(4, LINDYPO_COLUMN_KIND) == LINDYPO_KIND_NUMBER);
+    CHECK(cell(5, LINDYPO_COLUMN_KIND) == LINDYPO_KIND_CHOICE);
+    CHECK(cell(6, LINDYPO_COLUMN_KIND) == LINDYPO_KIND_ARGUMENT);
+    CHECK(cell(7, LINDYPO_COLUMN_KIND) == LINDYPO_KIND_SUM);
+    CHECK(cell(8, LINDYPO_COLUMN_KIND) == LINDYPO_KIND_READ);
+    CHECK(cell(9, LINDYPO_COLUMN_KIND) == LINDYPO_KIND_CALL);
+    CHECK(cell(10, LINDYPO_COLUMN_KIND) == LINDYPO_KIND_DIFFERENCE);
+    CHECK(cell(12, LINDYPO_COLUMN_KIND) == LINDYPO_KIND_PRODUCT);
+    CHECK(cell(13, LINDYPO_COLUMN_KIND) == LINDYPO_KIND_QUOTIENT);
 }
 
 static void columns(void)
@@ -507,17 +435,10 @@ static void refusals(void)
     CHECK(refusal_of("G x 2 - -\n") == LINDYPO_REFUSAL_STRUCTURE);
     CHECK(refusal_of("N - 7 - -\n") == LINDYPO_REFUSAL_USES);
     CHECK(refusal_of("V x 1 3 -\nP - - - -\n") == LINDYPO_REFUSAL_ARGUMENT);
-    CHECK(refusal_of("V x 1 3 -\nY - - - -\n") == LINDYPO_REFUSAL_ARGUMENT);
-    CHECK(refusal_of("F x 1 3 -\nY - - - -\n") == LINDYPO_REFUSAL_ARGUMENT);
-    CHECK(refusal_of("H x 1 3 -\nA - 4 5 -\nP - - - -\nY - - - -\n") == 0);
     CHECK(refusal_of("G x 1 - -\nG x 1 - -\n") == LINDYPO_REFUSAL_DUPLICATE);
     CHECK(refusal_of("V x 1 3 -\nR y - - -\n") == LINDYPO_REFUSAL_HEAD);
     CHECK(refusal_of("V x 1 3 -\nR x.y - - -\n") == LINDYPO_REFUSAL_LATER);
-    CHECK(refusal_of("H x 1 3 -\nR x.y - - -\n") == LINDYPO_REFUSAL_LATER);
     CHECK(refusal_of("V x 1 4 -\nG y 1 - -\nR y - - -\n") == LINDYPO_REFUSAL_TARGET);
-    CHECK(refusal_of("H x 1 3 -\nR x - - -\n") == LINDYPO_REFUSAL_TARGET);
-    CHECK(refusal_of("H x 1 3 -\nC x 4 - -\nP - - - -\n") == LINDYPO_REFUSAL_TARGET);
-    CHECK(refusal_of("F x 1 3 -\nK x 4 5 -\nP - - - -\nN - 1 - -\n") == LINDYPO_REFUSAL_TARGET);
     CHECK(refusal_of("V x 1 3 -\nR x - - -\n") == LINDYPO_REFUSAL_CYCLE);
     CHECK(followed(twice, 2).refusal == LINDYPO_REFUSAL_LISTED);
     CHECK(followed(twice, 2).place == 2);
@@ -533,7 +454,6 @@ int main(void)
     lengths_of_changes();
     length_of_a_print();
     kinds();
-    functions_of_two();
     columns();
     orders();
     ties();

@@ -102,8 +102,7 @@ static void tie_rules(void)
 }
 
 /* `far` stands in the outermost Group and in `left`, `right.deep` is a Group in
- * a Group, `half` and `prism` are functions of one number and of two, and the last
- * value but one has the longest name. */
+ * a Group, and the last value has the longest name. */
 static const char sheet[] = "kind name a b c\n"
                             "G - 0 - -\n"
                             "G right 1 - -\n"
@@ -122,11 +121,9 @@ static const char sheet[] = "kind name a b c\n"
                             "P - - - -\n"
                             "N - 2 - -\n"
                             "R sphere - - -\n"
-                            "N - 4 - -\n"
-                            "H prism 6 20 -\n"
-                            "Y - - - -\n";
+                            "N - 4 - -\n";
 
-#define LABELS 20
+#define LABELS 18
 #define CELLS (LINDYPO_TABLE_CELLS * LABELS)
 
 static int64_t table[CELLS + 20];
@@ -144,7 +141,6 @@ static const struct path paths[] = {
     {"right.deep", 6},
     {"right.deep.sphere", 7},
     {"right.deep.half", 8},
-    {"right.deep.prism", 19},
     {"right.deep.decentration0001", 9},
     {"r", 10},
     /* names as people type them */
@@ -158,7 +154,6 @@ static const struct path paths[] = {
     {"deep", 0},
     {"far.far", 0},
     {"right.deep.half.far", 0},
-    {"right.deep.prism.far", 0},
     /* the bytes are those of the name, all and no other, letters in any case */
     {"righ", 0},
     {"rights", 0},

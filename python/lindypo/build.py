@@ -62,7 +62,7 @@ class Expression:
 
     def __init__(self, kind, content, operands):
         self._kind = kind
-        # a number, a path as a string, or None
+        # a number, a path, or None
         self._content = content
         self._operands = operands
         self._size = 1 + sum(operand._size for operand in operands)
@@ -98,13 +98,8 @@ def number(number):
 
 
 def argument():
-    """P: the argument of the function, the first of a function of two."""
+    """P: the argument of the function."""
     return Expression(Kind.ARGUMENT, None, ())
-
-
-def second_argument():
-    """Y: the second argument of a function of two."""
-    return Expression(Kind.SECOND_ARGUMENT, None, ())
 
 
 def read(path):
@@ -115,13 +110,6 @@ def read(path):
 def call(path, argument):
     """C: calls the function that a path leads to."""
     return Expression(Kind.CALL, _string(path), (_expression(argument),))
-
-
-def call_of_two(path, first, second):
-    """K: calls the function of two that a path leads to. The first argument is evaluated
-    before the second."""
-    operands = (_expression(first), _expression(second))
-    return Expression(Kind.CALL_OF_TWO, _string(path), operands)
 
 
 def choice(test, then, otherwise):
@@ -181,17 +169,6 @@ class Group:
     def function(self, name, body):
         """Adds a function of one argument after the members that are there."""
         return self._add(0, Kind.FUNCTION, name, _expression(body))
-
-    def function_of_two(self, name, body):
-        """Adds a function of two arguments after the members that are there.
-
-        >>> from lindypo import Sheet
-        >>> prism = Group().function_of_two("prism", argument() * second_argument() / 1000)
-        >>> right = prism.value("right", call_of_two("prism", 350, -325))
-        >>> Sheet.read(right.text()).run().values["right"]
-        Outcome(state=<State.NUMBER: 1>, number=-114, steps=8)
-        """
-        return self._add(0, Kind.FUNCTION_OF_TWO, name, _expression(body))
 
     def group(self, name, members):
         """Adds a Group with the members that another has now, and not its tie rule."""
@@ -283,7 +260,8 @@ def _title(definitions, at):
         if definition.depth < depth:
             depth = definition.depth
             names.append(definition.name)
-    return f"the {definitions[at].kind.words} {_quoted('.'.join(reversed(names)))}"
+    kind = "Group" if definitions[at].kind is Kind.GROUP else definitions[at].kind.name.lower()
+    return f"the {kind} {_quoted('.'.join(reversed(names)))}"
 
 
 def _quoted(field):
@@ -311,19 +289,15 @@ def _check_definition(definition, title):
         found = _wrong_form(expression)
         if found:
             raise Mistake(RefusalNumber.FORM, title(), found)
-        if (expression._kind.place or 0) > definition.kind.takes:
-            raise Mistake(RefusalNumber.ARGUMENT, title(), _no_argument(expression._kind))
+        if expression._kind is Kind.ARGUMENT and definition.kind is not Kind.FUNCTION:
+            sentence = "the argument stands in it; only a function has one"
+            raise Mistake(RefusalNumber.ARGUMENT, title(), sentence)
         if level > LEVELS_MOST:
             raise Mistake(
                 RefusalNumber.LEVEL,
                 title(),
                 f"an expression is at level {level}; at most {LEVELS_MOST} levels are allowed",
             )
-
-
-def _no_argument(argument):
-    function = next(kind for kind in Kind if kind.takes == argument.place)
-    return f"the {argument.words} stands in it; only a {function.words} has one"
 
 
 def _not_a_name(name):
@@ -339,7 +313,7 @@ def _wrong_form(expression):
             f"{written} is not a whole number: -{NUMBER_MOST} to {NUMBER_MOST}, "
             "with no leading zero, plus sign or `-0`"
         )
-    if isinstance(content, str) and not _IS_PATH.fullmatch(content):
+    if kind in (Kind.READ, Kind.CALL) and not _IS_PATH.fullmatch(content):
         return (
             f"{_quoted(content)} is not a path: 1 to {PATH_MOST} names joined by dots, "
             f"each of 1 to {NAME_MOST} letters or digits, a letter first"

@@ -2,7 +2,7 @@
 
 from enum import IntEnum
 
-VERSION = "0.7.0"
+VERSION = "0.6.0"
 
 # limits of a sheet
 TEXT_MOST = 65536
@@ -28,46 +28,30 @@ CHANGE_CELLS = 3
 
 
 class Kind(IntEnum):
-    """The kind of a line: its code, its letter and, of a definition, how many arguments
-    its body is given; of an argument, which of them it is, from 1."""
+    """The kind of a line."""
 
-    GROUP = 1, "G", 0
-    VALUE = 2, "V", 0
-    FUNCTION = 3, "F", 1
-    NUMBER = 4, "N"
-    ARGUMENT = 5, "P", None, 1
-    READ = 6, "R"
-    CALL = 7, "C"
-    SUM = 8, "A"
-    DIFFERENCE = 9, "S"
-    PRODUCT = 10, "M"
-    QUOTIENT = 11, "D"
-    CHOICE = 12, "I"
-    FUNCTION_OF_TWO = 13, "H", 2
-    CALL_OF_TWO = 14, "K"
-    SECOND_ARGUMENT = 15, "Y", None, 2
+    GROUP = 1
+    VALUE = 2
+    FUNCTION = 3
+    NUMBER = 4
+    ARGUMENT = 5
+    READ = 6
+    CALL = 7
+    SUM = 8
+    DIFFERENCE = 9
+    PRODUCT = 10
+    QUOTIENT = 11
+    CHOICE = 12
 
-    def __new__(cls, code, letter, takes=None, place=None):
-        kind = int.__new__(cls, code)
-        kind._value_ = code
-        #: the letter that stands for the kind in a sheet
-        kind.letter = letter
-        #: how many arguments its body is given; None for an expression
-        kind.takes = takes
-        #: which of the arguments it stands for, from 1; None for every other kind
-        kind.place = place
-        return kind
+    @property
+    def letter(self):
+        """The letter that stands for the kind in a sheet."""
+        return "GVFNPRCASMDI"[self - 1]
 
     @property
     def is_definition(self):
-        """Groups, values and functions, of one number and of two, are definitions, all
-        others expressions."""
-        return self.takes is not None
-
-    @property
-    def words(self):
-        """The kind in words: "Group", "value", "function of two"."""
-        return "Group" if self is Kind.GROUP else self.name.lower().replace("_", " ")
+        """Groups, values and functions are definitions, all others expressions."""
+        return self in (Kind.GROUP, Kind.VALUE, Kind.FUNCTION)
 
 
 class Column(IntEnum):

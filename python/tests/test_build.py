@@ -4,8 +4,8 @@ import json
 import random
 import unittest
 
-from lindypo import Kind, Refusal, Sheet, State, Ties
-from lindypo.build import Expression, Group, Mistake, argument, call, call_of_two, choice, number, read, second_argument
+from lindypo import Refusal, Sheet, State, Ties
+from lindypo.build import Expression, Group, Mistake, argument, call, choice, number, read
 
 from places import CASES
 
@@ -32,29 +32,6 @@ class Built(unittest.TestCase):
             "kind name a b c\nG - 0 - -\nG right 1 - -\nV sphere 2 6 -\nF half 2 7 -\nV total 1 10 -\n"
             "N - -325 - -\nD - 8 9 -\nP - - - -\nN - 2 - -\nC right.half 11 - -\nR right.sphere - - -\n",
         )
-
-    def test_every_kind(self):
-        inner = Group().value("b", read("a.b") + 1 - 2).function("f", argument() * 3 / number(-4))
-        inner.function_of_two("h", call_of_two("h", second_argument(), argument()))
-        group = Group().group("a", inner).value("c", choice(call("a.f", 5), 6, 7 - read("a.b"))).group("empty", Group())
-        text = group.text().decode()
-        self.assertEqual(
-            text,
-            "kind name a b c\nG - 0 - -\n"
-            "G a 1 - -\nV b 2 8 -\nF f 2 13 -\nH h 2 18 -\nV c 1 21 -\nG empty 1 - -\n"
-            "S - 9 12 -\nA - 10 11 -\nR a.b - - -\nN - 1 - -\nN - 2 - -\n"
-            "D - 14 17 -\nM - 15 16 -\nP - - - -\nN - 3 - -\nN - -4 - -\n"
-            "K h 19 20 -\nY - - - -\nP - - - -\n"
-            "I - 22 24 25\nC a.f 23 - -\nN - 5 - -\nN - 6 - -\nS - 26 27 -\nN - 7 - -\nR a.b - - -\n",
-        )
-        self.assertEqual({line[0] for line in text.splitlines()[1:]}, {kind.letter for kind in Kind})
-
-    def test_functions_of_two(self):
-        less = Group().function_of_two("less", argument() - second_argument())
-        group = less.value("x", call_of_two("less", 7, call_of_two("LESS", 5, 3)))
-        run = Sheet.read(group.text()).run()
-        self.assertEqual((run.values["x"].number, run.values["x"].steps), (5, 11))
-        self.assertEqual(Group.of_sheet(Sheet.read(group.text())).text(), group.text())
 
     def test_names_in_any_case(self):
         group = Group().group("Right", Group().value("Sphere", -325)).value("x", read("RIGHT.sphere") + 5)
@@ -129,8 +106,6 @@ class Built(unittest.TestCase):
             (Group().value("x", read("nobody")), 13),
             (Group().value("x", read("x.nobody")), 14),
             (Group().value("x", call("x", 1)), 15),
-            (Group().value("x", call_of_two("f", 1, 2)).function("f", argument()), 15),
-            (Group().value("x", call("f", 1)).function_of_two("f", argument()), 15),
         ):
             with self.assertRaises(Refusal) as found:
                 Sheet.read(group.text())
@@ -151,7 +126,6 @@ class Mistakes(unittest.TestCase):
             self.assertEqual(row, 7, path)
             self.assertIn("is not a path: 1 to 8 names joined by dots", words)
             self.assertEqual(mistake_of(Group().function("f", call(path, argument())))[0], 7)
-            self.assertEqual(mistake_of(Group().value("x", call_of_two(path, 1, 2)))[0], 7)
         Group().value("x", read(".".join(["x" * 16] * 8))).text()
 
     def test_numbers(self):
@@ -166,15 +140,6 @@ class Mistakes(unittest.TestCase):
         group = Group().group("right", Group().value("x", 1 + argument()))
         sentence = "the value `right.x`: the argument stands in it; only a function has one"
         self.assertEqual(mistake_of(group), (10, sentence))
-
-    def test_second_argument(self):
-        second = "the second argument stands in it; only a function of two has one"
-        body = argument() - second_argument()
-        self.assertEqual(mistake_of(Group().value("v", 1 + second_argument())), (10, f"the value `v`: {second}"))
-        self.assertEqual(mistake_of(Group().function("f", body)), (10, f"the function `f`: {second}"))
-        Group().function_of_two("g", body).text()
-        row, words = mistake_of(Group().function_of_two("1", body))
-        self.assertEqual((row, words[:24]), (7, "the function of two `1`:"))
 
     def test_levels(self):
         def nested(levels):
@@ -229,8 +194,6 @@ class Mistakes(unittest.TestCase):
                 Group().value(name, 1)
             with self.assertRaises(TypeError):
                 read(name)
-            with self.assertRaises(TypeError):
-                call_of_two(name, 1, 2)
         with self.assertRaises(TypeError):
             Group().group("x", Expression)
 
@@ -274,12 +237,11 @@ class RandomBuilder:
         return self.random.choice(["a", "b", "c", "d", "e" * 16] * 8 + ["", "1", "f" * 17])
 
     def body(self, depth):
-        pick = self.random.randrange(10 if depth else 3)
+        pick = self.random.randrange(9 if depth else 3)
         if pick == 0:
             return number(self.random.choice([0, 1, -7, 10**9] * 9 + [10**9 + 1]))
         if pick == 1:
-            leaves = [argument(), second_argument()] + [number(2)] * 8
-            return self.random.choice(leaves)
+            return argument() if self.random.random() < 0.2 else number(2)
         if pick == 2:
             return read(".".join(self.name() for _ in range(self.random.randint(1, 3))))
         if pick == 3:
@@ -287,20 +249,16 @@ class RandomBuilder:
         if pick == 4:
             return choice(self.body(depth - 1), self.body(depth - 1), self.body(depth - 1))
         a, b = self.body(depth - 1), self.body(depth - 1)
-        if pick == 5:
-            return call_of_two(self.name(), a, b)
-        return [a + b, a - b, a * b, a / b][pick - 6]
+        return [a + b, a - b, a * b, a / b][pick - 5]
 
     def group(self, depth):
         group = Group()
         for _ in range(self.random.randrange(4)):
-            pick = self.random.randrange(4)
+            pick = self.random.randrange(3)
             if pick == 0 and depth:
                 group.group(self.name(), self.group(depth - 1))
             elif pick == 1:
                 group.function(self.name(), self.body(4))
-            elif pick == 2:
-                group.function_of_two(self.name(), self.body(4))
             else:
                 group.value(self.name(), self.body(4))
         return group

@@ -42,15 +42,6 @@ class Constants(unittest.TestCase):
         lines = re.findall(r"^    LINDYPO_TIES_(\w+) = \d+,? +/\* .*; line one is `(.*)` \*/$", HEADER, re.M)
         self.assertEqual(dict(lines), {ties.name: ties.first_line for ties in constants.Ties})
 
-    def test_kinds(self):
-        definitions = [kind.letter for kind in constants.Kind if kind.is_definition]
-        words = [kind.words for kind in constants.Kind if kind.takes]
-        self.assertIn(f"{', '.join(definitions[:-1])} and {definitions[-1]} lines are definitions", HEADER)
-        self.assertEqual(words, ["function", "function of two"])
-        self.assertEqual([kind.words for kind in constants.Kind if kind.place], ["argument", "second argument"])
-        for code, kind in enumerate(constants.Kind, 1):
-            self.assertIs(constants.Kind(code), kind)
-
     def test_letters(self):
         letters = re.findall(r"^    LINDYPO_KIND_(\w+) = \d+,? +/\* (\w) \*/$", HEADER, re.M)
         self.assertEqual(dict(letters), {kind.name: kind.letter for kind in constants.Kind})

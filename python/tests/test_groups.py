@@ -5,7 +5,7 @@ import json
 import operator
 import unittest
 
-from lindypo.build import Group, Mistake, argument, call, call_of_two, choice, number, read, second_argument
+from lindypo.build import Group, Mistake, argument, call, choice, number, read
 
 from places import CASES
 
@@ -13,13 +13,11 @@ from places import CASES
 KINDS = {
     "argument": argument,
     "call": call,
-    "call_of_two": call_of_two,
     "choice": choice,
     "difference": operator.sub,
     "product": operator.mul,
     "quotient": operator.truediv,
     "read": read,
-    "second_argument": second_argument,
     "sum": operator.add,
 }
 

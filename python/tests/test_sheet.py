@@ -47,41 +47,6 @@ class Text(unittest.TestCase):
             self.assertEqual(refusal_of(Sheet.read, text).number, 1, text[:9])
 
 
-class FunctionsOfTwo(unittest.TestCase):
-    """H, K and Y, as the table has them and as they are evaluated."""
-
-    LESS = "H less 1 4 -\nV x 1 7 -\nS - 5 6 -\nP - - - -\nY - - - -\nK Less 8 9 -\nN - 7 - -\nN - 5 - -\n"
-
-    def test_lines(self):
-        lines = Sheet.read(HEAD + self.LESS).lines
-        self.assertEqual(lines[1], (2, Kind.FUNCTION_OF_TWO, "less", 1, 4, 0, 1, None))
-        self.assertEqual(lines[5], (6, Kind.SECOND_ARGUMENT, None, 0, 0, 0, 2, None))
-        self.assertEqual(lines[6], (7, Kind.CALL_OF_TWO, "Less", 8, 9, 0, 3, 2))
-
-    def test_values(self):
-        sheet = Sheet.read(HEAD + self.LESS)
-        self.assertEqual(sheet.names, {"less": 2, "x": 3})
-        self.assertEqual(sheet.run().values, {"x": (State.NUMBER, 2, 6)})
-        self.assertEqual(sheet.retouch({8: 5, 9: 7}).values["x"].number, -2)
-        self.assertIsNone(sheet.find_number("less"))
-
-    def test_a_number_of_a_function_of_two(self):
-        text = HEAD + self.LESS.replace("Y - - - -", "N - 3 - -")
-        retouched = Sheet.read(text).retouch([(6, 4)])
-        self.assertEqual((retouched.changes, retouched.values["x"].number), (((1, 0, 6),), 3))
-
-    def test_refusals(self):
-        for lines, wanted in (
-            (self.LESS.replace("H", "F"), (10, 6, 7)),
-            (self.LESS.replace("H", "V"), (10, 5, 6)),
-            (self.LESS.replace("K", "C"), (7, 7, 8)),
-            (self.LESS.replace("K Less 8 9", "K Less.x 8 9"), (14, 7, 8)),
-            (self.LESS.replace("K Less 8 9", "K x 8 9"), (15, 7, 8)),
-            (self.LESS.replace("Y", "P").replace("H", "F"), (15, 7, 8)),
-        ):
-            self.assertEqual(refused(HEAD + lines), wanted, lines)
-
-
 class TieRules(unittest.TestCase):
     """Quotients that are a half, under either line one."""
 

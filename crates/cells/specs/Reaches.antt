@@ -1,9 +1,8 @@
 -- Document 01: definition d mentions e when an R or C owned by d has target e, both branches of I included; d reaches e by one or more mentions.
--- Order 6 of document 02: "K mentions its target".
 use Rattle.std.specs.Prelude.{◌≡◌, true, List, ℕ, ℤ}
 use Rattle.cells.specs.Table.{has_path, owner, target}
 
--- line x is an R, a C or a K
+-- line x is an R or a C
 abbrev pub HasPath : List ℤ → ℕ → Type 0
 HasPath t x = has_path t x ≡ true
 

@@ -52,7 +52,7 @@ field_c t l = cell t l 5
 abbrev pub owner : List ℤ → ℕ → ℕ
 owner t l = cell t l 6
 
--- the target of an R, C or K line, else 0
+-- the target of an R or C line, else 0
 abbrev pub target : List ℤ → ℕ → ℕ
 target t l = cell t l 7
 

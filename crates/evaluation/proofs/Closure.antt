@@ -4,11 +4,10 @@ use mathlib.Core.Path.{◌≡◌, refl, sym, ap, subst, ◌∙◌}
 use mathlib.Core.Bool.{Bool, true, false, cond}
 use mathlib.Core.List.{List}
 use mathlib.Core.Logic.{◌⊎◌, inl, inr}
-use Prim.Native.Nat.{ℕ, zero, suc, ◌≤◌, ◌<◌}
+use Prim.Native.Nat.{ℕ, ◌≤◌, ◌<◌}
 use native.Mathlib.Omega.{arith}
 use lib.IntN.{ℤ, nat_abs}
-use borrow.Author.Tests.{le-leb}
-use Rattle.kinds.specs.Kinds.{value_code, number_code, operand_a, operand_b, operand_c, takes, clause_of, place_in}
+use Rattle.kinds.specs.Kinds.{value_code, number_code, operand_a, operand_b, operand_c, takes, clause_of}
 use Rattle.kinds.proofs.Tests.{clash}
 use Rattle.kinds.proofs.Laws.{path_body}
 use Rattle.kinds.proofs.Clauses.{uses_of, expression_uses, path_uses, a_uses, b_uses, c_uses, number_code_lem, read_value, call_takes, call_some}
@@ -18,7 +17,6 @@ use Rattle.cells.specs.Accepted.{Accepted, Part, HasBody}
 use Rattle.cells.specs.Reaches.{HasPath, Mentions, Reaches, once, then}
 use Rattle.cells.proofs.Accepted.{reaches_trans}
 use Rattle.cells.specs.Limits.{number_limit}
-use Rattle.evaluation.specs.Arguments.{argument_of}
 use Rattle.evaluation.specs.Evaluation.{branch_of}
 use Rattle.evaluation.specs.Ready.{ExpressionAt, Cell}
 use Rattle.kinds.specs.declared.Clause.{Clause}
@@ -28,11 +26,6 @@ use Rattle.kinds.specs.declared.Clause.TheVariants as clause
 pub record Within (t : List ℤ) (n : ℕ) (D : ℕ → Type 0) (x : ℕ) : Type 0 where
   pub line : ExpressionAt t n x
   pub owned : D (owner t x)
-
--- and that definition is d: x is a part of what d owns
-pub record Inside (t : List ℤ) (n : ℕ) (D : ℕ → Type 0) (d x : ℕ) : Type 0 where
-  pub within : Within t n D x
-  pub owned : owner t x ≡ d
 
 -- definition d has a body that takes arguments
 abbrev pub IsFunction : List ℤ → ℕ → Type 0
@@ -79,50 +72,36 @@ module _ (t : List ℤ) (n : ℕ) (w : Accepted t n) where
   cell_ok l j h k c f = record { low = h; room = omega (arith, w.room); column = c; natural = w.natural l j h k c f }
 
   module _ (D E : ℕ → Type 0) (c : Closed t D E) where
-    -- what a call of k arguments leads to
-    pub record CallLeads (k l : ℕ) : Type 0 where
-      pub arguments : (i : ℕ) → i < k → Inside t n D (owner t l) (argument_of t l i)
-      pub has : HasBody t (target t l)
-      pub of : D (target t l)
-      pub body : Inside t n D (target t l) (field_b t (target t l))
-      pub takes : takes (kind t (target t l)) ≡ k
-
     -- what a line leads to by its clause
     unfoldable pub Leads : Clause → ℕ → Type 0
     Leads clause.Number l = nat_abs (line_number t l) ≤ number_limit
-    Leads (clause.Argument i) l = i ≤ takes (kind t (owner t l))
+    Leads (clause.Argument i) l = Unit {0}
     Leads clause.Read l = (kind t (target t l) ≡ value_code) × E (target t l)
-    Leads (clause.Call k) l = CallLeads k l
-    Leads (clause.Operation op) l = Inside t n D (owner t l) (field_a t l) × Inside t n D (owner t l) (field_b t l)
-    Leads clause.Choice l = Inside t n D (owner t l) (field_a t l) × ((y : ℤ) → Inside t n D (owner t l) (branch_of t l y))
+    Leads (clause.Call k) l = Within t n D (field_a t l) × Within t n D (field_b t (target t l)) × HasBody t (target t l) × D (target t l)
+    Leads (clause.Operation op) l = Within t n D (field_a t l) × Within t n D (field_b t l)
+    Leads clause.Choice l = Within t n D (field_a t l) × ((y : ℤ) → Within t n D (branch_of t l y))
     Leads clause.None l = ⊥
 
-    part : (l d x : ℕ) → Part t n l d x → D d → Inside t n D d x
+    part : (l d x : ℕ) → Part t n l d x → D d → Within t n D x
     part l d x p h = record {
-      within = record {
-        line = record { low = omega (arith, p.above); high = p.label; expression = p.expression };
-        owned = subst D (sym p.owned) h;
-      };
-      owned = p.owned;
+      line = record { low = omega (arith, p.above); high = p.label; expression = p.expression };
+      owned = subst D (sym p.owned) h;
     }
 
-    pub body_inside : (x : ℕ) → HasBody t x → D x → Inside t n D x (field_b t x)
-    body_inside x h d = part x x (field_b t x) (w.body x h) d
+    pub body_within : (x : ℕ) → HasBody t x → D x → Within t n D (field_b t x)
+    body_within x h d = part x x (field_b t x) (w.body x h) d
 
     module _ (l : ℕ) (h : Within t n D l) where
-      abbrev Mine : ℕ → Type 0
-      Mine x = Inside t n D (owner t l) x
-
-      pub first : operand_a (kind t l) ≡ true → Mine (field_a t l)
+      pub first : operand_a (kind t l) ≡ true → Within t n D (field_a t l)
       first e = part l (owner t l) (field_a t l) (w.first l e) h.owned
 
-      pub second : operand_b (kind t l) ≡ true → Mine (field_b t l)
+      pub second : operand_b (kind t l) ≡ true → Within t n D (field_b t l)
       second e = part l (owner t l) (field_b t l) (w.second l e) h.owned
 
-      pub third : operand_c (kind t l) ≡ true → Mine (field_c t l)
+      pub third : operand_c (kind t l) ≡ true → Within t n D (field_c t l)
       third e = part l (owner t l) (field_c t l) (w.third l e) h.owned
 
-      branch : operand_b (kind t l) ≡ true → operand_c (kind t l) ≡ true → (b : Bool) → Mine (cond b (field_c t l) (field_b t l))
+      branch : operand_b (kind t l) ≡ true → operand_c (kind t l) ≡ true → (b : Bool) → Within t n D (cond b (field_c t l) (field_b t l))
       branch e f true = third f
       branch e f false = second e
 
@@ -133,29 +112,10 @@ module _ (t : List ℤ) (n : ℕ) (w : Accepted t n) where
       target_body : HasPath t l → HasBody t (target t l)
       target_body p = rw (w.leads l p) (path_body (kind t l) p)
 
-      module _ (k : ℕ) (e : clause_of (kind t l) ≡ clause.Call k) where
-        path : HasPath t l
-        path = path_uses (kind t l) ∙ ap (λ k. (uses_of k).target) e
-
-        -- what is called takes as many arguments
-        fitting : takes (kind t (target t l)) ≡ k
-        fitting = ap takes (w.leads l path) ∙ call_takes (kind t l) k e
-
-        called : D (target t l)
-        called = let some = call_some (kind t l) k e in c.back (target t l) (omega (arith, fitting)) (aim path)
-
-        argument : (i : ℕ) → i < k → Mine (argument_of t l i)
-        argument zero i = first (a_uses (kind t l) ∙ ap (λ k. (uses_of k).a) e)
-        argument (suc j) i = second (b_uses (kind t l) ∙ ap (λ k. (uses_of k).b) e ∙ le-leb 2 k (omega arith))
-
-        call_leads : CallLeads k l
-        call_leads = record {
-          arguments = argument;
-          has = target_body path;
-          of = called;
-          body = body_inside (target t l) (target_body path) called;
-          takes = fitting;
-        }
+      called : (k : ℕ) → clause_of (kind t l) ≡ clause.Call k → HasPath t l → D (target t l)
+      called k e p =
+          let some = call_some (kind t l) k e in
+          c.back (target t l) (omega (arith, ap takes (w.leads l p), call_takes (kind t l) k e)) (aim p)
 
       pub leads : Leads (clause_of (kind t l)) l
       unfolding Leads
@@ -164,9 +124,12 @@ module _ (t : List ℤ) (n : ℕ) (w : Accepted t n) where
           go : (k : Clause) → clause_of (kind t l) ≡ k → Leads k l
           go clause.None e = clash (sym h.line.expression ∙ expression_uses (kind t l) ∙ ap (λ k. (uses_of k).some) e)
           go clause.Number e = w.number l (number_code_lem (kind t l) e)
-          go (clause.Argument i) e = omega (arith, w.argument l, ap place_in e)
+          go (clause.Argument i) e = tt
           go clause.Read e = let p = path_uses (kind t l) ∙ ap (λ k. (uses_of k).target) e in (w.leads l p ∙ read_value (kind t l) e, aim p)
-          go (clause.Call k) e = call_leads k e
+          go (clause.Call k) e =
+              let p = path_uses (kind t l) ∙ ap (λ k. (uses_of k).target) e in
+              let a = a_uses (kind t l) ∙ ap (λ k. (uses_of k).a) e in
+              (first a, body_within (target t l) (target_body p) (called k e p), target_body p, called k e p)
           go (clause.Operation op) e = (first (a_uses (kind t l) ∙ ap (λ k. (uses_of k).a) e), second (b_uses (kind t l) ∙ ap (λ k. (uses_of k).b) e))
           go clause.Choice e =
               let b = b_uses (kind t l) ∙ ap (λ k. (uses_of k).b) e in

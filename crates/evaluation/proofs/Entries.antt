@@ -4,7 +4,7 @@ use mathlib.Core.Path.{◌≡◌, refl, sym, ap, ◌∙◌, subst}
 use mathlib.Core.Bool.{Bool, true, false, cond}
 use mathlib.Core.List.{List}
 use mathlib.Core.Logic.{inl}
-use Prim.Native.Nat.{ℕ, zero, suc, ◌+◌, ◌*◌, ◌≤◌, ◌<◌}
+use Prim.Native.Nat.{ℕ, ◌*◌, ◌≤◌, ◌<◌}
 use native.Mathlib.Omega.{arith}
 use lib.IntN.{ℤ, nat_abs}
 use lib.Dec.{eqb}
@@ -13,22 +13,21 @@ use borrow.Author.Tests.{eqb-true}
 use Rattle.kinds.specs.Kinds.{value_code, operand_a, clause_of}
 use Rattle.kinds.proofs.Tests.{clash}
 use Rattle.kinds.proofs.Codes.{value_body}
-use Rattle.kinds.proofs.Clauses.{Uses, uses_of, a_uses, b_uses, c_uses, argument_low, argument_high, call_most}
+use Rattle.kinds.proofs.Clauses.{Uses, uses_of, a_uses, b_uses, c_uses}
 use Rattle.kinds.proofs.Plans.{number_plain}
 use Rattle.cells.specs.Table.{cell, kind, field_b, owner, target}
 use Rattle.cells.specs.Reaches.{Reaches}
 use Rattle.cells.specs.Limits.{number_limit}
 use Rattle.numbers.specs.declared.Arithmetic.{Arithmetic}
-use Rattle.evaluation.specs.Evaluation.{branch_of, depth_limit, outcome}
-use Rattle.evaluation.specs.Ready.{Ready, ReachedEvaluated, ExpressionAt, Ranged, GivenTo, Entry, Entered, LeafEntered, Cell, ResultsRoom, Evaluable}
+use Rattle.evaluation.specs.Evaluation.{branch_of, depth_limit, one_argument, outcome, nothing}
+use Rattle.evaluation.specs.Ready.{Ready, ReachedEvaluated, ExpressionAt, Entry, Entered, EnteredCall, Cell, ResultsRoom, Evaluable}
 use Rattle.evaluation.specs.Results.{Recorded}
-use Rattle.evaluation.specs.Arguments.{Arguments, nothing, argument_of}
+use Rattle.evaluation.specs.declared.Arguments.{Arguments}
 use Rattle.kinds.specs.declared.Clause.{Clause}
 use Rattle.kinds.specs.declared.Clause.TheVariants as clause
 use Rattle.evaluation.specs.declared.Outcome.{Outcome}
 use Rattle.cells.proofs.Accepted.{body_label}
-use Rattle.evaluation.proofs.Arguments.{given_same, given_value}
-use Rattle.evaluation.proofs.Closure.{Within, Inside, From, from_closed, from_reaches, CallLeads, Leads, leads, first, second, third, body_inside, cell_ok}
+use Rattle.evaluation.proofs.Closure.{Within, From, from_closed, from_reaches, Leads, leads, first, second, third, body_within, cell_ok}
 use Rattle.evaluation.proofs.Range.{in_range_lem}
 use Rattle.evaluation.proofs.Steps.{left_less}
 
@@ -59,8 +58,8 @@ module _ {t r : List ℤ} {l : ℕ} {g : Arguments} {d : ℕ} where
     of = sym (is_kind_lem p q x);
   }
 
-  pub as_leaf : Entry t r l g d → {c : ℕ} {k : Clause} → c ≡ kind t l → k ≡ clause_of c → LeafEntered k t r l g
-  as_leaf e p q = record { depth = d; entered = as_kind e refl p q refl }
+  pub as_call : Entry t r l g d → {d' c n : ℕ} {k : Clause} → d' ≡ d → c ≡ kind t l → k ≡ clause_of c → k ≡ clause.Call n → EnteredCall t r l g d'
+  as_call e {n = n} h p q x = record { count = n; entered = as_kind e h p q x }
 
   -- a cell other than field a, of any line
   pub line_cell : Entry t r l g d → (j : ℕ) → j < 8 → (j ≡ 3 → ⊥) → Cell t l j
@@ -70,20 +69,14 @@ module _ {t r : List ℤ} {l : ℕ} {g : Arguments} {d : ℕ} where
   pub number_cell : Entry t r l g d → (1 ≤ l) × (8 * l ≤ length t)
   number_cell e = let c = line_cell e 0 (omega arith) (λ x. omega arith) in (c.low, c.room)
 
-  -- what stands at x, in a definition that l's reaches and that is given g', may be entered
-  enter : (e : Entry t r l g d) {o x y d' : ℕ} {g' : Arguments} → y ≡ x → Inside t e.ready.count (From t (owner t l)) o x → GivenTo t o g' → d' ≤ depth_limit
-      → Entry t r y g' d'
-  enter e {o} {x} {y} p h i s = record {
+  enter : (e : Entry t r l g d) {x y : ℕ} → y ≡ x → Within t e.ready.count (From t (owner t l)) x → Entry t r y g d
+  enter e {x} {y} p h = record {
     ready = e.ready;
-    line = subst (λ (n : ℕ). ExpressionAt t e.ready.count n) (sym p) h.within.line;
-    given = given_same t y (ap (owner t) p ∙ h.owned) i;
-    shallow = s;
-    reached = subst (λ (n : ℕ). ReachedEvaluated t r (owner t n)) (sym p) (handed_on t r (owner t l) (owner t x) h.within.owned e.reached);
+    line = subst (λ (n : ℕ). ExpressionAt t e.ready.count n) (sym p) h.line;
+    given = e.given;
+    shallow = e.shallow;
+    reached = subst (λ (n : ℕ). ReachedEvaluated t r (owner t n)) (sym p) (handed_on t r (owner t l) (owner t x) h.owned e.reached);
   }
-
-  -- a part of the same definition
-  beside : (e : Entry t r l g d) {x y : ℕ} → y ≡ x → Inside t e.ready.count (From t (owner t l)) (owner t l) x → Entry t r y g d
-  beside e p h = enter e p h e.given e.shallow
 
   module _ {k : Clause} (e : Entered k t r l g d) where
     abbrev Own : ℕ → Type 0
@@ -112,8 +105,8 @@ module _ {t r : List ℤ} {l : ℕ} {g : Arguments} {d : ℕ} where
     pub operand_entry : (j : ℕ) {x : ℕ} → x ≡ cell t l j → uses_in (uses_of k) j ≡ true → Entry t r x g d
     operand_entry j {x} p u = go (eqb j 3) (eqb j 4) (eqb j 5) refl refl refl
       where
-        into : {i : ℕ} → Inside t e.entry.ready.count Own (owner t l) (cell t l i) → j ≡ i → Entry t r x g d
-        into h q = beside e.entry (p ∙ ap (cell t l) q) h
+        into : {i : ℕ} → Within t e.entry.ready.count Own (cell t l i) → j ≡ i → Entry t r x g d
+        into h q = enter e.entry (p ∙ ap (cell t l) q) h
 
         go : (a b c : Bool) → eqb j 3 ≡ a → eqb j 4 ≡ b → eqb j 5 ≡ c → Entry t r x g d
         go true b c q _ _ =
@@ -129,45 +122,22 @@ module _ {t r : List ℤ} {l : ℕ} {g : Arguments} {d : ℕ} where
 
   pub branch_entry : Entered clause.Choice t r l g d → (y : ℤ) {x : ℕ} → x ≡ branch_of t l y → Entry t r x g d
   unfolding Leads
-  branch_entry e y p = beside e.entry p ((has e).1 y)
+  branch_entry e y p = enter e.entry p ((has e).1 y)
 
-  -- an argument counts
-  pub argument_place_lem : {i : ℕ} → Entered (clause.Argument i) t r l g d → (1 ≤ i) × (i ≤ 2) × (i ≤ g.count)
+  -- at any depth that is allowed
+  pub body_entry : {k : ℕ} → Entered (clause.Call k) t r l g d → {x z : ℕ} {y : ℤ} → z ≡ target t l → x ≡ field_b t z → nat_abs y ≤ number_limit
+      → {d' : ℕ} → d' ≤ depth_limit → Entry t r x (one_argument y) d'
   unfolding Leads
-  argument_place_lem {i} e = (argument_low (kind t l) i e.of, argument_high (kind t l) i e.of, omega (arith, has e, e.entry.given.counted))
+  body_entry e {x} {z} p q h s =
+      let b = enter e.entry (q ∙ ap (field_b t) p) (has e).1 in
+      record { ready = b.ready; line = b.line; given = h; shallow = s; reached = b.reached }
 
-  -- ---- a call of n arguments
-
-  module _ {n : ℕ} (e : Entered (clause.Call n) t r l g d) where
-    to : CallLeads t e.entry.ready.count e.entry.ready.accepted (From t (owner t l)) (Reaches t (owner t l)) (from_closed t (owner t l)) n l
-    unfolding Leads
-    to = has e
-
-    pub arguments_most : n ≤ 2
-    arguments_most = call_most (kind t l) n e.of
-
-    -- the argument after i others, where the code finds it
-    module _ (i : ℕ) (h : i < n) where
-      pub argument_is : {x : ℕ} → x ≡ cell t l (3 + i) → x ≡ argument_of t l i
-      argument_is p = p ∙ go i (omega (arith, arguments_most))
-        where
-          go : (i : ℕ) → i < 2 → cell t l (3 + i) ≡ argument_of t l i
-          go zero h = refl
-          go (suc zero) h = refl
-          go (suc (suc i)) h = absurd (omega arith)
-
-      pub argument_entry : {x : ℕ} → x ≡ cell t l (3 + i) → Entry t r x g d
-      argument_entry p = beside e.entry (argument_is p) (to.arguments i h)
-
-    pub body_cell : {z : ℕ} → z ≡ target t l → Cell t z 4
-    body_cell p =
-        let q = e.entry.ready in
-        let b = body_label t q.count q.accepted (target t l) to.has in
-        subst (λ (x : ℕ). Cell t x 4) (sym p) (cell_ok t q.count q.accepted (target t l) 4 b.0 b.1 (omega arith) (λ _ x. omega arith))
-
-    -- the body, given n arguments, at any depth that is allowed
-    pub body_entry : {x z : ℕ} → z ≡ target t l → x ≡ field_b t z → {h : Arguments} → Ranged h → h.count ≡ n → {d' : ℕ} → d' ≤ depth_limit → Entry t r x h d'
-    body_entry p q i f s = enter e.entry (q ∙ ap (field_b t) p) to.body (record { ranged = i; counted = f ∙ sym to.takes }) s
+  pub body_cell : {k : ℕ} → Entered (clause.Call k) t r l g d → {z : ℕ} → z ≡ target t l → Cell t z 4
+  unfolding Leads
+  body_cell e {z} p =
+      let q = e.entry.ready in
+      let b = body_label t q.count q.accepted (target t l) (has e).2 in
+      subst (λ (x : ℕ). Cell t x 4) (sym p) (cell_ok t q.count q.accepted (target t l) 4 b.0 b.1 (omega arith) (λ _ x. omega arith))
 
   -- the target is a value that the definition reaches
   pub read_asks : Entered clause.Read t r l g d → Cell t l 7 × ResultsRoom r (target t l) × Recorded 1 r (target t l)
@@ -180,14 +150,6 @@ module _ {t r : List ℤ} {l : ℕ} {g : Arguments} {d : ℕ} where
         record { low = b.0; room = omega (arith, b.1, q.room) },
         reached_recorded q e.entry.reached (target t l) h.0 h.1,
       )
-
--- by a clause that is the same
-pub leaf_kind : {t r : List ℤ} {l : ℕ} {g : Arguments} {k k' : Clause} → LeafEntered k t r l g → k ≡ k' → LeafEntered k' t r l g
-leaf_kind e x = record { depth = e.depth; entered = record { entry = e.entered.entry; of = e.entered.of ∙ x } }
-
--- at a depth that is the same
-pub at_depth : {t r : List ℤ} {l : ℕ} {g : Arguments} {d d' : ℕ} → d' ≡ d → Entry t r l g d → Entry t r l g d'
-at_depth p e = record { ready = e.ready; line = e.line; given = e.given; shallow = rw p e.shallow; reached = e.reached }
 
 -- ---- after an operand
 
@@ -212,12 +174,12 @@ module _ {t r : List ℤ} {v : ℕ} (e : Evaluable t r v) where
   value_room = record { low = label.0; room = omega (arith, label.1, e.ready.room) }
 
   pub value_entry : {x : ℕ} → x ≡ field_b t v → Entry t r x nothing 0
-  value_entry {x} p =
-      let b = body_inside t e.ready.count e.ready.accepted (From t v) (Reaches t v) (from_closed t v) v (rw e.value value_body) (inl refl) in
+  value_entry p =
+      let b = body_within t e.ready.count e.ready.accepted (From t v) (Reaches t v) (from_closed t v) v (rw e.value value_body) (inl refl) in
       record {
         ready = e.ready;
-        line = subst (λ (n : ℕ). ExpressionAt t e.ready.count n) (sym p) b.within.line;
-        given = given_same t x (ap (owner t) p ∙ b.owned) (given_value t v e.value);
+        line = subst (λ (n : ℕ). ExpressionAt t e.ready.count n) (sym p) b.line;
+        given = omega arith;
         shallow = omega arith;
-        reached = subst (λ (n : ℕ). ReachedEvaluated t r (owner t n)) (sym p) (handed_on t r v (owner t (field_b t v)) b.within.owned e.reached);
+        reached = subst (λ (n : ℕ). ReachedEvaluated t r (owner t n)) (sym p) (handed_on t r v (owner t (field_b t v)) b.owned e.reached);
       }

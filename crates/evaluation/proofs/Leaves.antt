@@ -1,33 +1,27 @@
 -- What the proofs of the leaves cite.
 use mathlib.Core.Path.{◌≡◌, sym, ap, ◌∙◌}
 use mathlib.Core.Bool.{true, false}
-use mathlib.Core.List.{List, [], ◌∷◌}
+use mathlib.Core.List.{List}
 use Prim.Native.Nat.{ℕ, zero, suc, ◌+◌, ◌-◌, ◌*◌, ◌^◌, ◌≤◌, ◌<◌}
 use native.Mathlib.Omega.{arith}
 use borrow.Author.Rules.{sfits_of}
-use borrow.Author.Tests.{eq-eqb, ne_eqb, le-leb}
+use borrow.Author.Tests.{eq-eqb, ne_eqb}
 use lib.Dec.{T}
 use lib.IntN.{ℤ, nat_abs}
 use lib.Signed.{mag, non_neg}
 use mir.Syntax.{w64}
 use mir.Val.{Fits, to_z, of_z}
 use Rattle.cells.specs.Cells.{is_negative, equals, nat_of, int_at}
-use Rattle.cells.specs.Table.{cell, field_b, field_c, target, line_number}
+use Rattle.cells.specs.Table.{cell, field_b, field_c}
 use Rattle.cells.proofs.Signed.{whole, cast_ok, cast_is}
 use Rattle.cells.proofs.Table.{cell_at}
 use Rattle.numbers.specs.declared.Calculated.{Calculated}
 use Rattle.numbers.specs.declared.Calculated.TheVariants as calculation
 use Rattle.evaluation.specs.States.{has_number, out_of_range, zero_divisor}
 use Rattle.evaluation.specs.Results.{state_at, number_at}
-use Rattle.evaluation.specs.Arguments.{Arguments, argument_at}
-use Rattle.evaluation.specs.Evaluation.{gives, fails, answer_at, argument_by, outcome_of, branch_of}
-use Rattle.evaluation.specs.Ready.{Cell, leaf_by}
+use Rattle.evaluation.specs.Evaluation.{gives, fails, answer_at, outcome_of, branch_of}
+use Rattle.evaluation.specs.Ready.{Cell}
 use Rattle.evaluation.specs.declared.Outcome.{Outcome}
-use Rattle.kinds.specs.declared.Clause.{Clause}
-use Rattle.kinds.specs.declared.Clause.TheVariants as clause
-use Rattle.kinds.specs.contracts.Clause as tags
-use types.Run.{OneOf, miss}
-use denote.Enum.Declared.{tag_of}
 
 -- ---- a cell read as a natural number
 
@@ -87,30 +81,3 @@ outcome_range s e q = rw e q
 pub outcome_zero : {c : Calculated} {o : Outcome} (s : ℕ) → c ≡ calculation.ZeroDivisor → o ≡ fails zero_divisor s → o ≡ outcome_of c s
 unfolding outcome_of
 outcome_zero s e q = rw e q
-
--- ---- a clause without operands
-
-module _ (t r : List ℤ) (l : ℕ) (g : Arguments) (s : ℕ) where
-  pub leaf_number : {k : Clause} {y : ℤ} {o : Outcome} → k ≡ clause.Number → y ≡ line_number t l → o ≡ gives y s → o ≡ leaf_by t r k l g s
-  unfolding leaf_by
-  leaf_number e p q = rw e (rw p at q)
-
-  pub leaf_argument : {k : Clause} {i : ℕ} {y : ℤ} {o : Outcome} → k ≡ clause.Argument i → i ≤ g.count → y ≡ argument_at g i → o ≡ gives y s → o ≡ leaf_by t r k l g s
-  unfolding leaf_by argument_by
-  leaf_argument {i = i} e h p q = rw (e, le-leb i g.count h) (rw p at q)
-
-  pub leaf_read : {k : Clause} {o : Outcome} → k ≡ clause.Read → o ≡ answer_at r (target t l) s → o ≡ leaf_by t r k l g s
-  unfolding leaf_by
-  leaf_read e q = rw e q
-
--- what an arm `_` leaves: the clauses of a definition and of an expression with operands, by their tags
-pub leaf_none : (t r : List ℤ) (k : Clause) (l : ℕ) (g : Arguments) (s : ℕ) {o : Outcome} → OneOf (0 ∷ 4 ∷ 5 ∷ 6 ∷ []) (tag_of tags.the_type k) → o ≡ fails 0 s
-    → o ≡ leaf_by t r k l g s
-unfolding leaf_by
-leaf_none t r clause.None l g s h q = q
-leaf_none t r clause.Number l g s h q = absurd (miss (0 ∷ 4 ∷ 5 ∷ 6 ∷ []) 1 tt h)
-leaf_none t r (clause.Argument i) l g s h q = absurd (miss (0 ∷ 4 ∷ 5 ∷ 6 ∷ []) 2 tt h)
-leaf_none t r clause.Read l g s h q = absurd (miss (0 ∷ 4 ∷ 5 ∷ 6 ∷ []) 3 tt h)
-leaf_none t r (clause.Call n) l g s h q = q
-leaf_none t r (clause.Operation op) l g s h q = q
-leaf_none t r clause.Choice l g s h q = q

@@ -1,4 +1,3 @@
-pub mod Arguments
 pub mod Steps
 pub mod Closure
 pub mod Range
@@ -7,5 +6,3 @@ pub mod Stored
 pub mod Leaves
 pub mod Entries
 mod Answers
-mod Calls
-pub mod Rules

@@ -16,12 +16,12 @@ use Rattle.cells.specs.Accepted.{Accepted}
 use Rattle.cells.specs.Reaches.{Reaches}
 use Rattle.numbers.specs.declared.Arithmetic.{Arithmetic}
 use Rattle.evaluation.specs.Results.{state_at, number_at}
-use Rattle.evaluation.specs.Evaluation.{answer_at, entered_by, step_by, outcome, step_limit, value_outcome}
-use Rattle.evaluation.specs.Arguments.{Arguments, nothing, argument_of}
+use Rattle.evaluation.specs.Evaluation.{answer_at, entered_by, step_by, outcome, nothing, step_limit, value_outcome}
+use Rattle.evaluation.specs.declared.Arguments.{Arguments}
 use Rattle.kinds.specs.declared.Clause.{Clause}
 use Rattle.kinds.specs.declared.Clause.TheVariants as clause
 use Rattle.evaluation.proofs.Steps.{Agreed, Asks, entered_agreed, unrolled, left_less}
-use Rattle.evaluation.proofs.Closure.{Within, From, from_closed, Leads, leads, body_inside}
+use Rattle.evaluation.proofs.Closure.{Within, From, from_closed, Leads, leads, body_within}
 
 -- what evaluation reads of line x is the same in two tables; its name and its owner are not read
 pub record SameLine (t t' : List ℤ) (x : ℕ) : Type 0 where
@@ -49,10 +49,6 @@ module _ (α : Arithmetic) (t t' r r' : List ℤ) (n : ℕ) (w : Accepted t n) (
   same : (x : ℕ) → Own x → SameLine t t' x
   same x o = lines x (inr o.owned)
 
-  same_argument : (l : ℕ) → Own l → (i : ℕ) → argument_of t l i ≡ argument_of t' l i
-  same_argument l o zero = (same l o).first
-  same_argument l o (suc i) = (same l o).second
-
   same_answer : (x x' s : ℕ) → x ≡ x' → SameAnswer r r' x → answer_at r x s ≡ answer_at r' x' s
   unfolding answer_at
   same_answer x x' s e a = rw (← e, a.state, a.number)
@@ -62,11 +58,11 @@ module _ (α : Arithmetic) (t t' r r' : List ℤ) (n : ℕ) (w : Accepted t n) (
   asks clause.Number l o q = (same l o).number
   asks (clause.Argument i) l o q = tt
   asks clause.Read l o q = λ s. same_answer (target t l) (target t' l) s (same l o).aim (answers (target t l) q.0 q.1)
-  asks (clause.Call k) l o q =
-      ((λ i h. ((q.arguments i h).within, same_argument l o i)), (q.body.within, (lines (target t l) (inl q.of)).second ∙ ap (field_b t') (same l o).aim))
-  asks (clause.Operation op) l o q = ((q.0.within, (same l o).first), (q.1.within, (same l o).second))
+  asks (clause.Call n) l o q =
+      ((q.0, (same l o).first), (q.1, (lines (target t l) (inl q.3)).second ∙ ap (field_b t') (same l o).aim))
+  asks (clause.Operation op) l o q = ((q.0, (same l o).first), (q.1, (same l o).second))
   asks clause.Choice l o q =
-      ((q.0.within, (same l o).first), λ y. ((q.1 y).within, λ i. cond (equals 0 y) ((same l o).third i) ((same l o).second i)))
+      ((q.0, (same l o).first), λ y. (q.1 y, λ i. cond (equals 0 y) ((same l o).third i) ((same l o).second i)))
   asks clause.None l o q = absurd q
 
   none : (l : ℕ) (g : Arguments) (d : ℕ) → Agreed 0 (outcome α t r l g 0 d) (outcome α t' r' l g 0 d)
@@ -94,7 +90,7 @@ module _ (α : Arithmetic) (t t' r r' : List ℤ) (n : ℕ) (w : Accepted t n) (
   unfolding value_outcome
   value_local k =
       (up_to step_limit (field_b t v) nothing step_limit 0
-      (body_inside t n w (From t v) (Reaches t v) (from_closed t v) v (rw k value_body) (inl refl)).within (le_refl step_limit)).same
+      (body_within t n w (From t v) (Reaches t v) (from_closed t v) v (rw k value_body) (inl refl)) (le_refl step_limit)).same
       ∙ ap (λ x. outcome α t' r' x nothing step_limit 0) (lines v (inl (inl refl))).second
 
 -- one table: the results count through the stored answers of the values that v reaches

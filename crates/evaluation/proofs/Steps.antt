@@ -3,10 +3,10 @@
 use mathlib.Core.Path.{◌≡◌, refl, ap, ◌∙◌}
 use mathlib.Core.Bool.{Bool, true, false, cond}
 use mathlib.Core.List.{List}
-use Prim.Native.Nat.{ℕ, zero, suc, ◌+◌, ◌≤◌, ◌<◌}
+use Prim.Native.Nat.{ℕ, zero, suc, ◌+◌, ◌≤◌}
 use native.Mathlib.Omega.{arith}
 use native.Mathlib.Nat.{le_refl}
-use lib.Dec.{eqb, leb}
+use lib.Dec.{eqb}
 use lib.IntN.{ℤ}
 use Rattle.kinds.specs.Kinds.{clause_of}
 use Rattle.cells.specs.Table.{kind, field_a, field_b, target, line_number}
@@ -16,10 +16,9 @@ use Rattle.numbers.specs.declared.Calculated.TheVariants as calculation
 use Rattle.numbers.specs.declared.Arithmetic.{Arithmetic}
 use Rattle.evaluation.specs.States.{has_number, out_of_steps}
 use Rattle.evaluation.specs.Results.{state_at, number_at}
-use Rattle.evaluation.specs.Evaluation.{Way, gives, fails, on_number, unless_failed, answer_at, outcome_of, step_limit, depth_limit, argument_by, body_by, call_after, operation_by, branch_of}
+use Rattle.evaluation.specs.Evaluation.{Way, gives, fails, on_number, unless_failed, answer_at, outcome_of, step_limit, depth_limit, body_by, call_by, operation_by, branch_of}
 use Rattle.evaluation.specs.Evaluation.{choice_by, entered_by, step_by, with_fuel, outcome, value_outcome, evaluated}
-use Rattle.evaluation.specs.Arguments.{Arguments, nothing, passing, argument_at, argument_of}
-use Rattle.evaluation.proofs.Arguments.{passing_count}
+use Rattle.evaluation.specs.declared.Arguments.{Arguments}
 use Rattle.kinds.specs.declared.Clause.{Clause}
 use Rattle.kinds.specs.declared.Clause.TheVariants as clause
 use Rattle.evaluation.specs.declared.Outcome.{Outcome}
@@ -43,12 +42,7 @@ unless_agreed {s} {o} {o'} {k} {k'} a f =
         record { same = x.same; less = omega (arith, x.less, a.less) }
     by false = record { same = refl; less = a.less }
 
--- an argument, a stored answer and a calculation take no step
-argument_left : (b : Bool) (y : ℤ) (s : ℕ) → (argument_by b y s).left ≡ s
-unfolding argument_by
-argument_left true y s = refl
-argument_left false y s = refl
-
+-- a stored answer and a calculation take no step
 answer_left : (r : List ℤ) (l s : ℕ) → (answer_at r l s).left ≡ s
 unfolding answer_at
 answer_left r l s = by (eqb (state_at r l) has_number)
@@ -75,7 +69,7 @@ module _ (t t' r r' : List ℤ) (P : ℕ → Type 0) where
   Asks clause.Number l = line_number t l ≡ line_number t' l
   Asks (clause.Argument i) l = Unit {0}
   Asks clause.Read l = (s : ℕ) → answer_at r (target t l) s ≡ answer_at r' (target t' l) s
-  Asks (clause.Call n) l = ((i : ℕ) → i < n → Same P (argument_of t l i) (argument_of t' l i)) × Same P (field_b t (target t l)) (field_b t' (target t' l))
+  Asks (clause.Call n) l = Same P (field_a t l) (field_a t' l) × Same P (field_b t (target t l)) (field_b t' (target t' l))
   Asks (clause.Operation op) l = Same P (field_a t l) (field_a t' l) × Same P (field_b t l) (field_b t' l)
   Asks clause.Choice l = Same P (field_a t l) (field_a t' l) × ((y : ℤ) → Same P (branch_of t l y) (branch_of t' l y))
   Asks clause.None l = Unit {0}
@@ -86,25 +80,17 @@ module _ (t t' r r' : List ℤ) (P : ℕ → Type 0) where
         let b = a l g n d p.0 h in
         record { same = b.same ∙ ap (λ x. rec' x g n d) p.1; less = b.less }
 
-    -- a call of any number of arguments
-    call_agreed : (n : ℕ) (h : Arguments) (l : ℕ) (g : Arguments) (m d : ℕ) → m ≤ s → ((i : ℕ) → i < h.count + n → Same P (argument_of t l i) (argument_of t' l i))
-        → Same P (field_b t (target t l)) (field_b t' (target t' l)) → Agreed m (call_after h n rec t l g m d) (call_after h n rec' t' l g m d)
-    unfolding call_after body_by
-    call_agreed zero h l g m d i q b = by (eqb d depth_limit)
-      where
-        by : (e : Bool) → Agreed m (body_by e h rec t l m d) (body_by e h rec' t' l m d)
-        by true = record { same = refl; less = le_refl m }
-        by false = at _ _ h m (d + 1) b i
-    call_agreed (suc n) h l g m d i q b =
-        unless_agreed (at _ _ g m d (q h.count (omega arith)) i)
-        (λ y k j. call_agreed n (passing h y) l g k d (omega arith) (λ x z. q x (omega (arith, passing_count h y))) b)
-
     pub entered_agreed : (k : Clause) (l : ℕ) (g : Arguments) (d : ℕ) → Asks k l → Agreed s (entered_by α rec t r k l g s d) (entered_by α rec' t' r' k l g s d)
-    unfolding Asks entered_by operation_by choice_by
+    unfolding Asks entered_by call_by body_by operation_by choice_by
     entered_agreed clause.Number l g d q = record { same = ap (λ y. gives y s) q; less = le_refl s }
-    entered_agreed (clause.Argument i) l g d q = record { same = refl; less = omega (arith, argument_left (leb i g.count) (argument_at g i) s) }
+    entered_agreed (clause.Argument i) l g d q = record { same = refl; less = le_refl s }
     entered_agreed clause.Read l g d q = record { same = q s; less = omega (arith, answer_left r (target t l) s) }
-    entered_agreed (clause.Call n) l g d q = call_agreed n nothing l g s d (le_refl s) (λ i h. q.0 i (omega arith)) q.1
+    entered_agreed (clause.Call n) l g d q =
+        unless_agreed (at _ _ g s d q.0 (le_refl s)) (λ y m h. by y m h (eqb d depth_limit))
+      where
+        by : (y : ℤ) (m : ℕ) → m ≤ s → (b : Bool) → Agreed m (body_by b rec t l y m d) (body_by b rec' t' l y m d)
+        by y m h true = record { same = refl; less = le_refl m }
+        by y m h false = at _ _ _ m (d + 1) q.1 h
     entered_agreed (clause.Operation op) l g d q =
         unless_agreed (at _ _ g s d q.0 (le_refl s))
         (λ y m h. unless_agreed (at _ _ g m d q.1 h)
@@ -123,7 +109,7 @@ unfolding Asks
 asks t r clause.Number l = refl
 asks t r (clause.Argument i) l = tt
 asks t r clause.Read l = λ s. refl
-asks t r (clause.Call n) l = ((λ i h. (tt, refl)), (tt, refl))
+asks t r (clause.Call n) l = ((tt, refl), (tt, refl))
 asks t r (clause.Operation op) l = ((tt, refl), (tt, refl))
 asks t r clause.Choice l = ((tt, refl), λ y. (tt, refl))
 asks t r clause.None l = tt

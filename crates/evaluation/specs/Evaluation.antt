@@ -1,6 +1,6 @@
--- Document 01, "Working out", and what order 6 of document 02 adds, by open recursion: each rule is told how the expressions inside are evaluated, and `with_fuel` alone
+-- Document 01, "Working out", by open recursion: each rule is told how the expressions inside are evaluated, and `with_fuel` alone
 -- counts entries, so that the recursion ends. The rules are the same for any arithmetic α: what two operands give is its own to say.
-use Rattle.std.specs.Prelude.{Bool, true, false, cond, List, ℕ, zero, suc, ◌+◌, ◌-◌, eqb, leb, ℤ, pos}
+use Rattle.std.specs.Prelude.{Bool, true, false, cond, List, ℕ, zero, suc, ◌+◌, ◌-◌, eqb, ℤ, pos}
 use Rattle.kinds.specs.Kinds.{clause_of}
 use Rattle.kinds.specs.declared.Operation.{Operation}
 use Rattle.kinds.specs.declared.Clause.{Clause}
@@ -11,7 +11,7 @@ use Rattle.numbers.specs.Arithmetic.{calculated}
 use Rattle.numbers.specs.declared.Arithmetic.{Arithmetic}
 use Rattle.numbers.specs.declared.Calculated.{Calculated}
 use Rattle.numbers.specs.declared.Calculated.TheVariants as calculation
-use Rattle.evaluation.specs.Arguments.{Arguments, nothing, passing, argument_at, argument_of}
+use Rattle.evaluation.specs.declared.Arguments.{Arguments}
 use Rattle.evaluation.specs.declared.Outcome.{Outcome}
 use Rattle.evaluation.specs.declared.Value.{Value}
 use Rattle.evaluation.specs.States.{has_number, out_of_range, zero_divisor, out_of_steps, too_deep}
@@ -56,24 +56,18 @@ depth_limit = 64
 abbrev pub Way : Type 0
 Way = ℕ → Arguments → ℕ → ℕ → Outcome
 
--- "P the argument", "Y the second argument": one that counts, and in a sheet that reads no other is ever asked for
-unfoldable pub argument_by : Bool → ℤ → ℕ → Outcome
-argument_by true y s = gives y s
-argument_by false y s = fails 0 s
+-- what C hands to the body of its target
+abbrev pub one_argument : ℤ → Arguments
+one_argument y = record { first = y }
 
--- "at depth 64 the state is then 5, else the target's body is worked out one deeper", and K "goes one deeper as C does"
-unfoldable pub body_by : Bool → Arguments → Way → List ℤ → ℕ → ℕ → ℕ → Outcome
-body_by true h rec t l s d = fails too_deep s
-body_by false h rec t l s d = rec (field_b t (target t l)) h s (d + 1)
+-- "at depth 64 the state is then 5, else the target's body is worked out one deeper"
+unfoldable pub body_by : Bool → Way → List ℤ → ℕ → ℤ → ℕ → ℕ → Outcome
+body_by true rec t l y s d = fails too_deep s
+body_by false rec t l y s d = rec (field_b t (target t l)) (one_argument y) s (d + 1)
 
--- a call, after the arguments that h holds: the n that are still to come, in turn, then the body
-unfoldable pub call_after : Arguments → ℕ → Way → List ℤ → Way
-call_after h zero rec t l g s d = body_by (eqb d depth_limit) h rec t l s d
-call_after h (suc n) rec t l g s d = unless_failed (rec (argument_of t l h.count) g s d) (λ y s'. call_after (passing h y) n rec t l g s' d)
-
--- "C works out its argument" first, K both of its own: a call of n arguments
-abbrev pub call_by : ℕ → Way → List ℤ → Way
-call_by n rec t l g s d = call_after nothing n rec t l g s d
+-- "C works out its argument" first
+unfoldable pub call_by : Way → List ℤ → Way
+call_by rec t l g s d = unless_failed (rec (field_a t l) g s d) (λ y s'. body_by (eqb d depth_limit) rec t l y s' d)
 
 -- "A, S, M, D work out a, then b."
 unfoldable pub operation_by : Arithmetic → Way → List ℤ → Operation → Way
@@ -92,9 +86,9 @@ choice_by rec t l g s d = unless_failed (rec (field_a t l) g s d) (λ y s'. rec 
 -- an expression that has been entered, by the clause of its kind; a definition has none, and in a sheet that reads none is ever entered
 unfoldable pub entered_by : Arithmetic → Way → List ℤ → List ℤ → Clause → Way
 entered_by α rec t r clause.Number l g s d = gives (line_number t l) s
-entered_by α rec t r (clause.Argument i) l g s d = argument_by (leb i g.count) (argument_at g i) s
+entered_by α rec t r (clause.Argument i) l g s d = gives g.first s
 entered_by α rec t r clause.Read l g s d = answer_at r (target t l) s
-entered_by α rec t r (clause.Call n) l g s d = call_by n rec t l g s d
+entered_by α rec t r (clause.Call n) l g s d = call_by rec t l g s d
 entered_by α rec t r (clause.Operation op) l g s d = operation_by α rec t op l g s d
 entered_by α rec t r clause.Choice l g s d = choice_by rec t l g s d
 entered_by α rec t r clause.None l g s d = fails 0 s
@@ -116,6 +110,9 @@ unfoldable pub outcome : Arithmetic → List ℤ → List ℤ → Way
 outcome α t r l g s d = with_fuel α s t r l g s d
 
 -- ---- a value
+
+abbrev pub nothing : Arguments
+nothing = record { first = pos 0 }
 
 -- "Each V starts with a fresh allowance of 20,000 steps at call depth 0": its body, from the results stored so far
 unfoldable pub value_outcome : Arithmetic → List ℤ → List ℤ → ℕ → Outcome

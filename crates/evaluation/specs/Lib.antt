@@ -1,5 +1,4 @@
 pub mod States
 pub mod Results
-pub mod Arguments
 pub mod Evaluation
 pub mod Ready

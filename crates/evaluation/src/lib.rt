@@ -1,13 +1,12 @@
-// Evaluation of a sheet's values, document 01's "Working out" and what order 6 adds to it. Cells are read where they stand, by labels that `Entry`
+// Evaluation of a sheet's values, document 01's "Working out". Cells are read where they stand, by labels that `Entry`
 // knows to be the table's, so that no read needs a test.
-ghost use Rattle.std.specs.Prelude.{◌≡◌, ◌+◌, ◌-◌, ◌*◌, ◌≤◌, ◌<◌, eqb, length, nat_abs};
+ghost use Rattle.std.specs.Prelude.{◌≡◌, ◌-◌, ◌*◌, ◌≤◌, ◌<◌, length, nat_abs};
 ghost use Rattle.cells.specs.Table.{cell, line_number, target};
 ghost use Rattle.cells.specs.Limits.{number_limit};
 ghost use Rattle.evaluation.specs.Results.{store, Recorded};
-ghost use Rattle.evaluation.specs.Evaluation.{gives, fails, answer_at, outcome_of, step_limit, depth_limit, branch_of, body_by, call_by, operation_by, choice_by, outcome, evaluated};
-ghost use Rattle.evaluation.specs.Arguments.{argument_at};
+ghost use Rattle.evaluation.specs.Evaluation.{gives, fails, answer_at, outcome_of, step_limit, branch_of, call_by, operation_by, choice_by, outcome, evaluated};
 ghost use Rattle.numbers.specs.Arithmetic.{calculated};
-ghost use Rattle.evaluation.specs.Ready.{arguments_in, leaf_by, Entry, Entered, EnteredBody, LeafEntered, Cell, ResultsRoom, Evaluable};
+ghost use Rattle.evaluation.specs.Ready.{Entry, Entered, EnteredCall, Cell, ResultsRoom, Evaluable};
 
 use cells::nat_of;
 use kinds::{Clause, Operation};
@@ -43,9 +42,11 @@ pub struct Value {
     pub steps: u32,
 }
 
-// What a call hands to the body of its target, in three cells: two arguments, and how many of them count. It is lent, and no struct:
-// one word is passed on at each entry, where a struct would be copied, and a reference to a struct has no proof but by hand.
-type ArgumentCells = [i64; 3];
+// What a call hands to the body of its target.
+#[derive(Drop)]
+pub struct Arguments {
+    pub first: i64,
+}
 
 // What a value may still use: steps left, and how deep its calls have gone. The arithmetic that it is evaluated by goes with
 // them: eight bytes are passed in one register, and a parameter more would not be.
@@ -74,34 +75,17 @@ impl Allowance {
         }
     }
 
-    // With these steps left, at the same depth.
-    pub fn after(self, left: u32) -> Self
-        ensures { (result.left ≡ left) × (result.depth ≡ self.depth) × (result.arithmetic ≡ self.arithmetic) }
-    {
-        let arithmetic = self.arithmetic;
-        Allowance {
-            left: left,
-            depth: self.depth,
-            arithmetic: arithmetic,
-        }
-    }
-
-    // With these steps left, one deeper.
-    pub fn deeper(self, left: u32) -> Self
-        requires { self.depth < depth_limit }
-        ensures { (result.left ≡ left) × (result.depth ≡ self.depth + 1) × (result.arithmetic ≡ self.arithmetic) }
-    {
-        let mut next = self.after(left);
-        next.depth = self.depth + 1;
-        next
-    }
-
     // Takes one step.
     pub fn step(self) -> Self
         requires { 0 < self.left }
         ensures { (result.left ≡ self.left - 1) × (result.depth ≡ self.depth) × (result.arithmetic ≡ self.arithmetic) }
     {
-        self.after(self.left - 1)
+        let arithmetic = self.arithmetic;
+        Allowance {
+            left: self.left - 1,
+            depth: self.depth,
+            arithmetic: arithmetic,
+        }
     }
 }
 
@@ -198,55 +182,19 @@ fn combine(arithmetic: Arithmetic, op: Operation, a: i64, b: i64, left: u32) -> 
     outcome_of(numbers::calculate(arithmetic, op, a, b), left)
 }
 
-// ---- arguments
-
-// Where the record has the number of arguments that count.
-const COUNTED: usize = 2;
-
-// The argument at a place, from 1.
-fn argument_at(given: &ArgumentCells, place: usize) -> i64
-    requires { (1 ≤ place) × (place ≤ 2) }
-    ensures { result ≡ argument_at (arguments_in given.now) place }
-{
-    given[place - 1]
-}
-
-// ---- an expression without operands
-
-// A number, an argument or a stored answer; a definition is never entered.
-fn leaf(
-    table: &[i64],
-    results: &[i64],
-    clause: Clause,
-    label: usize,
-    given: &ArgumentCells,
-    left: u32,
-) -> Outcome
-    requires { LeafEntered clause table.now results.now label (arguments_in given.now) }
-    ensures { result ≡ leaf_by table.now results.now clause label (arguments_in given.now) left }
-{
-    match clause {
-        Clause::Number => success(number_of(table, label), left),
-        Clause::Argument(place) => success(argument_at(given, place), left),
-        Clause::Read => read(table, results, label, left),
-        _ => failure(0, left),
-    }
-}
-
 // ---- the cycle
 
 // An expression: takes a step and goes by the clause of its kind.
-#[cycle(call_choice_enter_expression_operand_operation)]
+#[cycle(call_choice_expression_operation)]
 fn expression(
     table: &[i64],
     results: &[i64],
     label: usize,
-    given: &ArgumentCells,
+    given: Arguments,
     allowance: Allowance,
 ) -> Outcome
-    requires { Entry table.now results.now label (arguments_in given.now) allowance.depth }
-    ensures { result ≡ outcome allowance.arithmetic table.now results.now label (arguments_in given.now)
-        allowance.left allowance.depth }
+    requires { Entry table.now results.now label given allowance.depth }
+    ensures { result ≡ outcome allowance.arithmetic table.now results.now label given allowance.left allowance.depth }
 {
     let left = allowance.left;
     if left == 0 {
@@ -256,135 +204,89 @@ fn expression(
     let code = field(table, label, cells::KIND);
     let clause = kinds::clause_of(code);
     match clause {
-        Clause::Call(count) => call(table, results, count, label, given, rest),
+        Clause::Number => success(number_of(table, label), rest.left),
+        Clause::Argument(_) => success(given.first, rest.left),
+        Clause::Read => read(table, results, label, rest.left),
+        Clause::Call(_) => call(table, results, label, given, rest),
         Clause::Operation(op) => operation(table, results, op, label, given, rest),
         Clause::Choice => choice(table, results, label, given, rest),
-        _ => leaf(table, results, clause, label, given, rest.left),
+        Clause::None => failure(0, rest.left),
     }
 }
 
-// An operand: most have no operands of their own, and are not worth a call of `expression`.
-#[cycle(call_choice_enter_expression_operand_operation)]
-fn operand(
-    table: &[i64],
-    results: &[i64],
-    label: usize,
-    given: &ArgumentCells,
-    allowance: Allowance,
-) -> Outcome
-    requires { Entry table.now results.now label (arguments_in given.now) allowance.depth }
-    ensures { result ≡ outcome allowance.arithmetic table.now results.now label (arguments_in given.now)
-        allowance.left allowance.depth }
+// A call: its argument, then the body of its target one deeper.
+#[cycle(call_choice_expression_operation)]
+fn call(table: &[i64], results: &[i64], label: usize, given: Arguments, rest: Allowance) -> Outcome
+    requires { EnteredCall table.now results.now label given rest.depth }
+    ensures { result ≡ call_by (outcome rest.arithmetic table.now results.now) table.now label given rest.left rest.depth }
 {
-    let steps = allowance.left;
-    if steps == 0 {
-        return failure(OUT_OF_STEPS, 0);
+    let argument = field(table, label, cells::A);
+    let first = expression(table, results, argument, given, rest);
+    if first.state != NUMBER {
+        return failure(first.state, first.left);
     }
-    let code = field(table, label, cells::KIND);
-    let clause = kinds::clause_of(code);
-    match clause {
-        Clause::Number => leaf(table, results, clause, label, given, steps - 1),
-        Clause::Argument(_) => leaf(table, results, clause, label, given, steps - 1),
-        Clause::Read => leaf(table, results, clause, label, given, steps - 1),
-        _ => expression(table, results, label, given, allowance),
-    }
-}
-
-// A call of `count` arguments: these in turn, then the body of its target one deeper.
-#[cycle(call_choice_enter_expression_operand_operation)]
-fn call(
-    table: &[i64],
-    results: &[i64],
-    count: usize,
-    label: usize,
-    given: &ArgumentCells,
-    rest: Allowance,
-) -> Outcome
-    requires { Entered (Clause.Call count) table.now results.now label (arguments_in given.now) rest.depth }
-    ensures { result ≡ call_by count (outcome rest.arithmetic table.now results.now) table.now label
-        (arguments_in given.now) rest.left rest.depth }
-{
-    let mut passed: ArgumentCells = [0, 0, 0];
-    let mut left = rest.left;
-    let mut k: usize = 0;
-    while k < count {
-        let argument = field(table, label, cells::A + k);
-        let o = expression(table, results, argument, given, rest.after(left));
-        if o.state != NUMBER {
-            return failure(o.state, o.left);
-        }
-        let number = o.number;
-        passed[k] = number;
-        left = o.left;
-        k += 1;
-    }
-    let counted = k as i64;
-    passed[COUNTED] = counted;
-    enter(table, results, label, &passed, rest.after(left))
-}
-
-// The body of a call's target, one deeper.
-#[cycle(call_choice_enter_expression_operand_operation)]
-fn enter(
-    table: &[i64],
-    results: &[i64],
-    label: usize,
-    passed: &ArgumentCells,
-    rest: Allowance,
-) -> Outcome
-    requires { EnteredBody table.now results.now label (arguments_in passed.now) rest.depth }
-    ensures { result ≡ body_by (eqb rest.depth depth_limit) (arguments_in passed.now) (outcome rest.arithmetic table.now results.now)
-        table.now label rest.left rest.depth }
-{
     let depth = rest.depth;
     if depth == Allowance::DEPTH {
-        return failure(TOO_DEEP, rest.left);
+        return failure(TOO_DEEP, first.left);
     }
     let target = field(table, label, cells::TARGET);
     let body = field(table, target, cells::B);
-    expression(table, results, body, passed, rest.deeper(rest.left))
+    let passed = Arguments {
+        first: first.number,
+    };
+    let arithmetic = rest.arithmetic;
+    let deeper = Allowance {
+        left: first.left,
+        depth: depth + 1,
+        arithmetic: arithmetic,
+    };
+    expression(table, results, body, passed, deeper)
 }
 
 // A sum, difference, product or quotient: a, then b.
-#[cycle(call_choice_enter_expression_operand_operation)]
+#[cycle(call_choice_expression_operation)]
 fn operation(
     table: &[i64],
     results: &[i64],
     op: Operation,
     label: usize,
-    given: &ArgumentCells,
+    given: Arguments,
     rest: Allowance,
 ) -> Outcome
-    requires { Entered (Clause.Operation op) table.now results.now label (arguments_in given.now) rest.depth }
+    requires { Entered (Clause.Operation op) table.now results.now label given rest.depth }
     ensures { result ≡ operation_by rest.arithmetic (outcome rest.arithmetic table.now results.now)
-        table.now op label (arguments_in given.now) rest.left rest.depth }
+        table.now op label given rest.left rest.depth }
 {
     let a = field(table, label, cells::A);
-    let first = operand(table, results, a, given, rest);
+    let first = expression(table, results, a, given, rest);
     if first.state != NUMBER {
         return failure(first.state, first.left);
     }
     let b = field(table, label, cells::B);
-    let second = operand(table, results, b, given, rest.after(first.left));
+    let arithmetic = rest.arithmetic;
+    let next = Allowance {
+        left: first.left,
+        depth: rest.depth,
+        arithmetic: arithmetic,
+    };
+    let second = expression(table, results, b, given, next);
     if second.state != NUMBER {
         return failure(second.state, second.left);
     }
-    let arithmetic = rest.arithmetic;
     combine(arithmetic, op, first.number, second.number, second.left)
 }
 
 // A choice: its test, then one branch only.
-#[cycle(call_choice_enter_expression_operand_operation)]
+#[cycle(call_choice_expression_operation)]
 fn choice(
     table: &[i64],
     results: &[i64],
     label: usize,
-    given: &ArgumentCells,
+    given: Arguments,
     rest: Allowance,
 ) -> Outcome
-    requires { Entered Clause.Choice table.now results.now label (arguments_in given.now) rest.depth }
-    ensures { result ≡ choice_by (outcome rest.arithmetic table.now results.now) table.now label
-        (arguments_in given.now) rest.left rest.depth }
+    requires { Entered Clause.Choice table.now results.now label given rest.depth }
+    ensures { result ≡ choice_by (outcome rest.arithmetic table.now results.now) table.now label given rest.left rest.depth }
 {
     let tested = field(table, label, cells::A);
     let test = expression(table, results, tested, given, rest);
@@ -392,7 +294,13 @@ fn choice(
         return failure(test.state, test.left);
     }
     let branch = branch_of(table, label, test.number);
-    expression(table, results, branch, given, rest.after(test.left))
+    let arithmetic = rest.arithmetic;
+    let next = Allowance {
+        left: test.left,
+        depth: rest.depth,
+        arithmetic: arithmetic,
+    };
+    expression(table, results, branch, given, next)
 }
 
 // ---- a value
@@ -403,8 +311,8 @@ pub fn evaluate(arithmetic: Arithmetic, table: &[i64], results: &[i64], label: u
     ensures { result ≡ evaluated arithmetic table.now results.now label }
 {
     let body = field(table, label, cells::B);
-    let none: ArgumentCells = [0, 0, 0];
-    let o = expression(table, results, body, &none, Allowance::fresh(arithmetic));
+    let none = Arguments { first: 0 };
+    let o = expression(table, results, body, none, Allowance::fresh(arithmetic));
     Value {
         number: o.number,
         state: o.state,

@@ -22,10 +22,10 @@ use Rattle.order.proofs.Evaluating.{run_append, run_fits, run_other}
 use Rattle.numbers.specs.declared.Arithmetic.{Arithmetic}
 use Rattle.evaluation.specs.Results.{stored, Recorded}
 use Rattle.evaluation.specs.Ready.{Ready, Evaluable}
-use Rattle.evaluation.specs.Arguments.{Arguments}
+use Rattle.evaluation.specs.declared.Arguments.{Arguments}
 use Rattle.kinds.specs.declared.Clause.{Clause}
 use Rattle.kinds.specs.declared.Clause.TheVariants as clause
-use Rattle.evaluation.proofs.Closure.{Within, From, from_closed, Leads, leads, body_inside}
+use Rattle.evaluation.proofs.Closure.{Within, From, from_closed, Leads, leads, body_within}
 use Rattle.evaluation.proofs.Stored.{ready_zeros, evaluated_own, recorded_still, ready_stored}
 use Rattle.figures.specs.Figures.{figures, result_cells, evaluate_into}
 use Rattle.figures.specs.Entered.{GoesBy, first_outcome, Enters, itself, argument, body, first, second, test, branch, EntersRead, NeverEarly}
@@ -48,18 +48,18 @@ module _ (t : List ℤ) (n : ℕ) (ok : Accepted t n) (v : ℕ) where
   entered_own : (α : Arithmetic) (r : List ℤ) (x : ℕ) {l : ℕ} {g : Arguments} {s d : ℕ} → Enters α t r x l g s d → Own l → Own x
   unfolding Leads
   entered_own α r x itself o = o
-  entered_own α r x (argument l k h m e p c i) o = entered_own α r x i ((leading (clause.Call k) l e o).arguments h.count c).within
-  entered_own α r x (body l k h m e p c d i) o = entered_own α r x i (leading (clause.Call k) l e o).body.within
-  entered_own α r x (first l op e i) o = entered_own α r x i (leading (clause.Operation op) l e o).0.within
-  entered_own α r x (second l op e f i) o = entered_own α r x i (leading (clause.Operation op) l e o).1.within
-  entered_own α r x (test l e i) o = entered_own α r x i (leading clause.Choice l e o).0.within
-  entered_own α r x (branch l e f i) o = entered_own α r x i ((leading clause.Choice l e o).1 (first_outcome α t r l _ _ _).number).within
+  entered_own α r x (argument l k e i) o = entered_own α r x i (leading (clause.Call k) l e o).0
+  entered_own α r x (body l k e f d i) o = entered_own α r x i (leading (clause.Call k) l e o).1
+  entered_own α r x (first l op e i) o = entered_own α r x i (leading (clause.Operation op) l e o).0
+  entered_own α r x (second l op e f i) o = entered_own α r x i (leading (clause.Operation op) l e o).1
+  entered_own α r x (test l e i) o = entered_own α r x i (leading clause.Choice l e o).0
+  entered_own α r x (branch l e f i) o = entered_own α r x i ((leading clause.Choice l e o).1 (first_outcome α t r l _ _ _).number)
 
   -- so an R that is entered reads a value that v reaches
   pub entered_read : (α : Arithmetic) (r : List ℤ) (x : ℕ) → kind t v ≡ value_code → EntersRead α t r v x → (kind t (target t x) ≡ value_code) × Reaches t v (target t x)
   unfolding Leads
   entered_read α r x k e =
-      leading clause.Read x e.read (entered_own α r x e.entered (body_inside t n ok (From t v) (Reaches t v) (from_closed t v) v (rw k value_body) (inl refl)).within)
+      leading clause.Read x e.read (entered_own α r x e.entered (body_within t n ok (From t v) (Reaches t v) (from_closed t v) v (rw k value_body) (inl refl)))
 
 -- ---- down a proper order
 

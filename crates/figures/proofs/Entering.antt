@@ -12,14 +12,13 @@ use Rattle.kinds.specs.Kinds.{clause_of}
 use Rattle.cells.specs.Table.{kind, field_a, field_b, target}
 use Rattle.numbers.specs.declared.Arithmetic.{Arithmetic}
 use Rattle.evaluation.specs.States.{has_number}
-use Rattle.evaluation.specs.Evaluation.{answer_at, on_number, unless_failed, depth_limit, step_limit, body_by, call_after, operation_by, choice_by, entered_by, step_by, outcome, value_outcome}
-use Rattle.evaluation.specs.Arguments.{Arguments, nothing, passing, argument_of}
-use Rattle.evaluation.proofs.Arguments.{passing_count}
+use Rattle.evaluation.specs.Evaluation.{answer_at, on_number, unless_failed, depth_limit, step_limit, body_by, call_by, operation_by, choice_by, entered_by, step_by, outcome, nothing, value_outcome}
+use Rattle.evaluation.specs.declared.Arguments.{Arguments}
 use Rattle.kinds.specs.declared.Clause.{Clause}
 use Rattle.kinds.specs.declared.Clause.TheVariants as clause
 use Rattle.evaluation.specs.declared.Outcome.{Outcome}
 use Rattle.evaluation.proofs.Steps.{unrolled, left_less}
-use Rattle.figures.specs.Entered.{GoesBy, first_outcome, next_outcome, Passes, none, next, Enters, itself, argument, body, first, second, test, branch, EntersRead}
+use Rattle.figures.specs.Entered.{GoesBy, first_outcome, FirstNumber, Enters, itself, argument, body, first, second, test, branch, EntersRead}
 
 unless_same : (o o' : Outcome) (k k' : ℤ → ℕ → Outcome) → o ≡ o' → (o.state ≡ has_number → k o.number o.left ≡ k' o.number o.left)
     → unless_failed o k ≡ unless_failed o' k'
@@ -40,27 +39,19 @@ module _ (α : Arithmetic) (t r r' : List ℤ) where
     less : (first_outcome α t r l g s d).left ≤ s
     less = left_less α t r (field_a t l) g s d
 
-    -- a call of k arguments, after those that h holds
-    call_same : (k n : ℕ) (h : Arguments) (m : ℕ) → GoesBy t (clause.Call k) l → Passes α t r l g s d h m → h.count + n ≡ k → m ≤ s
-        → call_after h n (outcome α t r) t l g m d ≡ call_after h n (outcome α t r') t l g m d
-    unfolding call_after body_by
-    call_same k zero h m e p c i = deeper (eqb d depth_limit) refl
-      where
-        deeper : (b : Bool) → eqb d depth_limit ≡ b → body_by b h (outcome α t r) t l m d ≡ body_by b h (outcome α t r') t l m d
-        deeper true q = refl
-        deeper false q = rec (field_b t (target t l)) h m (d + 1) i (λ x a j. f x a (body l k h m e p (omega arith) (eqb-false d depth_limit q) j))
-    call_same k (suc n) h m e p c i =
-        unless_same _ _ _ _ (rec (argument_of t l h.count) g m d i (λ x a j. f x a (argument l k h m e p (omega arith) j)))
-        (λ q. let o = next_outcome α t r l g h m d in
-        call_same k n (passing h o.number) o.left e (next p q) (omega (arith, passing_count h o.number))
-        (omega (arith, left_less α t r (argument_of t l h.count) g m d)))
-
     entered_same : (k : Clause) → GoesBy t k l → entered_by α (outcome α t r) t r k l g s d ≡ entered_by α (outcome α t r') t r' k l g s d
-    unfolding entered_by operation_by choice_by
+    unfolding entered_by call_by body_by operation_by choice_by
     entered_same clause.Number e = refl
     entered_same (clause.Argument i) e = refl
     entered_same clause.Read e = f l e itself s
-    entered_same (clause.Call k) e = call_same k k nothing s e none (omega arith) (le_refl s)
+    entered_same (clause.Call n) e =
+        unless_same _ _ _ _ (rec (field_a t l) g s d (le_refl s) (λ x h i. f x h (argument l n e i))) (λ c. deeper c (eqb d depth_limit) refl)
+      where
+        deeper : FirstNumber α t r l g s d → (b : Bool) → eqb d depth_limit ≡ b
+            → body_by b (outcome α t r) t l (first_outcome α t r l g s d).number (first_outcome α t r l g s d).left d ≡ body_by b (outcome α t r') t l (first_outcome α t r l g s d).number
+            (first_outcome α t r l g s d).left d
+        deeper c true q = refl
+        deeper c false q = rec (field_b t (target t l)) _ _ (d + 1) less (λ x h i. f x h (body l n e c (eqb-false d depth_limit q) i))
     entered_same (clause.Operation op) e =
         unless_same _ _ _ _ (rec (field_a t l) g s d (le_refl s) (λ x h i. f x h (first l op e i)))
         (λ c. unless_same _ _ _ _ (rec (field_b t l) g _ d less (λ x h i. f x h (second l op e c i))) (λ _. refl))
@@ -69,15 +60,15 @@ module _ (α : Arithmetic) (t r r' : List ℤ) where
         (λ c. rec _ g _ d less (λ x h i. f x h (branch l e c i)))
     entered_same clause.None e = refl
 
-  spent : (l : ℕ) (g : Arguments) (d : ℕ) → outcome α t r l g 0 d ≡ outcome α t r' l g 0 d
+  none : (l : ℕ) (g : Arguments) (d : ℕ) → outcome α t r l g 0 d ≡ outcome α t r' l g 0 d
   unfolding step_by
-  spent l g d = sym (unrolled α t r l g 0 d) ∙ unrolled α t r' l g 0 d
+  none l g d = sym (unrolled α t r l g 0 d) ∙ unrolled α t r' l g 0 d
 
   -- by the steps left, which fall at each entry
   up_to : (b : ℕ) (l : ℕ) (g : Arguments) (s d : ℕ) → s ≤ b → SameFound l g s d → outcome α t r l g s d ≡ outcome α t r' l g s d
   unfolding step_by
-  up_to zero l g zero d h f = spent l g d
-  up_to (suc b) l g zero d h f = spent l g d
+  up_to zero l g zero d h f = none l g d
+  up_to (suc b) l g zero d h f = none l g d
   up_to zero l g (suc s) d h f = absurd (omega arith)
   up_to (suc b) l g (suc s) d h f =
       sym (unrolled α t r l g (suc s) d)

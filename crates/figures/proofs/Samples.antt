@@ -7,7 +7,7 @@ use Rattle.kinds.specs.Kinds.{kinds, kind_at, clause_of}
 use Rattle.numbers.specs.Rounding.{rounded, quotient}
 use Rattle.numbers.specs.Arithmetic.{ranged_of, result, calculated}
 use Rattle.numbers.specs.declared.Arithmetic.TheVariants.{HalvesAway}
-use Rattle.evaluation.specs.Evaluation.{on_number, answer_at, outcome_of, argument_by, body_by, call_after, operation_by, choice_by, entered_by, step_by, with_fuel, outcome, value_outcome}
+use Rattle.evaluation.specs.Evaluation.{on_number, answer_at, outcome_of, body_by, call_by, operation_by, choice_by, entered_by, step_by, with_fuel, outcome, value_outcome}
 use Rattle.figures.specs.Figures.{after_rounds, result_cells}
 
 -- a line: its kind, a, b, owner and target, before the lines that follow
@@ -30,6 +30,5 @@ table =
 
 failure_passed_on : result_cells HalvesAway table 12 36
     ≡ no (has 3 (pos 0) 3 (no (no (no (no (no (no (no (has 3 (pos 0) 5 (no (no [])))))))))))
-unfolding after_rounds rounded quotient ranged_of result calculated on_number answer_at outcome_of kinds kind_at clause_of argument_by body_by call_after
-    operation_by choice_by entered_by step_by with_fuel outcome value_outcome
+unfolding after_rounds rounded quotient ranged_of result calculated on_number answer_at outcome_of kinds kind_at clause_of body_by call_by operation_by choice_by entered_by step_by with_fuel outcome value_outcome
 failure_passed_on = refl

@@ -1,14 +1,14 @@
 -- "A value read before it has been worked out puts another prism on the block": what it means that none is.
-use Rattle.std.specs.Prelude.{◌≡◌, List, ◌∷◌, ◌++◌, ℕ, suc, ◌+◌, ◌<◌, ℤ}
+use Rattle.std.specs.Prelude.{◌≡◌, List, ◌∷◌, ◌++◌, ℕ, suc, ◌+◌, ℤ}
 use Rattle.kinds.specs.Kinds.{clause_of}
 use Rattle.cells.specs.Table.{kind, field_a, field_b, target}
 use Rattle.kinds.specs.declared.Operation.{Operation}
 use Rattle.order.specs.Evaluating.{down}
 use Rattle.numbers.specs.declared.Arithmetic.{Arithmetic}
 use Rattle.evaluation.specs.States.{has_number}
-use Rattle.evaluation.specs.Arguments.{Arguments, nothing, passing, argument_of}
-use Rattle.evaluation.specs.Evaluation.{branch_of, depth_limit, step_limit, outcome}
+use Rattle.evaluation.specs.Evaluation.{branch_of, depth_limit, step_limit, one_argument, outcome, nothing}
 use Rattle.evaluation.specs.Results.{Recorded}
+use Rattle.evaluation.specs.declared.Arguments.{Arguments}
 use Rattle.kinds.specs.declared.Clause.{Clause}
 use Rattle.kinds.specs.declared.Clause.TheVariants as clause
 use Rattle.evaluation.specs.declared.Outcome.{Outcome}
@@ -18,33 +18,21 @@ use Rattle.figures.specs.Figures.{evaluate_into}
 abbrev pub GoesBy : List ℤ → Clause → ℕ → Type 0
 GoesBy t k l = clause_of (kind t l) ≡ k
 
--- what field a of line l comes to, the first operand or test; and that it is a number
+-- what field a of line l comes to, the argument, first operand or test; and that it is a number
 abbrev pub first_outcome : Arithmetic → List ℤ → List ℤ → ℕ → Arguments → ℕ → ℕ → Outcome
 first_outcome α t r l g s d = outcome α t r (field_a t l) g s d
 
 abbrev pub FirstNumber : Arithmetic → List ℤ → List ℤ → ℕ → Arguments → ℕ → ℕ → Type 0
 FirstNumber α t r l g s d = (first_outcome α t r l g s d).state ≡ has_number
 
--- what the next argument of call l comes to, after those that h holds
-abbrev pub next_outcome : Arithmetic → List ℤ → List ℤ → ℕ → Arguments → Arguments → ℕ → ℕ → Outcome
-next_outcome α t r l g h s d = outcome α t r (argument_of t l h.count) g s d
-
--- Evaluating call l with s steps left has given numbers for its first arguments, those that h holds, with some steps left.
-pub data Passes (α : Arithmetic) (t r : List ℤ) (l : ℕ) (g : Arguments) (s d : ℕ) : Arguments → ℕ → Type 0 where
-  none : Passes α t r l g s d nothing s
-  next : {h : Arguments} {m : ℕ} → Passes α t r l g s d h m → (next_outcome α t r l g h m d).state ≡ has_number
-      → Passes α t r l g s d (passing h (next_outcome α t r l g h m d).number) (next_outcome α t r l g h m d).left
-
 -- Evaluating expression l from results r, with arguments g, some steps left and at depth d, enters expression x: it is l itself, or
 -- entered in evaluating what l's rule evaluates.
 pub data Enters (α : Arithmetic) (t r : List ℤ) (x : ℕ) : ℕ → Arguments → ℕ → ℕ → Type 0 where
   itself : {g : Arguments} {s d : ℕ} → Enters α t r x x g (suc s) d
-  -- "C works out its argument; at depth 64 the state is then 5, else the target's body is worked out one deeper"; K has "a and b
-  -- arguments, worked out in that order", and "goes one deeper as C does"
-  argument : (l k : ℕ) (h : Arguments) (m : ℕ) {g : Arguments} {s d : ℕ} → GoesBy t (clause.Call k) l → Passes α t r l g s d h m → h.count < k
-      → Enters α t r x (argument_of t l h.count) g m d → Enters α t r x l g (suc s) d
-  body : (l k : ℕ) (h : Arguments) (m : ℕ) {g : Arguments} {s d : ℕ} → GoesBy t (clause.Call k) l → Passes α t r l g s d h m → h.count ≡ k → (d ≡ depth_limit → ⊥)
-      → Enters α t r x (field_b t (target t l)) h m (d + 1) → Enters α t r x l g (suc s) d
+  -- "C works out its argument; at depth 64 the state is then 5, else the target's body is worked out one deeper"
+  argument : (l k : ℕ) {g : Arguments} {s d : ℕ} → GoesBy t (clause.Call k) l → Enters α t r x (field_a t l) g s d → Enters α t r x l g (suc s) d
+  body : (l k : ℕ) {g : Arguments} {s d : ℕ} → GoesBy t (clause.Call k) l → FirstNumber α t r l g s d → (d ≡ depth_limit → ⊥)
+      → Enters α t r x (field_b t (target t l)) (one_argument (first_outcome α t r l g s d).number) (first_outcome α t r l g s d).left (d + 1) → Enters α t r x l g (suc s) d
   -- "A, S, M, D work out a, then b"
   first : (l : ℕ) (op : Operation) {g : Arguments} {s d : ℕ} → GoesBy t (clause.Operation op) l → Enters α t r x (field_a t l) g s d → Enters α t r x l g (suc s) d
   second : (l : ℕ) (op : Operation) {g : Arguments} {s d : ℕ} → GoesBy t (clause.Operation op) l → FirstNumber α t r l g s d

@@ -56,15 +56,14 @@ module _ (c : ℕ) where
   unfolding operand_c clause_of kinds
   c_uses = rw (expression_row c) (by_rows (λ k. expresses k && is_operand_form k.fields.c) (λ k. (uses_of k.clause).c) refl refl c)
 
--- ---- what else a row holds by its clause: an N has its code, an R leads to a V, a call to what takes as many arguments as it hands on,
--- one or two; an argument is the first or the second
+-- ---- what else a row holds by its clause: an N has its code, an R leads to a V, a call to what takes as many arguments as it hands on
 
 abbrev told : ℕ → Kind → Clause → Bool
 told c k clause.None = true
 told c k clause.Number = eqb c number_code
-told c k (clause.Argument i) = leb 1 i && leb i 2
+told c k (clause.Argument i) = true
 told c k clause.Read = eqb k.wanted value_code
-told c k (clause.Call n) = leb 1 n && (leb n 2 && eqb (kind_at k.wanted).takes n)
+told c k (clause.Call n) = leb 1 n && eqb (kind_at k.wanted).takes n
 told c k (clause.Operation op) = true
 told c k clause.Choice = true
 
@@ -80,32 +79,16 @@ module _ (c : ℕ) where
   unfolding wanted_by
   read_value e = eqb-true (wanted_by c) value_code (subst (λ x. told c (kind_at c) x ≡ true) e told_each)
 
-  module _ (i : ℕ) (e : clause_of c ≡ clause.Argument i) where
-    told_argument : (leb 1 i && leb i 2) ≡ true
-    told_argument = subst (λ x. told c (kind_at c) x ≡ true) e told_each
-
-    pub argument_low : 1 ≤ i
-    argument_low = leb-true 1 i (and_left (leb 1 i) (leb i 2) told_argument)
-
-    pub argument_high : i ≤ 2
-    argument_high = leb-true i 2 (and_right (leb 1 i) (leb i 2) told_argument)
-
   module _ (n : ℕ) (e : clause_of c ≡ clause.Call n) where
-    told_call : (leb 1 n && (leb n 2 && eqb (takes (wanted_by c)) n)) ≡ true
+    told_call : (leb 1 n && eqb (takes (wanted_by c)) n) ≡ true
     unfolding wanted_by takes
     told_call = subst (λ x. told c (kind_at c) x ≡ true) e told_each
 
-    within : (leb n 2 && eqb (takes (wanted_by c)) n) ≡ true
-    within = and_right (leb 1 n) (leb n 2 && eqb (takes (wanted_by c)) n) told_call
-
     pub call_some : 1 ≤ n
-    call_some = leb-true 1 n (and_left (leb 1 n) (leb n 2 && eqb (takes (wanted_by c)) n) told_call)
-
-    pub call_most : n ≤ 2
-    call_most = leb-true n 2 (and_left (leb n 2) (eqb (takes (wanted_by c)) n) within)
+    call_some = leb-true 1 n (and_left (leb 1 n) (eqb (takes (wanted_by c)) n) told_call)
 
     pub call_takes : takes (wanted_by c) ≡ n
-    call_takes = eqb-true (takes (wanted_by c)) n (and_right (leb n 2) (eqb (takes (wanted_by c)) n) within)
+    call_takes = eqb-true (takes (wanted_by c)) n (and_right (leb 1 n) (eqb (takes (wanted_by c)) n) told_call)
 
 -- what an arm `_` leaves: all clauses but an argument's, by their tags
 pub no_place : (x : Clause) → OneOf (0 ∷ 1 ∷ 3 ∷ 4 ∷ 5 ∷ 6 ∷ []) (tag_of tags.the_type x) → place_in x ≡ 0

@@ -6,7 +6,7 @@ use Prim.Native.Nat.{ℕ, zero, suc, ◌+◌, ◌-◌, ◌≤◌, ◌<◌}
 use native.Mathlib.Numerals.{add-one}
 use native.Mathlib.Omega.{arith}
 use native.Mathlib.Decide.{ℕ_discrete}
-use borrow.Author.Tests.{le-leb, eq-eqb, ne_eqb, eqb-true, eqb-false}
+use borrow.Author.Tests.{le-leb, eq-eqb, ne_eqb}
 use lib.Dec.{leb, eqb}
 use lib.ListN.{length, get_or, drop, drop_of_length-le, get_or-map}
 use lib.Seq.{drop-cons}
@@ -15,10 +15,10 @@ use Rattle.kinds.specs.declared.Clause.TheVariants as clause
 use Rattle.kinds.specs.declared.Form.{Form}
 use Rattle.kinds.specs.declared.Form.TheVariants.{Missing, Name, Path, Group, Operand, Number}
 use Rattle.kinds.specs.Kinds.{Kind, kinds, no_kind, kind_at, code_in, code_of, fields_at, is_kind, is_operand_form, is_definition, is_expression, has_body, clause_of, place_in}
-use Rattle.kinds.specs.Kinds.{argument_place, wanted_by, takes, group_code, value_code, function_code, number_code, binary_code}
+use Rattle.kinds.specs.Kinds.{argument_place, wanted_by, takes, group_code, value_code, number_code}
 use Rattle.kinds.proofs.Tests.{clash}
 use Rattle.kinds.proofs.Rows.{every, implies, by_rule, by_rows}
-use Rattle.kinds.proofs.Laws.{defines, kinds_length, kind_low, kind_high, body_definition, rest_expression, not_expression}
+use Rattle.kinds.proofs.Laws.{defines, kinds_length, kind_low, kind_high, body_definition}
 use Rattle.kinds.proofs.Clauses.{uses_of, expression_uses}
 
 -- ---- the row of a code
@@ -33,12 +33,12 @@ fields_from_lem c h = get_or-map (λ k. k.fields) kinds (c - 1) no_kind ∙ sym 
 
 -- ---- the code of a letter
 
-pub code_within : (c : ℕ) → 1 ≤ c → c ≤ 15 → is_kind c ≡ true
+pub code_within : (c : ℕ) → 1 ≤ c → c ≤ 12 → is_kind c ≡ true
 unfolding is_kind
 code_within c h g = rw (le-leb 1 c h, le-leb c (length kinds) (omega (arith, kinds_length)))
 
 -- the rows from code c on
-module _ (c letter : ℕ) (low : 1 ≤ c) (high : c ≤ 15) where
+module _ (c letter : ℕ) (low : 1 ≤ c) (high : c ≤ 12) where
   rows_from : drop (c - 1) kinds ≡ kind_at c ∷ drop c kinds
   rows_from =
       let q : suc (c - 1) ≡ c = omega arith in
@@ -54,7 +54,7 @@ module _ (c letter : ℕ) (low : 1 ≤ c) (high : c ≤ 15) where
       let q : c + 1 - 1 ≡ c = omega arith in
       rw (rows_from, ne_eqb (fields_at c).letter letter e, q, add-one c)
 
-pub letter_none : (c letter : ℕ) → 15 < c → code_in (drop (c - 1) kinds) c letter ≡ 0
+pub letter_none : (c letter : ℕ) → 12 < c → code_in (drop (c - 1) kinds) c letter ≡ 0
 letter_none c letter h = let g : length kinds ≤ c - 1 = omega (arith, kinds_length) in rw (drop_of_length-le kinds g)
 
 -- it is the code of a kind, or 0
@@ -126,24 +126,24 @@ pub other_place : (c : ℕ) → is_expression c ≡ false → argument_place c �
 other_place c e = ap place_in (no_clause (clause_of c) (sym (expression_uses c) ∙ e))
 
 module _ (c : ℕ) where
-  pub other_definition : Other (13 ∷ 3 ∷ 2 ∷ 1 ∷ []) c → is_definition c ≡ false
+  pub other_definition : Other (3 ∷ 2 ∷ 1 ∷ []) c → is_definition c ≡ false
   unfolding is_definition kinds
-  other_definition h = other defines (13 ∷ 3 ∷ 2 ∷ 1 ∷ []) refl refl c h
+  other_definition h = other defines (3 ∷ 2 ∷ 1 ∷ []) refl refl c h
 
-  pub other_clause : Other (15 ∷ 14 ∷ 12 ∷ 11 ∷ 10 ∷ 9 ∷ 8 ∷ 7 ∷ 6 ∷ 5 ∷ 4 ∷ []) c → clause_of c ≡ clause.None
+  pub other_clause : Other (12 ∷ 11 ∷ 10 ∷ 9 ∷ 8 ∷ 7 ∷ 6 ∷ 5 ∷ 4 ∷ []) c → clause_of c ≡ clause.None
   unfolding clause_of kinds
-  other_clause h = no_clause (clause_of c) (other (λ k. (uses_of k.clause).some) (15 ∷ 14 ∷ 12 ∷ 11 ∷ 10 ∷ 9 ∷ 8 ∷ 7 ∷ 6 ∷ 5 ∷ 4 ∷ []) refl refl c h)
+  other_clause h = no_clause (clause_of c) (other (λ k. (uses_of k.clause).some) (12 ∷ 11 ∷ 10 ∷ 9 ∷ 8 ∷ 7 ∷ 6 ∷ 5 ∷ 4 ∷ []) refl refl c h)
 
-  pub other_last : is_kind c ≡ true → Other (14 ∷ 13 ∷ 12 ∷ 11 ∷ 10 ∷ 9 ∷ 8 ∷ 7 ∷ 6 ∷ 5 ∷ 4 ∷ 3 ∷ 2 ∷ 1 ∷ []) c → c ≡ 15
-  other_last e h = last_of 14 c (kind_low c e) (omega (arith, kind_high c e, kinds_length)) h
+  pub other_last : is_kind c ≡ true → Other (11 ∷ 10 ∷ 9 ∷ 8 ∷ 7 ∷ 6 ∷ 5 ∷ 4 ∷ 3 ∷ 2 ∷ 1 ∷ []) c → c ≡ 12
+  other_last e h = last_of 11 c (kind_low c e) (omega (arith, kind_high c e, kinds_length)) h
 
-  pub other_wanted : Other (14 ∷ 7 ∷ 6 ∷ []) c → wanted_by c ≡ 0
+  pub other_wanted : Other (7 ∷ 6 ∷ []) c → wanted_by c ≡ 0
   unfolding wanted_by kinds
-  other_wanted h = none_left (wanted_by c) (other (λ k. leb 1 k.wanted) (14 ∷ 7 ∷ 6 ∷ []) refl refl c h)
+  other_wanted h = none_left (wanted_by c) (other (λ k. leb 1 k.wanted) (7 ∷ 6 ∷ []) refl refl c h)
 
-  pub other_takes : Other (13 ∷ 3 ∷ []) c → takes c ≡ 0
+  pub other_takes : Other (3 ∷ []) c → takes c ≡ 0
   unfolding takes kinds
-  other_takes h = none_left (takes c) (other (λ k. leb 1 k.takes) (13 ∷ 3 ∷ []) refl refl c h)
+  other_takes h = none_left (takes c) (other (λ k. leb 1 k.takes) (3 ∷ []) refl refl c h)
 
 -- ---- only the field a of an N line is a number
 
@@ -195,52 +195,3 @@ number_expression = refl
 
 pub number_operand : is_operand_form (fields_at number_code).a ≡ false
 number_operand = ap is_operand_form number_form
-
--- neither is given an argument
-pub value_takes : takes value_code ≡ 0
-unfolding takes kind_at kinds
-value_takes = refl
-
-pub number_takes : takes number_code ≡ 0
-unfolding takes kind_at kinds
-number_takes = refl
-
--- ---- definitions by their codes: the first three, and one more
-
-module _ (c : ℕ) where
-  pub first_definition : 1 ≤ c → c ≤ function_code → is_definition c ≡ true
-  unfolding is_definition kind_at kinds
-  first_definition h g = go c h g
-    where
-      go : (c : ℕ) → 1 ≤ c → c ≤ 3 → is_definition c ≡ true
-      go zero h g = absurd (omega arith)
-      go (suc zero) h g = refl
-      go (suc (suc zero)) h g = refl
-      go (suc (suc (suc zero))) h g = refl
-      go (suc (suc (suc (suc k)))) h g = absurd (omega arith)
-
-  pub no_definition : function_code < c → (c ≡ binary_code → ⊥) → is_definition c ≡ false
-  no_definition h n = other_definition c ((((tt, λ e. omega arith), λ e. omega arith), λ e. omega arith), n)
-
-  pub binary_definition : c ≡ binary_code → is_definition c ≡ true
-  unfolding is_definition kind_at kinds
-  binary_definition e = rw e
-
-  pub late_definition : function_code < c → eqb c binary_code ≡ is_definition c
-  late_definition h = go (eqb c binary_code) refl
-    where
-      go : (b : Bool) → eqb c binary_code ≡ b → b ≡ is_definition c
-      go true e = sym (binary_definition (eqb-true c binary_code e))
-      go false e = sym (no_definition h (eqb-false c binary_code e))
-
-  -- and expressions: no other code up to the last
-  pub rest_is_expression : function_code < c → (c ≡ binary_code → ⊥) → leb c 15 ≡ is_expression c
-  rest_is_expression h n = rest_expression c (λ e. omega arith) (no_definition h n)
-
-  pub first_no_expression : c ≤ function_code → is_expression c ≡ false
-  unfolding is_expression is_kind
-  first_no_expression h = go c h (λ g. not_expression c (first_definition g h))
-    where
-      go : (c : ℕ) → c ≤ function_code → (1 ≤ c → is_expression c ≡ false) → is_expression c ≡ false
-      go zero h f = refl
-      go (suc k) h f = f (omega arith)

@@ -47,7 +47,7 @@ unfolding is_kind kind_at kinds all_named
 is_kind_lem zero = refl
 is_kind_lem (suc k) = rw (le-leb 1 (suc k) (omega arith)) (named_rows kinds k refl)
 
-pub kinds_length : length kinds ≡ 15
+pub kinds_length : length kinds ≡ 12
 unfolding kinds
 kinds_length = refl
 
@@ -113,9 +113,9 @@ module _ (c : ℕ) where
       go false = inr refl
 
   -- of the codes that are no definition's, those of the table are expressions
-  pub rest_expression : (c ≡ 0 → ⊥) → is_definition c ≡ false → leb c 15 ≡ is_expression c
+  pub rest_expression : (c ≡ 0 → ⊥) → is_definition c ≡ false → leb c 12 ≡ is_expression c
   unfolding is_expression is_kind
-  rest_expression h e = rw (le-leb 1 c (omega arith), e, kinds_length) (sym (and-true (leb c 15)))
+  rest_expression h e = rw (le-leb 1 c (omega arith), e, kinds_length) (sym (and-true (leb c 12)))
 
   -- ---- bodies and paths
 

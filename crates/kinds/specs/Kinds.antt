@@ -1,5 +1,5 @@
--- Document 01's one fixed table of kinds, twelve rows, and the three that order 6 of document 02 adds: which fields a kind has, and what
--- the papers say of the kind elsewhere. What a kind is is read off its row, by the names below the table.
+-- Document 01's one fixed table of twelve rows: which fields a kind has, and what the paper says of the kind elsewhere. What a kind is
+-- is read off its row, by the names below the table.
 use Rattle.std.specs.Prelude.{Bool, true, false, cond, not, ◌&&◌, List, [], ◌∷◌, ℕ, zero, suc, leb, eqb, length, get_or}
 use Prim.Native.Char.{code}
 use Rattle.kinds.specs.declared.Form.{Form}
@@ -51,11 +51,7 @@ function_code = 3
 abbrev pub number_code : ℕ
 number_code = 4
 
-abbrev pub binary_code : ℕ
-binary_code = 13
-
--- in the papers' order. Of order 6: "Kind H is a definition, a function of two (fields as F), K a call of two (path; a and b arguments,
--- worked out in that order), Y the second argument (fields as P), codes 13, 14, 15. K needs an H as C needs an F"
+-- in the paper's order
 unfoldable pub kinds : List Kind
 kinds =
     definition (code "G") Missing 0
@@ -70,9 +66,6 @@ kinds =
     ∷ expression (code "M") Operand Operand Missing (clause.Operation Product)
     ∷ expression (code "D") Operand Operand Missing (clause.Operation Quotient)
     ∷ expression (code "I") Operand Operand Operand clause.Choice
-    ∷ definition (code "H") Operand 2
-    ∷ path (code "K") Operand Operand binary_code (clause.Call 2)
-    ∷ expression (code "Y") Missing Missing Missing (clause.Argument 2)
     ∷ []
 
 -- what no code has
@@ -125,7 +118,7 @@ is_path_form Group = false
 is_path_form Operand = false
 is_path_form Number = false
 
--- "G, V and F lines are definitions", and H, the kinds whose field a is a Group; "the rest are expressions"
+-- "G, V and F lines are definitions", the kinds whose field a is a Group; "the rest are expressions"
 unfoldable pub is_definition : ℕ → Bool
 is_definition c = is_group_form (fields_at c).a
 

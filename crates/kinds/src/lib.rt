@@ -1,4 +1,4 @@
-// The papers' table of kinds, and what a kind is: the other crates ask here. The constant table holds the fields; the other columns of a
+// Document 01's table of kinds, and what a kind is: the other crates ask here. The constant table holds the fields; the other columns of a
 // row are matches on its code.
 
 ghost use Rattle.std.specs.Prelude.{◌≡◌, true};
@@ -52,7 +52,7 @@ pub enum Clause {
 
 // ---- the table
 
-// Kinds that have a name in the code: a Group, a value, a function of one number and of two, a number.
+// Kinds that have a name in the code: a Group, a value, a function.
 pub const GROUP: usize = 1;
 
 pub const VALUE: usize = 2;
@@ -61,12 +61,10 @@ pub const FUNCTION: usize = 3;
 
 pub const NUMBER: usize = 4;
 
-const BINARY: usize = 13;
-
 // How many kinds there are.
-const COUNT: usize = 15;
+const COUNT: usize = 12;
 
-// The one fixed table, document 01's twelve rows and order 6's three. A kind's code is the place of its row, from 1.
+// Document 01's one fixed table of twelve rows. A kind's code is the place of its row, from 1.
 const KINDS: [Fields; COUNT] = [
     Fields {
         letter: b'G',
@@ -152,27 +150,6 @@ const KINDS: [Fields; COUNT] = [
         b: Form::Operand,
         c: Form::Operand,
     },
-    Fields {
-        letter: b'H',
-        name: Form::Name,
-        a: Form::Group,
-        b: Form::Operand,
-        c: Form::Missing,
-    },
-    Fields {
-        letter: b'K',
-        name: Form::Path,
-        a: Form::Operand,
-        b: Form::Operand,
-        c: Form::Missing,
-    },
-    Fields {
-        letter: b'Y',
-        name: Form::Missing,
-        a: Form::Missing,
-        b: Form::Missing,
-        c: Form::Missing,
-    },
 ];
 
 // The row of the table with this code.
@@ -200,10 +177,7 @@ pub fn fields_of(code: usize) -> Fields
         9 => row_at(9),
         10 => row_at(10),
         11 => row_at(11),
-        12 => row_at(12),
-        13 => row_at(13),
-        14 => row_at(14),
-        _ => row_at(15),
+        _ => row_at(12),
     }
 }
 
@@ -224,33 +198,29 @@ pub fn code_of(letter: u8) -> usize
 
 // ---- the other columns of a row, by its code
 
-// Whether lines of this kind are definitions: the first three, and one more. A range is one comparison, and every pass over a table asks.
+// Whether lines of this kind are definitions.
 pub fn is_definition(code: usize) -> bool
     ensures { result ≡ is_definition code }
 {
-    if code == 0 {
-        return false;
+    match code {
+        GROUP => true,
+        VALUE => true,
+        FUNCTION => true,
+        _ => false,
     }
-    if code <= FUNCTION {
-        return true;
-    }
-    code == BINARY
 }
 
-// Whether they are expressions: the rest of the kinds, of which most come first.
+// Whether they are expressions: the rest of the kinds.
 pub fn is_expression(code: usize) -> bool
     ensures { result ≡ is_expression code }
 {
-    if FUNCTION < code {
-        if code < BINARY {
-            return true;
-        }
-        if code == BINARY {
-            return false;
-        }
-        return code <= COUNT;
+    if is_definition(code) {
+        return false;
     }
-    false
+    if code == 0 {
+        return false;
+    }
+    code <= COUNT
 }
 
 // The code of the kind that their path must end at; 0 where they have no path.
@@ -260,7 +230,6 @@ pub fn wanted_by(code: usize) -> usize
     match code {
         6 => VALUE,
         7 => FUNCTION,
-        14 => BINARY,
         _ => 0,
     }
 }
@@ -278,7 +247,6 @@ pub fn takes(code: usize) -> usize
 {
     match code {
         FUNCTION => 1,
-        BINARY => 2,
         _ => 0,
     }
 }
@@ -297,8 +265,6 @@ pub fn clause_of(code: usize) -> Clause
         10 => Clause::Operation(Operation::Product),
         11 => Clause::Operation(Operation::Quotient),
         12 => Clause::Choice,
-        14 => Clause::Call(2),
-        15 => Clause::Argument(2),
         _ => Clause::None,
     }
 }

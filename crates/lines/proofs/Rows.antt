@@ -77,12 +77,12 @@ module _ (n : ℕ) (s : List ℕ) (from : ℕ) (e : Ends) (f : FiveAt s from e) 
   pub kind_is : kind_code (field (fields_from s from) 0) ≡ code
   kind_is = rw f.are
 
-  row_is_lem : cells_by_fields n s from (fields_from s from)
+  row_is : cells_by_fields n s from (fields_from s from)
       ≡ cells_by_ends s e code
       (held (field_of (fields_at code).a n (slice (e.name + 1) e.a s)))
       (held (field_of (fields_at code).b n (slice (e.a + 1) e.b s)))
       (held (field_of (fields_at code).c n (slice (e.b + 1) e.c s)))
-  row_is_lem =
+  row_is =
       let l : length (slice from e.kind s) ≡ e.kind - from = length-slice from e.kind s (omega (arith, end_inside s from e f, f.wide1, f.wide2, f.wide3, f.wide4)) in
       let m : length (slice (e.kind + 1) e.name s) ≡ e.name - (e.kind + 1) = length-slice (e.kind + 1) e.name s (omega (arith, end_inside s from e f, f.wide2, f.wide3, f.wide4)) in
       let p : from + (length (slice from e.kind s) + 1 + 0) ≡ e.kind + 1 = omega (arith, f.wide0) in
@@ -116,7 +116,7 @@ module _ (n : ℕ) (s : List ℕ) (from : ℕ) (e : Ends) (f : FiveAt s from e) 
   row_right x a b c g h =
       let o = hold_operands (field_of (fields_at code).a n (slice (e.name + 1) e.a s)) (field_of (fields_at code).b n (slice (e.a + 1) e.b s))
       (field_of (fields_at code).c n (slice (e.b + 1) e.c s)) a b c h in
-      rw (row_is_lem, kind_is, forms_are, g, o.first, o.second, o.third)
+      rw (row_is, kind_is, forms_are, g, o.first, o.second, o.third)
 
   -- the same for what the code holds: the code and the kind that it looked up, and the row that it made
   module _ (found : ℕ) (k : Fields) (p : found ≡ code) (q : k ≡ fields_at found) where

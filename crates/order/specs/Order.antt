@@ -50,8 +50,7 @@ climbs t (suc k) p v = eqb v p || climbs t k p (owner t v)
 abbrev pub within : List ℤ → ℕ → ℕ → Bool
 within t p v = climbs t v p v
 
--- ---- "Definition d mentions e when an R or C owned by d has target e, both branches of I included. d reaches e by one or more mentions",
--- and order 6: "K mentions its target"
+-- ---- "Definition d mentions e when an R or C owned by d has target e, both branches of I included. d reaches e by one or more mentions"
 
 abbrev pub is_mention : List ℤ → ℕ → ℕ → ℕ → Bool
 is_mention t d e x = has_path t x && eqb (owner t x) d && eqb (target t x) e
@@ -124,7 +123,7 @@ block_values t n g b = filter (in_block t n g b) (values t n)
 abbrev pub several_plan : List ℤ → ℕ → ℕ → ℕ → List ℕ
 several_plan t n g b = placed (reaches t n) (block_values t n g b)
 
--- ---- "A block that is one Group is listed by this same rule inside"; a V lists itself, and F and H give nothing
+-- ---- "A block that is one Group is listed by this same rule inside"; a V lists itself, and F gives nothing
 
 abbrev pub listed : List ℤ → (ℕ → List ℕ) → ℕ → List ℕ
 listed t group p = cond (is_v t p) (p ∷ []) (cond (is_g t p) (group p) [])

@@ -13,7 +13,7 @@ use Rattle.text.specs.Pieces.{first_of}
 use Rattle.paths.specs.Names.{name_of, is_named, member}
 use Rattle.refusals.proofs.FirstBad.{first_same as same-found}
 use Rattle.paths.specs.Paths.{settled, head_from, below, descended, names_of, head_of, target_of, target_cell, duplicate_bad, path_head_bad, later_bad, target_bad, paths_bad}
-use Rattle.paths.specs.PathSteps.{path_row}
+use Rattle.paths.specs.TargetCells.{head_cell, target_by}
 use Rattle.paths.specs.Buckets.{Searchable, Allotted, bucket_at, in_bucket, last_below, LinkedBelow, AllLinked}
 use Rattle.paths.specs.Leads.{NamesApart}
 use Rattle.paths.proofs.FirstLabel.{first_same}
@@ -68,15 +68,18 @@ module _ (s : List ℕ) (t : List ℤ) (r : List ℕ) (u : List ℤ) (a : Like s
   head_like n x =
       rw (a.names x, a.owners x, a.owners (owner t x)) (settled_like n (first_of (names_of s t x)) (owner t (owner t x)) (owner t (owner t x)))
 
+  head_cell_like : (n x : ℕ) → head_cell r u n x ≡ head_cell s t n x
+  head_cell_like n x = rw (path_like x, head_like n x)
+
+  target_by_like : (n x head : ℕ) → target_by r u n x head ≡ target_by s t n x head
+  target_by_like n x head = rw (path_like x, a.names x, descended_like n (drop 1 (names_of s t x)) head)
+
   pub target_like : (n x : ℕ) → target_of r u n x ≡ target_of s t n x
   unfolding target_of
   target_like n x = rw (head_like n x, a.names x) (descended_like n (drop 1 (names_of s t x)) (head_of s t n x))
 
   pub target_cell_like : (n x : ℕ) → target_cell r u n x ≡ target_cell s t n x
   target_cell_like n x = rw (path_like x, target_like n x)
-
-  path_row_like : (n x : ℕ) → path_row r u n x ≡ path_row s t n x
-  path_row_like n x = rw (path_like x, head_like n x, target_like n x, a.kinds (target_of s t n x), a.kinds x)
 
   -- ---- rows 12 to 15
 
@@ -117,14 +120,20 @@ module _ (s : List ℕ) (t u : List ℤ) (a : Alike t u) where
   pub definition_alike : (l : ℕ) → is_definition u l ≡ is_definition t l
   definition_alike = definition_like s t s u like
 
+  pub path_alike : (l : ℕ) → has_path u l ≡ has_path t l
+  path_alike = path_like s t s u like
+
+  pub head_cell_alike : (n x : ℕ) → head_cell s u n x ≡ head_cell s t n x
+  head_cell_alike = head_cell_like s t s u like
+
+  pub target_by_alike : (n x head : ℕ) → target_by s u n x head ≡ target_by s t n x head
+  target_by_alike = target_by_like s t s u like
+
   pub target_alike : (n x : ℕ) → target_of s u n x ≡ target_of s t n x
   target_alike = target_like s t s u like
 
   pub target_cell_alike : (n x : ℕ) → target_cell s u n x ≡ target_cell s t n x
   target_cell_alike = target_cell_like s t s u like
-
-  pub path_row_alike : (n x : ℕ) → path_row s u n x ≡ path_row s t n x
-  path_row_alike = path_row_like s t s u like
 
   pub paths_alike : (n : ℕ) → paths_bad s u n ≡ paths_bad s t n
   paths_alike = paths_like s t s u like

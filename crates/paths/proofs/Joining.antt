@@ -1,86 +1,70 @@
--- Rows 13 to 15 are three passes in the definition and one in the code, which tells of each label the first row that refuses it. A later row
--- counts only where no label fails an earlier one.
-use mathlib.Core.Path.{◌≡◌, refl}
+-- One pass after the other: each leaves a table that is alike but for the targets.
+use mathlib.Core.Path.{◌≡◌, refl, ap, sym, ◌∙◌}
 use mathlib.Core.Bool.{Bool, true, false, cond, not, ◌&&◌}
 use mathlib.Core.List.{List}
-use Prim.Native.Nat.{ℕ, ◌+◌, ◌≤◌, ◌<◌}
+use Prim.Native.Nat.{ℕ, ◌*◌, ◌≤◌}
 use native.Mathlib.Omega.{arith}
 use lib.Dec.{eqb}
 use lib.IntN.{ℤ}
+use lib.ListN.{length}
 use Rattle.kinds.specs.Kinds.{wanted_by}
-use Rattle.cells.specs.Table.{kind, has_path}
-use Rattle.refusals.specs.Rows.{head_row, later_row, target_row}
-use Rattle.refusals.specs.Refusal.{first_bad, or_else}
-use Rattle.refusals.specs.declared.Verdict.{Verdict}
-use Rattle.refusals.specs.declared.Verdict.TheVariants.{Fine, Refused}
-use Rattle.refusals.proofs.FirstBad.{first_same, first_none}
-use Rattle.paths.specs.Paths.{head_of, target_of, path_head_bad, later_bad, target_bad, head_rows}
-use Rattle.paths.specs.PathSteps.{path_row}
+use Rattle.cells.specs.Table.{kind, target, with_column, has_path}
+use Rattle.cells.proofs.Columns.{column_own, column_same, column_over, column_length}
+use Rattle.refusals.specs.Rows.{target_row}
+use Rattle.refusals.specs.Refusal.{first_bad}
+use Rattle.refusals.proofs.FirstBad.{first_same}
+use Rattle.paths.specs.Paths.{target_of, target_cell, later_bad, target_bad, later_rows}
+use Rattle.paths.specs.TargetCells.{head_cell, wrong_target}
+use Rattle.paths.proofs.Alike.{Alike, column_alike, path_alike, head_cell_alike, target_alike, target_cell_alike}
 
-or_same : (v : Verdict) {w w' : Verdict} → (v ≡ Fine → w ≡ w') → or_else v w ≡ or_else v w'
-or_same Fine f = f refl
-or_same (Refused r p) f = refl
+-- ---- row 15, once the targets stand in their cells
 
-module _ (s : List ℕ) (t : List ℤ) (n : ℕ) where
-  -- row r is the first that refuses the path of line x
-  abbrev pub row_is_lem : ℕ → ℕ → ℕ
-  row_is_lem r x = cond (eqb (path_row s t n x) r) r 0
+module _ (s : List ℕ) (t u : List ℤ) (n : ℕ) (e : u ≡ with_column 7 (target_cell s t n) n t) (room : 8 * n ≤ length t) where
+  a : Alike t u
+  a = rw e (column_alike (target_cell s t n) n t)
 
-  -- the tests of a line: whether it has a path, its head and its end are nowhere, its end is of the kind that it needs
-  abbrev told : ℕ → Bool → Bool → Bool → Bool → ℕ
-  told r path head end right = cond (eqb (cond path (cond head head_row (cond end later_row (cond right 0 target_row))) 0) r) r 0
+  held : (x : ℕ) → 1 ≤ x → x ≤ n → target u x ≡ target_cell s t n x
+  held x h g = rw e (column_own 7 (target_cell s t n) (omega arith) n t x h g room)
 
-  head_go : (path head end right : Bool) → told head_row path head end right ≡ cond (path && head) head_row 0
-  head_go false head end right = refl
-  head_go true true end right = refl
-  head_go true false true right = refl
-  head_go true false false true = refl
-  head_go true false false false = refl
+  wrong_go : (x : ℕ) (h : Bool)
+      → ◌≡◌ {A = ℕ} (cond (h && not (eqb (kind t (cond h (target_of s t n x) 0)) (wanted_by (kind t x)))) target_row 0)
+      (cond (h && not (eqb (kind t (target_of s t n x)) (wanted_by (kind t x)))) target_row 0)
+  wrong_go x true = refl
+  wrong_go x false = refl
 
-  later_go : (path head end right : Bool) → cond (path && head) head_row 0 ≡ 0 → told later_row path head end right ≡ cond (path && end) later_row 0
-  later_go false head end right z = refl
-  later_go true true end right z = absurd (omega arith)
-  later_go true false true right z = refl
-  later_go true false false true z = refl
-  later_go true false false false z = refl
+  wrong_is : (x : ℕ) → 1 ≤ x → x ≤ n → wrong_target u x ≡ target_bad s t n x
+  unfolding target_bad
+  wrong_is x h g = rw (path_alike s t u a x, held x h g, a.kinds (target_cell s t n x), a.kinds x) (wrong_go x (has_path t x))
 
-  wrong_go : (path head end right : Bool) → cond (path && head) head_row 0 ≡ 0 → cond (path && end) later_row 0 ≡ 0
-      → told target_row path head end right ≡ cond (path && not right) target_row 0
-  wrong_go false head end right z y = refl
-  wrong_go true true end right z y = absurd (omega arith)
-  wrong_go true false true right z y = absurd (omega arith)
-  wrong_go true false false true z y = refl
-  wrong_go true false false false z y = refl
+  pub targets_checked : first_bad (wrong_target u) 1 n ≡ first_bad (target_bad s t n) 1 n
+  targets_checked = first_same (wrong_target u) (target_bad s t n) n 1 (λ x h g. wrong_is x h (omega arith))
 
-  module _ (x : ℕ) where
-    abbrev head : Bool
-    head = eqb (head_of s t n x) 0
+-- ---- rows 14 and 15, once the heads stand in the target cells
 
-    abbrev end : Bool
-    end = eqb (target_of s t n x) 0
+module _ (s : List ℕ) (t u : List ℤ) (n : ℕ) (e : u ≡ with_column 7 (head_cell s t n) n t) (room : 8 * n ≤ length t) where
+  pub heads_alike : Alike t u
+  heads_alike = rw e (column_alike (head_cell s t n) n t)
 
-    abbrev right : Bool
-    right = eqb (kind t (target_of s t n x)) (wanted_by (kind t x))
+  pub heads_size : length u ≡ length t
+  heads_size = ap length e ∙ column_length 7 (head_cell s t n) n t
 
-    head_is : row_is_lem head_row x ≡ path_head_bad s t n x
-    unfolding path_head_bad
-    head_is = head_go (has_path t x) head end right
+  pub heads_held : (l : ℕ) → 1 ≤ l → l ≤ n → target u l ≡ head_cell s u n l
+  heads_held l h g =
+      ap (λ (v : List ℤ). target v l) e ∙ column_own 7 (head_cell s t n) (omega arith) n t l h g room ∙ sym (head_cell_alike s t u heads_alike n l)
 
-    later_is : path_head_bad s t n x ≡ 0 → row_is_lem later_row x ≡ later_bad s t n x
-    unfolding path_head_bad later_bad
-    later_is = later_go (has_path t x) head end right
+  later_is : (x : ℕ) → later_bad s u n x ≡ later_bad s t n x
+  unfolding later_bad
+  later_is x = rw (path_alike s t u heads_alike x, target_alike s t u heads_alike n x)
 
-    wrong_is : path_head_bad s t n x ≡ 0 → later_bad s t n x ≡ 0 → row_is_lem target_row x ≡ target_bad s t n x
-    unfolding path_head_bad later_bad target_bad
-    wrong_is = wrong_go (has_path t x) head end right
+  kinds_are : (x : ℕ) → target_bad s u n x ≡ target_bad s t n x
+  unfolding target_bad
+  kinds_are x = rw (path_alike s t u heads_alike x, target_alike s t u heads_alike n x, heads_alike.kinds (target_of s t n x), heads_alike.kinds x)
 
-  none : (check : ℕ → ℕ) → first_bad check 1 n ≡ Fine → (x : ℕ) → 1 ≤ x → x < 1 + n → check x ≡ 0
-  none check e x h g = first_none check n 1 e x h (omega arith)
+  pub heads_rows : later_rows s u n ≡ later_rows s t n
+  heads_rows = rw (first_same (later_bad s u n) (later_bad s t n) n 1 (λ x h g. later_is x), first_same (target_bad s u n) (target_bad s t n) n 1 (λ x h g. kinds_are x))
 
-  pub rows_joined : or_else (first_bad (row_is_lem head_row) 1 n) (or_else (first_bad (row_is_lem later_row) 1 n) (first_bad (row_is_lem target_row) 1 n)) ≡ head_rows s t n
-  rows_joined =
-      rw (first_same (row_is_lem head_row) (path_head_bad s t n) n 1 (λ x h g. head_is x))
-      (or_same (first_bad (path_head_bad s t n) 1 n) (λ e.
-      rw (first_same (row_is_lem later_row) (later_bad s t n) n 1 (λ x h g. later_is x (none (path_head_bad s t n) e x h g)))
-      (or_same (first_bad (later_bad s t n) 1 n) (λ f.
-      first_same (row_is_lem target_row) (target_bad s t n) n 1 (λ x h g. wrong_is x (none (path_head_bad s t n) e x h g) (none (later_bad s t n) f x h g))))))
+  pub heads_targets : with_column 7 (target_cell s u n) n u ≡ with_column 7 (target_cell s t n) n t
+  heads_targets =
+      column_same 7 (target_cell s u n) (target_cell s t n) n u (λ l h g. target_cell_alike s t u heads_alike n l)
+      ∙ ap (with_column 7 (target_cell s t n) n) e
+      ∙ column_over 7 (head_cell s t n) (target_cell s t n) n t (omega arith) room

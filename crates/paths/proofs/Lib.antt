@@ -7,7 +7,7 @@ pub mod Allotting
 pub mod Chains
 pub mod Resolving
 pub mod Alike
-pub mod Joining
 pub mod Passes
+pub mod Joining
 pub mod Leads
 pub mod Linking

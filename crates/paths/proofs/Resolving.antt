@@ -1,6 +1,6 @@
 -- A path, name by name, and the rows at one label.
 use mathlib.Core.Path.{◌≡◌, refl, ap, sym, ◌∙◌}
-use mathlib.Core.Bool.{Bool, true, false, cond, not}
+use mathlib.Core.Bool.{Bool, true, false, cond, not, ◌&&◌}
 use mathlib.Core.List.{List, [], ◌∷◌}
 use Prim.Native.Nat.{ℕ, zero, suc, ◌+◌, ◌-◌, ◌≤◌, ◌<◌}
 use native.Mathlib.Omega.{arith}
@@ -9,9 +9,10 @@ use lib.IntN.{ℤ}
 use lib.ListN.{length, get_or, drop}
 use lib.Seq.{slice, length-slice}
 use borrow.Author.Tests.{eq-eqb, ne_eqb, eqb-true, ltb-true, ltb-false, lt-ltb, le-ltb, not-false}
-use Rattle.kinds.specs.Kinds.{group_code}
+use Rattle.kinds.specs.Kinds.{wanted_by, group_code}
+use Rattle.kinds.specs.Kinds as kinds
 use Rattle.cells.specs.Characters.{dot}
-use Rattle.cells.specs.Table.{kind, name_start, name_length, owner, is_definition}
+use Rattle.cells.specs.Table.{kind, name_start, name_length, owner, target, is_definition, has_path}
 use Rattle.text.specs.Pieces.{cut}
 use Rattle.text.specs.Scans.{run_end, run}
 use Rattle.text.proofs.Bytes.{run_le, run_fails}
@@ -19,14 +20,18 @@ use Rattle.text.proofs.Slices.{take_slice, drop_slice}
 use Rattle.text.proofs.Cuts.{cut_more, cut_last}
 use Rattle.paths.specs.Names.{name_of, is_named, member}
 use Rattle.cells.specs.Lists.{or_if_zero}
-use Rattle.paths.specs.Paths.{settled, head_from, descended, names_of, head_of, target_of, duplicate_bad}
-use Rattle.paths.specs.PathSteps.{later_names}
+use Rattle.paths.specs.Paths.{settled, head_from, descended, names_of, head_of, duplicate_bad}
+use Rattle.paths.specs.TargetCells.{head_cell, target_by, wrong_target}
 use Rattle.paths.specs.Buckets.{not_dot, last_below}
-use Rattle.refusals.specs.Rows.{duplicate_row}
+use Rattle.refusals.specs.Rows.{duplicate_row, target_row}
 use Rattle.paths.proofs.FirstLabel.{first_high}
 use Rattle.paths.proofs.LastBelow.{last_empty}
 
 -- ---- the names of a path by positions
+
+-- the names behind the one that ends at e
+abbrev pub later : List ℕ → ℕ → ℕ → List (List ℕ)
+later s e to = cond (ltb e to) (cut dot (slice (e + 1) to s)) []
 
 module _ (s : List ℕ) (from to : ℕ) (h : from ≤ to) (k : to ≤ length s) where
   abbrev l : List ℕ
@@ -59,7 +64,7 @@ module _ (s : List ℕ) (from to : ℕ) (h : from ≤ to) (k : to ≤ length s) 
       let end : from + r ≡ to = omega (arith, ltb-false (from + r) to e, run_le not_dot l, long) in
       cut_last not_dot dot l refl (omega (arith, long)) ∙ rw end
 
-  pub names_cut : cut dot l ≡ slice from (run_end not_dot s from to) s ∷ later_names s (run_end not_dot s from to) to
+  pub names_cut : cut dot l ≡ slice from (run_end not_dot s from to) s ∷ later s (run_end not_dot s from to) to
   unfolding run_end
   names_cut = names_go (ltb (from + r) to) refl
 
@@ -147,16 +152,16 @@ module _ (s : List ℕ) (t : List ℤ) (n : ℕ) where
     abbrev e : ℕ
     e = run_end not_dot s (at + 1) to
 
-    later_is : later_names s at to ≡ slice (at + 1) e s ∷ later_names s e to
+    later_is : later s at to ≡ slice (at + 1) e s ∷ later s e to
     later_is = rw (lt-ltb at to more) (names_cut s (at + 1) to (omega arith) inside)
 
-    pub later_stop : (kind t m ≡ group_code → ⊥) → descended s t n m (later_names s at to) ≡ 0
-    later_stop f = rw later_is (down_stop m (slice (at + 1) e s) (later_names s e to) f)
+    pub later_stop : (kind t m ≡ group_code → ⊥) → descended s t n m (later s at to) ≡ 0
+    later_stop f = rw later_is (down_stop m (slice (at + 1) e s) (later s e to) f)
 
-    pub later_on : kind t m ≡ group_code → descended s t n (member s t n m (slice (at + 1) e s)) (later_names s e to) ≡ descended s t n m (later_names s at to)
-    later_on k = rw later_is (sym (down_on m (slice (at + 1) e s) (later_names s e to) k))
+    pub later_on : kind t m ≡ group_code → descended s t n (member s t n m (slice (at + 1) e s)) (later s e to) ≡ descended s t n m (later s at to)
+    later_on k = rw later_is (sym (down_on m (slice (at + 1) e s) (later s e to) k))
 
-  pub later_end : (m at to : ℕ) → to ≤ at → descended s t n m (later_names s at to) ≡ m
+  pub later_end : (m at to : ℕ) → to ≤ at → descended s t n m (later s at to) ≡ m
   later_end m at to h = rw (le-ltb at to h)
 
   -- ---- the rows at one label
@@ -165,16 +170,15 @@ module _ (s : List ℕ) (t : List ℤ) (n : ℕ) where
     name_is : name_of s t label ≡ slice from to s
     name_is = rw (start, end)
 
-    names_are : names_of s t label ≡ slice from (run_end not_dot s from to) s ∷ later_names s (run_end not_dot s from to) to
+    names_are : names_of s t label ≡ slice from (run_end not_dot s from to) s ∷ later s (run_end not_dot s from to) to
     names_are = ap (cut dot) name_is ∙ names_cut s from to (omega arith) inside
 
-    pub head_is : head_from s t n (slice from (run_end not_dot s from to) s) (owner t (owner t label)) ≡ head_of s t n label
+    pub head_is : has_path t label ≡ true → head_from s t n (slice from (run_end not_dot s from to) s) (owner t (owner t label)) ≡ head_cell s t n label
     unfolding head_of
-    head_is = rw names_are
+    head_is e = rw (e, names_are)
 
-    pub target_is : {head : ℕ} → head ≡ head_of s t n label → descended s t n head (later_names s (run_end not_dot s from to) to) ≡ target_of s t n label
-    unfolding target_of
-    target_is e = rw (e, names_are)
+    pub target_is : (head : ℕ) → has_path t label ≡ true → descended s t n head (drop 1 (cut dot (slice from to s))) ≡ target_by s t n label head
+    target_is head e = rw (e, name_is)
 
   -- row 12, by the last label before it that has the name in its Group
   module _ (l : ℕ) (d : is_definition t l ≡ true) where
@@ -194,3 +198,18 @@ module _ (s : List ℕ) (t : List ℤ) (n : ℕ) where
   pub duplicate_other : (l : ℕ) → is_definition t l ≡ false → 0 ≡ duplicate_bad s t l
   unfolding duplicate_bad
   duplicate_other l e = rw e
+
+-- row 15
+module _ (t : List ℤ) (x k found wants : ℕ) (p : k ≡ kind t x) (q : found ≡ kind t (target t x)) (r : wants ≡ wanted_by k) where
+  pub target_wrong : kinds.has_path k ≡ true → (found ≡ wants → ⊥) → target_row ≡ wrong_target t x
+  target_wrong h f = rw (← p, ← q, ← r, h, ne_eqb found wants f)
+
+  pub target_right : found ≡ wants → 0 ≡ wrong_target t x
+  target_right e = rw (← p, ← q, ← r, eq-eqb found wants e) (go (kinds.has_path k))
+    where
+      go : (b : Bool) → ◌≡◌ {A = ℕ} 0 (cond (b && false) target_row 0)
+      go true = refl
+      go false = refl
+
+pub target_none : (t : List ℤ) (x : ℕ) → has_path t x ≡ false → 0 ≡ wrong_target t x
+target_none t x h = rw h

@@ -1,4 +1,4 @@
--- Document 01, "Paths", as a relation between an R, C or K line and a definition: what the paper says of a path, with no search in it.
+-- Document 01, "Paths", as a relation between an R or C line and a definition: what the paper says of a path, with no search in it.
 use Rattle.std.specs.Prelude.{◌≡◌, true, List, [], ◌∷◌, ℕ, ◌≤◌, ◌<◌, ℤ, drop}
 use Rattle.kinds.specs.Kinds.{group_code, wanted_by}
 use Rattle.cells.specs.Table.{kind, owner, is_definition, has_path}
@@ -43,8 +43,8 @@ NamesApart s t n =
     (l k : ℕ) → 1 ≤ l → l < k → k ≤ n → is_definition t l ≡ true → is_definition t k ≡ true → owner t l ≡ owner t k
     → same_name (name_of s t l) (name_of s t k) ≡ true → ⊥
 
--- rows 12 to 15 find nothing: the names in a Group differ, and the path of each R, C and K leads to a definition of the kind that it needs,
--- "R needs a V, C needs an F", "K needs an H as C needs an F"
+-- rows 12 to 15 find nothing: the names in a Group differ, and the path of each R and C leads to a definition of the kind that it needs,
+-- "R needs a V, C needs an F"
 pub record PathsKept (s : List ℕ) (t : List ℤ) (n : ℕ) : Type 0 where
   pub apart : NamesApart s t n
   pub targets : (x : ℕ) → 1 ≤ x → x ≤ n → has_path t x ≡ true → (m : ℕ) × Leads s t n x m × (kind t m ≡ wanted_by (kind t x))

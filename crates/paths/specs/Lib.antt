@@ -1,5 +1,5 @@
 pub mod Names
 pub mod Paths
-pub mod PathSteps
+pub mod TargetCells
 pub mod Buckets
 pub mod Leads

@@ -33,7 +33,7 @@ abbrev pub descended : List ℕ → List ℤ → ℕ → ℕ → List (List ℕ)
 descended s t n m [] = m
 descended s t n m (w ∷ ws) = descended s t n (below s t n m w) ws
 
--- the names of the path of an R, C or K
+-- the names of the path of an R or C
 abbrev pub names_of : List ℕ → List ℤ → ℕ → List (List ℕ)
 names_of s t x = cut dot (name_of s t x)
 
@@ -51,7 +51,7 @@ path_head_bad s t n x = cond (has_path t x && eqb (head_of s t n x) 0) head_row 
 unfoldable pub later_bad : List ℕ → List ℤ → ℕ → ℕ → ℕ
 later_bad s t n x = cond (has_path t x && eqb (target_of s t n x) 0) later_row 0
 
--- "R needs a V, C needs an F", "K needs an H as C needs an F": what a path must end at is read off the table of kinds
+-- "R needs a V, C needs an F": what a path must end at is read off the table of kinds
 unfoldable pub target_bad : List ℕ → List ℤ → ℕ → ℕ → ℕ
 target_bad s t n x = cond (has_path t x && not (eqb (kind t (target_of s t n x)) (wanted_by (kind t x)))) target_row 0
 
@@ -65,6 +65,6 @@ head_rows s t n = or_else (first_bad (path_head_bad s t n) 1 n) (later_rows s t 
 unfoldable pub paths_bad : List ℕ → List ℤ → ℕ → Verdict
 paths_bad s t n = or_else (first_bad (duplicate_bad s t) 1 n) (head_rows s t n)
 
--- the cell target: of an R, C or K where its path ends, of any other line 0
+-- the cell target: of an R or C where its path ends, of any other line 0
 abbrev pub target_cell : List ℕ → List ℤ → ℕ → ℕ → ℕ
 target_cell s t n x = cond (has_path t x) (target_of s t n x) 0

@@ -1,19 +1,21 @@
-// Names and paths: rows 12 to 15 of document 01's table of refusals, and the target of each R, C and K.
+// Names and paths: rows 12 to 15 of document 01's table of refusals, and the target of each R and C.
 // Each Group has buckets of its own: a lookup in a Group walks those of its members that stand in the bucket of the name looked for.
 
-ghost use Rattle.std.specs.Prelude.{◌≡◌, true, ℕ, ◌+◌, ◌-◌, ◌*◌, ◌%◌, ◌≤◌, ◌<◌, min, pos, length, get_or, set};
+ghost use Rattle.std.specs.Prelude.{◌≡◌, true, ◌&&◌, ℕ, ◌+◌, ◌-◌, ◌*◌, ◌%◌, ◌≤◌, ◌<◌, min, eqb, pos, length, get_or, set, drop};
 ghost use Rattle.std.proofs.Math.Seq.{slice};
 ghost use Rattle.cells.specs.Limits.{label_limit};
-ghost use Rattle.cells.specs.Table.{owner, with_column, is_definition, has_path};
+ghost use Rattle.cells.specs.Characters.{dot};
+ghost use Rattle.cells.specs.Table.{owner, target, with_column, is_definition, has_path};
 ghost use Rattle.refusals.specs.Refusal.{first_bad};
 ghost use Rattle.text.specs.Bytes.{lowercase_byte};
+ghost use Rattle.text.specs.Pieces.{cut};
 ghost use Rattle.text.specs.Scans.{run_end};
 ghost use Rattle.paths.specs.Names.{name_of, same_name, is_named};
 ghost use Rattle.paths.specs.Buckets.{not_dot, NameInText, Searchable, bits_of, add_word, hash_of, hashes};
 ghost use Rattle.paths.specs.Buckets.{start_of, Stretch, Allotted, counted_at, sum_to, MembersCounted, bucket_of};
 ghost use Rattle.paths.specs.Buckets.{last_below, LinkedBelow, AllLinked, Fresh, first_in, Walkable, linked_member};
-ghost use Rattle.paths.specs.Paths.{head_from, descended, target_cell, duplicate_bad, head_rows, paths_bad};
-ghost use Rattle.paths.specs.PathSteps.{later_names, row_by, path_row};
+ghost use Rattle.paths.specs.Paths.{head_from, descended, target_cell, duplicate_bad, path_head_bad, later_bad, later_rows, head_rows, paths_bad};
+ghost use Rattle.paths.specs.TargetCells.{head_cell, target_by, wrong_target};
 
 use refusals::Verdict;
 
@@ -380,8 +382,7 @@ fn search(
 
 // ---- paths
 
-// Where a path leads whose head, settled at `head`, ends at `stop`, before its later names, up to `to`; 0 where one of them is not found, or
-// asked of a V, F or H.
+// Where the path text[from..to] leads whose head is settled at `head`; 0 where a later name is not found, or asked of a V or F.
 fn descend(
     text: &[u8],
     table: &[i64],
@@ -389,15 +390,15 @@ fn descend(
     starts: &[u16],
     links: &[u16],
     head: usize,
-    stop: usize,
+    from: usize,
     to: usize,
 ) -> usize
     requires searchable { Searchable text.now table.now n × AllLinked text.now table.now n starts.now links.now }
-    requires head_le_n { (head ≤ n) × (stop ≤ to) × (to ≤ length text.now) }
-    ensures { (result ≡ descended text.now table.now n head (later_names text.now stop to)) × (result ≤ n) }
+    requires head_le_n { (head ≤ n) × (from ≤ to) × (to ≤ length text.now) }
+    ensures { (result ≡ descended text.now table.now n head (drop 1 (cut dot (slice from to text.now)))) × (result ≤ n) }
 {
     let mut m = head;
-    let mut at = stop;
+    let mut at = name_stop(text, from, to);
     while at < to {
         if cells::cell_at(table, m, cells::KIND) != kinds::GROUP {
             return 0;
@@ -410,7 +411,7 @@ fn descend(
     m
 }
 
-// Whether the line has a path: R, C or K.
+// Whether the line has a path: R or C.
 fn has_path(table: &[i64], label: usize) -> bool
     requires { (1 ≤ label) × (8 * label ≤ length table.now) }
     ensures { result ≡ has_path table.now label }
@@ -418,7 +419,7 @@ fn has_path(table: &[i64], label: usize) -> bool
     kinds::has_path(cells::label_cell(table, label, cells::KIND))
 }
 
-// Where the head text[from..to] of a line's path is settled, from the Group whose member its owner is; 0 where it is settled nowhere.
+// Where the head of a line's path is settled; 0 where it is settled nowhere, and of a line that has no path.
 fn head_at(
     text: &[u8],
     table: &[i64],
@@ -426,103 +427,205 @@ fn head_at(
     starts: &[u16],
     links: &[u16],
     label: usize,
-    from: usize,
-    to: usize,
 ) -> usize
     requires searchable { Searchable text.now table.now n × AllLinked text.now table.now n starts.now links.now }
-    requires le_label { (1 ≤ label) × (label ≤ n) × (from ≤ to) × (to ≤ length text.now) }
-    ensures { (result ≡ head_from text.now table.now n (slice from to text.now) (owner table.now (owner table.now label)))
-        × (result ≤ n) }
-{
-    let owner = cells::label_cell(table, label, cells::OWNER);
-    let group = cells::cell_at(table, owner, cells::OWNER);
-    search(text, table, n, starts, links, group, from, to)
-}
-
-// The row that refuses the path of a line whose head is settled at `head` and which ends at `end`, 0 for nowhere; 0 for none.
-fn row_by(table: &[i64], label: usize, head: usize, end: usize) -> u64
-    requires { (1 ≤ label) × (8 * label ≤ length table.now) }
-    ensures { result ≡ row_by table.now label head end }
-{
-    if head == 0 {
-        return refusals::HEAD;
-    }
-    if end == 0 {
-        return refusals::LATER;
-    }
-    let code = cells::label_cell(table, label, cells::KIND);
-    if cells::cell_at(table, end, cells::KIND) != kinds::wanted_by(code) {
-        return refusals::TARGET;
-    }
-    0
-}
-
-// Rows 13 to 15 at a line that has a path: the row that refuses it, 0 for none. Its target stands in its cell.
-fn settle_named(
-    text: &[u8],
-    table: &mut [i64],
-    n: usize,
-    starts: &[u16],
-    links: &[u16],
-    label: usize,
-) -> u64
-    requires searchable { Searchable text.now table.old n × AllLinked text.now table.old n starts.now links.now }
-    requires le_label { (1 ≤ label) × (label ≤ n) × (has_path table.old label ≡ true) }
-    ensures value { result ≡ path_row text.now table.old n label }
-    ensures table_after { table.new ≡ set table.old (8 * (label - 1) + 7) (pos (target_cell text.now table.old n label)) }
-{
-    let from = cells::label_cell(table, label, cells::NAME_START);
-    let to = from + cells::label_cell(table, label, cells::NAME_LENGTH);
-    let stop = name_stop(text, from, to);
-    let head = head_at(text, table, n, starts, links, label, from, stop);
-    let end = descend(text, table, n, starts, links, head, stop, to);
-    let row = row_by(table, label, head, end);
-    cells::put_cell(table, label, cells::TARGET, end);
-    row
-}
-
-// The same at any line: one that has no path is refused by none, and its cell is 0.
-fn settle_path(
-    text: &[u8],
-    table: &mut [i64],
-    n: usize,
-    starts: &[u16],
-    links: &[u16],
-    label: usize,
-) -> u64
-    requires searchable { Searchable text.now table.old n × AllLinked text.now table.old n starts.now links.now }
     requires le_label { (1 ≤ label) × (label ≤ n) }
-    ensures value { result ≡ path_row text.now table.old n label }
-    ensures table_after { table.new ≡ set table.old (8 * (label - 1) + 7) (pos (target_cell text.now table.old n label)) }
+    ensures { (result ≡ head_cell text.now table.now n label) × (result ≤ n) }
 {
     if has_path(table, label) {
-        return settle_named(text, table, n, starts, links, label);
+        let from = cells::label_cell(table, label, cells::NAME_START);
+        let to = name_stop(
+            text,
+            from,
+            from + cells::label_cell(table, label, cells::NAME_LENGTH),
+        );
+        let group = cells::cell_at(
+            table,
+            cells::label_cell(table, label, cells::OWNER),
+            cells::OWNER,
+        );
+        return search(text, table, n, starts, links, group, from, to);
     }
-    cells::put_cell(table, label, cells::TARGET, 0);
     0
 }
 
-// ---- the pass
+// Where a line's path ends, from where its head is settled; 0 of a line that has no path.
+fn target_at(
+    text: &[u8],
+    table: &[i64],
+    n: usize,
+    starts: &[u16],
+    links: &[u16],
+    label: usize,
+    head: usize,
+) -> usize
+    requires searchable { Searchable text.now table.now n × AllLinked text.now table.now n starts.now links.now }
+    requires le_label { (1 ≤ label) × (label ≤ n) × (head ≤ n) }
+    ensures { (result ≡ target_by text.now table.now n label head) × (result ≤ n) }
+{
+    if has_path(table, label) {
+        let from = cells::label_cell(table, label, cells::NAME_START);
+        return descend(
+            text,
+            table,
+            n,
+            starts,
+            links,
+            head,
+            from,
+            from + cells::label_cell(table, label, cells::NAME_LENGTH),
+        );
+    }
+    0
+}
 
-// Rows 13 to 15 in one pass. Row 13 comes first, so that its first label ends it; of the other two the first label is kept.
-fn settle_paths(text: &[u8], table: &mut [i64], n: usize, starts: &[u16], links: &[u16]) -> Verdict
+// Row 15 at one label, whose target is in its cell.
+fn wrong_target_at(table: &[i64], label: usize) -> u64
+    requires { (1 ≤ label) × (8 * label ≤ length table.now) }
+    ensures { result ≡ wrong_target table.now label }
+{
+    let code = cells::label_cell(table, label, cells::KIND);
+    if kinds::has_path(code) {
+        let target = cells::label_cell(table, label, cells::TARGET);
+        if cells::cell_at(table, target, cells::KIND) != kinds::wanted_by(code) {
+            return refusals::TARGET;
+        }
+    }
+    0
+}
+
+// ---- the passes
+
+// The head of a line's path is settled, and stands in its target cell.
+fn settle_head(
+    text: &[u8],
+    table: &mut [i64],
+    n: usize,
+    starts: &[u16],
+    links: &[u16],
+    label: usize,
+) -> usize
+    requires searchable { Searchable text.now table.old n × AllLinked text.now table.old n starts.now links.now }
+    requires le_label { (1 ≤ label) × (label ≤ n) }
+    ensures value { result ≡ head_cell text.now table.old n label }
+    ensures table_after { table.new ≡ set table.old (8 * (label - 1) + 7) (pos (head_cell text.now table.old n label)) }
+{
+    let head = head_at(text, table, n, starts, links, label);
+    cells::put_cell(table, label, cells::TARGET, head);
+    head
+}
+
+// Where a line's path ends, from the head in its target cell, stands there instead.
+fn settle_target(
+    text: &[u8],
+    table: &mut [i64],
+    n: usize,
+    starts: &[u16],
+    links: &[u16],
+    label: usize,
+) -> usize
+    requires searchable { Searchable text.now table.old n × AllLinked text.now table.old n starts.now links.now }
+    requires le_label { (1 ≤ label) × (label ≤ n) × (target table.old label ≤ n) }
+    ensures value { result ≡ target_by text.now table.old n label (target table.old label) }
+    ensures table_after { table.new ≡ set table.old (8 * (label - 1) + 7) (pos (target_by text.now table.old n label (target table.old label))) }
+{
+    let head = cells::label_cell(table, label, cells::TARGET);
+    let end = target_at(text, table, n, starts, links, label, head);
+    cells::put_cell(table, label, cells::TARGET, end);
+    end
+}
+
+// Whether a line that has a path has come to nothing.
+fn is_unresolved(table: &[i64], label: usize, found: usize) -> bool
+    requires { (1 ≤ label) × (8 * label ≤ length table.now) }
+    ensures { result ≡ (has_path table.now label && eqb found 0) }
+{
+    if has_path(table, label) {
+        return found == 0;
+    }
+    false
+}
+
+// Row 13. The heads stand in the target cells.
+fn settle_heads(text: &[u8], table: &mut [i64], n: usize, starts: &[u16], links: &[u16]) -> Verdict
+    requires { Searchable text.now table.old n × AllLinked text.now table.old n starts.now links.now }
+    ensures value { result ≡ first_bad (path_head_bad text.now table.old n) 1 n }
+    ensures table_after { result ≡ Verdict.Fine → table.new ≡ with_column 7 (head_cell text.now table.old n) n table.old }
+{
+    let mut label: usize = 1;
+    while label <= n {
+        let head = settle_head(text, table, n, starts, links, label);
+        if is_unresolved(table, label, head) {
+            return Verdict::Refused(refusals::HEAD, label as u64);
+        }
+        label += 1;
+    }
+    Verdict::Fine
+}
+
+// Row 14. The targets stand in their cells.
+fn settle_targets(
+    text: &[u8],
+    table: &mut [i64],
+    n: usize,
+    starts: &[u16],
+    links: &[u16],
+) -> Verdict
+    requires searchable { Searchable text.now table.old n × AllLinked text.now table.old n starts.now links.now }
+    requires by_index { (l : ℕ) → 1 ≤ l → l ≤ n → target table.old l ≡ head_cell text.now table.old n l }
+    ensures value { result ≡ first_bad (later_bad text.now table.old n) 1 n }
+    ensures table_after { result ≡ Verdict.Fine → table.new ≡ with_column 7 (target_cell text.now table.old n) n table.old }
+{
+    let mut label: usize = 1;
+    while label <= n {
+        let end = settle_target(text, table, n, starts, links, label);
+        if is_unresolved(table, label, end) {
+            return Verdict::Refused(refusals::LATER, label as u64);
+        }
+        label += 1;
+    }
+    Verdict::Fine
+}
+
+// Row 15.
+fn check_targets(table: &[i64], n: usize) -> Verdict
+    requires { (n ≤ label_limit) × (8 * n ≤ length table.now) }
+    ensures { result ≡ first_bad (wrong_target table.now) 1 n }
+{
+    let mut label: usize = 1;
+    while label <= n {
+        let row = wrong_target_at(table, label);
+        if row != 0 {
+            return Verdict::Refused(row, label as u64);
+        }
+        label += 1;
+    }
+    Verdict::Fine
+}
+
+// Rows 14 and 15, with the heads in the target cells.
+fn resolve_later(text: &[u8], table: &mut [i64], n: usize, starts: &[u16], links: &[u16]) -> Verdict
+    requires searchable { Searchable text.now table.old n × AllLinked text.now table.old n starts.now links.now }
+    requires by_index { (l : ℕ) → 1 ≤ l → l ≤ n → target table.old l ≡ head_cell text.now table.old n l }
+    ensures value { result ≡ later_rows text.now table.old n }
+    ensures table_after { result ≡ Verdict.Fine → table.new ≡ with_column 7 (target_cell text.now table.old n) n table.old }
+{
+    match settle_targets(text, table, n, starts, links) {
+        Verdict::Fine => check_targets(table, n),
+        Verdict::Refused(row, label) => Verdict::Refused(row, label),
+    }
+}
+
+// Rows 13 to 15.
+fn resolve_heads(text: &[u8], table: &mut [i64], n: usize, starts: &[u16], links: &[u16]) -> Verdict
     requires { Searchable text.now table.old n × AllLinked text.now table.old n starts.now links.now }
     ensures value { result ≡ head_rows text.now table.old n }
     ensures table_after { result ≡ Verdict.Fine → table.new ≡ with_column 7 (target_cell text.now table.old n) n table.old }
 {
-    let mut later: usize = 0;
-    let mut wrong: usize = 0;
-    let mut label: usize = 1;
-    while label <= n {
-        let row = settle_path(text, table, n, starts, links, label);
-        if row == refusals::HEAD {
-            return Verdict::Refused(row, label as u64);
-        }
-        later = refusals::or_here(later, row == refusals::LATER, label);
-        wrong = refusals::or_here(wrong, row == refusals::TARGET, label);
-        label += 1;
+    match settle_heads(text, table, n, starts, links) {
+        Verdict::Fine => resolve_later(text, table, n, starts, links),
+        Verdict::Refused(row, label) => Verdict::Refused(row, label),
     }
-    refusals::verdict_of(refusals::LATER, later, refusals::TARGET, wrong)
 }
 
 // Rows 12 to 15, once each Group has its buckets.
@@ -532,7 +635,7 @@ fn resolve(text: &[u8], table: &mut [i64], n: usize, starts: &[u16], links: &mut
     ensures table_after { result ≡ Verdict.Fine → table.new ≡ with_column 7 (target_cell text.now table.old n) n table.old }
 {
     match link(text, table, n, starts, links) {
-        Verdict::Fine => settle_paths(text, table, n, starts, links),
+        Verdict::Fine => resolve_heads(text, table, n, starts, links),
         Verdict::Refused(row, label) => Verdict::Refused(row, label),
     }
 }
@@ -575,7 +678,7 @@ fn read_large(text: &[u8], table: &mut [i64], n: usize) -> Verdict
     read_with(text, table, n, &mut starts, &mut links)
 }
 
-// Rows 12 to 15. Where they find nothing, the target of each R, C and K stands in its cell; where they refuse, the table is for the
+// Rows 12 to 15. Where they find nothing, the target of each R and C stands in its cell; where they refuse, the table is for the
 // caller to clear.
 pub fn read_paths(text: &[u8], table: &mut [i64], n: usize) -> Verdict
     requires { Searchable text.now table.old n }

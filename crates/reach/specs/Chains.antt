@@ -1,10 +1,10 @@
--- Each definition's R, C and K lines in a chain, in one array: d's last line at index d, and at index n + l the line before l in its
+-- Each definition's R and C lines in a chain, in one array: d's last line at index d, and at index n + l the line before l in its
 -- chain; 0 where there is none.
 use Rattle.std.specs.Prelude.{◌≡◌, List, ℕ, ◌+◌, ◌-◌, ◌≤◌, ◌<◌, ℤ, get_or}
 use Rattle.cells.specs.Table.{cell}
 use Rattle.cells.specs.Reaches.{HasPath}
 
--- line l is an R, C or K whose link by column j leads from d
+-- line l is an R or C whose link by column j leads from d
 pub record Hangs (t : List ℤ) (j d l : ℕ) : Type 0 where
   pub path : HasPath t l
   pub from : cell t l (13 - j) ≡ d

@@ -1,4 +1,4 @@
--- Mentions as links between definitions, followed either way. Column 6 of an R, C or K line is its owner and column 7 its target: a link by
+-- Mentions as links between definitions, followed either way. Column 6 of an R or C line is its owner and column 7 its target: a link by
 -- column j leads from what stands in the other of the two, column 13 - j, to what stands in j. So links by column 7 are mentions, and links by column 6
 -- lead back from what is mentioned.
 use Rattle.std.specs.Prelude.{◌≡◌, ◌⊎◌, List, ℕ, ◌-◌, ◌≤◌, ℤ}

@@ -197,7 +197,7 @@ module _ (s : List ℕ) (t : List ℤ) (n : ℕ) (is : Lined s t n) (tree : tree
       let a = target_at x p (path_low (kind w x) p) in
       (a.0, λ z. omega (arith, a.1, wanted_low (kind w x) p, ap (kind w) z))
 
-  -- the target of an R, C or K is where its path leads, and no other label is
+  -- the target of an R or C is where its path leads, and no other label is
   alike : Alike u w
   unfolding resolved_table
   alike = column_alike (target_cell s u n) n u
@@ -304,7 +304,7 @@ module _ (s : List ℕ) (low : 1 ≤ labels s) (high : labels s ≤ label_limit)
   unfolding sheet_table sheet_cells
   any_length = resolved_length s rows n is_lined tree_fine.0 tree_fine.1 ∙ rows_length s n n
 
-  -- the target of an R, C or K is where its path leads by "Paths", and that is one definition
+  -- the target of an R or C is where its path leads by "Paths", and that is one definition
   pub any_targets : (x : ℕ) → has_path (sheet_table s) x ≡ true → Leads s (sheet_table s) (labels s) x (target (sheet_table s) x)
   unfolding sheet_table
   any_targets = resolved_leads s rows n is_lined tree_fine.0 tree_fine.1

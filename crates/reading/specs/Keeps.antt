@@ -34,7 +34,7 @@ pub record LineKept (s : List ℕ) (n l : ℕ) : Type 0 where
   pub known : 1 ≤ kind_code (field (cut space (line s l)) 0)
   -- "Label 1 is always `G - 0 - -`, the outermost Group"
   pub root : l ≡ 1 → line s l ≡ root_line
-  -- "Which fields a kind has is one fixed table", twelve rows and since order 6 three more; "a field not listed is `-`"
+  -- "Which fields a kind has is one fixed table of twelve rows; a field not listed is `-`"
   pub forms : 2 ≤ l → forms_right n (fields_at (kind_code (field (cut space (line s l)) 0))) (cut space (line s l)) ≡ true
 
 -- the lines as a table t of n labels
@@ -54,5 +54,5 @@ pub record Keeps (s : List ℕ) : Type 0 where
   pub text : TextKept s
   pub lines : (l : ℕ) → 1 ≤ l → l ≤ labels s → LineKept s (labels s) l
   pub tree : TreeKept (sheet_cells s) (labels s)
-  -- the names in a Group differ, and each path leads to what its line needs: "R needs a V, C needs an F", "K needs an H"
+  -- the names in a Group differ, and each path leads to what its line needs: "R needs a V, C needs an F"
   pub paths : PathsKept s (owned_table (sheet_cells s) (labels s)) (labels s)

@@ -15,7 +15,7 @@ use Rattle.paths.specs.Paths.{target_cell, paths_bad}
 unfoldable pub table_short : List ℕ → ℕ → Verdict
 table_short s m = cond (leb (8 * labels s) m) Fine (Refused buffers_row 1)
 
--- the table t of n lines with the owner of each label; and with the target of each R, C and K
+-- the table t of n lines with the owner of each label; and with the target of each R and C
 unfoldable pub owned_table : List ℤ → ℕ → List ℤ
 owned_table t n = with_column 6 (owner_of t n) n t
 

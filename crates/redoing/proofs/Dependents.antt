@@ -9,7 +9,7 @@ use native.Mathlib.Omega.{arith}
 use lib.IntN.{ℤ, nat_abs}
 use lib.ListN.{length}
 use Rattle.kinds.specs.Kinds.{value_code, number_code, takes}
-use Rattle.kinds.proofs.Codes.{number_takes}
+use Rattle.kinds.proofs.Codes.{other_takes}
 use Rattle.cells.specs.Cells.{zeros}
 use Rattle.cells.specs.Limits.{number_limit}
 use Rattle.cells.specs.Table.{kind, owner, target, with_number}
@@ -63,7 +63,7 @@ module _ (α : Arithmetic) (t : List ℤ) (n : ℕ) (ok : Accepted t n) (o : Lis
   -- the line does not concern a value that is not redone
   apart : (v : ℕ) → kind t v ≡ value_code → (Redone t d v → ⊥) → Concerns t v l → ⊥
   apart v k h (inl (inl e)) = omega (arith, line, ap (kind t) e)
-  apart v k h (inl (inr (f, r))) = omega (arith, ap takes line, number_takes)
+  apart v k h (inl (inr (f, r))) = omega (arith, ap takes line, other_takes number_code (tt, λ e. omega arith))
   apart v k h (inr (inl e)) = h (inl (sym e))
   apart v k h (inr (inr (f, r))) = h (inr r)
 

@@ -1,3 +1,2 @@
 pub mod FirstBad
 pub mod OrElse
-pub mod Told

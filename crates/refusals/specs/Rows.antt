@@ -38,7 +38,7 @@ structure_row = 8
 abbrev pub uses_row : ℕ
 uses_row = 9
 
--- P owned by a V, Y owned by anything but an H
+-- P owned by a V
 abbrev pub argument_row : ℕ
 argument_row = 10
 
@@ -54,7 +54,7 @@ duplicate_row = 12
 abbrev pub head_row : ℕ
 head_row = 13
 
--- a later name not found, or asked of a V, F or H
+-- a later name not found, or asked of a V or F
 abbrev pub later_row : ℕ
 later_row = 14
 

@@ -1,7 +1,4 @@
 // Refusals: the numbers of document 01's table "Where each refusal is found" and of document 02's orders, and the answers that carry one.
-ghost use Rattle.std.specs.Prelude.{◌≡◌};
-ghost use Rattle.refusals.specs.Refusal.{or_else, found_at};
-ghost use Rattle.refusals.specs.FirstLabels.{or_here};
 
 // Rows of the table, in its order. The paper's words stand in specs/Rows.antt.
 pub const TEXT: u64 = 1;
@@ -59,32 +56,4 @@ pub enum Verdict {
 pub enum Reply {
     Answered(u64),
     Refused(u64, u64),
-}
-
-// ---- rows that one pass looks for together: of each the first label that it refuses is kept, 0 for none
-
-// The label kept so far, or else this one, if it is refused.
-pub fn or_here(kept: usize, refused: bool, label: usize) -> usize
-    ensures { result ≡ or_here kept refused label }
-{
-    if kept != 0 {
-        return kept;
-    }
-    if refused {
-        return label;
-    }
-    0
-}
-
-// The verdict of two rows, the first before the second, by the labels kept: `place` of the first, `other` of the second.
-pub fn verdict_of(first: u64, place: usize, second: u64, other: usize) -> Verdict
-    ensures { result ≡ or_else (found_at first place) (found_at second other) }
-{
-    if place != 0 {
-        return Verdict::Refused(first, place as u64);
-    }
-    if other != 0 {
-        return Verdict::Refused(second, other as u64);
-    }
-    Verdict::Fine
 }

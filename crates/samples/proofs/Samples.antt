@@ -19,7 +19,7 @@ use Rattle.paths.specs.Paths as paths
 use Rattle.reading.specs.Read.{table_short, owned_table, resolved_table, resolved_bad, sheet_cells, sheet_bad, sheet_table, read_bad, read_reply, read_table}
 use Rattle.reading.specs.Name.{name_begin, name_size, name_part}
 use Rattle.order.specs.Rows16to18.{cycle_bad, order_bad}
-use Rattle.evaluation.specs.Evaluation.{on_number, answer_at, outcome_of, argument_by, body_by, call_after, operation_by, choice_by, entered_by, step_by, with_fuel, outcome, value_outcome}
+use Rattle.evaluation.specs.Evaluation.{on_number, answer_at, outcome_of, body_by, call_by, operation_by, choice_by, entered_by, step_by, with_fuel, outcome, value_outcome}
 use Rattle.figures.specs.Figures.{after_rounds}
 use Rattle.calls.specs.Buffers.{plan_short, results_short}
 use Rattle.calls.specs.Plan.{open_bad, planned_bad, plan_of, plan_bad, plan_reply, plan_cells}
@@ -40,8 +40,7 @@ unfolding samples retouches
     paths.head_from paths.head_of paths.target_of paths.path_head_bad paths.later_bad paths.target_bad paths.paths_bad table_short owned_table resolved_table resolved_bad sheet_cells sheet_bad sheet_table read_bad
     read_reply read_table
     name_begin name_size name_part cycle_bad plan_short results_short open_bad planned_bad plan_of plan_bad plan_reply plan_cells run_bad run_reply run_table run_plan run_results digits decimal columns_line refusal_line
-    whole_word mixed_word value_line value_lines print_of order_bad follow_bad follow_reply follow_results after_rounds rounded quotient ranged_of result
-    calculated on_number answer_at outcome_of argument_by body_by call_after
+    whole_word mixed_word value_line value_lines print_of order_bad follow_bad follow_reply follow_results after_rounds rounded quotient ranged_of result calculated on_number answer_at outcome_of body_by call_by
     operation_by choice_by entered_by step_by with_fuel outcome value_outcome failing step_sum changes_short list_bad pair_bad pairs_bad retouch_bad retouched retouch_reply retouch_table retouch_plan retouch_results
     retouch_changes
 samples_hold = (refl, refl)

@@ -384,118 +384,6 @@ halves_even = record {
       ∷ [];
 }
 
--- document 02, order 6: "Prism depends on power and decentration together", an H called by K from both lenses. -325 × 250 / 1000 is -81.25, and
--- -275 × 250 / 1000 is -68.75; a K over two reads into a body of five expressions takes 8 steps
-abbrev pub prism_of_two : Sample
-prism_of_two = record {
-  sheet =
-      "kind name a b c"
-      ∷ "G - 0 - -"
-      ∷ "H prism 1 11 -"
-      ∷ "V dec 1 16 -"
-      ∷ "G right 1 - -"
-      ∷ "V sphere 4 17 -"
-      ∷ "V base 4 18 -"
-      ∷ "G left 1 - -"
-      ∷ "V sphere 7 21 -"
-      ∷ "V base 7 22 -"
-      ∷ "V imbalance 1 25 -"
-      ∷ "D - 12 15 -"
-      ∷ "M - 13 14 -"
-      ∷ "P - - - -"
-      ∷ "Y - - - -"
-      ∷ "N - 1000 - -"
-      ∷ "N - 250 - -"
-      ∷ "N - -325 - -"
-      ∷ "K prism 19 20 -"
-      ∷ "R sphere - - -"
-      ∷ "R dec - - -"
-      ∷ "N - -275 - -"
-      ∷ "K prism 23 24 -"
-      ∷ "R sphere - - -"
-      ∷ "R dec - - -"
-      ∷ "S - 26 27 -"
-      ∷ "R right.base - - -"
-      ∷ "R left.base - - -"
-      ∷ [];
-  read = Answered 27;
-  table = function 2 1 ∷ value 3 1 ∷ group 4 1 ∷ value 5 4 ∷ value 6 4 ∷ group 7 1 ∷ value 8 7 ∷ value 9 7 ∷ value 10 1 ∷ calls 6 2
-      ∷ reads 6 5 ∷ reads 6 3 ∷ calls 9 2 ∷ reads 9 8 ∷ reads 9 3
-      ∷ reads 10 6 ∷ reads 10 9 ∷ [];
-  outcome = whole
-      (print_line 3 "dec" 1 (pos 250) 1
-      ∷ print_line 5 "sphere" 1 (minus 325) 1
-      ∷ print_line 6 "base" 1 (minus 81) 8
-      ∷ print_line 8 "sphere" 1 (minus 275) 1
-      ∷ print_line 9 "base" 1 (minus 69) 8
-      ∷ print_line 10 "imbalance" 1 (minus 12) 3
-      ∷ []);
-  print =
-      "label name order state number steps"
-      ∷ "3 dec whole 1 250 1"
-      ∷ "5 sphere whole 1 -325 1"
-      ∷ "6 base whole 1 -81 8"
-      ∷ "8 sphere whole 1 -275 1"
-      ∷ "9 base whole 1 -69 8"
-      ∷ "10 imbalance whole 1 -12 3"
-      ∷ [];
-}
-
--- document 02, order 6: "a and b arguments, worked out in that order". The failure of a is the call's, and b is then not entered, as the steps
--- tell: 4 where a fails, 5 where b does
-abbrev pub arguments_in_turn : Sample
-arguments_in_turn = record {
-  sheet =
-      "kind name a b c"
-      ∷ "G - 0 - -"
-      ∷ "H less 1 7 -"
-      ∷ "V zero 1 10 -"
-      ∷ "V range 1 17 -"
-      ∷ "V second 1 24 -"
-      ∷ "V fine 1 29 -"
-      ∷ "S - 8 9 -"
-      ∷ "P - - - -"
-      ∷ "Y - - - -"
-      ∷ "K less 11 14 -"
-      ∷ "D - 12 13 -"
-      ∷ "N - 1 - -"
-      ∷ "N - 0 - -"
-      ∷ "M - 15 16 -"
-      ∷ "N - 1000000000 - -"
-      ∷ "N - 2 - -"
-      ∷ "K less 18 21 -"
-      ∷ "M - 19 20 -"
-      ∷ "N - 1000000000 - -"
-      ∷ "N - 2 - -"
-      ∷ "D - 22 23 -"
-      ∷ "N - 1 - -"
-      ∷ "N - 0 - -"
-      ∷ "K less 25 26 -"
-      ∷ "N - 7 - -"
-      ∷ "D - 27 28 -"
-      ∷ "N - 1 - -"
-      ∷ "N - 0 - -"
-      ∷ "K less 30 31 -"
-      ∷ "N - 7 - -"
-      ∷ "N - 5 - -"
-      ∷ [];
-  read = Answered 31;
-  table = function 2 1 ∷ value 3 1 ∷ value 4 1 ∷ value 5 1 ∷ value 6 1 ∷ calls 3 2 ∷ calls 4 2 ∷ calls 5 2 ∷ calls 6 2 ∷ [];
-  outcome = whole
-      (print_line 3 "zero" 3 (pos 0) 4
-      ∷ print_line 4 "range" 2 (pos 0) 4
-      ∷ print_line 5 "second" 3 (pos 0) 5
-      ∷ print_line 6 "fine" 1 (pos 2) 6
-      ∷ []);
-  print =
-      "label name order state number steps"
-      ∷ "3 zero whole 3 0 4"
-      ∷ "4 range whole 2 0 4"
-      ∷ "5 second whole 3 0 5"
-      ∷ "6 fine whole 1 2 6"
-      ∷ [];
-}
-
 unfoldable pub samples : List Sample
 samples =
     example
@@ -512,8 +400,6 @@ samples =
     ∷ frame_and_left
     ∷ halves_away
     ∷ halves_even
-    ∷ prism_of_two
-    ∷ arguments_in_turn
     ∷ []
 
 -- for document 02, order 4: a sheet of the layout bench, and what its words give, counted by hand. The first pair puts in the number that stands there: its owner `pd` is worked out

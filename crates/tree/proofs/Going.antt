@@ -13,7 +13,7 @@ use lib.ListN.{length, set}
 use lib.Seq.{ext_get_or}
 use Rattle.cells.specs.Limits.{label_limit}
 use Rattle.cells.specs.Cells.{nat_of, int_at}
-use Rattle.cells.specs.Lists.{count}
+use Rattle.cells.specs.Lists.{count, or_if_zero}
 use Rattle.cells.specs.Table.{cell, kind, is_definition, is_expression, field_a, owner, target, with_column}
 use Rattle.cells.proofs.Columns.{column_length, column_keeps, column_has}
 use Rattle.cells.proofs.Signed.{clash}
@@ -21,7 +21,6 @@ use Rattle.cells.proofs.Table.{cell_other}
 use Rattle.kinds.proofs.Laws.{not_definition, either}
 use Rattle.kinds.proofs.Tests.{and_left, and_right}
 use Rattle.refusals.specs.Refusal.{first_bad, or_else, found_at}
-use Rattle.refusals.specs.FirstLabels.{or_here}
 use Rattle.refusals.specs.Rows.{uses_row, argument_row, level_row}
 use Rattle.refusals.proofs.FirstBad.{first_start, first_fine, first_bad_lem, first_end, first_same}
 use Rattle.refusals.specs.declared.Verdict.{Verdict}
@@ -39,7 +38,7 @@ use Rattle.tree.proofs.Likes.{right_like, structure_like}
 use Rattle.tree.proofs.Owners as own
 use Rattle.tree.proofs.Writes.{plain_natural, over_start, over_alike, over_set, assigned_other, over_assigned, Claimed, claimed_once}
 use Rattle.tree.proofs.Passes.{over_formed, node_over, inside, parts_over, parts_low, parts_claims, propagate_start, propagate_turn, owner_own, level_own, clear_turn}
-use Rattle.refusals.proofs.Told.{Told, told_start, told_turn, told_end}
+use Rattle.tree.proofs.Told.{Told, told_start, told_turn, told_end}
 
 -- what the labels from 1 to k use is claimed
 pub record Claims (t : List ℤ) (n k : ℕ) (w : List ℤ) : Type 0 where
@@ -253,7 +252,7 @@ module _ (t : List ℤ) (n : ℕ) (p : Formed t n) (w : List ℤ) (l a v : ℕ) 
       level_here = rw (level_own t n s (propagated l w) l (l - 1) h g here (omega arith))
 
     pub going_turn : Going t n (l + 1) (set (propagated l w) (8 * (l - 1) + 7) (pos 0))
-        (or_here a (argument_wrong (propagated l w) l) l) (or_here v (level_wrong (propagated l w) l) l)
+        (or_if_zero a (cond (argument_wrong (propagated l w) l) l 0)) (or_if_zero v (cond (level_wrong (propagated l w) l) l 0))
     going_turn =
         let q : l + 1 - 1 ≡ l = omega arith in
         record {

@@ -7,6 +7,7 @@ pub mod Owners
 pub mod Likes
 pub mod Writes
 pub mod Passes
+pub mod Told
 pub mod Going
 pub mod Treed
 mod Samples

@@ -37,13 +37,6 @@ tables =
     -- P in a V, and in an F
     ∷ (row (code "V") 0 0 (pos 1) 3 0 ++ row (code "C") 0 1 (pos 4) 0 0 ++ row (code "P") 0 0 (pos 0) 0 0)
     ∷ (row (code "F") 0 0 (pos 1) 3 0 ++ row (code "C") 0 1 (pos 4) 0 0 ++ row (code "P") 0 0 (pos 0) 0 0)
-    -- Y in a V, in an F, and P and Y in an H
-    ∷ (row (code "V") 0 0 (pos 1) 3 0 ++ row (code "C") 0 1 (pos 4) 0 0 ++ row (code "Y") 0 0 (pos 0) 0 0)
-    ∷ (row (code "F") 0 0 (pos 1) 3 0 ++ row (code "C") 0 1 (pos 4) 0 0 ++ row (code "Y") 0 0 (pos 0) 0 0)
-    ∷ (row (code "H") 0 0 (pos 1) 3 0 ++ row (code "C") 0 1 (pos 4) 0 0 ++ row (code "P") 0 0 (pos 0) 0 0)
-    ∷ (row (code "H") 0 0 (pos 1) 3 0 ++ row (code "C") 0 1 (pos 4) 0 0 ++ row (code "Y") 0 0 (pos 0) 0 0)
-    -- both arguments of a K are parts of it
-    ∷ (row (code "V") 0 0 (pos 1) 3 0 ++ row (code "K") 0 1 (pos 4) 4 0 ++ row (code "N") 0 0 (pos 5) 0 0)
     ∷ []
 
 tables_found : map found tables ≡ Refused 9 3
@@ -53,11 +46,6 @@ tables_found : map found tables ≡ Refused 9 3
     ∷ Refused 8 2
     ∷ Refused 10 4
     ∷ Fine
-    ∷ Refused 10 4
-    ∷ Refused 10 4
-    ∷ Fine
-    ∷ Fine
-    ∷ Refused 9 4
     ∷ []
 unfolding tables tree_bad structure_bad parts definition_of owner_of level_of kinds kind_at code_of is_kind is_definition is_expression takes clause_of
 tables_found = refl

@@ -100,8 +100,8 @@ level_of t n x = length (climb t n x x)
 
 -- ---- rows 10 and 11
 
--- "P may be owned by V never, by F or H; Y by H alone, else 10": an argument that the body of its owner is not given. A V's body is given
--- none, an F's one, an H's two, of which P stands for the first and Y for the second; k and d are the codes of the two
+-- "P owned by a V": an argument that the body of its owner is not given. A V's body is given none, and P stands for the first of an F's; k
+-- and d are the codes of the two
 abbrev pub argument_in : ℕ → ℕ → ℕ
 argument_in k d = cond (ltb (takes d) (argument_place k)) argument_row 0
 

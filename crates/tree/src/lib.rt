@@ -3,10 +3,10 @@
 
 ghost use Rattle.std.specs.Prelude.{◌≡◌, true, cond, ◌&&◌, ◌+◌, ◌*◌, ◌≤◌, ◌<◌, length};
 ghost use Rattle.cells.specs.Limits.{label_limit};
-ghost use Rattle.cells.specs.Lists.{all};
+ghost use Rattle.cells.specs.Lists.{all, or_if_zero};
 ghost use Rattle.cells.specs.Table.{cell, is_expression};
-ghost use Rattle.refusals.specs.Refusal.{first_bad, or_else};
-ghost use Rattle.refusals.specs.Rows.{uses_row};
+ghost use Rattle.refusals.specs.Refusal.{first_bad, or_else, found_at};
+ghost use Rattle.refusals.specs.Rows.{uses_row, argument_row, level_row};
 ghost use Rattle.refusals.specs.declared.Verdict.TheVariants.{Refused};
 ghost use Rattle.tree.specs.Tree.{part_right, parts, structure_right, structure_bad, tree_bad};
 ghost use Rattle.tree.specs.Treed.{Formed, Plain, Written};
@@ -260,6 +260,19 @@ fn settle(table: &mut [i64], label: usize) -> bool
 
 // ---- rows 8 to 11
 
+// The first label found, or else this one, if it is wrong.
+fn first_of(found: usize, wrong: bool, label: usize) -> usize
+    ensures { result ≡ or_if_zero found (cond wrong label 0) }
+{
+    if found != 0 {
+        return found;
+    }
+    if wrong {
+        return label;
+    }
+    0
+}
+
 // A label fails row 8 or 9. Row 8 comes first, wherever it fails.
 fn early_verdict(table: &[i64], n: usize, label: usize) -> Verdict
     requires { Formed table.now n }
@@ -270,6 +283,19 @@ fn early_verdict(table: &[i64], n: usize, label: usize) -> Verdict
         Verdict::Fine => Verdict::Refused(refusals::USES, label as u64),
         Verdict::Refused(_, _) => verdict,
     }
+}
+
+// Rows 10 and 11 by the first label that fails each, 0 for none.
+fn late_verdict(argument: usize, level: usize) -> Verdict
+    ensures { result ≡ or_else (found_at argument_row argument) (found_at level_row level) }
+{
+    if argument != 0 {
+        return Verdict::Refused(refusals::ARGUMENT, argument as u64);
+    }
+    if level != 0 {
+        return Verdict::Refused(refusals::LEVEL, level as u64);
+    }
+    Verdict::Fine
 }
 
 // Rows 8 to 11, and the owner of each label. What uses a label has a smaller one, so that its uses, owner and level are final when the
@@ -284,13 +310,13 @@ pub fn read_tree(table: &mut [i64], n: usize) -> Verdict
     let mut label: usize = 1;
     while label <= n {
         if settle(table, label) {
-            argument = refusals::or_here(argument, argument_bad(table, label), label);
-            level = refusals::or_here(level, level_bad(table, label), label);
+            argument = first_of(argument, argument_bad(table, label), label);
+            level = first_of(level, level_bad(table, label), label);
             cells::put_cell(table, label, cells::TARGET, 0);
             label += 1;
         } else {
             return early_verdict(table, n, label);
         }
     }
-    refusals::verdict_of(refusals::ARGUMENT, argument, refusals::LEVEL, level)
+    late_verdict(argument, level)
 }

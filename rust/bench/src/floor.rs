@@ -69,7 +69,8 @@ mod tests {
             assert_eq!(lindypo::raw::read(&text, &mut read), Ok(lines));
             assert_eq!(floor(&text, &mut cut), lines);
             for (read, cut) in read.chunks(CELLS).zip(cut.chunks(CELLS)) {
-                assert_eq!(cut[0], i64::from(generator::kinds::letter(read[0])));
+                let letter = char::from(cut[0] as u8);
+                assert!("GVFNPRCASMDI".contains(letter), "{letter}");
                 let name = if read[2] > 0 { &read[1..3] } else { &cut[1..3] };
                 assert_eq!(cut[1..], [name, &read[3..6], &[0, 0]].concat());
                 let field = &text[cut[1] as usize..][..cut[2] as usize];

@@ -18,9 +18,6 @@
 //! times that one too, in the same turns, on sheets of which it answers the same:
 //! the last column is our time to its.
 //!
-//! Functions of two numbers are called at every depth, by many values, and in turn with
-//! functions of one.
-//!
 //! Retouch is measured on lists of pairs, and beside as many Runs as there are pairs.
 //!
 //! The floor is one pass over the bytes that judges nothing. Read and Run on everyday

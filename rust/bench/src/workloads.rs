@@ -3,7 +3,6 @@
 use std::fs;
 use std::path::Path;
 
-use generator::kinds::VALUE;
 use generator::{capital_paths, under, Rng, EVEN};
 
 use crate::calls::Call;
@@ -12,6 +11,9 @@ const LINES: [usize; 3] = [60, 250, 1_024];
 
 /// How many pairs Retouch is lent.
 const PAIRS: usize = 1_000;
+
+/// The code of a value in the table.
+const VALUE: i64 = 2;
 
 /// How many different sheets are taken in turn.
 const SHEETS: u64 = 16;
@@ -123,7 +125,6 @@ pub fn workloads() -> Vec<Workload> {
     list.extend(near_names());
     list.extend(halves());
     list.extend(LINES.map(everyday_to_even));
-    list.extend(of_two());
     list.extend([7, 9, 15, 16].map(refused));
     list.extend(retouched());
     list
@@ -132,7 +133,7 @@ pub fn workloads() -> Vec<Workload> {
 /// The sheets whose instructions are counted.
 pub fn counted(call: Call) -> [Workload; 2] {
     if call == Call::Retouch {
-        let [each, _, _, one, _] = retouched();
+        let [each, _, _, one] = retouched();
         return [one, each];
     }
     let example = Workload::one("the paper's example", &Call::UNTOUCHED, example());
@@ -249,46 +250,20 @@ fn everyday_to_even(lines: usize) -> Workload {
     Workload::one("everyday order, halves to even", &Call::READ_AND_RUN, text)
 }
 
-/// Functions of two numbers: called at every depth, by many values, in turn with calls
-/// of one, and in chains, where nearly every line is an H, K, P or Y.
-fn of_two() -> [Workload; 4] {
-    let (all, evaluated) = (&Call::UNTOUCHED, &Call::EVALUATED);
-    let one = Workload::one;
-    let chains = generator::chains_of_two(250);
-    [
-        one(
-            "deepest calls of two",
-            evaluated,
-            generator::deepest_calls_of_two(),
-        ),
-        one(
-            "calls of one and two in turn",
-            evaluated,
-            generator::in_turn(10),
-        ),
-        one("250 calls of two", all, generator::calls_of_two(250)),
-        one("250 functions of two in chains", all, chains),
-    ]
-}
-
 /// Everyday orders with pairs for Retouch: the first is that of which one Run after
-/// another would redo most in vain; and the number of a function of two that all values
-/// call.
-pub fn retouched() -> [Workload; 5] {
+/// another would redo most in vain.
+pub fn retouched() -> [Workload; 4] {
     let everyday = |lines| generator::everyday(lines, 1);
     let on_one = generator::everyday_on_one(1_024, 1);
     let [long, short] = [1_024, 60].map(everyday);
     let [all, of_value] = [long.clone(), short.clone()].map(|text| labels(&text, |_| true));
     let alone = labels(&long, |redone| redone == 1);
-    let called = generator::calls_of_two(250);
-    let within = vec![generator::line_count(&called) as i64];
     let retouched = Workload::retouched;
     [
         retouched("1,000 pairs of one value each", long.clone(), alone, PAIRS),
         retouched("1,000 pairs of every value", on_one, vec![1_024], PAIRS),
         retouched("1,000 pairs of all numbers", long, all, PAIRS),
         retouched("one pair", short, of_value, 1),
-        retouched("1,000 pairs within an H", called, within, PAIRS),
     ]
 }
 
@@ -422,26 +397,11 @@ mod tests {
     #[test]
     fn pairs_redo_what_they_are_called() {
         let workloads = retouched();
-        let [(each, _), (every, values), (all, _), (one, _), (within, called)] =
-            workloads.each_ref().map(redone);
+        let [(each, _), (every, values), (all, _), (one, _)] = workloads.each_ref().map(redone);
         assert_eq!(each, [1; PAIRS]);
         assert_eq!(every, [values; PAIRS]);
         assert!(values > 200);
         assert!(all.contains(&1) && all.iter().any(|&redone| redone > 10));
         assert_eq!(one.len(), 1);
-        assert_eq!((within, called), (vec![250; PAIRS], 250));
-    }
-
-    /// Calls of two take the steps that they should: the deepest ones K, two
-    /// arguments, and rounds of 28 sums, I, P, K, S, P, N and Y.
-    #[test]
-    fn calls_of_two_take_their_steps() {
-        let [deepest, in_turn, called, chains] = of_two();
-        let (steps, values) = evaluated(&deepest);
-        let round = 2 * 28 + 7;
-        assert_eq!(steps, values * (2 * 30 + 3 + 63 * round + 2 * 28 + 3));
-        assert_eq!(evaluated(&in_turn), (10 * 415, 10));
-        assert_eq!(evaluated(&called).0, 250 * 8);
-        assert_eq!(evaluated(&chains).0, 5 * (3 + 49 * 3 + 3));
     }
 }

@@ -1,16 +1,14 @@
 //! `cargo run --release -p checks --example groups -- COUNT`: so many random
 //! Groups for tests of builders in other languages, each a line of JSON.
 //! `members` says what to build: `["value", NAME, BODY]`, `["function", NAME,
-//! BODY]`, `["function_of_two", NAME, BODY]`, `["group", NAME, MEMBERS]`. A body is a
-//! number or a list of the name of its kind and what it is made of. `text` is the sheet
-//! that it gives; where it gives none, `row` and `words` are the mistake.
+//! BODY]`, `["group", NAME, MEMBERS]`. A body is a number or a list of the name
+//! of its kind and what it is made of. `text` is the sheet that it gives; where
+//! it gives none, `row` and `words` are the mistake.
 
 use std::process::ExitCode;
 
 use generator::Rng;
-use lindypo::build::{
-    argument, call, call_of_two, choice, number, read, second_argument, Expression, Group,
-};
+use lindypo::build::{argument, call, choice, number, read, Expression, Group};
 
 /// Names and paths, wrong ones among them.
 const NAMES: [&str; 12] = [
@@ -105,24 +103,19 @@ impl Grower {
         let count = if is_large { 200 } else { self.rng.below(6) };
         for _ in 0..count {
             let name = self.pick(&NAMES, GOOD_NAMES);
-            let (kind, content) = match self.rng.below(5) {
+            let (kind, content) = match self.rng.below(4) {
                 0 if deeper > 0 => {
                     let (inner, json) = self.group(deeper - 1);
                     group.group(name, inner);
                     ("group", json)
                 }
                 1 => {
-                    let (body, json) = self.body(1);
+                    let (body, json) = self.body(true);
                     group.function(name, body);
                     ("function", json)
                 }
-                2 => {
-                    let (body, json) = self.body(2);
-                    group.function_of_two(name, body);
-                    ("function_of_two", json)
-                }
                 _ => {
-                    let (body, json) = self.body(0);
+                    let (body, json) = self.body(false);
                     group.value(name, body);
                     ("value", json)
                 }
@@ -132,11 +125,10 @@ impl Grower {
         (group, format!("[{}]", members.join(",")))
     }
 
-    /// A body of a definition that has so many arguments; some are as deep as allowed,
-    /// or deeper.
-    fn body(&mut self, arguments: usize) -> (Expression, String) {
+    /// A body; some are as deep as allowed, or deeper.
+    fn body(&mut self, is_function: bool) -> (Expression, String) {
         if !self.rng.chance(5) {
-            return self.expression(arguments, 6);
+            return self.expression(is_function, 6);
         }
         let deepest = if self.mistakes > 0 { 34 } else { 32 };
         let levels = self.rng.range(30, deepest);
@@ -146,13 +138,11 @@ impl Grower {
         })
     }
 
-    fn leaf(&mut self, arguments: usize) -> (Expression, String) {
-        let has = |least: usize| arguments >= least;
-        let is_wrong = self.rng.chance(self.mistakes);
-        match self.rng.below(4) {
-            0 if has(1) || is_wrong => (argument(), "[\"argument\"]".to_string()),
-            1 if has(2) || is_wrong => (second_argument(), "[\"second_argument\"]".to_string()),
-            2 => {
+    fn leaf(&mut self, is_function: bool) -> (Expression, String) {
+        let is_argument = is_function || self.rng.chance(self.mistakes);
+        match self.rng.below(3) {
+            0 if is_argument => (argument(), "[\"argument\"]".to_string()),
+            1 => {
                 let path = self.pick(&PATHS, GOOD_PATHS);
                 (read(path), format!("[\"read\",{}]", quoted(path)))
             }
@@ -163,14 +153,14 @@ impl Grower {
         }
     }
 
-    fn expression(&mut self, arguments: usize, deeper: usize) -> (Expression, String) {
+    fn expression(&mut self, is_function: bool, deeper: usize) -> (Expression, String) {
         if deeper == 0 || self.rng.chance(40) {
-            return self.leaf(arguments);
+            return self.leaf(is_function);
         }
-        let mut operand = || self.expression(arguments, deeper - 1);
+        let mut operand = || self.expression(is_function, deeper - 1);
         let [(a, a_json), (b, b_json)] = [operand(), operand()];
         let binary = |kind: &str| format!("[\"{kind}\",{a_json},{b_json}]");
-        match self.rng.below(7) {
+        match self.rng.below(6) {
             0 => (a + b, binary("sum")),
             1 => (a - b, binary("difference")),
             2 => (a * b, binary("product")),
@@ -182,13 +172,8 @@ impl Grower {
                     format!("[\"call\",{},{a_json}]", quoted(path)),
                 )
             }
-            5 => {
-                let path = self.pick(&PATHS, GOOD_PATHS);
-                let json = format!("[\"call_of_two\",{},{a_json},{b_json}]", quoted(path));
-                (call_of_two(path, a, b), json)
-            }
             _ => {
-                let (c, c_json) = self.expression(arguments, deeper - 1);
+                let (c, c_json) = self.expression(is_function, deeper - 1);
                 let json = format!("[\"choice\",{a_json},{b_json},{c_json}]");
                 (choice(a, b, c), json)
             }

@@ -21,7 +21,6 @@ mod letters;
 mod retouches;
 mod tally;
 mod trial;
-mod two_numbers;
 
 use std::thread;
 
@@ -34,7 +33,6 @@ pub use letters::Letters;
 pub use retouches::Retouches;
 pub use tally::Tally;
 pub use trial::{Expected, Outcome, Trial, Wanted, WantedName, WantedPrint};
-pub use two_numbers::TwoNumbers;
 
 /// The random trial with this seed; a difference says how to run it again.
 pub fn check_seed(seed: u64) -> Result<Outcome, String> {

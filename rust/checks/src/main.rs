@@ -2,8 +2,8 @@
 //! wanted. Status 1 and the seed where the library and the reference differ,
 //! and where many trials have not met every refusal, state and order, names in
 //! other letters than those that they are the same as, names that are nearly the
-//! same, every sort of tangle, all that lists of pairs bring about, both first lines
-//! with halves on which their tie rules part, and all that functions of two bring.
+//! same, every sort of tangle, all that lists of pairs bring about, and both first
+//! lines with halves on which their tie rules part.
 
 use std::env;
 use std::process::ExitCode;

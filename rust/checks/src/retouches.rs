@@ -1,8 +1,10 @@
 //! What lists of pairs bring about: what order 4 is about.
 
-use generator::kinds::{FUNCTION, FUNCTION_OF_TWO, VALUE};
-
 use crate::{Call, Wanted};
+
+/// The codes of a value and of a function in the table.
+const VALUE: i64 = 2;
+const FUNCTION: i64 = 3;
 
 /// The most pairs of a list.
 const MOST_PAIRS: usize = 1_024;
@@ -12,11 +14,8 @@ const MOST_PAIRS: usize = 1_024;
 #[derive(Debug, Default, Clone, Copy, PartialEq, Eq)]
 pub struct Retouches {
     pub short_changes: bool,
-    /// A pair has a function for the owner of its number, or a function of two, which
-    /// values reach or not.
+    /// A pair has a function for the owner of its number.
     pub owner_is_function: bool,
-    pub owner_is_of_two: bool,
-    pub redoes_by_two: bool,
     /// A pair redoes no value, the owner and no other, several.
     pub redoes_none: bool,
     pub redoes_owner_alone: bool,
@@ -31,14 +30,12 @@ pub struct Retouches {
 }
 
 impl Retouches {
-    pub const COUNT: usize = 12;
+    pub const COUNT: usize = 10;
 
     /// What `counts` are of, in words.
     pub const WORDS: [&'static str; Retouches::COUNT] = [
         "changes too short",
         "owned by a function",
-        "by a function of two",
-        "redoing values by one",
         "redoing nothing",
         "redoing the owner alone",
         "redoing several",
@@ -78,8 +75,6 @@ impl Retouches {
             let owner = table[8 * at + 6] as usize - 1;
             let owner_kind = table[8 * owner];
             retouches.owner_is_function |= owner_kind == FUNCTION;
-            retouches.owner_is_of_two |= owner_kind == FUNCTION_OF_TWO;
-            retouches.redoes_by_two |= owner_kind == FUNCTION_OF_TWO && redone > 0;
             retouches.redoes_none |= redone == 0;
             retouches.redoes_owner_alone |= redone == 1 && owner_kind == VALUE;
             retouches.redoes_several |= redone > 1;
@@ -97,8 +92,6 @@ impl Retouches {
         [
             self.short_changes,
             self.owner_is_function,
-            self.owner_is_of_two,
-            self.redoes_by_two,
             self.redoes_none,
             self.redoes_owner_alone,
             self.redoes_several,

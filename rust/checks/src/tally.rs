@@ -2,7 +2,7 @@
 
 use std::fmt;
 
-use generator::{CallsOfTwo, NearNames, OfTwo, Tangles};
+use generator::{NearNames, Tangles};
 
 use crate::calls::{MIXED, WHOLE};
 use crate::letters::Letters;
@@ -34,7 +34,7 @@ const NEAR: [&str; NearNames::COUNT] = [
 /// asked for and gave a part to, how many prints there was room for, how many
 /// sheets had names in other letters than those that they are the same as, or names
 /// that are nearly the same, where mixed plans were tangled, what lists of pairs
-/// brought about, what was met under each first line, and what functions of two did.
+/// brought about, and what was met under each first line.
 #[derive(Debug, Default, Clone, PartialEq, Eq)]
 pub struct Tally {
     trials: u64,
@@ -61,9 +61,6 @@ pub struct Tally {
     /// near misses of both.
     halves: [[u64; Halves::WORDS.len()]; 2],
     near_both: u64,
-    /// Sheets by what is told in `OfTwo::WORDS` and in `CallsOfTwo::WORDS`.
-    of_two: [u64; OfTwo::WORDS.len()],
-    calls_of_two: [u64; CallsOfTwo::WORDS.len()],
 }
 
 impl Tally {
@@ -96,8 +93,6 @@ impl Tally {
             add_all(counts, &more);
         }
         self.near_both += u64::from(outcome.halves.near_both);
-        add_all(&mut self.of_two, &outcome.two_numbers.sheet.counts());
-        add_all(&mut self.calls_of_two, &outcome.two_numbers.calls.counts());
     }
 
     pub fn merge(&mut self, other: &Tally) {
@@ -121,18 +116,15 @@ impl Tally {
             add_all(counts, more);
         }
         self.near_both += other.near_both;
-        add_all(&mut self.of_two, &other.of_two);
-        add_all(&mut self.calls_of_two, &other.calls_of_two);
     }
 
     /// Whether every call answered and refused by each of its rows, plans were
     /// whole and mixed, values came to every state, Name gave parts, empty ones
     /// too, prints had room and had not, names were in other letters and nearly the
     /// same wherever they are compared, sheets were tangled wherever they can be,
-    /// lists of pairs brought about all that they can, of both first lines there were
-    /// sheets, near misses, and halves on which the tie rules part, and functions of
-    /// two were called, refused and failed in every way; a short run need not have met
-    /// all of them.
+    /// lists of pairs brought about all that they can, and of both first lines there
+    /// were sheets, near misses, and halves on which the tie rules part; a short run
+    /// need not have met all of them.
     pub fn is_complete(&self) -> bool {
         let mut calls = Call::ALL.into_iter().zip(&self.replies);
         let replies = calls.all(|(call, counts)| call.has_met(counts));
@@ -145,9 +137,8 @@ impl Tally {
         let tangles = !self.tangles.contains(&0);
         let retouches = !self.retouches.contains(&0);
         let halves = !self.halves.as_flattened().contains(&0) && self.near_both > 0;
-        let of_two = !self.of_two.contains(&0) && !self.calls_of_two.contains(&0);
         let named = names && letters && near;
-        let evaluated = prints && states && retouches && halves && of_two;
+        let evaluated = prints && states && retouches && halves;
         let is_all = replies && orders && named && evaluated && tangles;
         self.trials < ENOUGH || is_all
     }
@@ -172,9 +163,9 @@ fn listed(names: &[&str], counts: &[u64]) -> String {
     words.join(", ")
 }
 
-impl Tally {
-    /// The table of answers and refusals, a column for each call.
-    fn fmt_replies(&self, f: &mut fmt::Formatter) -> fmt::Result {
+impl fmt::Display for Tally {
+    fn fmt(&self, f: &mut fmt::Formatter) -> fmt::Result {
+        writeln!(f, "{} sheets agree", self.trials)?;
         write!(f, "{:<10}", "")?;
         for call in Call::ALL {
             write!(f, " {:>8}", format!("{call:?}"))?;
@@ -190,14 +181,6 @@ impl Tally {
             }
             writeln!(f)?;
         }
-        Ok(())
-    }
-}
-
-impl fmt::Display for Tally {
-    fn fmt(&self, f: &mut fmt::Formatter) -> fmt::Result {
-        writeln!(f, "{} sheets agree", self.trials)?;
-        self.fmt_replies(f)?;
         writeln!(f, "plans: {} whole, {} mixed", self.whole, self.mixed)?;
         writeln!(f, "tangled: {}", listed(&TANGLES, &self.tangles))?;
         writeln!(f, "values: {}", listed(&STATES, &self.states))?;
@@ -207,10 +190,6 @@ impl fmt::Display for Tally {
         writeln!(f, "halves away from zero: {}", listed(&Halves::WORDS, away))?;
         writeln!(f, "halves to even: {}", listed(&Halves::WORDS, even))?;
         writeln!(f, "near misses of either line one: {}", self.near_both)?;
-        let of_two = listed(&OfTwo::WORDS, &self.of_two);
-        writeln!(f, "functions of two: {of_two}")?;
-        let calls_of_two = listed(&CallsOfTwo::WORDS, &self.calls_of_two);
-        writeln!(f, "evaluated: {calls_of_two}")?;
         let cut = self.trials - self.printed;
         writeln!(f, "prints: {} whole, {cut} cut short", self.printed)?;
         let [heads, later, clashes] = self.letters;

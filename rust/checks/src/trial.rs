@@ -8,7 +8,6 @@ use crate::halves::Halves;
 use crate::lent::{LentCells, LentPart, SURROUNDINGS};
 use crate::letters::Letters;
 use crate::retouches::Retouches;
-use crate::two_numbers::TwoNumbers;
 
 /// Name is tried with every label of a sheet up to this many lines.
 const ALL_LABELS: usize = 40;
@@ -56,7 +55,6 @@ pub struct Outcome {
     pub tangles: Tangles,
     pub retouches: Retouches,
     pub halves: Halves,
-    pub two_numbers: TwoNumbers,
 }
 
 impl Outcome {
@@ -86,7 +84,6 @@ impl Outcome {
             tangles: tangles(&calls[1]),
             retouches: Retouches::of(trial.pairs, calls),
             halves: Halves::of(text, calls, trial.under_other(run).as_deref()),
-            two_numbers: TwoNumbers::of(text, calls),
         }
     }
 

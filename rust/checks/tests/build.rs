@@ -2,10 +2,8 @@
 //! be built is said.
 
 use generator::Rng;
-use lindypo::build::{
-    argument, call, call_of_two, choice, number, read, second_argument, Expression, Group,
-};
-use lindypo::{Kind, Sheet, State, Ties};
+use lindypo::build::{argument, call, choice, number, read, Expression, Group};
+use lindypo::{Sheet, State, Ties};
 
 const TRIALS: u64 = 10_000;
 
@@ -35,23 +33,19 @@ fn every_kind() {
     let mut inner = Group::new();
     inner
         .value("b", sum - 2)
-        .function("f", argument() * 3 / number(-4))
-        .function_of_two("h", call_of_two("h", second_argument(), argument()));
+        .function("f", argument() * 3 / number(-4));
     let mut outermost = Group::new();
     outermost
         .group("a", inner)
         .value("c", choice(call("a.f", 5), 6, 7 - read("a.b")))
         .group("empty", Group::new());
-    let lines = "G a 1 - -\nV b 2 8 -\nF f 2 13 -\nH h 2 18 -\nV c 1 21 -\nG empty 1 - -\n\
-         S - 9 12 -\nA - 10 11 -\nR a.b - - -\nN - 1 - -\nN - 2 - -\n\
-         D - 14 17 -\nM - 15 16 -\nP - - - -\nN - 3 - -\nN - -4 - -\n\
-         K h 19 20 -\nY - - - -\nP - - - -\n\
-         I - 22 24 25\nC a.f 23 - -\nN - 5 - -\nN - 6 - -\nS - 26 27 -\nN - 7 - -\nR a.b - - -\n";
-    is_built(&outermost, lines);
-    for kind in Kind::ALL {
-        let letter = kind.letter();
-        assert!(lines.lines().any(|line| line.starts_with(letter)), "{kind}");
-    }
+    is_built(
+        &outermost,
+        "G a 1 - -\nV b 2 7 -\nF f 2 12 -\nV c 1 17 -\nG empty 1 - -\n\
+         S - 8 11 -\nA - 9 10 -\nR a.b - - -\nN - 1 - -\nN - 2 - -\n\
+         D - 13 16 -\nM - 14 15 -\nP - - - -\nN - 3 - -\nN - -4 - -\n\
+         I - 18 20 21\nC a.f 19 - -\nN - 5 - -\nN - 6 - -\nS - 22 23 -\nN - 7 - -\nR a.b - - -\n",
+    );
     is_built(&Group::new(), "");
 }
 
@@ -63,10 +57,8 @@ fn of_a_sheet() {
     let mut outermost = Group::new();
     outermost
         .function("f", argument())
-        .function_of_two("g", argument() - second_argument())
         .group("a", inner)
-        .value("e", call("f", read("a.c.d")))
-        .value("h", call_of_two("g", 7, call("f", 5)));
+        .value("e", call("f", read("a.c.d")));
     let text = outermost.text().expect("a sheet that can be built");
     let sheet = Sheet::read(&text).expect("a sheet that reads");
     assert_eq!(Group::of_sheet(&sheet), outermost);
@@ -153,7 +145,6 @@ fn names_and_paths() {
         let words = format!("the value `v`: `{path}` is not {form}");
         says(&value("v", 1 + read(path)), 7, &words);
         says(&value("v", 1 + call(path, 2)), 7, &words);
-        says(&value("v", 1 + call_of_two(path, 2, 3)), 7, &words);
     }
 }
 
@@ -203,24 +194,6 @@ fn numbers() {
 fn arguments() {
     let words = "the value `v`: the argument stands in it; only a function has one";
     says(&value("v", 1 + argument()), 10, words);
-    let second = "the second argument stands in it; only a function of two has one";
-    let words = format!("the value `v`: {second}");
-    says(&value("v", 1 + second_argument()), 10, &words);
-    let mut group = Group::new();
-    group.function_of_two("g", argument() - second_argument());
-    assert!(group.text().is_ok());
-    group.function("f", argument() - second_argument());
-    says(&group, 10, &format!("the function `f`: {second}"));
-}
-
-/// What a function of two is called in words.
-#[test]
-fn titles() {
-    let mut group = Group::new();
-    group.function_of_two("1", argument());
-    let name = "a name: 1 to 16 letters or digits, a letter first";
-    let words = format!("the function of two `1`: `1` is not {name}");
-    says(&group, 7, &words);
 }
 
 /// One more operand around an expression.
@@ -321,14 +294,9 @@ impl Grower<'_> {
         }
     }
 
-    /// A leaf of a definition that takes so many arguments.
-    fn leaf(&mut self, takes: usize) -> Expression {
-        let arguments = [argument(), second_argument()];
-        if takes > 0 && self.rng.chance(30) {
-            return self.rng.pick(&arguments[..takes]).clone();
-        }
-        if takes < arguments.len() && self.plants(10) {
-            return self.rng.pick(&arguments[takes..]).clone();
+    fn leaf(&mut self, is_function: bool) -> Expression {
+        if is_function && self.rng.chance(30) || !is_function && self.plants(10) {
+            return argument();
         }
         match self.rng.below(2) {
             0 if self.plants(7) => number(*self.rng.pick(&[i64::MIN, 1_000_000_001])),
@@ -337,31 +305,34 @@ impl Grower<'_> {
         }
     }
 
-    fn expression(&mut self, takes: usize, level: usize) -> Expression {
+    fn expression(&mut self, is_function: bool, level: usize) -> Expression {
         if level >= 32 || self.rng.chance(50) {
-            return self.leaf(takes);
+            return self.leaf(is_function);
         }
-        let kind = self.rng.below(7);
-        let path = if kind < 2 { self.path() } else { String::new() };
-        let mut operand = || self.expression(takes, level + 1);
+        let kind = self.rng.below(6);
+        let path = if kind == 0 {
+            self.path()
+        } else {
+            String::new()
+        };
+        let mut operand = || self.expression(is_function, level + 1);
         match kind {
             0 => call(path, operand()),
-            1 => call_of_two(path, operand(), operand()),
-            2 => operand() + operand(),
-            3 => operand() - operand(),
-            4 => operand() * operand(),
-            5 => operand() / operand(),
+            1 => operand() + operand(),
+            2 => operand() - operand(),
+            3 => operand() * operand(),
+            4 => operand() / operand(),
             _ => choice(operand(), operand(), operand()),
         }
     }
 
-    fn body(&mut self, takes: usize) -> Expression {
+    fn body(&mut self, is_function: bool) -> Expression {
         if self.plants(11) {
             return deeper(33 + self.rng.below(3));
         }
         match self.rng.chance(10) {
             true => deeper(32),
-            false => self.expression(takes, 1),
+            false => self.expression(is_function, 1),
         }
     }
 
@@ -369,11 +340,10 @@ impl Grower<'_> {
         let mut group = Group::new();
         for count in 0..self.rng.below(6) {
             let name = self.name(count);
-            match self.rng.below(6) {
+            match self.rng.below(5) {
                 0 | 1 if depth < 4 => group.group(name, self.group(depth + 1)),
-                2 => group.function(name, self.body(1)),
-                3 => group.function_of_two(name, self.body(2)),
-                _ => group.value(name, self.body(0)),
+                2 => group.function(name, self.body(true)),
+                _ => group.value(name, self.body(false)),
             };
         }
         group

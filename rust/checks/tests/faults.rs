@@ -190,70 +190,26 @@ fn good_rows(rng: &mut Rng) -> Vec<Row> {
     }
 }
 
-/// Functions, arguments and calls of one number and of two exchanged, here and there.
-fn exchange(rng: &mut Rng, rows: &mut [Row]) {
-    const PAIRS: [(Kind, Kind); 3] = [
-        (Kind::Function, Kind::FunctionOfTwo),
-        (Kind::Argument, Kind::SecondArgument),
-        (Kind::Call, Kind::CallOfTwo),
-    ];
-    let [one, two] = [PAIRS, PAIRS.map(|(one, two)| (two, one))];
-    for row in rows {
-        let mut pairs = one.iter().chain(&two);
-        let other = pairs.find(|(kind, _)| row[0] == [kind.letter() as u8]);
-        if let Some((_, other)) = other.filter(|_| rng.chance(20)) {
-            row[0] = vec![other.letter() as u8];
-        }
-    }
-}
-
-/// Sheets that run but for what is exchanged in them.
-#[test]
-fn one_and_two_exchanged() {
-    let mut met = [0; 17];
-    for seed in 0..CASES {
-        let rng = &mut Rng::new(seed);
-        let mut rows = good_rows(rng);
-        exchange(rng, &mut rows);
-        let text = rows::join(&rows);
-        let faults = faults(&text);
-        is_proper(&text, &faults);
-        for fault in &faults {
-            met[fault.number() as usize] += 1;
-        }
-    }
-    println!("by refusal {met:?}");
-    assert!([7, 10, 15].iter().all(|&number| met[number] > 200));
-}
-
 /// Spoils what a line leads to, where that is one line's fault alone: a link
-/// upward, a name of nobody, an argument that its owner has not. Answers its label.
+/// upward, a name of nobody, an argument in a value. Answers its label.
 fn spoil_link(rng: &mut Rng, rows: &mut [Row]) -> Option<u64> {
     let at = rng.range(0, rows.len() - 1);
-    let is_kind = |kind: &Kind| rows[at][0] == [kind.letter() as u8];
-    let kind = Kind::ALL.into_iter().find(is_kind)?;
-    let has_body = kind.is_definition() && rows[at][3] != b"-";
-    match (kind, rng.below(2)) {
-        _ if has_body => rows[at][3] = b"1".to_vec(),
-        (kind, 0) if kind.target().is_some() => rows[at][1] = b"nosuch".to_vec(),
-        (Kind::Read | Kind::Number, which) => {
-            let beyond = &["P", "Y"][owner_takes(rows, at)?..];
-            let letter = beyond.get(which).or(beyond.first())?;
-            rows[at] = [letter, "-", "-", "-", "-"].map(|field| field.as_bytes().to_vec());
+    let owner_is_value = |rows: &[Row]| {
+        let text = rows::join(rows);
+        let sheet = Sheet::read(&text).ok()?;
+        let owner = sheet.line(at + 1)?.owner?;
+        Some(sheet.line(owner)?.kind == Kind::Value)
+    };
+    match (rows[at][0][0], rng.below(2)) {
+        (b'A' | b'S' | b'M' | b'D' | b'I', field) => rows[at][2 + field] = b"1".to_vec(),
+        (b'V' | b'F', _) => rows[at][3] = b"1".to_vec(),
+        (b'R' | b'C', 0) => rows[at][1] = b"nosuch".to_vec(),
+        (b'R' | b'N', _) if owner_is_value(rows)? => {
+            rows[at] = ["P", "-", "-", "-", "-"].map(|field| field.as_bytes().to_vec());
         }
-        // the operand a or b of a line that has both
-        (_, field) if rows[at][3] != b"-" => rows[at][2 + field] = b"1".to_vec(),
         _ => return None,
     }
     Some(at as u64 + 1)
-}
-
-/// How many arguments the owner of an expression takes.
-fn owner_takes(rows: &[Row], at: usize) -> Option<usize> {
-    let text = rows::join(rows);
-    let sheet = Sheet::read(&text).ok()?;
-    let owner = sheet.line(at + 1)?.owner?;
-    Some(sheet.line(owner)?.kind.takes())
 }
 
 /// In a sheet that runs, breaks lines and spoils a link, as is asked.

@@ -146,39 +146,21 @@ fn columns() {
     }
 }
 
-/// A name of Rust in capitals: `FunctionOfTwo` is `FUNCTION_OF_TWO`.
-fn in_capitals(name: &str) -> String {
-    let mut capitals = String::new();
-    for letter in name.chars() {
-        if letter.is_uppercase() && !capitals.is_empty() {
-            capitals.push('_');
-        }
-        capitals.extend(letter.to_uppercase());
-    }
-    capitals
-}
-
-/// Each kind has its letter beside it, in the header and in the test of its code;
-/// what is a definition is one in C too.
+/// Each kind has its letter beside it.
 #[test]
 fn kinds() {
     let (text, numbers) = (read("include/lindypo.h"), header_of("KIND_"));
-    let (tested, words) = (read("c/tests/constants.c"), read("c/lindypo_words.c"));
     let wrapper: String = Kind::ALL.into_iter().map(Kind::letter).collect();
     assert_eq!(letters(), wrapper);
     assert_eq!(numbers.len(), Kind::ALL.len());
     for kind in Kind::ALL {
-        let name = in_capitals(&format!("{kind:?}"));
+        let name = format!("{kind:?}").to_uppercase();
         assert_eq!(numbers[&name], kind.code());
         let line = text
             .lines()
             .find(|line| line.contains(&format!("KIND_{name} =")));
         let letter = format!("/* {} */", kind.letter());
         assert!(line.is_some_and(|line| line.ends_with(&letter)), "{name}");
-        let row = format!("{{'{}', LINDYPO_KIND_{name}}}", kind.letter());
-        assert!(tested.contains(&row), "{row}");
-        let is_definition = words.contains(&format!("case LINDYPO_KIND_{name}:"));
-        assert_eq!(is_definition, kind.is_definition(), "{name}");
     }
 }
 

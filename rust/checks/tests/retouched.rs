@@ -121,26 +121,19 @@ impl Met {
 
 #[test]
 fn random_lists() {
-    let (mut met, mut of_two) = (Met::default(), 0);
+    let mut met = Met::default();
     for seed in 0..CASES {
         let text = generator::case(seed).text;
-        let Ok(sheet) = Sheet::read(&text) else {
-            continue;
-        };
-        let pairs = pairs(&mut Rng::new(seed), &sheet);
-        met.case(&sheet, &pairs);
-        let is_of_two = |&(label, _): &(Label, i64)| {
-            let owner = sheet.line(label).and_then(|line| sheet.line(line.owner?));
-            owner.is_some_and(|owner| owner.kind == Kind::FunctionOfTwo)
-        };
-        of_two += usize::from(pairs.iter().any(is_of_two));
+        if let Ok(sheet) = Sheet::read(&text) {
+            let pairs = pairs(&mut Rng::new(seed), &sheet);
+            met.case(&sheet, &pairs);
+        }
     }
     println!(
         "{} answered, {} of them run again, refused by number {:?}",
         met.answers, met.put, met.refusals
     );
-    println!("{of_two} lists with a number of a function of two");
-    assert!(met.answers > 1_000 && met.put > 1_000 && of_two > 100);
+    assert!(met.answers > 1_000 && met.put > 1_000);
     for number in [16, 19, 20, 21] {
         assert!(met.refusals[number] > 20, "refusal {number}");
     }

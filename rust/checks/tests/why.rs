@@ -1,7 +1,7 @@
 //! How values came to what they are: the trace agrees with the library.
 
 use generator::Rng;
-use lindypo::why::{self, Argument, Arguments, Call, Cause, Failure, Half, Handed, Read, Why};
+use lindypo::why::{self, Call, Cause, Failure, Half, Handed, Read, Why};
 use lindypo::{Kind, Label, Results, Sheet, State, Ties};
 
 const CASES: u64 = 3_000;
@@ -27,9 +27,7 @@ fn is_so(sheet: &Sheet, results: &Results, why: &Why) {
     }
     for call in &why.calls {
         let line = sheet.line(call.line).expect("a line");
-        assert_eq!(line.target, Some(call.function));
-        let takes = line.kind.target().map_or(0, Kind::takes);
-        assert!(takes > 0 && call.arguments.len() == takes);
+        assert_eq!((line.kind, line.target), (Kind::Call, Some(call.function)));
         assert!((1..=64).contains(&call.depth));
     }
     assert!(why.calls.len() == why::CALLS || why.more_calls == 0);
@@ -55,16 +53,6 @@ fn is_half(sheet: &Sheet, half: &Half) {
     assert!(half.times > 0);
 }
 
-/// Whether a line is an expression or stands in it.
-fn is_in(sheet: &Sheet, line: Label, expression: Label) -> bool {
-    let Some(at) = sheet.line(expression) else {
-        return false;
-    };
-    let is_leaf = at.kind == Kind::Number;
-    let mut operands = [at.a, at.b, at.c].into_iter().filter(|_| !is_leaf);
-    line == expression || operands.any(|operand| is_in(sheet, line, operand as Label))
-}
-
 /// A failure is handed on from read to read, and the same one all along.
 fn began(sheet: &Sheet, results: &Results, label: Label, failure: &Failure) {
     let mut at = label;
@@ -78,13 +66,6 @@ fn began(sheet: &Sheet, results: &Results, label: Label, failure: &Failure) {
     for value in [label, failure.value] {
         let found = results.of(value).map(|it| it.state.code());
         assert_eq!(found, Some(state(failure.cause)));
-    }
-    if let Some(argument) = failure.argument {
-        let line = sheet.line(argument.line).expect("a line");
-        assert_eq!(line.target, Some(argument.function));
-        assert!((1..=line.kind.target().map_or(0, Kind::takes)).contains(&argument.place));
-        let operand = [line.a, line.b][argument.place - 1] as Label;
-        assert!(is_in(sheet, failure.line, operand));
     }
     let depths: Vec<u32> = failure.within.iter().map(|call| call.depth).collect();
     let wanted: Vec<u32> = (1..=failure.within.len() as u32).collect();
@@ -105,11 +86,6 @@ struct Met {
     handed_on: usize,
     cut: usize,
     halves: usize,
-    /// Calls of two, and failures by one that is too deep.
-    of_two: usize,
-    deep_of_two: usize,
-    /// Failures in an argument, by its place.
-    in_argument: [usize; 2],
 }
 
 impl Met {
@@ -141,16 +117,6 @@ impl Met {
             self.states[why.outcome.state.code() as usize] += 1;
             self.cut += usize::from(why.more_calls > 0);
             self.halves += usize::from(!why.halves.is_empty());
-            let is_of_two = |call: &Call| call.arguments.len() == 2;
-            self.of_two += usize::from(why.calls.iter().any(is_of_two));
-            let deep = why.failure.as_ref().map(|failure| failure.cause);
-            self.deep_of_two += usize::from(
-                matches!(deep, Some(Cause::TooDeep { arguments, .. }) if arguments.len() == 2),
-            );
-            let argument = why.failure.as_ref().and_then(|failure| failure.argument);
-            if let Some(argument) = argument {
-                self.in_argument[argument.place - 1] += 1;
-            }
             let handed_on = why.failure.map_or(0, |failure| failure.handed_on.len());
             self.handed_on += usize::from(handed_on > 1);
         }
@@ -164,12 +130,8 @@ fn random_sheets() {
         met.sheet(&generator::sheet(&mut Rng::new(seed)));
     }
     println!("{} values in states {:?}", met.values, met.states);
-    println!("{} of two, {} too deep", met.of_two, met.deep_of_two);
-    println!("in arguments by place {:?}", met.in_argument);
     assert!(met.states[1..].iter().all(|&count| count > 50));
     assert!(met.handed_on > 50 && met.cut > 50 && met.halves > 50);
-    assert!(met.of_two > 500 && met.deep_of_two > 50);
-    assert!(met.in_argument.iter().all(|&count| count > 10));
 }
 
 /// The longest and the deepest evaluations, in a thread's usual stack.
@@ -222,7 +184,7 @@ fn reads_and_calls() {
     let call = Call {
         line: 6,
         function: 3,
-        arguments: Arguments::of(&[-325]),
+        argument: -325,
         depth: 1,
         state: State::Number(325),
     };
@@ -253,134 +215,10 @@ fn calls_without_end() {
     );
     let cause = Cause::TooDeep {
         function: 2,
-        arguments: Arguments::of(&[1]),
+        argument: 1,
     };
     assert_eq!(failure.cause, cause);
     assert!(why.calls.iter().all(|call| call.state == State::TooDeep));
-}
-
-/// base is prism(sphere, dec), and prism(x, y) is half(x) - y, where half(x) is x / 2.
-#[test]
-fn calls_of_two() {
-    let why = said(
-        "V base 1 7 -\nH prism 1 10 -\nF half 1 14 -\nV sphere 1 17 -\nV dec 1 18 -\n\
-         K prism 8 9 -\nR sphere - - -\nR dec - - -\nS - 11 13 -\nC half 12 - -\nP - - - -\n\
-         Y - - - -\nD - 15 16 -\nP - - - -\nN - 2 - -\nN - 8 - -\nN - 1 - -",
-        "base",
-    );
-    // K, R, R; S, C, P, Y; D, P, N
-    assert_eq!(
-        (why.outcome.state, why.outcome.steps),
-        (State::Number(3), 10)
-    );
-    let read: Vec<(Label, Label)> = why.reads.iter().map(|it| (it.line, it.value)).collect();
-    assert_eq!(read, [(8, 5), (9, 6)]);
-    let called = |line, function, arguments: &[i64], depth, number| Call {
-        line,
-        function,
-        arguments: Arguments::of(arguments),
-        depth,
-        state: State::Number(number),
-    };
-    let calls = [
-        called(7, 3, &[8, 1], 1, 3),
-        // the argument that is handed on is the caller's first alone
-        called(11, 4, &[8], 2, 4),
-    ];
-    assert_eq!(why.calls, calls);
-}
-
-/// Arguments are evaluated one after the other, before the function is entered: the
-/// failure of the first is that of the call, and then the second is not read.
-#[test]
-fn failures_in_arguments() {
-    let lines = |first: &str, second: &str| {
-        format!(
-            "V base 1 4 -\nH prism 1 12 -\nK prism {first} {second} -\nD - 6 7 -\nN - 1 - -\n\
-             N - 0 - -\nM - 9 10 -\nR much - - -\nN - 2 - -\nV much 1 13 -\nY - - - -\n\
-             N - 1000000000 - -"
-        )
-    };
-    let argument = |place| Argument {
-        line: 4,
-        function: 3,
-        place,
-    };
-    let zero = Cause::ZeroDivisor { a: 1 };
-    let range = Cause::OutOfRange {
-        a: 1_000_000_000,
-        b: 2,
-        result: 2_000_000_000,
-    };
-    for (first, second, cause, line, steps, reads) in
-        [("5", "8", zero, 5, 4, 0), ("8", "5", range, 8, 4, 1)]
-    {
-        let why = said(&lines(first, second), "base");
-        let failure = why.failure.expect("a failure");
-        assert_eq!((failure.cause, failure.line), (cause, line));
-        assert_eq!(failure.argument, Some(argument(1)));
-        assert_eq!((why.outcome.steps, why.reads.len()), (steps, reads));
-        // the function is not entered
-        assert_eq!((why.calls.len(), failure.within.len()), (0, 0));
-    }
-    let second = lines("5", "8").replace("N - 0 - -", "N - 1 - -");
-    let why = said(&second, "base");
-    let failure = why.failure.expect("a failure");
-    assert_eq!((failure.cause, failure.line), (range, 8));
-    assert_eq!(failure.argument, Some(argument(2)));
-    assert_eq!((why.outcome.steps, why.reads.len()), (7, 1));
-}
-
-/// The innermost call is the one that is named, and none where the failure is within
-/// a function that was called: less(less(1, 1 / 0), 2) and less(zero(1), 2).
-#[test]
-fn arguments_of_arguments() {
-    let lines = |first: &str| {
-        format!(
-            "V x 1 5 -\nH less 1 8 -\nF zero 1 9 -\nK less 6 7 -\n{first}\nN - 2 - -\nP - - - -\n\
-             D - 10 11 -\nP - - - -\nN - 0 - -"
-        )
-    };
-    let inner = lines("K less 12 13 -") + "\nN - 1 - -\nD - 14 15 -\nN - 1 - -\nN - 0 - -";
-    let failure = said(&inner, "x").failure.expect("a failure");
-    let argument = Argument {
-        line: 6,
-        function: 3,
-        place: 2,
-    };
-    assert_eq!((failure.line, failure.argument), (13, Some(argument)));
-    let within = lines("C zero 12 - -") + "\nN - 1 - -";
-    let failure = said(&within, "x").failure.expect("a failure");
-    assert_eq!((failure.line, failure.argument), (9, None));
-    assert_eq!(failure.within.len(), 1);
-}
-
-/// f(x, y) = f(x - 1, 1 / x). Depth is judged after both arguments are numbers: at
-/// depth 64 the second one's failure comes first.
-#[test]
-fn calls_of_two_without_end() {
-    let why = |start: i64| {
-        let lines = format!(
-            "H f 1 4 -\nV endless 1 10 -\nK f 5 8 -\nS - 6 7 -\nP - - - -\nN - 1 - -\n\
-             D - 9 13 -\nN - 1 - -\nK f 11 12 -\nN - {start} - -\nN - 1 - -\nP - - - -"
-        );
-        said(&lines, "endless")
-    };
-    let deep = Cause::TooDeep {
-        function: 2,
-        arguments: Arguments::of(&[0, 1]),
-    };
-    let zero = Cause::ZeroDivisor { a: 1 };
-    for (start, cause, line) in [(64, deep, 4), (63, zero, 8)] {
-        let why = why(start);
-        // K, N, N; then 64 times K, S, P, N, D, N, P
-        assert_eq!(why.outcome.steps, 3 + 64 * 7);
-        assert_eq!(why.calls.len() + why.more_calls, 64);
-        let failure = why.failure.expect("a failure");
-        assert_eq!((failure.cause, failure.line), (cause, line));
-        assert_eq!(failure.within.len(), 64);
-        assert_eq!(failure.within[0].arguments[..], [start, 1]);
-    }
 }
 
 /// A range is left in a function that a value calls which another reads.

@@ -8,20 +8,13 @@ const SHOWN: usize = 80;
 /// What stands for the rest of a longer one.
 const CUT: &str = " ...";
 
-/// `= sphere / 2` for a value, `(x) = x / 2` for a function, `(x, y) = x * y` for a
-/// function of two, nothing for a Group.
-pub fn whole(sheet: &Sheet, label: Label) -> String {
-    let arguments = match &formula::arguments(sheet, label)[..] {
-        [] => String::new(),
-        names => format!("({}) ", names.join(", ")),
-    };
-    let formula = formula::of(sheet, label);
-    formula.map_or(String::new(), |formula| format!("{arguments}= {formula}"))
-}
-
-/// The same; a long one is cut.
+/// `= sphere / 2` for a value, `(x) = x / 2` for a function, nothing for a
+/// Group; a long one is cut.
 pub fn shown(sheet: &Sheet, label: Label) -> String {
-    cut(whole(sheet, label))
+    let argument = formula::argument(sheet, label);
+    let argument = argument.map_or(String::new(), |name| format!("({name}) "));
+    let formula = formula::of(sheet, label).map(|formula| format!("{argument}= {formula}"));
+    cut(formula.unwrap_or_default())
 }
 
 /// Formulas are ASCII.

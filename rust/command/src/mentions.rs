@@ -1,11 +1,11 @@
-//! The R, C and K lines of a sheet: which definition mentions which.
+//! The R and C lines of a sheet: which definition mentions which.
 
 use lindypo::{Kind, Label, Sheet};
 
 /// A line by which a definition reads a value or calls a function.
 #[derive(Debug, Clone, Copy, PartialEq, Eq)]
 pub struct Mention {
-    /// Read, call or call of two.
+    /// Read or call.
     pub kind: Kind,
     pub line: Label,
     pub from: Label,
@@ -14,9 +14,9 @@ pub struct Mention {
 
 impl Mention {
     pub fn verb(&self) -> &'static str {
-        match self.kind.is_call() {
-            true => "calls",
-            false => "reads",
+        match self.kind {
+            Kind::Call => "calls",
+            _ => "reads",
         }
     }
 }

@@ -23,7 +23,7 @@ const COLUMNS: [Column; 7] = [
 type Row = [Cell; COLUMNS.len()];
 
 /// The JSON of definitions.
-pub const FIELDS: [Field; 16] = [
+pub const FIELDS: [Field; 15] = [
     (
         "definitions",
         "the definitions as the tree has them, a Group before its members:",
@@ -34,10 +34,7 @@ pub const FIELDS: [Field; 16] = [
         "its full name; empty for the outermost Group",
     ),
     ("definitions.line", "the line that it stands in, from 1"),
-    (
-        "definitions.kind",
-        "Group, value, function or function of two",
-    ),
+    ("definitions.kind", "Group, value or function"),
     (
         "definitions.group",
         "the label of its Group; the outermost has none",
@@ -54,11 +51,7 @@ pub const FIELDS: [Field; 16] = [
     ("definitions.formula", "of a value or function: its formula"),
     (
         "definitions.argument",
-        "of a function: what its formula calls the argument, the first of two",
-    ),
-    (
-        "definitions.second",
-        "of a function of two: what its formula calls the second argument",
+        "of a function: what its formula calls the argument",
     ),
     ("definitions.state", "of a value: 1 a number, 2 to 5 none"),
     ("definitions.number", "the number, in state 1"),
@@ -116,10 +109,11 @@ pub fn positions(span: Span) -> String {
 }
 
 /// What a definition is that is no value.
-fn kind(node: &Node) -> String {
+fn kind(node: &Node) -> &'static str {
     match node.line.kind {
-        kind if node.is_mixed() => format!("{kind}, mixed"),
-        kind => kind.to_string(),
+        Kind::Group if node.is_mixed() => "Group, mixed",
+        Kind::Group => "Group",
+        _ => "function",
     }
 }
 
@@ -140,7 +134,6 @@ fn add_objects(objects: &mut Vec<Object>, sheet: &Sheet, node: &Node) {
 fn object(sheet: &Sheet, node: &Node) -> Object {
     let label = node.line.label;
     let mixed = (node.line.kind == Kind::Group).then(|| node.is_mixed());
-    let mut arguments = formula::arguments(sheet, label).into_iter();
     let object = values::name_object(label, &sheet.full_name(label))
         .with("kind", node.line.kind.to_string())
         .with_some("group", node.line.owner)
@@ -148,8 +141,7 @@ fn object(sheet: &Sheet, node: &Node) -> Object {
         .with_some("last", node.span.map(|span| span.last))
         .with_some("mixed", mixed)
         .with_some("formula", formula::of(sheet, label))
-        .with_some("argument", arguments.next())
-        .with_some("second", arguments.next());
+        .with_some("argument", formula::argument(sheet, label));
     match node.outcome {
         Some(outcome) => object.and(values::outcome_object(outcome)),
         None => object,

@@ -138,8 +138,7 @@ fn group(sheet: &Sheet, name: &OsStr) -> Result<Label, String> {
         _ if label == 1 => Err(format!("{option} {shown}: the outermost Group stays open")),
         Some(Kind::Group) => Ok(label),
         Some(kind) => Err(format!(
-            "{option} {shown}: it is {}, and Groups are folded",
-            kind.with_article()
+            "{option} {shown}: it is a {kind}, and Groups are folded"
         )),
         None => Err(format!("{option} {shown}: there is no such label")),
     }

@@ -27,7 +27,7 @@ pub const RULES: [Rule; 21] = [
     ),
     rule(
         "unknown kind",
-        "a line begins with a letter of the table of kinds",
+        "the kind is one of the twelve: G V F N P R C A S M D I",
     ),
     rule(
         "form of a field",
@@ -42,10 +42,7 @@ pub const RULES: [Rule; 21] = [
         "use of an expression",
         "an expression is used by one field, no less and no more",
     ),
-    rule(
-        "argument out of place",
-        "a value has no argument, a function has one, a function of two has a second",
-    ),
+    rule("argument in a value", "only a function has an argument"),
     rule(
         "more than 32 levels",
         "expressions are nested at most 32 levels deep",
@@ -66,7 +63,7 @@ pub const RULES: [Rule; 21] = [
     ),
     rule(
         "end of a path",
-        "a read leads to a value, a call to a function, a call of two to a function of two",
+        "a read leads to a value, a call to a function",
     ),
     rule(
         "value reaching itself",

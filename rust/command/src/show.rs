@@ -17,10 +17,9 @@ pub const WORD: Word = Word {
     operands: "[FILE]",
     about: "\
 Shows what a sheet defines as formulas: values, functions and Groups, the members of each Group in
-the sequence of their labels. The argument of a function is called x, those of a function of two
-x and y. docs/LANGUAGE.md has the grammar. `lindypo write` makes a sheet of them again, the same
-but for its labels. A sheet that has halves go to the even neighbour is shown with the words
-`halves to even` first. A refused sheet is explained on standard error.
+the sequence of their labels. docs/LANGUAGE.md has the grammar. `lindypo write` makes a sheet of
+them again, the same but for its labels. A sheet that has halves go to the even neighbour is shown
+with the words `halves to even` first. A refused sheet is explained on standard error.
 ",
     options: &document::OPTIONS,
     examples: &[
@@ -46,22 +45,6 @@ base = 250 / -100
 edge = 150 / 100
 prism = percent(sphere * 100 + 50)
 percent(x) = x / 100
-",
-        },
-        Example {
-            words: "show sheets/order-6-prism.sheet",
-            print: "\
-prism(x, y) = x * y / 1000
-dec = 250
-right {
-    sphere = -325
-    base = prism(sphere, dec)
-}
-left {
-    sphere = -275
-    base = prism(sphere, dec)
-}
-imbalance = right.base - left.base
 ",
         },
     ],

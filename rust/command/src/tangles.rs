@@ -55,7 +55,7 @@ pub const FIELDS: [Field; 21] = [
         "tangles.cycle.chain",
         "a shortest chain of mentions from a value of it to one of that:",
     ),
-    ("tangles.cycle.chain.line", "the R, C or K line, from 1"),
+    ("tangles.cycle.chain.line", "the R or C line, from 1"),
     (
         "tangles.cycle.chain.from",
         "the label of the definition that mentions",

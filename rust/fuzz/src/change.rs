@@ -2,9 +2,6 @@
 //! a sheet, and what it takes to come to planning or to working out would be met
 //! too seldom.
 
-use std::ops::Range;
-
-use generator::kinds::{operand_fields, ARGUMENTS, DEFINITIONS, PATHS};
 use generator::rows::{self, Row};
 use generator::{first_line, Rng};
 
@@ -45,7 +42,7 @@ fn vary(rng: &mut Rng, text: Vec<u8>) -> Vec<u8> {
     let Some(mut rows) = rows::split(&text) else {
         return generator::damage(rng, text);
     };
-    match rng.below(20) {
+    match rng.below(15) {
         0 | 1 => swap_labels(rng, &mut rows),
         2 => grow(rng, &mut rows),
         3 => change_number(rng, &mut rows),
@@ -54,15 +51,11 @@ fn vary(rng: &mut Rng, text: Vec<u8>) -> Vec<u8> {
         6 => read_another(rng, &mut rows),
         7 => return generator::recased(rng, &text),
         8 => recase_one(rng, &mut rows),
-        9 | 18 => tangle(rng, &mut rows),
+        9 => tangle(rng, &mut rows),
         10 => define_near(rng, &mut rows),
         11 => make_near(rng, &mut rows),
         12 => halve(rng, &mut rows),
         13 => return generator::under_other(&text).unwrap_or(text),
-        14 => call_of_two(rng, &mut rows),
-        15 => make_of_two(rng, &mut rows),
-        16 => change_argument(rng, &mut rows),
-        17 => exchange(rng, &mut rows),
         _ => define(rng, &mut rows),
     }
     rows::join_under(first_line(&text), &rows)
@@ -76,23 +69,20 @@ fn number(number: impl ToString) -> Vec<u8> {
     number.to_string().into_bytes()
 }
 
-/// The fields of a row that are labels, by its kind: a definition's Group, and body or
-/// operands.
-fn label_fields(row: &Row) -> Range<usize> {
-    let fields = match row[0][..] {
-        [kind] => operand_fields(kind),
-        _ => 0..0,
-    };
-    match rows::is_one_of(row, DEFINITIONS) {
-        true => 2..fields.end.max(3),
-        false => fields,
+/// The fields of a row that are labels, by its kind.
+fn label_fields(row: &Row) -> &'static [usize] {
+    match &row[0][..] {
+        b"G" | b"C" => &[2],
+        b"V" | b"F" | b"A" | b"S" | b"M" | b"D" => &[2, 3],
+        b"I" => &[2, 3, 4],
+        _ => &[],
     }
 }
 
 /// Every label that a row mentions replaced by what `new` gives for it.
 fn relabel(rows: &mut [Row], new: impl Fn(usize) -> usize) {
     for row in rows {
-        for field in label_fields(row) {
+        for &field in label_fields(row) {
             let old = std::str::from_utf8(&row[field]).ok();
             if let Some(label) = old.and_then(|word| word.parse().ok()) {
                 row[field] = number(new(label));
@@ -103,8 +93,8 @@ fn relabel(rows: &mut [Row], new: impl Fn(usize) -> usize) {
 
 /// Where a row of one of these kinds stands, from 0.
 fn find(rng: &mut Rng, rows: &[Row], kinds: &[u8]) -> Option<usize> {
-    let has = |&at: &usize| rows::is_one_of(&rows[at], kinds);
-    let found: Vec<usize> = (0..rows.len()).filter(has).collect();
+    let has = |row: &Row| row[0].len() == 1 && kinds.contains(&row[0][0]);
+    let found: Vec<usize> = (0..rows.len()).filter(|&at| has(&rows[at])).collect();
     (!found.is_empty()).then(|| *rng.pick(&found))
 }
 
@@ -124,13 +114,13 @@ fn swap_labels(rng: &mut Rng, rows: &mut [Row]) {
 
 /// A leaf becomes the first operand of an operation.
 fn grow(rng: &mut Rng, rows: &mut Vec<Row>) {
-    let Some(at) = find(rng, rows, LEAVES) else {
+    let Some(at) = find(rng, rows, b"NPR") else {
         return;
     };
     let next = rows.len() + 1;
     let kind = *rng.pick(&["A", "S", "M", "D", "I"]);
     let mut grown = row([kind, "-", "-", "-", "-"]);
-    for (operand, field) in label_fields(&grown).enumerate() {
+    for (operand, &field) in label_fields(&grown.clone()).iter().enumerate() {
         grown[field] = number(next + operand);
         let small = rng.below(5).to_string();
         rows.push(match operand {
@@ -139,81 +129,6 @@ fn grow(rng: &mut Rng, rows: &mut Vec<Row>) {
         });
     }
     rows[at] = grown;
-}
-
-/// A leaf becomes the first argument of a call of two, a number the second: to a
-/// function of two that there is, or to a new one.
-fn call_of_two(rng: &mut Rng, rows: &mut Vec<Row>) {
-    let Some(at) = find(rng, rows, LEAVES) else {
-        return;
-    };
-    let target = match find(rng, &rows[1..], b"H") {
-        Some(target) => target + 1,
-        None => define_difference(rng, rows),
-    };
-    let small = rng.below(5).to_string();
-    let operands = [rows.len() + 1, rows.len() + 2].map(|label| label.to_string());
-    let mut call = row(["K", "-", &operands[0], &operands[1], "-"]);
-    call[1] = path_to(rng, rows, target);
-    rows.push(rows[at].clone());
-    rows.push(row(["N", "-", &small, "-", "-"]));
-    rows[at] = call;
-}
-
-/// One more function of two in the outermost Group: its first argument less its second.
-/// Where it stands, from 0.
-fn define_difference(rng: &mut Rng, rows: &mut Vec<Row>) -> usize {
-    let at = rows.len();
-    let name = format!("h{}", rng.below(30));
-    let operands = [at + 3, at + 4].map(|label| label.to_string());
-    let body = row(["S", "-", &operands[0], &operands[1], "-"]);
-    define_with(rows, "H", name.as_bytes(), 0, body);
-    rows.extend(ARGUMENTS.map(argument));
-    at
-}
-
-/// The line of an argument.
-fn argument(kind: u8) -> Row {
-    let mut line = row(["-"; 5]);
-    line[0] = vec![kind];
-    line
-}
-
-/// A function of one becomes a function of two, and the calls of its name, one number
-/// more, calls of two; or its letter changes alone, or that of a function of two.
-fn make_of_two(rng: &mut Rng, rows: &mut Vec<Row>) {
-    let Some(at) = find(rng, rows, b"FH") else {
-        return;
-    };
-    let is_of_two = rows[at][0] == b"H";
-    rows[at][0] = if is_of_two { b"F" } else { b"H" }.to_vec();
-    if is_of_two || rng.chance(20) {
-        return;
-    }
-    let name = rows[at][1].clone();
-    for call in 0..rows.len() {
-        let last = rows[call][1].rsplit(|&byte| byte == b'.').next();
-        let is_named = last.is_some_and(|last| generator::is_same_name(last, &name));
-        if rows[call][0] == b"C" && is_named {
-            rows[call][0] = b"K".to_vec();
-            rows[call][3] = number(rows.len() + 1);
-            rows.push(row(SEVEN));
-        }
-    }
-}
-
-/// The one argument for the other.
-fn change_argument(rng: &mut Rng, rows: &mut [Row]) {
-    if let Some(at) = find(rng, rows, ARGUMENTS) {
-        rows[at] = argument(*rng.pick(ARGUMENTS));
-    }
-}
-
-/// Operands or arguments change places.
-fn exchange(rng: &mut Rng, rows: &mut [Row]) {
-    if let Some(at) = find(rng, rows, b"KKKASMD") {
-        rows[at].swap(2, 3);
-    }
 }
 
 /// A number becomes a half: an odd number of times half an even one, by that.
@@ -261,7 +176,7 @@ fn change_operation(rng: &mut Rng, rows: &mut [Row]) {
 
 /// A definition moves to another Group.
 fn change_group(rng: &mut Rng, rows: &mut [Row]) {
-    let Some(at) = find(rng, &rows[1..], DEFINITIONS).map(|at| at + 1) else {
+    let Some(at) = find(rng, &rows[1..], b"GVF").map(|at| at + 1) else {
         return;
     };
     if let Some(group) = find(rng, &rows[..at], b"G") {
@@ -271,15 +186,14 @@ fn change_group(rng: &mut Rng, rows: &mut [Row]) {
 
 /// The case of letters changes in one name or path.
 fn recase_one(rng: &mut Rng, rows: &mut [Row]) {
-    let named = [&DEFINITIONS[..], PATHS].concat();
-    if let Some(at) = find(rng, rows, &named) {
+    if let Some(at) = find(rng, rows, b"GVFRC") {
         generator::recase(rng, &mut rows[at][1]);
     }
 }
 
 /// One byte changes in the name of a definition, or in some name of a path.
 fn make_near(rng: &mut Rng, rows: &mut [Row]) {
-    let kinds: &[u8] = if rng.chance(70) { DEFINITIONS } else { PATHS };
+    let kinds: &[u8] = if rng.chance(70) { b"GVF" } else { b"RC" };
     if let Some(at) = find(rng, &rows[1..], kinds) {
         let names = rows[at + 1][1].split_mut(|&byte| byte == b'.');
         let mut names: Vec<&mut [u8]> = names.collect();
@@ -315,29 +229,19 @@ fn define_near(rng: &mut Rng, rows: &mut Vec<Row>) {
 /// A leaf becomes a read of some definition's name, by way of its Group's too,
 /// now and then in other letters.
 fn read_another(rng: &mut Rng, rows: &mut [Row]) {
-    let leaf = find(rng, rows, LEAVES);
-    let (Some(at), Some(target)) = (leaf, find(rng, &rows[1..], DEFINITIONS)) else {
+    let leaf = find(rng, rows, b"NPR");
+    let (Some(at), Some(target)) = (leaf, find(rng, &rows[1..], b"GVF")) else {
         return;
     };
-    let path = path_to(rng, rows, target + 1);
-    rows[at] = row(["R", "-", "-", "-", "-"]);
-    rows[at][1] = path;
-}
-
-/// The name of a definition, by way of some Group's too, seldom with a name more, now
-/// and then in other letters.
-fn path_to(rng: &mut Rng, rows: &[Row], target: usize) -> Vec<u8> {
-    let mut path = rows[target][1].clone();
+    let mut path = rows[target + 1][1].clone();
     if let Some(group) = find(rng, &rows[1..], b"G").filter(|_| rng.chance(40)) {
         path = [&rows[group + 1][1][..], &path].join(&b'.');
-    }
-    if rng.chance(20) {
-        path.extend_from_slice(b".a");
     }
     if rng.chance(30) {
         generator::recase(rng, &mut path);
     }
-    path
+    rows[at] = row(["R", "-", "-", "-", "-"]);
+    rows[at][1] = path;
 }
 
 /// Two Groups side by side come to need each other: a value of the first reads
@@ -366,9 +270,6 @@ fn tangle(rng: &mut Rng, rows: &mut Vec<Row>) {
     }
 }
 
-/// The kinds that have no operands.
-const LEAVES: &[u8; 4] = b"NPRY";
-
 /// A number's line.
 const SEVEN: [&str; 5] = ["N", "-", "7", "-", "-"];
 
@@ -377,7 +278,7 @@ fn define(rng: &mut Rng, rows: &mut Vec<Row>) {
     let Some(group) = find(rng, rows, b"G") else {
         return;
     };
-    let kind = *rng.pick(&["G", "V", "V", "V", "F", "H"]);
+    let kind = *rng.pick(&["G", "V", "V", "V", "F"]);
     let name = format!("{}{}", rng.pick(&["n", "N"]), rng.below(30));
     match kind {
         "G" => rows.push(row([kind, &name, &(group + 1).to_string(), "-", "-"])),
@@ -510,45 +411,6 @@ mod tests {
         for [sheets, parted] in met {
             assert!(sheets > 300 && parted > 100, "{met:?}");
         }
-    }
-
-    /// Functions of two come into sheets that have none, and all that their calls can
-    /// come to at first glance, by steps that leave them running; and the refusals that
-    /// they bring, by one step more.
-    #[test]
-    fn changed_sheets_have_functions_of_two() {
-        let rng = &mut Rng::new(9);
-        let (mut met, mut refused) = (0, [0; 4]);
-        for seed in 0..1_000 {
-            let mut text = generator::everyday(60, seed);
-            for _ in 0..30 {
-                let varied = vary(rng, text.clone());
-                let is_running = checks::Trial::new(&varied, &[]).wanted()[2].reply.refusal == 0;
-                let of_two = two_numbers(&varied).sheet;
-                let rows = [
-                    of_two.second_in_function,
-                    of_two.two_to_function,
-                    of_two.one_to_two,
-                    of_two.read_of_two,
-                ];
-                for (count, more) in refused.iter_mut().zip(rows) {
-                    *count += usize::from(more);
-                }
-                if is_running {
-                    text = varied;
-                }
-            }
-            let calls = two_numbers(&text).calls;
-            met += usize::from(calls.entered && calls.first && calls.second);
-        }
-        assert!(met > 200, "{met} of 1,000");
-        assert!(refused.iter().all(|&count| count > 20), "{refused:?}");
-    }
-
-    fn two_numbers(text: &[u8]) -> checks::TwoNumbers {
-        let trial = checks::Trial::new(text, &[]);
-        let expected = trial.expected(|_| vec![1]).expect("one table for all");
-        checks::Outcome::new(&trial, &expected).two_numbers
     }
 
     /// Refusal 2 by lines that are nearly one of the two or both comes of sheets.

@@ -2,7 +2,7 @@
 
 use generator::{line_count, number_labels, planned, Case, Rng};
 
-use crate::settings::{Settings, MOST_CELLS, MOST_PRINT, OVER_AND_OVER};
+use crate::settings::{Settings, MOST_CELLS, MOST_PRINT};
 
 /// Longer than a sheet may be, so that longer ones are met too.
 const MOST_BYTES: usize = 66_000;
@@ -128,7 +128,7 @@ fn pairs(settings: &Settings, text: &[u8]) -> Vec<i64> {
     let mut pairs = match settings.pairs % 8 {
         0..=4 => own_pairs(settings, text),
         5 => generator::pairs(&mut Rng::new(settings.seed), text),
-        OVER_AND_OVER => {
+        6 => {
             let length = 2 * MOST_PAIRS - 4 + usize::from(settings.pair_at) % 8;
             over_and_over(&own_pairs(settings, text), length)
         }

@@ -9,9 +9,6 @@ pub const MOST_CELLS: usize = 8 * 1_024 + 64;
 /// No buffer for the print is longer, in bytes: more than any print has.
 pub const MOST_PRINT: usize = 49_188 + 64;
 
-/// `pairs` for a list of about as many as there may be, to the cell by `pair_at`.
-pub const OVER_AND_OVER: u8 = 6;
-
 /// Zeros, which a sheet without settings has, stand for buffers of exactly the
 /// cells needed, Follow down the plan, Name of label 2, and Retouch with the first
 /// two N lines at 0.
@@ -48,15 +45,6 @@ pub struct Settings {
 
 impl Settings {
     pub const BYTES: usize = 75;
-
-    /// Lists of about as many pairs as there may be, a cell less and more.
-    pub fn longest_pairs() -> [Self; 8] {
-        std::array::from_fn(|at| Settings {
-            pairs: OVER_AND_OVER,
-            pair_at: at as u16,
-            ..Settings::default()
-        })
-    }
 
     /// The settings of an input and its text; what is missing is 0.
     pub fn split(input: &[u8]) -> (Self, &[u8]) {

@@ -1,23 +1,16 @@
-//! Sheets put together line by line, for fixed shapes and for tests.
+//! Sheets put together line by line, for fixed shapes.
 
 use crate::first_lines::AWAY;
 
 pub const MAX_LINES: usize = 1_024;
 
 /// Expressions are written operator first: `A C:f 1 R:x.y` adds f of 1 and the
-/// value x.y, `K:h 1 2` calls h on two numbers.
+/// value x.y.
 pub struct Builder {
     lines: Vec<String>,
 }
 
-impl Default for Builder {
-    fn default() -> Self {
-        Builder::new()
-    }
-}
-
 impl Builder {
-    /// A sheet of label 1 alone.
     pub fn new() -> Self {
         Builder {
             lines: vec!["G - 0 - -".to_string()],
@@ -47,10 +40,6 @@ impl Builder {
         self.define('F', name, group, body)
     }
 
-    pub fn function_of_two(&mut self, name: &str, group: usize, body: &str) -> usize {
-        self.define('H', name, group, body)
-    }
-
     fn define(&mut self, kind: char, name: &str, group: usize, body: &str) -> usize {
         let label = self.line("");
         let body = self.expression(&mut body.split(' '));
@@ -64,7 +53,7 @@ impl Builder {
         let (kind, path) = word.split_once(':').unwrap_or((word, "-"));
         let operands = match kind {
             "C" => 1,
-            "A" | "S" | "M" | "D" | "K" => 2,
+            "A" | "S" | "M" | "D" => 2,
             "I" => 3,
             _ => 0,
         };

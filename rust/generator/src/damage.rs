@@ -1,7 +1,6 @@
 //! Sheets spoilt on purpose, so that every refusal from 1 to 16 is met.
 
 use crate::first_lines::{first_line, under, FIRST_LINES};
-use crate::kinds::{operand_fields, ARGUMENTS, DEFINITIONS, FUNCTIONS, LABELLED, PATHS};
 use crate::letters::recase;
 use crate::near::make_near;
 use crate::random;
@@ -131,9 +130,7 @@ fn damage_bytes(rng: &mut Rng, mut text: Vec<u8>) -> Vec<u8> {
     }
     let at = rng.below(text.len());
     let any = rng.range(32, 126) as u8;
-    let byte = *rng.pick(&[
-        any, any, b'0', b'1', b'-', b'.', b' ', b'\n', b'G', b'V', b'H',
-    ]);
+    let byte = *rng.pick(&[any, any, b'0', b'1', b'-', b'.', b' ', b'\n', b'G', b'V']);
     match rng.below(4) {
         0 => {
             text.remove(at);
@@ -170,7 +167,7 @@ fn damage_fields(rng: &mut Rng, text: Vec<u8>) -> Vec<u8> {
     let Some(mut rows) = rows::split(&text) else {
         return damage_bytes(rng, text);
     };
-    match rng.below(16) {
+    match rng.below(14) {
         0 => change_kind(rng, &mut rows),
         1 | 2 => change_form(rng, &mut rows),
         3 => change_label(rng, &mut rows),
@@ -179,8 +176,6 @@ fn damage_fields(rng: &mut Rng, text: Vec<u8>) -> Vec<u8> {
         6 => change_to_argument(rng, &mut rows),
         7 => deepen(rng, &mut rows),
         8 => change_name(rng, &mut rows),
-        9 => change_sort(rng, &mut rows),
-        10 => change_arguments(rng, &mut rows),
         _ => change_path(rng, &mut rows),
     }
     rows::join_under(first_line(&text), &rows)
@@ -188,25 +183,23 @@ fn damage_fields(rng: &mut Rng, text: Vec<u8>) -> Vec<u8> {
 
 /// A label of one of these kinds, 0-based.
 fn find_kind(rng: &mut Rng, rows: &[Row], kinds: &[u8]) -> Option<usize> {
-    let has = |&at: &usize| rows::is_one_of(&rows[at], kinds);
-    let found: Vec<usize> = (0..rows.len()).filter(has).collect();
+    let has = |row: &Row| row[0].len() == 1 && kinds.contains(&row[0][0]);
+    let found: Vec<usize> = (0..rows.len()).filter(|&at| has(&rows[at])).collect();
     (!found.is_empty()).then(|| *rng.pick(&found))
+}
+
+fn is_definition(row: &Row) -> bool {
+    matches!(row[0].first(), Some(b'G' | b'V' | b'F'))
 }
 
 fn number(value: usize) -> Vec<u8> {
     value.to_string().into_bytes()
 }
 
-/// A line of these fields.
-fn row(fields: [&str; 5]) -> Row {
-    fields.map(|field| field.as_bytes().to_vec())
-}
-
 /// Row 6, or another kind's fields.
 fn change_kind(rng: &mut Rng, rows: &mut [Row]) {
-    const KINDS: [&str; 22] = [
-        "X", "g", "v", "r", "GG", "-", "h", "k", "Q", "1", "HH", "G", "V", "F", "N", "P", "R", "A",
-        "I", "H", "K", "Y",
+    const KINDS: [&str; 18] = [
+        "X", "g", "v", "r", "GG", "-", "H", "K", "Q", "1", "G", "V", "F", "N", "P", "R", "A", "I",
     ];
     let at = rng.below(rows.len());
     rows[at][0] = rng.pick(&KINDS).as_bytes().to_vec();
@@ -239,31 +232,35 @@ fn change_form(rng: &mut Rng, rows: &mut [Row]) {
 
 /// Row 8 (or 9): any label in a label field.
 fn change_label(rng: &mut Rng, rows: &mut [Row]) {
-    let Some(at) = find_kind(rng, rows, LABELLED) else {
+    let Some(at) = find_kind(rng, rows, b"GVFCASMDI") else {
         return;
     };
     let fields = match rows[at][0][0] {
-        b'G' => 2..3,
-        kind => 2..operand_fields(kind).end,
+        b'G' | b'C' => 1,
+        b'I' => 3,
+        _ => 2,
     };
-    let field = rng.range(fields.start, fields.end - 1);
+    let field = 2 + rng.below(fields);
     let any = rng.range(1, rows.len());
     rows[at][field] = number(*rng.pick(&[any, any, at + 1, 1, at.max(1)]));
 }
 
 /// Row 9: an operand that another field uses too.
 fn change_operand(rng: &mut Rng, rows: &mut [Row]) {
-    let Some(at) = find_kind(rng, rows, &LABELLED[1..]) else {
+    let Some(at) = find_kind(rng, rows, b"VFCASMDI") else {
         return;
     };
     let later: Vec<usize> = (at + 1..rows.len())
-        .filter(|&other| !rows::is_one_of(&rows[other], DEFINITIONS))
+        .filter(|&other| !is_definition(&rows[other]))
         .collect();
     if later.is_empty() {
         return;
     }
-    let fields = operand_fields(rows[at][0][0]);
-    let field = rng.range(fields.start, fields.end - 1);
+    let field = match rows[at][0][0] {
+        b'V' | b'F' => 3,
+        b'C' => 2,
+        _ => rng.range(2, 3),
+    };
     rows[at][field] = number(*rng.pick(&later) + 1);
 }
 
@@ -272,7 +269,7 @@ fn change_lines(rng: &mut Rng, rows: &mut Vec<Row>) {
     let at = rng.below(rows.len());
     let other = rng.below(rows.len());
     match rng.below(5) {
-        0 => rows.push(row(["N", "-", "1", "-", "-"])),
+        0 => rows.push(["N", "-", "1", "-", "-"].map(|field| field.as_bytes().to_vec())),
         1 => rows.push(rows[at].clone()),
         2 if rows.len() > 1 => {
             rows.remove(at);
@@ -282,58 +279,10 @@ fn change_lines(rng: &mut Rng, rows: &mut Vec<Row>) {
     }
 }
 
-/// Row 10: P or Y in place of a leaf, wherever it stands.
+/// Row 10: P in place of a leaf, wherever it stands.
 fn change_to_argument(rng: &mut Rng, rows: &mut [Row]) {
-    if let Some(at) = find_kind(rng, rows, b"NRP") {
-        rows[at] = row(["P", "-", "-", "-", "-"]);
-        rows[at][0] = vec![*rng.pick(ARGUMENTS)];
-    }
-}
-
-/// Rows 10 and 15: a function of the other sort, so that its Y has no owner of its
-/// own and its calls lead to the wrong kind; or a call of another sort, with an
-/// argument more where it is to have two.
-fn change_sort(rng: &mut Rng, rows: &mut Vec<Row>) {
-    let kinds = if rng.chance(60) {
-        &FUNCTIONS[..]
-    } else {
-        b"CR"
-    };
-    let Some(at) = find_kind(rng, rows, kinds) else {
-        return;
-    };
-    let append = |rows: &mut Vec<Row>| {
-        rows.push(row(["N", "-", "1", "-", "-"]));
-        number(rows.len())
-    };
-    match rows[at][0][0] {
-        b'F' => rows[at][0] = b"H".to_vec(),
-        b'H' => rows[at][0] = b"F".to_vec(),
-        b'C' => {
-            rows[at][0] = b"K".to_vec();
-            rows[at][3] = append(rows);
-        }
-        _ => {
-            rows[at][0] = b"C".to_vec();
-            rows[at][2] = append(rows);
-        }
-    }
-}
-
-/// Row 7: an argument too many or too few, or the letter of the other call.
-fn change_arguments(rng: &mut Rng, rows: &mut [Row]) {
-    let Some(at) = find_kind(rng, rows, b"CK") else {
-        return;
-    };
-    let is_call_of_two = rows[at][0] == b"K";
-    let any = number(rng.range(1, rows.len()));
-    match rng.below(3) {
-        0 if is_call_of_two => rows[at][0] = b"C".to_vec(),
-        0 => rows[at][0] = b"K".to_vec(),
-        1 if is_call_of_two => rows[at][rng.range(2, 3)] = b"-".to_vec(),
-        1 => rows[at][2] = b"-".to_vec(),
-        _ if is_call_of_two => rows[at][4] = any,
-        _ => rows[at][3] = any,
+    if let Some(at) = find_kind(rng, rows, b"NR") {
+        rows[at] = ["P", "-", "-", "-", "-"].map(|field| field.as_bytes().to_vec());
     }
 }
 
@@ -365,8 +314,8 @@ fn deepen(rng: &mut Rng, rows: &mut Vec<Row>) {
 /// or in others, or nearly that, or a new one.
 fn change_name(rng: &mut Rng, rows: &mut [Row]) {
     let (Some(at), Some(other)) = (
-        find_kind(rng, &rows[1..], DEFINITIONS),
-        find_kind(rng, &rows[1..], DEFINITIONS),
+        find_kind(rng, &rows[1..], b"GVF"),
+        find_kind(rng, &rows[1..], b"GVF"),
     ) else {
         return;
     };
@@ -388,13 +337,11 @@ fn change_name(rng: &mut Rng, rows: &mut [Row]) {
 /// Rows 13 to 16: another head, a name more, fewer or changed, a byte of one, or
 /// another line's path, or a definition's name; now and then in other letters.
 fn change_path(rng: &mut Rng, rows: &mut [Row]) {
-    let Some(at) = find_kind(rng, rows, PATHS) else {
+    let Some(at) = find_kind(rng, rows, b"RC") else {
         return;
     };
-    let other = find_kind(rng, rows, PATHS).unwrap_or(at);
-    let kinds = [&DEFINITIONS[..], DEFINITIONS, FUNCTIONS, b"H"];
-    let kinds = *rng.pick(&kinds);
-    let definition = find_kind(rng, rows, kinds).unwrap_or(0);
+    let other = find_kind(rng, rows, b"RC").unwrap_or(at);
+    let definition = find_kind(rng, rows, b"GVF").unwrap_or(0);
     let name = rows[definition][1].clone();
     let path = rows[at][1].clone();
     let mut names: Vec<Vec<u8>> = path.split(|&b| b == b'.').map(<[u8]>::to_vec).collect();

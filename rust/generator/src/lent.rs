@@ -1,6 +1,5 @@
 //! What the calls are lent besides the text: buffer lengths, a label, orders.
 
-use crate::kinds::VALUE;
 use crate::rng::Rng;
 
 /// No print has more bytes.
@@ -85,7 +84,7 @@ pub fn proper_order(rng: &mut Rng, text: &[u8]) -> Vec<i64> {
 /// The lines of the values; lines count from 0 here.
 pub fn values(table: &[i64]) -> Vec<usize> {
     let lines = table.len() / 8;
-    (0..lines).filter(|&at| table[8 * at] == VALUE).collect()
+    (0..lines).filter(|&at| table[8 * at] == 2).collect()
 }
 
 /// The labels of the reference's plan; none where it refuses.
@@ -174,7 +173,7 @@ fn next_values(table: &[i64], mentions: &[Vec<usize>], value: usize) -> Vec<usiz
     while let Some(definition) = open.pop() {
         for &target in &mentions[definition] {
             if !std::mem::replace(&mut met[target], true) {
-                let is_value = table[8 * target] == VALUE;
+                let is_value = table[8 * target] == 2;
                 if is_value { &mut found } else { &mut open }.push(target);
             }
         }

@@ -1,7 +1,6 @@
 //! The case of letters in names and paths.
 
 use crate::first_lines::first_line;
-use crate::kinds::PATHS;
 use crate::rng::Rng;
 use crate::rows;
 
@@ -58,7 +57,10 @@ pub fn recased(rng: &mut Rng, text: &[u8]) -> Vec<u8> {
 /// A sheet with every path in capitals.
 pub fn capital_paths(text: &[u8]) -> Vec<u8> {
     let mut rows = rows::split(text).expect("a sheet");
-    for row in rows.iter_mut().filter(|row| rows::is_one_of(row, PATHS)) {
+    for row in rows
+        .iter_mut()
+        .filter(|row| matches!(row[0][..], [b'R' | b'C']))
+    {
         row[1].make_ascii_uppercase();
     }
     rows::join_under(first_line(text), &rows)

@@ -6,18 +6,15 @@
 //! small letters, `rows` takes them apart, `lent` chooses
 //! buffer lengths and orders for Follow, `pairs` makes lists for Retouch, `tangles`
 //! says where a sheet is tangled, `near` makes names that are nearly the same,
-//! `two_numbers` says what a sheet does with functions of two, `everyday`, `shapes`,
-//! `tangled`, `long_names` and `calls_of_two` hold the fixed sheets, `slots` names
-//! that share a slot of the library's hash, `kinds` the letters and codes of kinds.
+//! `everyday`, `shapes`, `tangled` and `long_names` hold the fixed sheets, `slots`
+//! names that share a slot of the library's hash.
 
 #![forbid(unsafe_code)]
 
 mod builder;
-mod calls_of_two;
 mod damage;
 mod everyday;
 mod first_lines;
-pub mod kinds;
 mod lent;
 mod letters;
 mod long_names;
@@ -30,10 +27,7 @@ mod shapes;
 pub mod slots;
 mod tangled;
 mod tangles;
-mod two_numbers;
 
-pub use builder::Builder;
-pub use calls_of_two::{calls_of_two, chains_of_two, deepest_calls_of_two, in_turn};
 pub use damage::{damage, damage_line_one, damaged, WRONG_LINES};
 pub use everyday::{everyday, everyday_on_one};
 pub use first_lines::{first_line, is_one_byte_off, under, under_other, AWAY, EVEN, FIRST_LINES};
@@ -52,7 +46,6 @@ pub use tangled::{
     every_second_in_ring, nested_tangle, ring, ring_among, rings, rings_in_every_second, tangled,
 };
 pub use tangles::{tangled_blocks, Tangles};
-pub use two_numbers::{CallsOfTwo, OfTwo};
 
 /// All that one trial of all the calls needs.
 #[derive(Debug, Clone, PartialEq, Eq)]

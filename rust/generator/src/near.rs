@@ -2,7 +2,6 @@
 //! by the word, a difference at any place has to count, and the case of a letter at
 //! none.
 
-use crate::kinds::{is_definition, DEFINITIONS};
 use crate::rng::Rng;
 use crate::rows::{self, Row};
 
@@ -101,7 +100,7 @@ impl NearNames {
     /// Those of a sheet whose path at this label leads nowhere.
     pub fn of_missed(text: &[u8], label: usize) -> Self {
         let rows = rows::split(text).expect("lines of five fields");
-        let is_definition = |row: &&Row| rows::is_one_of(row, DEFINITIONS);
+        let is_definition = |row: &&Row| matches!(row[0][..], [b'G' | b'V' | b'F']);
         let mut met = NearNames::default();
         for definition in rows.iter().filter(is_definition) {
             for name in rows[label - 1][1].split(|&byte| byte == b'.') {
@@ -135,7 +134,7 @@ impl<'a> Line<'a> {
     }
 
     fn is_member_of(&self, group: i64) -> bool {
-        is_definition(self.row[0]) && self.row[6] == group
+        (1..=3).contains(&self.row[0]) && self.row[6] == group
     }
 }
 

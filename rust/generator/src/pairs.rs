@@ -1,13 +1,15 @@
 //! Lists of pairs for Retouch (order 4): label, number, label, number.
 
 use crate::first_lines::first_line;
-use crate::kinds::NUMBER;
 use crate::rng::Rng;
 use crate::rows;
 
 /// The most pairs of a list that is answered, and the limit of a number.
 const MOST_PAIRS: usize = 1_024;
 const MOST_NUMBER: i64 = 1_000_000_000;
+
+/// The kind of an N line.
+const NUMBER: i64 = 4;
 
 /// A list of pairs for a text: most often of its own N lines with numbers that
 /// are allowed, so that values fail and recover; some with faults; and anything.

@@ -8,7 +8,6 @@
 use std::io::Write;
 
 use crate::first_lines::{under, AWAY, FIRST_LINES};
-use crate::kinds::{DEFINITIONS, FUNCTIONS};
 use crate::letters::{is_same_name, recase};
 use crate::near::{long_name, make_near};
 use crate::rng::Rng;
@@ -42,21 +41,18 @@ struct Manner {
     lines: usize,
     /// Groups put in before anything else.
     first_groups: usize,
-    /// Groups among the definitions, functions among the rest, functions of two
-    /// among these.
+    /// Groups among the definitions, functions among the rest.
     groups: usize,
     functions: usize,
-    of_two: usize,
     /// Lines of a body, about.
     body: usize,
     /// Groups mostly in each other.
     deep: bool,
     /// Leaves that mention a value; calls among the other expressions;
-    /// functions that call themselves round; arguments of calls that fail.
+    /// functions that call themselves round.
     reading: usize,
     calling: usize,
     recursion: usize,
-    failing: usize,
     /// Ranks of values without regard to Groups.
     shuffled: bool,
     /// In how many Groups members are tied into rings.
@@ -77,30 +73,16 @@ struct Manner {
 
 impl Manner {
     fn new(rng: &mut Rng) -> Self {
-        let manner = Manner::any(rng);
-        match rng.below(100) {
-            0..=31 => manner.crosswise(rng),
-            32..=45 => manner.tied(rng),
-            46..=60 => manner.recursive(rng),
-            61..=76 => manner.spread(rng),
-            77..=86 => manner.of_two(rng),
-            _ => manner,
-        }
-    }
-
-    fn any(rng: &mut Rng) -> Self {
-        Manner {
+        let manner = Manner {
             lines: 1,
             first_groups: 0,
             groups: *rng.pick(&[0, 10, 20, 30, 50]),
             functions: *rng.pick(&[0, 15, 30, 50]),
-            of_two: *rng.pick(&[0, 30, 60, 100]),
             body: rng.range(2, 9),
             deep: rng.chance(20),
             reading: rng.range(10, 80),
             calling: 25,
             recursion: 50,
-            failing: 0,
             shuffled: rng.chance(30),
             tied_groups: 0,
             function_ranks: 3,
@@ -109,82 +91,57 @@ impl Manner {
             halving: *rng.pick(&[0, 0, 30, 80]),
             naming: rng.below(5),
             recasing: *rng.pick(&[0, 0, 0, 0, 10, 50, 100]),
-        }
-    }
-
-    /// Values of several Groups that read each other crosswise.
-    fn crosswise(self, rng: &mut Rng) -> Self {
-        Manner {
-            lines: rng.range(16, 60),
-            first_groups: rng.range(2, 4),
-            groups: rng.range(0, 15),
-            functions: rng.range(0, 15),
-            body: rng.range(2, 3),
-            reading: rng.range(85, 100),
-            shuffled: true,
-            ..self
-        }
-    }
-
-    /// Values in many Groups, some of which are tangled.
-    fn tied(self, rng: &mut Rng) -> Self {
-        Manner {
-            lines: rng.range(30, 90),
-            first_groups: rng.range(4, 8),
-            groups: rng.range(0, 10),
-            functions: rng.range(0, 10),
-            body: rng.range(1, 2),
-            reading: rng.range(0, 50),
-            shuffled: false,
-            tied_groups: rng.range(1, 3),
-            naming: *rng.pick(&[0, 1, 3, 3, 3, 4]),
-            ..self
-        }
-    }
-
-    /// Functions that call each other and take many steps.
-    fn recursive(self, rng: &mut Rng) -> Self {
-        Manner {
-            lines: rng.range(12, 30),
-            groups: rng.range(0, 15),
-            functions: rng.range(30, 70),
-            calling: 70,
-            recursion: rng.range(60, 100),
-            function_ranks: rng.range(1, 3),
-            ..self
-        }
-    }
-
-    /// Values of several Groups that read each other through functions that call
-    /// functions.
-    fn spread(self, rng: &mut Rng) -> Self {
-        Manner {
-            lines: rng.range(40, 100),
-            first_groups: rng.range(0, 4),
-            groups: rng.range(0, 15),
-            functions: rng.range(50, 80),
-            body: rng.range(2, 4),
-            reading: rng.range(60, 95),
-            calling: rng.range(60, 95),
-            recursion: rng.range(0, 25),
-            spread: true,
-            ..self
-        }
-    }
-
-    /// Functions of two, some arguments of whose calls fail.
-    fn of_two(self, rng: &mut Rng) -> Self {
-        Manner {
-            lines: rng.range(30, 90),
-            groups: rng.range(0, 20),
-            functions: rng.range(30, 60),
-            of_two: rng.range(50, 100),
-            body: rng.range(5, 9),
-            calling: rng.range(50, 80),
-            recursion: rng.range(20, 60),
-            function_ranks: rng.range(1, 3),
-            failing: rng.range(10, 40),
-            ..self
+        };
+        match rng.below(100) {
+            // Values of several Groups that read each other crosswise.
+            0..=31 => Manner {
+                lines: rng.range(16, 60),
+                first_groups: rng.range(2, 4),
+                groups: rng.range(0, 15),
+                functions: rng.range(0, 15),
+                body: rng.range(2, 3),
+                reading: rng.range(85, 100),
+                shuffled: true,
+                ..manner
+            },
+            // Values in many Groups, some of which are tangled.
+            32..=45 => Manner {
+                lines: rng.range(30, 90),
+                first_groups: rng.range(4, 8),
+                groups: rng.range(0, 10),
+                functions: rng.range(0, 10),
+                body: rng.range(1, 2),
+                reading: rng.range(0, 50),
+                shuffled: false,
+                tied_groups: rng.range(1, 3),
+                naming: *rng.pick(&[0, 1, 3, 3, 3, 4]),
+                ..manner
+            },
+            // Functions that call each other and take many steps.
+            46..=60 => Manner {
+                lines: rng.range(12, 30),
+                groups: rng.range(0, 15),
+                functions: rng.range(30, 70),
+                calling: 70,
+                recursion: rng.range(60, 100),
+                function_ranks: rng.range(1, 3),
+                ..manner
+            },
+            // Values of several Groups that read each other through functions
+            // that call functions.
+            61..=76 => Manner {
+                lines: rng.range(40, 100),
+                first_groups: rng.range(0, 4),
+                groups: rng.range(0, 15),
+                functions: rng.range(50, 80),
+                body: rng.range(2, 4),
+                reading: rng.range(60, 95),
+                calling: rng.range(60, 95),
+                recursion: rng.range(0, 25),
+                spread: true,
+                ..manner
+            },
+            _ => manner,
         }
     }
 }
@@ -205,12 +162,6 @@ struct Grower<'r> {
     limit: usize,
     /// Values and functions still without a body.
     waiting: usize,
-}
-
-/// A function to call: the path to it, and whether it is of two.
-struct Callee {
-    path: Vec<u8>,
-    is_of_two: bool,
 }
 
 /// A random sheet that reads; a few have a value that reaches itself.
@@ -306,12 +257,8 @@ impl Grower<'_> {
                 self.define(b'G', group);
                 left -= 1;
             } else {
-                let kind = match self.rng.chance(self.manner.functions) {
-                    true if self.rng.chance(self.manner.of_two) => b'H',
-                    true => b'F',
-                    false => b'V',
-                };
-                self.define(kind, group);
+                let function = self.rng.chance(self.manner.functions);
+                self.define(if function { b'F' } else { b'V' }, group);
                 left = left.saturating_sub(1 + self.manner.body);
             }
         }
@@ -516,7 +463,7 @@ impl Grower<'_> {
     }
 
     fn body(&mut self, owner: usize, budget: usize) -> usize {
-        if self.is_function(owner) && self.rng.chance(self.manner.recursion) {
+        if self.nodes[owner].kind == b'F' && self.rng.chance(self.manner.recursion) {
             if let Some(body) = self.recursion(owner) {
                 return body;
             }
@@ -528,25 +475,25 @@ impl Grower<'_> {
     }
 
     /// A function that calls itself or another one round: endlessly, counting
-    /// down, or counting down twice over, which takes fourteen lines.
+    /// down, or counting down twice over, which takes twelve lines.
     fn recursion(&mut self, owner: usize) -> Option<usize> {
-        if self.nodes.len() + self.waiting + 14 > self.limit {
+        if self.nodes.len() + self.waiting + 12 > self.limit {
             return None;
         }
-        let again = self.callee(owner, 2)?;
+        let again = self.function_path(owner)?;
         match self.rng.below(10) {
             0 => {
                 let argument = self.add(b'P', 0);
-                Some(self.call_round(owner, &again, argument))
+                Some(self.call(again, argument))
             }
-            1..=4 => {
-                let call = self.call_with_less(owner, &again);
+            1..=5 => {
+                let call = self.call_with_less(&again);
                 Some(self.until_zero(owner, call))
             }
             _ => {
                 let sum = self.add(b'A', 0);
                 for _ in 0..2 {
-                    let call = self.call_with_less(owner, &again);
+                    let call = self.call_with_less(&again);
                     self.nodes[sum].operands.push(call);
                 }
                 Some(self.until_zero(owner, sum))
@@ -563,47 +510,21 @@ impl Grower<'_> {
         choice
     }
 
-    /// A call of one or of two, by how many arguments it has.
-    fn call(&mut self, path: Vec<u8>, arguments: Vec<usize>) -> usize {
-        let kind = if arguments.len() == 1 { b'C' } else { b'K' };
-        let call = self.add(kind, 0);
+    fn call(&mut self, path: Vec<u8>, argument: usize) -> usize {
+        let call = self.add(b'C', 0);
         self.nodes[call].name = path;
-        self.nodes[call].operands = arguments;
+        self.nodes[call].operands.push(argument);
         call
     }
 
     /// A call on the argument less 1.
-    fn call_with_less(&mut self, owner: usize, again: &Callee) -> usize {
+    fn call_with_less(&mut self, path: &[u8]) -> usize {
         let argument = self.add(b'P', 0);
         let one = self.add(b'N', 0);
         self.nodes[one].number = 1;
         let less = self.add(b'S', 0);
         self.nodes[less].operands = vec![argument, one];
-        self.call_round(owner, again, less)
-    }
-
-    /// A call on this argument, and on an argument of the owner's own or a number
-    /// where there are to be two. A function of two may have them change places: both
-    /// run down then.
-    fn call_round(&mut self, owner: usize, again: &Callee, argument: usize) -> usize {
-        let mut arguments = vec![argument];
-        if again.is_of_two {
-            let other = match self.rng.chance(85) {
-                true => self.own_argument(owner),
-                false => self.number_leaf(),
-            };
-            arguments.push(other);
-            if self.nodes[owner].kind == b'H' && self.rng.chance(15) {
-                arguments.swap(0, 1);
-            }
-        }
-        self.call(again.path.clone(), arguments)
-    }
-
-    /// An argument of the function that is the owner: of two, most often the second.
-    fn own_argument(&mut self, owner: usize) -> usize {
-        let is_second = self.nodes[owner].kind == b'H' && self.rng.chance(60);
-        self.add(if is_second { b'Y' } else { b'P' }, 0)
+        self.call(path.to_vec(), less)
     }
 
     /// Operations nested as deep as allowed, or nearly.
@@ -632,7 +553,13 @@ impl Grower<'_> {
             return self.leaf(owner);
         }
         if budget == 2 || self.rng.chance(self.manner.calling) {
-            return self.any_call(owner, level, budget);
+            return match self.function_path(owner) {
+                Some(path) => {
+                    let argument = self.argument(owner, level + 1, budget - 1);
+                    self.call(path, argument)
+                }
+                None => self.leaf(owner),
+            };
         }
         if self.rng.chance(self.manner.halving) {
             return self.quotient(owner, level, budget);
@@ -655,23 +582,6 @@ impl Grower<'_> {
             left -= share;
         }
         node
-    }
-
-    /// A call of at most `budget` lines, two at least; a leaf where there is no
-    /// function to call.
-    fn any_call(&mut self, owner: usize, level: usize, budget: usize) -> usize {
-        let Some(callee) = self.callee(owner, budget - 1) else {
-            return self.leaf(owner);
-        };
-        let mut left = budget - 1;
-        let mut arguments = Vec::new();
-        if callee.is_of_two {
-            let share = self.rng.range(1, left - 1);
-            arguments.push(self.argument(owner, level + 1, share));
-            left -= share;
-        }
-        arguments.push(self.argument(owner, level + 1, left));
-        self.call(callee.path, arguments)
     }
 
     /// A quotient by an even number, most often 2: of an expression, or of a number
@@ -697,9 +607,6 @@ impl Grower<'_> {
     /// The argument of a call: often a number of rounds near the depth limit,
     /// but where functions only lead on to values.
     fn argument(&mut self, owner: usize, level: usize, budget: usize) -> usize {
-        if budget >= 3 && level < MAX_LEVEL && self.rng.chance(self.manner.failing) {
-            return self.failure();
-        }
         if self.manner.spread || self.rng.chance(40) {
             return self.expression(owner, level, budget);
         }
@@ -707,18 +614,6 @@ impl Grower<'_> {
         let few = self.rng.range(0, 14);
         let many = self.rng.range(60, 66);
         self.nodes[node].number = *self.rng.pick(&[few, many]) as i64;
-        node
-    }
-
-    /// Three lines that fail: a zero divisor, or a number out of range.
-    fn failure(&mut self) -> usize {
-        let (kind, by) = *self.rng.pick(&[(b'D', 0), (b'M', 2)]);
-        let node = self.add(kind, 0);
-        for number in [1_000_000_000, by] {
-            let operand = self.add(b'N', 0);
-            self.nodes[operand].number = number;
-            self.nodes[node].operands.push(operand);
-        }
         node
     }
 
@@ -733,20 +628,12 @@ impl Grower<'_> {
             self.nodes[node].name = path;
             return node;
         }
-        if self.is_function(owner) && self.rng.chance(60) {
-            return self.own_argument(owner);
+        if self.nodes[owner].kind == b'F' && self.rng.chance(60) {
+            return self.add(b'P', 0);
         }
-        self.number_leaf()
-    }
-
-    fn number_leaf(&mut self) -> usize {
         let node = self.add(b'N', 0);
         self.nodes[node].number = self.number();
         node
-    }
-
-    fn is_function(&self, node: usize) -> bool {
-        FUNCTIONS.contains(&self.nodes[node].kind)
     }
 
     fn number(&mut self) -> i64 {
@@ -770,9 +657,9 @@ impl Grower<'_> {
         })
     }
 
-    /// A function to call, of so many arguments at most: in a spread sheet one of the
-    /// next lower rank, so that chains of calls grow long.
-    fn callee(&mut self, owner: usize, arguments: usize) -> Option<Callee> {
+    /// A function to call: in a spread sheet one of the next lower rank, so that
+    /// chains of calls grow long.
+    fn function_path(&mut self, owner: usize) -> Option<Vec<u8>> {
         let own = self.ranks[owner];
         (0..4).find_map(|_| {
             let count = self.functions.len().max(1);
@@ -781,19 +668,14 @@ impl Grower<'_> {
             let picked = picks.iter().filter_map(|&at| self.functions.get(at));
             let lower = |&&target: &&usize| (self.ranks[target] < own, self.ranks[target]);
             let target = *picked.max_by_key(lower)?;
-            let is_of_two = self.nodes[target].kind == b'H';
-            if is_of_two && arguments < 2 {
-                return None;
-            }
-            let path = self.path(owner, target)?;
-            Some(Callee { path, is_of_two })
+            self.path(owner, target)
         })
     }
 
     /// A path from the owner to the target, if it may mention it and one of
     /// the Groups around both has it in sight.
     fn path(&mut self, owner: usize, target: usize) -> Option<Vec<u8>> {
-        let both_functions = self.is_function(owner) && self.is_function(target);
+        let both_functions = self.nodes[owner].kind == b'F' && self.nodes[target].kind == b'F';
         let [own, other] = [self.ranks[owner], self.ranks[target]];
         if !(self.manner.wild || other < own || both_functions && other == own) {
             return None;
@@ -899,9 +781,9 @@ impl Grower<'_> {
             write!(text, " {number}").expect("writing to a Vec does not fail");
         };
         match kind {
-            _ if node == OUTERMOST => field(0),
+            b'G' | b'V' | b'F' if node == OUTERMOST => field(0),
+            b'G' | b'V' | b'F' => field(labels[*group] as i64),
             b'N' => field(*number),
-            kind if DEFINITIONS.contains(kind) => field(labels[*group] as i64),
             _ => {}
         }
         operands
@@ -915,5 +797,5 @@ impl Grower<'_> {
 }
 
 fn is_definition(node: &Node) -> bool {
-    DEFINITIONS.contains(&node.kind)
+    matches!(node.kind, b'G' | b'V' | b'F')
 }

@@ -18,11 +18,6 @@ pub fn split(text: &[u8]) -> Option<Vec<Row>> {
     rows.filter(|rows| !rows.is_empty())
 }
 
-/// Whether a line is of one of these kinds.
-pub fn is_one_of(row: &Row, kinds: &[u8]) -> bool {
-    matches!(row[0][..], [kind] if kinds.contains(&kind))
-}
-
 /// The sheet of these rows, halves away from zero.
 pub fn join(rows: &[Row]) -> Vec<u8> {
     join_under(AWAY, rows)

@@ -1,7 +1,6 @@
 //! Fixed sheets for speed figures and for small stacks: the worst shapes.
 
 use crate::builder::{Builder, MAX_LINES};
-use crate::calls_of_two::shapes_of_two;
 use crate::first_lines::{under, EVEN};
 use crate::letters::capital_paths;
 use crate::long_names::{near_names, near_paths, one_hash, one_slot};
@@ -51,7 +50,6 @@ pub fn shapes() -> Vec<Shape> {
     ];
     shapes.extend(endless_calls());
     shapes.extend(shapes_of_halves());
-    shapes.extend(shapes_of_two());
     shapes
 }
 
@@ -76,7 +74,7 @@ pub fn backward(values: usize) -> Vec<u8> {
     chain(values, short_name, |value| value + 1)
 }
 
-pub fn short_name(number: usize) -> String {
+fn short_name(number: usize) -> String {
     format!("v{number}")
 }
 
@@ -213,7 +211,7 @@ fn deepest_nesting() -> Vec<u8> {
 }
 
 /// Values with this body, as many as there is room for.
-pub fn fill_with(builder: &mut Builder, body: &str) {
+fn fill_with(builder: &mut Builder, body: &str) {
     let lines = 1 + body.split(' ').count();
     while builder.count() + lines <= MAX_LINES {
         let name = format!("v{}", builder.count());

@@ -1,8 +1,10 @@
 //! Where a sheet is tangled: what order 2 brings. By the definitions, with little
 //! care for speed.
 
-use crate::kinds::{GROUP, VALUE};
 use crate::lent::{mentions, values};
+
+const GROUP: i64 = 1;
+const VALUE: i64 = 2;
 
 /// What is so of a sheet with blocks of several members.
 #[derive(Debug, Default, Clone, Copy, PartialEq, Eq)]
@@ -157,7 +159,7 @@ fn needs(tree: &Tree) -> Vec<Vec<usize>> {
 }
 
 /// Where links lead in one step or more.
-pub fn led_to(links: &[Vec<usize>], from: usize) -> Vec<bool> {
+fn led_to(links: &[Vec<usize>], from: usize) -> Vec<bool> {
     let mut met = vec![false; links.len()];
     let mut open = vec![from];
     while let Some(next) = open.pop() {

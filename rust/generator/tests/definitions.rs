@@ -3,7 +3,6 @@
 //! blocks and plans by looking at every pair, evaluation as a function of what is
 //! left.
 
-use generator::kinds::{letter, DEFINITIONS};
 use generator::{any_sheet, line_count, rows, sheet, Rng, EVEN};
 use reference::{Order, Refusal};
 
@@ -43,13 +42,12 @@ impl Facts {
         self.table[8 * (label - 1) + cell] as usize
     }
 
-    fn kind(&self, label: usize) -> u8 {
-        letter(self.cell(label, 0) as i64)
+    fn kind(&self, label: usize) -> usize {
+        self.cell(label, 0)
     }
 
-    /// "G, V and F lines are definitions", and "kind H is a definition".
     fn is_definition(&self, label: usize) -> bool {
-        DEFINITIONS.contains(&self.kind(label))
+        self.kind(label) <= 3
     }
 
     fn name(&self, label: usize) -> &[u8] {
@@ -58,7 +56,7 @@ impl Facts {
 
     fn values(&self) -> Vec<usize> {
         (1..=self.count)
-            .filter(|&label| self.kind(label) == b'V')
+            .filter(|&label| self.kind(label) == 2)
             .collect()
     }
 
@@ -122,8 +120,8 @@ impl Facts {
             let is_ready = |block: &Vec<usize>| !left.iter().any(|other| needs(block, other));
             let next = left.iter().position(is_ready).expect("a block to place");
             match left.remove(next)[..] {
-                [member] if self.kind(member) == b'G' => listed.extend(self.list(member)),
-                [member] if self.kind(member) == b'V' => listed.push(member),
+                [member] if self.kind(member) == 1 => listed.extend(self.list(member)),
+                [member] if self.kind(member) == 2 => listed.push(member),
                 [_] => {}
                 ref block => listed.extend(self.list_opened(block)),
             }
@@ -147,7 +145,7 @@ impl Facts {
     }
 
     fn groups(&self) -> impl Iterator<Item = usize> + '_ {
-        (1..=self.count).filter(|&label| self.kind(label) == b'G')
+        (1..=self.count).filter(|&label| self.kind(label) == 1)
     }
 
     /// The members of blocks of several, of every Group.
@@ -177,7 +175,7 @@ impl Facts {
         self.groups().all(|group| self.is_together(order, group))
     }
 
-    /// The target of an R, C or K by the search of the paper.
+    /// The target of an R or C by the search of the paper.
     fn target(&self, label: usize) -> usize {
         let member = |group: usize, name: &[u8]| {
             let mut members = self.members(group).into_iter();
@@ -198,8 +196,8 @@ impl Facts {
         found
     }
 
-    /// The reply of an expression inside a call.
-    fn reply(&self, label: usize, call: Call, left: u32, results: &[i64]) -> Reply {
+    /// The reply of an expression inside a call (argument, depth).
+    fn reply(&self, label: usize, call: (i64, u32), left: u32, results: &[i64]) -> Reply {
         if left == 0 {
             return (Err(4), 0);
         }
@@ -207,22 +205,20 @@ impl Facts {
         let operand = |cell, left| self.reply(self.cell(label, cell), call, left, results);
         let target = self.cell(label, 7);
         match self.kind(label) {
-            b'N' => (Ok(self.table[8 * (label - 1) + 3]), left),
-            b'P' => (Ok(call.arguments[0]), left),
-            b'Y' => (Ok(call.arguments[1]), left),
-            b'R' => match results[3 * (target - 1)] {
+            4 => (Ok(self.table[8 * (label - 1) + 3]), left),
+            5 => (Ok(call.0), left),
+            6 => match results[3 * (target - 1)] {
                 1 => (Ok(results[3 * (target - 1) + 1]), left),
                 state => (Err(state), left),
             },
-            b'C' => then(operand(3, left), |a, left| {
-                self.reply_of(target, &[a], call.depth, left, results)
+            7 => then(operand(3, left), |argument, left| match call.1 {
+                64 => (Err(5), left),
+                depth => {
+                    let body = self.cell(target, 4);
+                    self.reply(body, (argument, depth + 1), left, results)
+                }
             }),
-            b'K' => then(operand(3, left), |a, left| {
-                then(operand(4, left), |b, left| {
-                    self.reply_of(target, &[a, b], call.depth, left, results)
-                })
-            }),
-            b'I' => then(operand(3, left), |test, left| {
+            12 => then(operand(3, left), |test, left| {
                 operand(if test == 0 { 5 } else { 4 }, left)
             }),
             kind => then(operand(3, left), |a, left| {
@@ -233,25 +229,6 @@ impl Facts {
             }),
         }
     }
-
-    /// The reply of a function on its arguments, called at this depth.
-    fn reply_of(&self, f: usize, a: &[i64], depth: u32, left: u32, results: &[i64]) -> Reply {
-        if depth == 64 {
-            return (Err(5), left);
-        }
-        let mut arguments = [0; 2];
-        arguments[..a.len()].copy_from_slice(a);
-        let depth = depth + 1;
-        let call = Call { arguments, depth };
-        self.reply(self.cell(f, 4), call, left, results)
-    }
-}
-
-/// What is carried through a call.
-#[derive(Clone, Copy, Default)]
-struct Call {
-    arguments: [i64; 2],
-    depth: u32,
 }
 
 /// A relation closed: what leads to something leads to all that it leads to.
@@ -278,11 +255,11 @@ fn then((answer, left): Reply, next: impl FnOnce(i64, u32) -> Reply) -> Reply {
 }
 
 /// An operation, halves to even or away from zero.
-fn operate(kind: u8, even: bool, a: i64, b: i64) -> Result<i64, i64> {
+fn operate(kind: usize, even: bool, a: i64, b: i64) -> Result<i64, i64> {
     let result = match kind {
-        b'A' => a + b,
-        b'S' => a - b,
-        b'M' => a * b,
+        8 => a + b,
+        9 => a - b,
+        10 => a * b,
         _ if b == 0 => return Err(3),
         _ => a.signum() * b.signum() * nearest(even, a.abs(), b.abs()),
     };
@@ -389,8 +366,7 @@ fn some_order(values: &mut [usize], fixed: usize, wanted: &dyn Fn(&[usize]) -> b
 fn check_results(facts: &Facts, plan: &[usize], results: &[i64]) {
     let mut wanted = vec![0; 3 * facts.count];
     for &value in plan {
-        let body = facts.cell(value, 4);
-        let (answer, left) = facts.reply(body, Call::default(), 20_000, &wanted);
+        let (answer, left) = facts.reply(facts.cell(value, 4), (0, 0), 20_000, &wanted);
         let (state, number) = answer.map_or_else(|state| (state, 0), |number| (1, number));
         let steps = i64::from(20_000 - left);
         wanted[3 * (value - 1)..][..3].copy_from_slice(&[state, number, steps]);
@@ -401,7 +377,7 @@ fn check_results(facts: &Facts, plan: &[usize], results: &[i64]) {
 /// Row 12, "a smaller label in its Group has that name", by a look at every pair
 /// of lines; and whether the two names are written in the same letters.
 fn first_clash(rows: &[rows::Row]) -> Option<(Refusal, bool)> {
-    let is_definition = |row: &rows::Row| rows::is_one_of(row, DEFINITIONS);
+    let is_definition = |row: &rows::Row| matches!(row[0][..], [b'G' | b'V' | b'F']);
     let clash = |later: usize| {
         let [_, name, group, ..] = &rows[later];
         let is_same = |row: &&rows::Row| {

@@ -4,11 +4,14 @@
 
 use std::collections::VecDeque;
 
-use generator::kinds::{letter, FUNCTIONS};
 use generator::{case, line_count, tangled_blocks, Tangles};
 use reference::Order;
 
 const CASES: u64 = 10_000;
+
+const GROUP: usize = 1;
+const VALUE: usize = 2;
+const FUNCTION: usize = 3;
 
 /// A sheet that has a plan; labels count from 1.
 struct Planned {
@@ -36,8 +39,8 @@ impl Planned {
         })
     }
 
-    fn kind(&self, label: usize) -> u8 {
-        letter(self.table[8 * (label - 1)])
+    fn kind(&self, label: usize) -> usize {
+        self.table[8 * (label - 1)] as usize
     }
 
     /// The Group of a definition; 0 for the outermost one.
@@ -45,8 +48,8 @@ impl Planned {
         self.table[8 * (label - 1) + 6] as usize
     }
 
-    fn of_kinds<'p>(&'p self, kinds: &'p [u8]) -> impl Iterator<Item = usize> + 'p {
-        (1..self.mentions.len()).filter(|&label| kinds.contains(&self.kind(label)))
+    fn of_kind(&self, kind: usize) -> impl Iterator<Item = usize> + '_ {
+        (1..self.mentions.len()).filter(move |&label| self.kind(label) == kind)
     }
 
     /// Whether a plan that opened every Group would be another.
@@ -88,7 +91,7 @@ impl Planned {
         }
         // The latest that a Group of each Group starts, of those met so far.
         let mut latest = vec![None; self.mentions.len()];
-        self.of_kinds(b"G").any(|label| {
+        self.of_kind(GROUP).any(|label| {
             let around = &mut latest[self.group(label)];
             let earlier = first[label].is_some() && first[label] < *around;
             *around = first[label].max(*around);
@@ -105,7 +108,7 @@ impl Planned {
             for &target in &self.mentions[definition] {
                 if between[target].is_none() {
                     between[target] = Some(functions);
-                    if FUNCTIONS.contains(&self.kind(target)) {
+                    if self.kind(target) == FUNCTION {
                         open.push_back((target, functions + 1));
                     }
                 }
@@ -117,7 +120,7 @@ impl Planned {
     /// The most functions that lie between a value and another one.
     fn farthest(&self, value: usize) -> usize {
         let between = self.between(value);
-        let functions = self.of_kinds(b"V").filter_map(|other| between[other]);
+        let functions = self.of_kind(VALUE).filter_map(|other| between[other]);
         functions.max().unwrap_or(0)
     }
 }
@@ -153,7 +156,7 @@ impl Counts {
             }
         }
         let back = |function| planned.between(function)[function];
-        let cycles: Vec<usize> = planned.of_kinds(FUNCTIONS).filter_map(back).collect();
+        let cycles: Vec<usize> = planned.of_kind(FUNCTION).filter_map(back).collect();
         self.own_cycles += usize::from(cycles.contains(&0));
         self.shared_cycles += usize::from(cycles.iter().any(|&others| others > 0));
     }

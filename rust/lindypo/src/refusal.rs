@@ -24,8 +24,7 @@ pub enum Refusal {
     Link(Fault),
     /// 9: an expression that no field uses, or two or more.
     Use(Fault),
-    /// 10: the argument of a function in a value, or a second one in what is no
-    /// function of two.
+    /// 10: the argument of a function in a value.
     Argument(Fault),
     /// 11: nested deeper than 32 levels.
     Level(Fault),
@@ -35,8 +34,7 @@ pub enum Refusal {
     Head(Fault),
     /// 14: a later name of a path is not found, or is asked of a value or function.
     Member(Fault),
-    /// 15: a read that leads to no value, or a call that leads to no function of as
-    /// many arguments.
+    /// 15: a read that leads to no value, or a call that leads to no function.
     Target(Fault),
     /// 16: a value that reaches itself.
     Cycle(Fault),

@@ -92,9 +92,8 @@ impl<'text> Sheet<'text> {
         (1..=self.labels()).filter_map(|label| self.line(label))
     }
 
-    /// A definition's name or the path of an R, C or K, as that very part of the
-    /// text, in the case in which it was sent. `None` where the field is `-` or the
-    /// label is not from 1 to n.
+    /// A definition's name or the path of an R or C, as that very part of the
+    /// text, in the case in which it was sent. `None` where the field is `-` or the label is not from 1 to n.
     ///
     /// ```
     /// let text = b"kind name a b c\nG - 0 - -\nG Right 1 - -\n";
@@ -166,7 +165,7 @@ impl<'text> Sheet<'text> {
     }
 
     /// Every mention, a definition and the value or function that it reads or
-    /// calls, upward through the labels of the R, C and K lines.
+    /// calls, upward through the labels of the R and C lines.
     pub fn mentions(&self) -> impl Iterator<Item = (Label, Label)> + '_ {
         self.lines()
             .filter_map(|line| Some((line.owner?, line.target?)))

@@ -1,6 +1,6 @@
 //! What a refusal says, number by number: the very words, with line and column.
 
-use lindypo::{Help, Kind, Label, Refusal, Sheet};
+use lindypo::{Help, Label, Refusal, Sheet};
 
 const LINE_ONE: &str = "line one has to be `kind name a b c` or `kind2 name a b c`";
 
@@ -165,17 +165,10 @@ fn refusal_5_empty_fields() {
     );
 }
 
-/// The kinds, as refusal 6 lists them.
-fn kinds() -> String {
-    let letters = Kind::ALL.map(|kind| kind.letter().to_string());
-    format!("the kinds are {}", letters.join(" "))
-}
-
 #[test]
 fn refusal_6() {
-    let kinds = kinds();
-    assert_eq!(kinds, "the kinds are G V F N P R C A S M D I H K Y");
-    for kind in ["X", "v", "-", "GG", "h", "H2"] {
+    let kinds = "the kinds are G V F N P R C A S M D I";
+    for kind in ["X", "v", "-", "GG"] {
         let words = format!("refusal 6, line 3, column 1: `{kind}` is no kind; {kinds}");
         says(&format!("G - 0 - -\n{kind} x 1 3 -\nN - 1 - -"), &words);
     }
@@ -198,62 +191,39 @@ fn refusal_7_label_1() {
     }
 }
 
-/// The forms of a field, as refusal 7 says them.
-const NAME: &str = "a name: 1 to 16 letters or digits, a letter first";
-const PATH: &str =
-    "a path: 1 to 8 names joined by dots, each of 1 to 16 letters or digits, a letter first";
-const LABEL: &str = "a label: 1 to 3, with no leading zero";
-const NUMBER: &str =
-    "a whole number: -1000000000 to 1000000000, with no leading zero, plus sign or `-0`";
-const MISSING: &str = "`-` (missing)";
-
-/// What is said of a field of label 2, with its column.
-#[track_caller]
-fn form_says(line: &str, column: usize, field: &str, wanted: &str) {
-    let place = format!("refusal 7, line 3, column {column}");
-    let words = format!("{place}: field {field}; it has to be {wanted}");
-    says(&format!("G - 0 - -\n{line}\nN - 1 - -"), &words);
-}
-
 #[test]
 fn refusal_7_forms() {
-    let most = "1000000001";
+    let name = "a name: 1 to 16 letters or digits, a letter first";
+    let path =
+        "a path: 1 to 8 names joined by dots, each of 1 to 16 letters or digits, a letter first";
+    let label = "a label: 1 to 3, with no leading zero";
+    let number =
+        "a whole number: -1000000000 to 1000000000, with no leading zero, plus sign or `-0`";
+    let missing = "`-` (missing)";
     for (line, column, field, wanted) in [
-        ("G 1a 1 - -", 3, "name of a Group (G) is `1a`", NAME),
-        ("G - 1 - -", 3, "name of a Group (G) is `-`", NAME),
-        ("F x 01 3 -", 5, "a of a function (F) is `01`", LABEL),
-        ("V x 1 4 -", 7, "b of a value (V) is `4`", LABEL),
-        ("V x 1 3 3", 9, "c of a value (V) is `3`", MISSING),
-        ("N - 05 - -", 5, "a of a number (N) is `05`", NUMBER),
-        ("N n 5 - -", 3, "name of a number (N) is `n`", MISSING),
-        ("P - 1 - -", 5, "a of an argument (P) is `1`", MISSING),
-        ("R a..b - - -", 3, "name of a read (R) is `a..b`", PATH),
-        ("C f - - -", 5, "a of a call (C) is `-`", LABEL),
-        ("A - 3 x -", 7, "b of a sum (A) is `x`", LABEL),
-        ("I - 3 3 -", 9, "c of a choice (I) is `-`", LABEL),
+        ("G 1a 1 - -", 3, "name of a Group (G) is `1a`", name),
+        ("G - 1 - -", 3, "name of a Group (G) is `-`", name),
+        ("F x 01 3 -", 5, "a of a function (F) is `01`", label),
+        ("V x 1 4 -", 7, "b of a value (V) is `4`", label),
+        ("V x 1 3 3", 9, "c of a value (V) is `3`", missing),
+        ("N - 05 - -", 5, "a of a number (N) is `05`", number),
+        (
+            "N - 1000000001 - -",
+            5,
+            "a of a number (N) is `1000000001`",
+            number,
+        ),
+        ("N n 5 - -", 3, "name of a number (N) is `n`", missing),
+        ("P - 1 - -", 5, "a of an argument (P) is `1`", missing),
+        ("R a..b - - -", 3, "name of a read (R) is `a..b`", path),
+        ("C f - - -", 5, "a of a call (C) is `-`", label),
+        ("A - 3 x -", 7, "b of a sum (A) is `x`", label),
+        ("I - 3 3 -", 9, "c of a choice (I) is `-`", label),
     ] {
-        form_says(line, column, field, wanted);
+        let place = format!("refusal 7, line 3, column {column}");
+        let words = format!("{place}: field {field}; it has to be {wanted}");
+        says(&format!("G - 0 - -\n{line}\nN - 1 - -"), &words);
     }
-    let field = format!("a of a number (N) is `{most}`");
-    form_says(&format!("N - {most} - -"), 5, &field, NUMBER);
-}
-
-#[test]
-fn refusal_7_forms_of_two() {
-    let (function, call) = ("a function of two (H)", "a call of two (K)");
-    for (line, column, field, wanted) in [
-        ("H 1a 1 3 -", 3, format!("name of {function} is `1a`"), NAME),
-        ("H x 1 - -", 7, format!("b of {function} is `-`"), LABEL),
-        ("H x 1 3 3", 9, format!("c of {function} is `3`"), MISSING),
-        ("K - 3 3 -", 3, format!("name of {call} is `-`"), PATH),
-        ("K f - 3 -", 5, format!("a of {call} is `-`"), LABEL),
-        ("K f 3 - -", 7, format!("b of {call} is `-`"), LABEL),
-        ("K f 3 3 3", 9, format!("c of {call} is `3`"), MISSING),
-    ] {
-        form_says(line, column, &field, wanted);
-    }
-    let second = "b of a second argument (Y) is `2`";
-    form_says("Y - - 2 -", 7, second, MISSING);
 }
 
 #[test]
@@ -294,13 +264,6 @@ fn refusal_8_bodies_and_operands() {
             "refusal 8, line 5, column 9: field c leads to label 3, a number (N); {expression} 4"
         ),
     );
-    says(
-        "G - 0 - -\nH h 1 5 -\nV x 1 4 -\nK h 6 2 -\nY - - - -\nN - 2 - -",
-        &format!(
-            "refusal 8, line 5, column 7: \
-             field b leads to label 2, a function of two (H); {expression} 4"
-        ),
-    );
 }
 
 #[test]
@@ -336,31 +299,6 @@ fn refusal_10() {
         "G - 0 - -\nG right 1 - -\nV x 2 4 -\nS - 5 6 -\nN - 1 - -\nP - - - -",
         "refusal 10, line 7, column 1: \
          an argument (P) stands in the value `right.x`; only a function has one",
-    );
-    says(
-        "G - 0 - -\nG right 1 - -\nV x 2 4 -\nS - 5 6 -\nN - 1 - -\nY - - - -",
-        "refusal 10, line 7, column 1: \
-         a second argument (Y) stands in the value `right.x`; only a function of two has one",
-    );
-}
-
-/// A function of one number has one argument.
-#[test]
-fn refusal_10_second_argument() {
-    let text = sheet("G - 0 - -\nF half 1 3 -\nD - 4 5 -\nP - - - -\nY - - - -");
-    let refusal = refusal(&text);
-    assert_eq!(
-        refusal.to_string(),
-        "refusal 10, line 6, column 1: \
-         the function `half` takes one number, so it has no second argument (Y)"
-    );
-    helps(
-        &refusal,
-        &[
-            "line 3: the function `half` is here",
-            "put its argument (P), a number (N) or a read (R) in its place, \
-             or make the function a function of two (H), called by K",
-        ],
     );
 }
 
@@ -400,7 +338,7 @@ fn refusal_12_capitals() {
     // kinds and column names keep their case
     says(
         "G - 0 - -\ng right 1 - -",
-        &format!("refusal 6, line 3, column 1: `g` is no kind; {}", kinds()),
+        "refusal 6, line 3, column 1: `g` is no kind; the kinds are G V F N P R C A S M D I",
     );
     text_says(
         b"Kind name a b c\nG - 0 - -\n",
@@ -447,11 +385,6 @@ fn refusal_14() {
         "refusal 14, line 4, column 5: the function `f` is no Group, so it has no member `g`",
     );
     says(
-        "G - 0 - -\nH f 1 3 -\nK f.g 4 5 -\nP - - - -\nY - - - -",
-        "refusal 14, line 4, column 5: \
-         the function of two `f` is no Group, so it has no member `g`",
-    );
-    says(
         "G - 0 - -\nG right 1 - -\nV x 1 5 -\nV prism 2 6 -\nR Right.prsim - - -\nN - 1 - -",
         "refusal 14, line 6, column 9: \
          the Group `right` has no member `prsim`; is `prism` (line 5) meant?",
@@ -477,56 +410,6 @@ fn refusal_15() {
         "refusal 15, line 4, column 3: \
          a call (C) has to lead to a function; `x` leads to the value `x`",
     );
-    says(
-        "G - 0 - -\nH h 1 3 -\nR h - - -",
-        "refusal 15, line 4, column 3: \
-         a read (R) has to lead to a value; `h` leads to the function of two `h`",
-    );
-    for (found, line) in [("value", "V x 1 3 -"), ("Group", "G x 1 - -\nV y 1 4 -")] {
-        let label = 3 + line.matches('\n').count();
-        let (first, second) = (label + 1, label + 2);
-        says(
-            &format!("G - 0 - -\n{line}\nK x {first} {second} -\nN - 1 - -\nN - 2 - -"),
-            &format!(
-                "refusal 15, line {first}, column 3: \
-                 a call of two (K) has to lead to a function of two; `x` leads to the {found} `x`"
-            ),
-        );
-    }
-}
-
-/// A function and a call that part by the number of arguments: what is there is
-/// kept in the line to write.
-#[test]
-fn refusal_15_numbers_of_arguments() {
-    let lines = "G - 0 - -\nG lib 1 - -\nH prism 2 5 -\nV base 1 8 -\nM - 6 7 -\n\
-                 P - - - -\nY - - - -\nC lib.prism 9 - -\nN - -325 - -";
-    let one = refusal(&sheet(lines));
-    assert_eq!(
-        one.to_string(),
-        "refusal 15, line 9, column 3: `lib.prism` takes two numbers, so it is called by K, not C"
-    );
-    helps(
-        &one,
-        &[
-            "line 4: the function of two `lib.prism` is here",
-            "call it with two: `K lib.prism 9 SECOND -`",
-        ],
-    );
-    let lines = "G - 0 - -\nF half 1 4 -\nV base 1 7 -\nD - 5 6 -\n\
-                 P - - - -\nN - 2 - -\nK half 8 9 -\nN - 1 - -\nN - 2 - -";
-    let two = refusal(&sheet(lines));
-    assert_eq!(
-        two.to_string(),
-        "refusal 15, line 8, column 3: `half` takes one number, so it is called by C, not K"
-    );
-    helps(
-        &two,
-        &[
-            "line 3: the function `half` is here",
-            "call it with one: `C half 8 - -`; leave out label 9, with all it uses",
-        ],
-    );
 }
 
 #[test]
@@ -539,10 +422,6 @@ fn refusal_16() {
         "G - 0 - -\nV x 1 3 -\nR g.y - - -\nG g 1 - -\nV y 4 6 -\nC f 7 - -\nN - 1 - -\n\
          F f 1 9 -\nR x - - -",
         "refusal 16, line 3, column 3: the value `x` reaches itself: x -> g.y -> f -> x",
-    );
-    says(
-        "G - 0 - -\nV x 1 3 -\nK f 4 5 -\nN - 1 - -\nN - 2 - -\nH f 1 7 -\nR x - - -",
-        "refusal 16, line 3, column 3: the value `x` reaches itself: x -> f -> x",
     );
     // The middle of a long way is left out of the sentence; every step is shown.
     let value = |at: usize| format!("V v{at} 1 {} -\nR v{} - - -\n", 2 * at + 3, (at + 1) % 10);
@@ -784,42 +663,6 @@ fn refusal_20_definitions() {
             "name an N line; those in it are labels 7, 11, 12 and 14",
         ],
     );
-}
-
-/// The numbers of a function of two are its own, and those of a value that calls it
-/// are reached.
-#[test]
-fn refusal_20_functions_of_two() {
-    let lines = "G - 0 - -\nH prism 1 5 -\nV base 1 10 -\nV five 1 13 -\nD - 6 9 -\nM - 7 8 -\n\
-                 P - - - -\nY - - - -\nN - 1000 - -\nK prism 11 12 -\nR five - - -\n\
-                 R five - - -\nN - 5 - -";
-    let text = sheet(lines);
-    let sheet = Sheet::read(&text).expect("a sheet that reads");
-    let refusal = sheet.retouch(&[(2, 1)]).expect_err("a refusal");
-    assert_eq!(
-        refusal.to_string(),
-        "refusal 20, line 6, column 1, pair 1 of the list: \
-         the body of `prism` is not a number: line 6 is a quotient (D)"
-    );
-    let own = "name an N line; the one in it is label 9";
-    helps(&refusal, &["line 10: label 9 is here", own]);
-    let refusal = sheet.retouch(&[(10, 1)]).expect_err("a refusal");
-    assert_eq!(
-        refusal.to_string(),
-        "refusal 20, line 11, column 1, pair 1 of the list: \
-         label 10 is a call of two (K), not a number"
-    );
-    let reached = "name an N line; those that it reaches are labels 9 and 13";
-    helps(
-        &refusal,
-        &[
-            "line 10: label 9 is here",
-            "line 14: label 13 is here",
-            reached,
-        ],
-    );
-    let retouched = sheet.retouch(&[(9, 1)]).expect("an answer");
-    assert_eq!(retouched.changes[0].redone, 1);
 }
 
 #[test]

@@ -1,7 +1,7 @@
 //! Evaluation ("Working out").
 
 use crate::lines::in_range;
-use crate::sheet::{Kind, Label, Line, Sheet, Ties};
+use crate::sheet::{Kind, Label, Sheet, Ties};
 
 /// Why a value has no number; the codes are the paper's states.
 #[derive(Debug, Clone, Copy, PartialEq, Eq)]
@@ -66,31 +66,11 @@ impl Allowance {
     }
 }
 
-/// The most arguments that a call has.
-const MAX_ARGUMENTS: usize = 2;
-
-/// "The record carried through a call now holds two arguments and how many of them
-/// count"; and the call's depth.
+/// What one call carries: its argument and its depth.
 #[derive(Debug, Clone, Copy)]
 struct Frame {
-    arguments: [i64; MAX_ARGUMENTS],
-    count: u32,
+    argument: i64,
     depth: u32,
-}
-
-impl Frame {
-    /// That of a value, in which no argument counts.
-    const OUTERMOST: Frame = Frame {
-        arguments: [0; MAX_ARGUMENTS],
-        count: 0,
-        depth: 0,
-    };
-
-    /// An argument, counted from 0. Row 10 has seen to it that it counts.
-    fn argument(&self, number: usize) -> i64 {
-        debug_assert!(number < self.count as usize, "an argument that counts");
-        self.arguments[number]
-    }
 }
 
 /// Evaluates the values of a proper order in turn; outcomes by label from 1,
@@ -110,7 +90,12 @@ pub fn evaluate_value(sheet: &Sheet, outcomes: &[Option<Outcome>], value: Label)
         outcomes,
         allowance: Allowance::fresh(),
     };
-    let answer = evaluation.expression(sheet.line(value).link(1), &Frame::OUTERMOST);
+    // A value has no P (row 10), so its argument is never asked for.
+    let frame = Frame {
+        argument: 0,
+        depth: 0,
+    };
+    let answer = evaluation.expression(sheet.line(value).link(1), frame);
     let steps = evaluation.allowance.taken();
     Outcome { answer, steps }
 }
@@ -124,16 +109,14 @@ struct Evaluation<'e> {
 
 impl Evaluation<'_> {
     /// "Entering an expression takes one step; with none left the state is 4."
-    fn expression(&mut self, label: Label, frame: &Frame) -> Answer {
+    fn expression(&mut self, label: Label, frame: Frame) -> Answer {
         self.allowance = self.allowance.step().ok_or(Failure::OutOfSteps)?;
         let line = self.sheet.line(label);
         match line.kind {
             Kind::Number => Ok(line.fields[0]),
-            Kind::Argument => Ok(frame.argument(0)),
-            Kind::SecondArgument => Ok(frame.argument(1)),
+            Kind::Argument => Ok(frame.argument),
             Kind::Read => self.stored(line.target as Label),
-            Kind::Call => self.call::<1>(line, frame),
-            Kind::CallOfTwo => self.call::<2>(line, frame),
+            Kind::Call => self.call(line.target as Label, line.link(0), frame),
             Kind::Choice => {
                 let test = self.expression(line.link(0), frame)?;
                 let branch = if test != 0 { 1 } else { 2 };
@@ -154,28 +137,18 @@ impl Evaluation<'_> {
     }
 
     /// "C works out its argument; at depth 64 the state is then 5, else the
-    /// target's body is worked out one deeper." So does K with its two, "worked out
-    /// in that order": one rule for any number of arguments.
-    fn call<const COUNT: usize>(&mut self, line: &Line, frame: &Frame) -> Answer {
-        let mut arguments = [0; MAX_ARGUMENTS];
-        for (field, argument) in arguments.iter_mut().enumerate().take(COUNT) {
-            *argument = self.expression(line.link(field), frame)?;
-        }
+    /// target's body is worked out one deeper."
+    fn call(&mut self, function: Label, argument: Label, frame: Frame) -> Answer {
+        let argument = self.expression(argument, frame)?;
         if frame.depth == Allowance::DEPTH {
             return Err(Failure::TooDeep);
         }
-        let body = self.sheet.line(line.target as Label).link(1);
-        let frame = Frame {
-            arguments,
-            count: COUNT as u32,
-            depth: frame.depth + 1,
-        };
-        self.expression(body, &frame)
+        let depth = frame.depth + 1;
+        let body = self.sheet.line(function).link(1);
+        self.expression(body, Frame { argument, depth })
     }
 }
 
-// Within the evaluator, as `nearest` is: most of a sheet's steps are operations.
-#[inline(always)]
 fn operate(operation: Kind, ties: Ties, a: i64, b: i64) -> Answer {
     let result = match operation {
         Kind::Sum => a + b,
@@ -195,7 +168,6 @@ fn operate(operation: Kind, ties: Ties, a: i64, b: i64) -> Answer {
 /// The nearest whole number to a / b, a half by the tie rule. It is a / b cut
 /// toward zero or its neighbour farther out; of a half, the latter under `Away`
 /// and where the former is odd.
-#[inline(always)]
 fn nearest(ties: Ties, a: i64, b: i64) -> i64 {
     let toward_zero = a / b;
     let half_goes_out = i64::from(ties == Ties::Away) | (toward_zero & 1);

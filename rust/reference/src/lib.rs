@@ -1,7 +1,7 @@
 //! The rules of order sheets in Rust: document 01, "the paper", with the orders
 //! of document 02 so far: 1, names compared without regard to the case of
 //! letters, 2, only the tangled Groups opened, 3, names compared by the word, 4,
-//! retouching numbers, 5, halves to even, and 6, functions of two numbers.
+//! retouching numbers, and 5, halves to even.
 //!
 //! One module for each stage, in the order in which refusals are found:
 //! `text` (rows 1 to 3), `lines` (5 to 7), `tree` (8 to 11), `paths` (12 to

@@ -47,9 +47,8 @@ const fn row(letter: u8, kind: Kind, name: Form, fields: [Form; 3]) -> KindRow {
     }
 }
 
-/// "Which fields a kind has is one fixed table of twelve rows", and three more by
-/// order 6.
-const KINDS: [KindRow; 15] = {
+/// "Which fields a kind has is one fixed table of twelve rows."
+const KINDS: [KindRow; 12] = {
     use Form::{Expression as Expr, Group, Missing, Name, Number, Path};
     [
         row(b'G', Kind::Group, Name, [Group, Missing, Missing]),
@@ -64,9 +63,6 @@ const KINDS: [KindRow; 15] = {
         row(b'M', Kind::Product, Missing, [Expr, Expr, Missing]),
         row(b'D', Kind::Quotient, Missing, [Expr, Expr, Missing]),
         row(b'I', Kind::Choice, Missing, [Expr; 3]),
-        row(b'H', Kind::FunctionOfTwo, Name, [Group, Expr, Missing]),
-        row(b'K', Kind::CallOfTwo, Path, [Expr, Expr, Missing]),
-        row(b'Y', Kind::SecondArgument, Missing, [Missing; 3]),
     ]
 };
 

@@ -21,7 +21,7 @@ struct Planner<'s> {
     sheet: &'s Sheet<'s>,
     reach: &'s Reach,
     /// The Groups and values of each Group, as lists and as rows of bits. "F
-    /// gives nothing", nor does H; they need nothing and are not needed.
+    /// gives nothing", needs nothing and is not needed.
     members: Adjacency,
     member_rows: BitMatrix,
     /// Where each one stands in its Group's list; a value of a block of several,
@@ -34,7 +34,7 @@ struct Planner<'s> {
 impl<'s> Planner<'s> {
     fn new(sheet: &'s Sheet<'s>, reach: &'s mut Reach) -> Self {
         let count = reach.labels.len();
-        let is_listed = |&member: &usize| !sheet.kind(reach.labels[member]).is_function();
+        let is_listed = |&member: &usize| sheet.kind(reach.labels[member]) != Kind::Function;
         let listed: Vec<usize> = (1..count).filter(is_listed).collect();
         let group_of = |member: usize| reach.groups[member] as usize;
         let pairs = listed.iter().map(|&member| (group_of(member), member));

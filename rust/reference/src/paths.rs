@@ -2,7 +2,7 @@
 
 use std::ops::Range;
 
-use crate::sheet::{Label, Line, Sheet};
+use crate::sheet::{Kind, Label, Line, Sheet};
 use crate::Refusal;
 
 /// A name as one number, a word of 16 bytes. The name's own bytes can be read back
@@ -82,7 +82,7 @@ impl Members {
         }
     }
 
-    /// The member of a Group that has this name. A V, F or H has no members.
+    /// The member of a Group that has this name. A V or F has no members.
     fn find(&self, group: Label, name: NameKey) -> Option<Label> {
         let Range { start, end } = self.parts[group];
         let part = &self.sorted[start as usize..end as usize];
@@ -98,7 +98,7 @@ pub fn resolve(sheet: &mut Sheet) -> Result<(), Refusal> {
     members.check()?;
     let mut first = [None; 3];
     for label in sheet.labels() {
-        if sheet.kind(label).wanted_target().is_none() {
+        if !matches!(sheet.kind(label), Kind::Read | Kind::Call) {
             continue;
         }
         match find_target(sheet, &members, label) {
@@ -114,7 +114,7 @@ pub fn resolve(sheet: &mut Sheet) -> Result<(), Refusal> {
     }
 }
 
-/// Where the path of a line ends, or the number of its refusal.
+/// Where the path of an R or C ends, or the number of its refusal.
 fn find_target(sheet: &Sheet, members: &Members, label: Label) -> Result<Label, u64> {
     let mut names = path_keys(sheet, label);
     let start = sheet.owner(sheet.owner(label));
@@ -125,7 +125,11 @@ fn find_target(sheet: &Sheet, members: &Members, label: Label) -> Result<Label, 
     for name in names {
         target = members.find(target, name).ok_or(14u64)?;
     }
-    if sheet.kind(label).wanted_target() == Some(sheet.kind(target)) {
+    let wanted = match sheet.kind(label) {
+        Kind::Read => Kind::Value,
+        _ => Kind::Function,
+    };
+    if sheet.kind(target) == wanted {
         Ok(target)
     } else {
         Err(15)

@@ -71,7 +71,7 @@ pub fn reach(sheet: &Sheet) -> Result<Reach, Refusal> {
     }
 }
 
-/// "d mentions e when an R or C owned by d has target e." So does K.
+/// "d mentions e when an R or C owned by d has target e."
 fn mentions(sheet: &Sheet, numbers: &[u32]) -> Adjacency {
     let lines = sheet.lines.iter().filter(|line| line.target != 0);
     let number = |label: u32| numbers[label as usize] as usize;

@@ -5,7 +5,7 @@ use std::ops::RangeInclusive;
 /// Counts lines from 1, as the paper does.
 pub type Label = usize;
 
-/// The fifteen kinds; the number of each is the paper's code.
+/// The twelve kinds; the number of each is the paper's code.
 #[derive(Debug, Clone, Copy, PartialEq, Eq)]
 pub enum Kind {
     Group = 1,
@@ -20,48 +20,12 @@ pub enum Kind {
     Product,
     Quotient,
     Choice,
-    FunctionOfTwo,
-    CallOfTwo,
-    SecondArgument,
 }
 
 impl Kind {
-    /// "G, V and F lines are definitions; the rest are expressions"; "kind H is a
-    /// definition".
+    /// "G, V and F lines are definitions; the rest are expressions."
     pub fn is_definition(self) -> bool {
-        DEFINITIONS.contains(self)
-    }
-
-    /// "Functions of either sort."
-    pub fn is_function(self) -> bool {
-        FUNCTIONS.contains(self)
-    }
-
-    /// What the path of this kind has to lead to; none for a kind that has no path.
-    pub fn wanted_target(self) -> Option<Kind> {
-        match self {
-            Kind::Read => Some(Kind::Value),
-            Kind::Call => Some(Kind::Function),
-            Kind::CallOfTwo => Some(Kind::FunctionOfTwo),
-            _ => None,
-        }
-    }
-}
-
-const DEFINITIONS: Kinds = FUNCTIONS.and(Kind::Group).and(Kind::Value);
-const FUNCTIONS: Kinds = Kinds(0).and(Kind::Function).and(Kind::FunctionOfTwo);
-
-/// A set of kinds, a bit for each code: every line is asked for its kind many times.
-#[derive(Clone, Copy)]
-struct Kinds(u32);
-
-impl Kinds {
-    const fn and(self, kind: Kind) -> Self {
-        Kinds(self.0 | 1 << kind as u32)
-    }
-
-    fn contains(self, kind: Kind) -> bool {
-        self.0 >> kind as u32 & 1 == 1
+        matches!(self, Kind::Group | Kind::Value | Kind::Function)
     }
 }
 

@@ -77,12 +77,10 @@ fn fill_owners(sheet: &mut Sheet) -> Vec<u32> {
     levels
 }
 
-/// Row 10: "P may be owned by V never, by F or H; Y by H alone".
+/// Row 10: "P owned by a V".
 fn check_arguments(sheet: &Sheet) -> Result<(), Refusal> {
-    refuse_if(sheet, 10, |&label| match sheet.kind(label) {
-        Kind::Argument => sheet.kind(sheet.owner(label)) == Kind::Value,
-        Kind::SecondArgument => sheet.kind(sheet.owner(label)) != Kind::FunctionOfTwo,
-        _ => false,
+    refuse_if(sheet, 10, |&label| {
+        sheet.kind(label) == Kind::Argument && sheet.kind(sheet.owner(label)) == Kind::Value
     })
 }
 

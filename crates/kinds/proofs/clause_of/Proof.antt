@@ -42,15 +42,7 @@ unfolding clause_of kind_at kinds
 returns-9 c = rw c.match.keys9
 
 returns-10 : tie.Need-returns-10
-unfolding clause_of kind_at kinds
-returns-10 c = rw c.match.keys10
-
-returns-11 : tie.Need-returns-11
-unfolding clause_of kind_at kinds
-returns-11 c = rw c.match.keys11
-
-returns-12 : tie.Need-returns-12
-returns-12 c = sym (other_clause c.before.args.code c.match.rest)
+returns-10 c = sym (other_clause c.before.args.code c.match.rest)
 
 pub clause-of-spec : {M : Type 1} → statement M
-clause-of-spec = tie.close (tie.spec returns returns-2 returns-3 returns-4 returns-5 returns-6 returns-7 returns-8 returns-9 returns-10 returns-11 returns-12)
+clause-of-spec = tie.close (tie.spec returns returns-2 returns-3 returns-4 returns-5 returns-6 returns-7 returns-8 returns-9 returns-10)

@@ -10,10 +10,10 @@ use Rattle.kinds.proofs.code_of.Statement.{statement}
 use Rattle.kinds.proofs.code_of.Tie as tie
 
 abbrev invariant-loop : tie.invariant-loop
-invariant-loop letter code₀ code = (1 ≤ code) × (code ≤ 16) × (code_in (drop (code - 1) kinds) code letter ≡ code_of letter)
+invariant-loop letter code₀ code = (1 ≤ code) × (code ≤ 13) × (code_in (drop (code - 1) kinds) code letter ≡ code_of letter)
 
 abbrev decreases-loop : tie.decreases-loop
-decreases-loop letter code₀ code = 16 - code
+decreases-loop letter code₀ code = 13 - code
 
 loop-holds : tie.Need-loop-init invariant-loop decreases-loop
 unfolding code_of

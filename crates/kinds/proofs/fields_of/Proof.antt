@@ -53,18 +53,6 @@ row-at-requires-12 : tie.Need-row-at-requires-12
 unfolding is_kind kinds
 row-at-requires-12 c κs = refl
 
-row-at-requires-13 : tie.Need-row-at-requires-13
-unfolding is_kind kinds
-row-at-requires-13 c κs = refl
-
-row-at-requires-14 : tie.Need-row-at-requires-14
-unfolding is_kind kinds
-row-at-requires-14 c κs = refl
-
-row-at-requires-15 : tie.Need-row-at-requires-15
-unfolding is_kind kinds
-row-at-requires-15 c κs = refl
-
 returns : tie.Need-returns
 returns c = c.row_at.ensures ∙ sym (ap fields_at c.before.match.keys1)
 
@@ -99,18 +87,9 @@ returns-11 : tie.Need-returns-11
 returns-11 c = c.row-at11.ensures ∙ sym (ap fields_at c.before.match.keys11)
 
 returns-12 : tie.Need-returns-12
-returns-12 c = c.row-at12.ensures ∙ sym (ap fields_at c.before.match.keys12)
-
-returns-13 : tie.Need-returns-13
-returns-13 c = c.row-at13.ensures ∙ sym (ap fields_at c.before.match.keys13)
-
-returns-14 : tie.Need-returns-14
-returns-14 c = c.row-at14.ensures ∙ sym (ap fields_at c.before.match.keys14)
-
-returns-15 : tie.Need-returns-15
-returns-15 c =
+returns-12 c =
     let entry = c.before.before in
-    c.row-at15.ensures ∙ sym (ap fields_at (other_last entry.args.code entry.requires c.before.match.rest))
+    c.row-at12.ensures ∙ sym (ap fields_at (other_last entry.args.code entry.requires c.before.match.rest))
 
 pub fields-of-spec : {M : Type 1} → statement M
 fields-of-spec =
@@ -128,9 +107,6 @@ fields-of-spec =
     row-at-requires-10
     row-at-requires-11
     row-at-requires-12
-    row-at-requires-13
-    row-at-requires-14
-    row-at-requires-15
     returns
     returns-2
     returns-3
@@ -142,7 +118,4 @@ fields-of-spec =
     returns-9
     returns-10
     returns-11
-    returns-12
-    returns-13
-    returns-14
-    returns-15)
+    returns-12)

@@ -10,11 +10,7 @@ unfolding takes kind_at kinds
 returns c = rw c.match.keys1
 
 returns-2 : tie.Need-returns-2
-unfolding takes kind_at kinds
-returns-2 c = rw c.match.keys2
-
-returns-3 : tie.Need-returns-3
-returns-3 c = sym (other_takes c.before.args.code c.match.rest)
+returns-2 c = sym (other_takes c.before.args.code c.match.rest)
 
 pub takes-spec : {M : Type 1} → statement M
-takes-spec = tie.close (tie.spec returns returns-2 returns-3)
+takes-spec = tie.close (tie.spec returns returns-2)

@@ -14,11 +14,7 @@ unfolding wanted_by kind_at kinds
 returns-2 c = rw c.match.keys2
 
 returns-3 : tie.Need-returns-3
-unfolding wanted_by kind_at kinds
-returns-3 c = rw c.match.keys3
-
-returns-4 : tie.Need-returns-4
-returns-4 c = sym (other_wanted c.before.args.code c.match.rest)
+returns-3 c = sym (other_wanted c.before.args.code c.match.rest)
 
 pub wanted-by-spec : {M : Type 1} → statement M
-wanted-by-spec = tie.close (tie.spec returns returns-2 returns-3 returns-4)
+wanted-by-spec = tie.close (tie.spec returns returns-2 returns-3)

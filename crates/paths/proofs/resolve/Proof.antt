@@ -12,8 +12,8 @@ link-requires c κs = search rules
 enum_told : tie.Need-enum-told
 enum_told c = search rules
 
-settle-paths-requires : tie.Need-settle-paths-requires
-settle-paths-requires c κs =
+resolve-heads-requires : tie.Need-resolve-heads-requires
+resolve-heads-requires c κs =
     let p = c.before.before.before.before.before.before.before.before.before.before.before.before.requires in
     let link = c.before.before.before.before.before.before.link in
     (p.0, link.ensures.1 c.before.before.enum_told.given.1)
@@ -32,7 +32,7 @@ unfolding paths_bad
 returns c =
     let link = c.before.before.before.before.before.before.before.before.link in
     let enum_told = c.before.before.before.before.enum_told in
-    let r = c.before.settle-paths.ensures in
+    let r = c.before.resolve-heads.ensures in
     (or_next _ _ _ _ link.ensures.0 enum_told.given.1 r.0, r.1)
 
 same-length-3 : tie.Need-same-length-3
@@ -54,7 +54,7 @@ resolve-spec =
     (tie.spec
     link-requires
     enum_told
-    settle-paths-requires
+    resolve-heads-requires
     enum-known-row
     same_length
     same-length-2

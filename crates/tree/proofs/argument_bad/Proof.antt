@@ -12,7 +12,7 @@ argument-place-requires : tie.Need-argument-place-requires
 argument-place-requires c κs = search rules
 
 returns : tie.Need-returns
-returns c = rw (← c.before.before.label-cell.ensures) (sym (argument_none c.before.before.label-cell.result _ (sym c.before.argument_place_lem.ensures ∙ c.if1.true)))
+returns c = rw (← c.before.before.label-cell.ensures) (sym (argument_none c.before.before.label-cell.result _ (sym c.before.argument-place.ensures ∙ c.if1.true)))
 
 label-cell-requires-2 : tie.Need-label-cell-requires-2
 label-cell-requires-2 c κs = search rules
@@ -26,7 +26,7 @@ takes-requires c κs = search rules
 returns-2 : tie.Need-returns-2
 returns-2 c =
     let code = c.before.before.before.before.before.label-cell in
-    let place = c.before.before.before.before.argument_place_lem in
+    let place = c.before.before.before.before.argument-place in
     let owner = c.before.before.label-cell2 in
     rw (← code.ensures, ← owner.ensures, ← c.before.cell_at.ensures, ← c.takes.ensures, ← place.ensures)
 

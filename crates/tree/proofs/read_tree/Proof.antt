@@ -34,14 +34,14 @@ settle-requires c κs =
 argument-bad-requires : tie.Need-argument-bad-requires invariant-loop decreases-loop
 argument-bad-requires c κs = search rules
 
-or-here-requires : tie.Need-or-here-requires invariant-loop decreases-loop
-or-here-requires c κs = search rules
+first-of-requires : tie.Need-first-of-requires invariant-loop decreases-loop
+first-of-requires c κs = search rules
 
 level-bad-requires : tie.Need-level-bad-requires invariant-loop decreases-loop
 level-bad-requires c κs = search rules
 
-or-here-requires-2 : tie.Need-or-here-requires-2 invariant-loop decreases-loop
-or-here-requires-2 c κs = search rules
+first-of-requires-2 : tie.Need-first-of-requires-2 invariant-loop decreases-loop
+first-of-requires-2 c κs = search rules
 
 put-cell-requires : tie.Need-put-cell-requires invariant-loop decreases-loop
 put-cell-requires c κs = search rules
@@ -63,11 +63,11 @@ loop-again c =
     let both : (structure_right g.table g.label && used_right g.table g.label) ≡ true = sym settle.ensures.0 ∙ passed.if1.true in
     let now : settle.new.0 ≡ propagated g.label g.table = rw passed.if1.true at settle.ensures.1 in
     let argument-bad = c.before.before.before.before.before.before.before.argument-bad in
-    let or-here = c.before.before.before.before.before.before.or-here in
+    let first_of = c.before.before.before.before.before.before.first_of in
     let level-bad = c.before.before.before.before.level-bad in (
       omega arith,
       omega arith,
-      rw (c.before.put-cell.ensures, or-here.ensures, argument-bad.ensures, c.before.before.before.or-here2.ensures, level-bad.ensures, now)
+      rw (c.before.put-cell.ensures, first_of.ensures, argument-bad.ensures, c.before.before.before.first-of2.ensures, level-bad.ensures, now)
           (going_turn s.args.table.now s.args.n s.requires.formed g.table g.label g.argument g.level g.invariant.0 (omega arith) g.invariant.2
           (and_left (structure_right g.table g.label) (used_right g.table g.label) both) (and_right (structure_right g.table g.label) (used_right g.table g.label) both)),
     )
@@ -98,8 +98,8 @@ returns c =
     let found : c.early-verdict.result ≡ or_else row8 (Refused uses_row g.label) = rw now at c.early-verdict.ensures in
     (found ∙ stop, not_written row8 c.early-verdict.result uses_row g.label s.args.table.now s.args.n settle.new.0 found (ap length now ∙ g.invariant.2.claims.over.size))
 
-verdict-of-requires : tie.Need-verdict-of-requires invariant-loop decreases-loop
-verdict-of-requires c κs = search rules
+late-verdict-requires : tie.Need-late-verdict-requires invariant-loop decreases-loop
+late-verdict-requires c κs = search rules
 
 same-length-2 : tie.Need-same-length-2 invariant-loop decreases-loop
 same-length-2 c = c.before.before.loop.invariant.2.claims.over.size
@@ -108,8 +108,8 @@ returns-2 : tie.Need-returns-2 invariant-loop decreases-loop
 returns-2 c =
     let s = c.before.before.before in
     let g = c.before.before.loop in (
-      c.verdict-of.ensures ∙ going_done s.args.table.now s.args.n s.requires g.table g.label g.argument g.level g.invariant.1 (omega arith) g.invariant.2,
-      written c.verdict-of.result s.args.table.now s.args.n g.table
+      c.late-verdict.ensures ∙ going_done s.args.table.now s.args.n s.requires g.table g.label g.argument g.level g.invariant.1 (omega arith) g.invariant.2,
+      written c.late-verdict.result s.args.table.now s.args.n g.table
           (going_table s.args.table.now s.args.n s.requires g.table g.label g.argument g.level g.invariant.1 (omega arith) g.invariant.2),
     )
 
@@ -122,9 +122,9 @@ read-tree-spec =
     loop-holds
     settle-requires
     argument-bad-requires
-    or-here-requires
+    first-of-requires
     level-bad-requires
-    or-here-requires-2
+    first-of-requires-2
     put-cell-requires
     add-label
     loop-less
@@ -132,6 +132,6 @@ read-tree-spec =
     early-verdict-requires
     same_length
     returns
-    verdict-of-requires
+    late-verdict-requires
     same-length-2
     returns-2)

@@ -27,7 +27,7 @@ fn quotients(line: &[u8], pairs: &[(i64, i64)]) -> Vec<u8> {
 
 /// Whether q is the nearest whole number to a / b, a half to even or away from zero:
 /// it is no farther off than a half, and of two such the one that the rule wants.
-pub fn is_nearest(is_even: bool, a: i64, b: i64, q: i64) -> bool {
+fn is_nearest(is_even: bool, a: i64, b: i64, q: i64) -> bool {
     let twice = 2 * (q * b - a).abs();
     let is_wanted = if is_even {
         q % 2 == 0
@@ -54,7 +54,7 @@ fn check_quotients(line: &[u8], pairs: &[(i64, i64)]) {
 }
 
 /// The results of Run and of Follow, which is lent the plan.
-pub fn results_of(text: &[u8]) -> [Vec<i64>; 2] {
+fn results_of(text: &[u8]) -> [Vec<i64>; 2] {
     let order = planned(text);
     let mut buffers = Buffers::new(text);
     let Buffers {

@@ -11,7 +11,6 @@ mod sheets;
 mod sizes;
 mod stack;
 mod texts;
-mod two_numbers;
 
 use std::fs;
 use std::path::{Path, PathBuf};

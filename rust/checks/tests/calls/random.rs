@@ -32,7 +32,7 @@ fn random_bytes() {
         }
         text.extend((0..length).map(|_| match any {
             true => rng.word() as u8,
-            false => *rng.pick(b"GVFNPRCASMDIHKY-  \n\n.a10-"),
+            false => *rng.pick(b"GVFNPRCASMDI-  \n\n.a10-"),
         }));
         if rng.chance(80) {
             text.push(b'\n');

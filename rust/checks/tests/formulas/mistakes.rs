@@ -21,7 +21,7 @@ fn formula_says(formula: &str, column: usize, words: &str) {
 #[test]
 fn bytes_and_characters() {
     let nothing = "means nothing in a formula; names are letters and digits, \
-                   the signs are + - * / ( ) { } = ,";
+                   the signs are + - * / ( ) { } =";
     formula_says("a_b", 6, &format!("`_` {nothing}"));
     formula_says("1 % 2", 7, &format!("`%` {nothing}"));
     formula_says("1;", 6, "nothing stands between definitions");
@@ -109,52 +109,12 @@ fn what_is_open() {
         "v = (1 +\n2\nw = 3",
         "line 3, column 1: `)` is missing: the `(` at line 1, column 5 is not closed",
     );
+    formula_says(
+        "f(1, 2)",
+        8,
+        "`)` is missing: the call at line 1, column 5 is not closed",
+    );
     formula_says("1 + 2)", 10, "this `)` closes nothing");
-}
-
-#[test]
-fn calls_that_are_open() {
-    let after_one = "`,` or `)` is missing: the call at line 1, column 5 is not closed";
-    let after_two = "`)` is missing: the call at line 1, column 5 is not closed";
-    formula_says("f(1", 8, after_one);
-    formula_says("f(1 2)", 9, after_one);
-    formula_says("f(a b)", 9, after_one);
-    formula_says("f((1) (2))", 11, after_one);
-    says("v = f(1\nw = 3", &format!("line 2, column 1: {after_one}"));
-    formula_says("f(1, 2", 11, after_two);
-    formula_says("f(1, 2 3)", 12, after_two);
-    formula_says(
-        "f(if 1 then 2, 3)",
-        18,
-        "`else` is missing: the `if` at line 1, column 7 has none",
-    );
-    formula_says(
-        "f((1, 2), 3)",
-        9,
-        "`)` is missing: the `(` at line 1, column 7 is not closed",
-    );
-}
-
-/// No function takes three numbers, and a comma stands in calls and functions alone.
-#[test]
-fn commas() {
-    let third = "a function takes one number or two, and no third";
-    formula_says("f(1, 2, 3)", 11, third);
-    formula_says("f(1, g(2, 3), 4)", 17, third);
-    let wanted = "a number, a name, `(` or `if` has to stand here, not";
-    formula_says("f(1,)", 9, &format!("{wanted} `)`"));
-    formula_says("f(,1)", 7, &format!("{wanted} `,`"));
-    formula_says("f(1,,2)", 9, &format!("{wanted} `,`"));
-    formula_says(
-        "1, 2",
-        6,
-        "a definition has to begin here, with its name, not `,`",
-    );
-    formula_says(
-        "(1, 2)",
-        7,
-        "`)` is missing: the `(` at line 1, column 5 is not closed",
-    );
 }
 
 #[test]
@@ -225,52 +185,15 @@ fn definitions() {
     says("f(`x`) = 1", &format!("line 1, column 3: {name} `x`"));
     says("f(a.b) = 1", &format!("line 1, column 3: {name} `a.b`"));
     says("f(if) = 1", &format!("line 1, column 3: {name} `if`"));
-    says("f(x,) = 1", &format!("line 1, column 5: {name} `)`"));
-    says("f(x, 1) = 1", &format!("line 1, column 6: {name} `1`"));
-}
-
-#[test]
-fn functions() {
-    let form = "a function is written `name(x) = formula` or `name(x, y) = formula`";
-    let third = "a function takes one number or two, and no third";
-    for (formulas, column, words) in [
-        ("f(x) 1", 6, "`=` has to stand here, not `1`"),
-        ("f(x, y) 1", 9, "`=` has to stand here, not `1`"),
-        ("f(x y) = 1", 5, "`,` or `)` has to stand here, not `y`"),
-        ("f(x = 1", 5, "`,` or `)` has to stand here, not `=`"),
-        ("f(x, y z) = 1", 8, "`)` has to stand here, not `z`"),
-        ("f(x, y, z) = 1", 7, third),
-    ] {
-        says(
-            formulas,
-            &format!("line 1, column {column}: {words}; {form}"),
-        );
-    }
-}
-
-/// Both arguments have names of their own, whatever the case of letters.
-#[test]
-fn arguments_of_one_name() {
-    let another = "give one of the two another name";
-    for (formulas, words) in [
-        ("f(x, x) = x", "the first argument is called `x` too"),
-        (
-            "f(x, X) = x",
-            "the first argument is called `x`, and names are compared without regard to capitals",
-        ),
-    ] {
-        let mistake = formula::write(formulas.as_bytes()).expect_err("a mistake");
-        assert_eq!(
-            mistake.to_string(),
-            format!("line 1, column 6: {words}; {another}")
-        );
-        let first = mistake.help.first().expect("the first");
-        assert_eq!(
-            first.mark.map(|mark| (mark.line, mark.column)),
-            Some((1, 3))
-        );
-        assert_eq!(first.sentence, "the first is here");
-    }
+    let form = "a function is written `name(x) = formula`";
+    says(
+        "f(x, y) = 1",
+        &format!("line 1, column 4: `)` has to stand here, not `,`; {form}"),
+    );
+    says(
+        "f(x) 1",
+        &format!("line 1, column 6: `=` has to stand here, not `1`; {form}"),
+    );
 }
 
 #[test]
@@ -292,13 +215,6 @@ fn arguments() {
     says("f(x) = x(1)", &text("x"));
     says("f(x) = X.y", &text("X"));
     says("f(x) = X(1)", &text("X"));
-    for formulas in ["f(a, x) = x.y", "f(x, a) = x(1)", "f(x, a) = x(1, 2)"] {
-        says(
-            formulas,
-            "line 1, column 11: `x` is an argument here, a number; \
-             a definition of this name stands between backquotes: `x`",
-        );
-    }
 }
 
 /// Rows that the sheet itself would be refused by, at their places in the
@@ -364,40 +280,9 @@ fn names_and_paths_of_the_sheet() {
     );
 }
 
-/// A call with another number of arguments than the function takes.
-#[test]
-fn numbers_of_arguments() {
-    for (formulas, words) in [
-        (
-            "a = 1 + f(2)\nf(x, y) = y",
-            "line 1, column 9: `f` takes two numbers, and is called with one",
-        ),
-        (
-            "a = g.f(2, 3)\ng { f(x) = x }",
-            "line 1, column 5: `g.f` takes one number, and is called with two",
-        ),
-        (
-            "a = b(2, 3)\nb = 1",
-            "line 1, column 5: a call of two (K) has to lead to a function of two; \
-             `b` leads to the value `b`",
-        ),
-        (
-            "a = f\nf(x, y) = y",
-            "line 1, column 5: a read (R) has to lead to a value; \
-             `f` leads to the function of two `f`",
-        ),
-        (
-            "half(x) = x / y",
-            "line 1, column 15: the outermost Group has no member `y`",
-        ),
-    ] {
-        says(formulas, words);
-    }
-}
-
 /// Formulas and what is hinted at, with line, column and width where it has a
 /// place.
-const HINTS: [(&str, &[&str]); 11] = [
+const HINTS: [(&str, &[&str]); 5] = [
     (
         "# one\nright { sphere = 1 }\nprism = rigth.sphere",
         &[
@@ -419,42 +304,6 @@ const HINTS: [(&str, &[&str]); 11] = [
     (
         "g { f = 1 }\na = g.f(2)",
         &["1:5:1 the value `g.f` is here", "read it: `g.f`"],
-    ),
-    (
-        "f(x, y) = y\na = f",
-        &[
-            "1:1:1 the function of two `f` is here",
-            "call it: `f(..., ...)`",
-        ],
-    ),
-    (
-        "f(x, y) = y\na = f(1)",
-        &[
-            "1:1:1 the function of two `f` is here",
-            "call it with two: `f(..., ...)`",
-        ],
-    ),
-    (
-        "f(x) = x\na = f(1, 2)",
-        &[
-            "1:1:1 the function `f` is here",
-            "call it with one: `f(...)`",
-        ],
-    ),
-    (
-        "half(power) = power / y",
-        &[
-            "the outermost Group has `half`",
-            "if `y` is one more argument, write `half(power, y) = ...`",
-        ],
-    ),
-    (
-        "prism(power, dec) = power * y",
-        &["the outermost Group has `prism`"],
-    ),
-    (
-        "half(power) = power / y(2)",
-        &["the outermost Group has `half`"],
     ),
     (
         "a = 1 + `b`\nb = a",
@@ -519,10 +368,6 @@ fn deep_texts() {
         let mistake = formula::write(text.as_bytes()).expect_err("a mistake");
         assert_eq!(mistake.sentence, wanted, "{open}");
     }
-    // each of these has a number before what is open, and so takes lines
-    let text = format!("v = {}", "f(1, ".repeat(many));
-    let mistake = formula::write(text.as_bytes()).expect_err("a mistake");
-    assert_eq!(mistake.row, Some(3));
     let text = format!("v = {}1{}", "(".repeat(many), ")".repeat(many));
     assert_eq!(formula::write(text.as_bytes()), formula::write(b"v = 1"));
     let text = "a {".repeat(many);

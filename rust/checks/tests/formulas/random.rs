@@ -126,11 +126,10 @@ fn is_same_run(first: &Sheet, second: &Sheet) -> bool {
 /// `show` then `write`: the same sheet but for its labels.
 #[test]
 fn shown_then_written() {
-    let (mut runs, mut mixed, mut cycles, mut of_two) = (0, 0, 0, 0);
+    let (mut runs, mut mixed, mut cycles) = (0, 0, 0);
     for seed in 0..SHEETS {
         let text = random_sheet(seed);
         let sheet = Sheet::read(&text).expect("a sheet that reads");
-        of_two += u64::from(sheet.lines().any(|line| line.kind == Kind::CallOfTwo));
         let shown = formula::show(&sheet);
         let group = formula::parse(shown.as_bytes()).expect("formulas");
         assert_eq!(group, Group::of_sheet(&sheet), "{seed}");
@@ -153,8 +152,8 @@ fn shown_then_written() {
             (plan, written) => panic!("{seed}: {plan:?}, {written:?}"),
         }
     }
-    println!("{runs} run, {mixed} of them mixed; {cycles} have a cycle; {of_two} call with two");
-    assert!(runs > 3_000 && mixed > 100 && cycles > 50 && of_two > 1_000);
+    println!("{runs} run, {mixed} of them mixed; {cycles} have a cycle");
+    assert!(runs > 3_000 && mixed > 100 && cycles > 50);
 }
 
 /// A sheet as formulas in disorderly layout: more parentheses, spaces, line
@@ -203,11 +202,11 @@ impl Scribbler<'_, '_> {
         }
     }
 
-    /// The path of a read or call; `arguments` are what it must not be taken for.
-    fn path(&mut self, path: &str, arguments: &[&str]) {
+    /// The path of an R or C; `argument` is what it must not be taken for.
+    fn path(&mut self, path: &str, argument: &str) {
         let mut names: Vec<String> = vec![];
         for (at, name) in path.split('.').enumerate() {
-            let is_hidden = at == 0 && arguments.iter().any(|other| same_name(name, other));
+            let is_hidden = at == 0 && same_name(name, argument);
             names.push(self.name(name, is_hidden));
         }
         self.put(&names.join("."));
@@ -235,80 +234,71 @@ impl Scribbler<'_, '_> {
         let line = self.sheet.line(label).expect("a definition");
         let name = self.name(line.name.unwrap_or_default(), false);
         self.put(&name);
-        if line.kind == Kind::Group {
-            self.put("{");
-            self.group(label);
-            return self.put("}");
+        let argument = *self.rng.pick(&["x", "a", "sphere", "v1", "Argument"]);
+        match line.kind {
+            Kind::Group => {
+                self.put("{");
+                self.group(label);
+                self.put("}");
+                return;
+            }
+            Kind::Function => {
+                self.put("(");
+                self.put(argument);
+                self.put(")");
+            }
+            _ => {}
         }
-        let mut names = ["x", "a", "sphere", "v1", "Argument"];
-        self.rng.shuffle(&mut names);
-        let arguments = &names[..line.kind.takes()];
-        self.listed(arguments, |it, name| it.put(name));
         self.put("=");
-        self.expression(line.b as Label, arguments);
+        self.expression(line.b as Label, argument);
         self.text.push(' ');
     }
 
-    /// In parentheses with commas between; nothing for none.
-    fn listed<T: Copy>(&mut self, items: &[T], put: impl Fn(&mut Self, T)) {
-        for (at, &item) in items.iter().enumerate() {
-            self.put(if at == 0 { "(" } else { "," });
-            put(self, item);
-        }
-        if !items.is_empty() {
-            self.put(")");
-        }
-    }
-
     /// In parentheses, unless it is a leaf.
-    fn operand(&mut self, label: i64, arguments: &[&str]) {
+    fn operand(&mut self, label: i64, argument: &str) {
         let line = self.sheet.line(label as Label).expect("an expression");
-        let is_leaf = line.kind == Kind::Number || [line.a, line.b] == [0, 0];
+        let is_leaf = matches!(line.kind, Kind::Number | Kind::Argument | Kind::Read);
         if is_leaf && self.rng.chance(80) {
-            return self.expression(line.label, arguments);
+            return self.expression(line.label, argument);
         }
         self.put("(");
-        self.expression(line.label, arguments);
+        self.expression(line.label, argument);
         self.put(")");
     }
 
-    fn expression(&mut self, label: Label, arguments: &[&str]) {
+    fn expression(&mut self, label: Label, argument: &str) {
         let line = self.sheet.line(label).expect("an expression");
-        let operands = [line.a, line.b, line.c];
         let sign = match line.kind {
             Kind::Number => return self.put(&line.a.to_string()),
-            Kind::Argument => return self.argument(arguments[0]),
-            Kind::SecondArgument => return self.argument(arguments[1]),
-            Kind::Read | Kind::Call | Kind::CallOfTwo => {
-                self.path(line.name.unwrap_or_default(), arguments);
-                let count = line.kind.target().map_or(0, Kind::takes);
-                return self.listed(&operands[..count], |it, operand| {
-                    it.operand(operand, arguments);
-                });
+            Kind::Argument => {
+                let argument = recased_name(self.rng, argument);
+                return self.put(&argument);
             }
-            Kind::Choice => return self.choice(operands, arguments),
+            Kind::Read => return self.path(line.name.unwrap_or_default(), argument),
+            Kind::Call => {
+                self.path(line.name.unwrap_or_default(), argument);
+                self.put("(");
+                self.operand(line.a, argument);
+                return self.put(")");
+            }
+            Kind::Choice => return self.choice([line.a, line.b, line.c], argument),
             Kind::Sum => "+",
             Kind::Difference => "-",
             Kind::Product => "*",
             _ => "/",
         };
-        self.operand(line.a, arguments);
+        self.operand(line.a, argument);
         self.put(sign);
-        self.operand(line.b, arguments);
+        self.operand(line.b, argument);
     }
 
-    fn argument(&mut self, name: &str) {
-        let name = recased_name(self.rng, name);
-        self.put(&name);
-    }
-
-    fn choice(&mut self, operands: [i64; 3], arguments: &[&str]) {
+    fn choice(&mut self, operands: [i64; 3], argument: &str) {
         let words = *self
             .rng
             .pick(&[["if", "then", "else"], ["If", "THEN", "elsE"]]);
         for (word, operand) in words.into_iter().zip(operands) {
             self.word(word);
-            self.operand(operand, arguments);
+            self.operand(operand, argument);
             self.text.push(' ');
         }
     }

@@ -1,7 +1,6 @@
 //! What a sheet's formulas look like.
 
-use lindypo::build::Group;
-use lindypo::{formula, Kind, Sheet};
+use lindypo::{formula, Sheet};
 
 use crate::sheet;
 
@@ -92,69 +91,8 @@ fn one_expression() {
         shown,
         ["none", "none", "y + x", "y + x", "y", "x", "8", "8", "none"]
     );
-    let arguments = [1, 2, 3, 6].map(|label| formula::arguments(&sheet, label));
-    assert_eq!(arguments, [vec![], vec!["y".to_string()], vec![], vec![]]);
-}
-
-/// Functions of two, their calls, and each argument by its name.
-#[test]
-fn functions_of_two() {
-    let text = sheet(
-        "H prism 1 5 -\nV base 1 10 -\nH same 1 18 -\nD - 6 9 -\nM - 7 8 -\nP - - - -\n\
-         Y - - - -\nN - 1000 - -\nK prism 11 12 -\nN - -325 - -\nI - 13 14 15\nN - 1 - -\n\
-         N - 2 - -\nK same 16 17 -\nN - 3 - -\nN - 4 - -\nY - - - -\n",
-    );
-    let sheet = Sheet::read(&text).expect("a sheet that reads");
-    let wanted = "\
-prism(x, y) = x * y / 1000
-base = prism(-325, if 1 then 2 else same(3, 4))
-same(x, y) = y
-";
-    assert_eq!(formula::show(&sheet), wanted);
-    assert_eq!(formula::of(&sheet, 8).as_deref(), Some("y"));
-    assert_eq!(formula::arguments(&sheet, 2), ["x", "y"]);
-}
-
-/// Every kind of line has its formula, which gives it again.
-#[test]
-fn every_kind() {
-    let lines = "F f 1 5 -\nH h 1 8 -\nV v 1 11 -\nI - 6 7 12\nP - - - -\nC f 13 - -\n\
-                 K h 9 10 -\nY - - - -\nP - - - -\nN - 3 - -\nR v - - -\nA - 14 15 -\nN - 1 - -\n\
-                 S - 16 17 -\nM - 18 19 -\nD - 20 21 -\nN - 4 - -\nN - 5 - -\nN - 6 - -\nN - 7 - -\n";
-    let text = sheet(lines);
-    let text = String::from_utf8(text).expect("ASCII");
-    for kind in Kind::ALL {
-        let has_kind = text
-            .lines()
-            .skip(1)
-            .any(|line| line.starts_with(kind.letter()));
-        assert!(has_kind, "{kind}");
-    }
-    let sheet = Sheet::read(text.as_bytes()).expect("a sheet that reads");
-    let shown = formula::show(&sheet);
-    let wanted = "\
-f(x) = if x then f(1 + (4 * 5 - 6 / 7)) else v
-h(x, y) = h(y, x)
-v = 3
-";
-    assert_eq!(shown, wanted);
-    let again = formula::parse(shown.as_bytes()).expect("formulas");
-    assert_eq!(again, Group::of_sheet(&sheet));
-}
-
-/// Both names are others where one would hide what is read or called.
-#[test]
-fn names_of_two_arguments() {
-    for (path, arguments) in [("x", ["y", "z"]), ("Y", ["x", "z"]), ("x1", ["x", "y"])] {
-        let [first, second] = arguments;
-        is_shown(
-            &format!(
-                "H f 1 3 -\nA - 4 5 -\nR {path} - - -\nA - 6 7 -\nP - - - -\nY - - - -\n\
-                 V {path} 1 9 -\nN - 0 - -"
-            ),
-            &format!("{path} + ({first} + {second})"),
-        );
-    }
+    let arguments = [1, 2, 3, 6].map(|label| formula::argument(&sheet, label));
+    assert_eq!(arguments, [None, Some("y".to_string()), None, None]);
 }
 
 /// Members in the sequence of their labels, whatever stands between them.

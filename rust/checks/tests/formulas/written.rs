@@ -24,37 +24,6 @@ fn numbering() {
     );
 }
 
-/// A function of as many numbers as it has arguments, and a call of as many.
-#[test]
-fn functions_of_two() {
-    is_written(
-        "prism(power, dec) = power * dec / 1000  half(x) = x / 2  base = prism(half(7), 3 - 1)",
-        "H prism 1 5 -\nF half 1 10 -\nV base 1 13 -\n\
-         D - 6 9 -\nM - 7 8 -\nP - - - -\nY - - - -\nN - 1000 - -\n\
-         D - 11 12 -\nP - - - -\nN - 2 - -\n\
-         K prism 14 16 -\nC half 15 - -\nN - 7 - -\nS - 17 18 -\nN - 3 - -\nN - 1 - -\n",
-    );
-    // the second argument alone, and arguments within arguments
-    is_written(
-        "f(a, B) = f(f(b, A), b)",
-        "H f 1 3 -\nK f 4 7 -\nK f 5 6 -\nY - - - -\nP - - - -\nY - - - -\n",
-    );
-}
-
-/// What is written between the arguments of a call, and around them.
-#[test]
-fn arguments_of_two() {
-    let plain = "f(x, y) = x - y  v = f(1 + 2, if 3 then 4 else 5)";
-    for noisy in [
-        "f(x,y)=x-y v=f(1+2,if 3 then 4 else 5)",
-        "f ( x\n,\ty ) = x - y v = f # (\n( (1 + 2) , (if 3 then (4) else 5) )",
-        "f(one, Two) = ONE - two v = `f`((1 + 2), if 3 then 4 else (5))",
-    ] {
-        let [plain, noisy] = [plain, noisy].map(|it| formula::write(it.as_bytes()));
-        assert_eq!(plain, noisy);
-    }
-}
-
 /// A minus is a number's sign where an operand has to stand, else a difference.
 #[test]
 fn minus() {
@@ -128,10 +97,6 @@ fn capitals() {
     is_written(
         "X = 1  f(x) = X + `X`",
         "V X 1 4 -\nF f 1 5 -\nN - 1 - -\nA - 6 7 -\nP - - - -\nR X - - -\n",
-    );
-    is_written(
-        "Y = 1  f(x, y) = Y + `Y`",
-        "V Y 1 4 -\nH f 1 5 -\nN - 1 - -\nA - 6 7 -\nY - - - -\nR Y - - -\n",
     );
 }
 

@@ -118,7 +118,7 @@ impl<'a> Card<'a> {
                 format!("{}, {} changed", contents(self.view), self.changed)
             }
             None if self.view.is_folded => contents(self.view),
-            None => self.node().line.kind.to_string(),
+            None => "function".to_string(),
         }
     }
 

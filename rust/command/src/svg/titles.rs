@@ -2,11 +2,10 @@
 
 use std::collections::BTreeMap;
 
-use lindypo::{Label, Outcome, Sheet, State};
+use lindypo::{formula, Label, Outcome, Sheet, State};
 
 use super::cards::contents;
 use super::view::View;
-use crate::formulas;
 use crate::markup::escaped;
 use crate::mentions::Mention;
 use crate::numerals::counted;
@@ -27,8 +26,11 @@ pub fn element(lines: &[String]) -> String {
 
 /// A value or function: what it is, its formula, and what it comes to.
 pub fn definition(sheet: &Sheet, node: &Node) -> Vec<String> {
-    let formula = formulas::whole(sheet, node.line.label);
-    let mut lines = vec![place(sheet, node), formula];
+    let label = node.line.label;
+    let argument = formula::argument(sheet, label);
+    let argument = argument.map_or(String::new(), |name| format!("({name}) "));
+    let formula = formula::of(sheet, label).unwrap_or_default();
+    let mut lines = vec![place(sheet, node), format!("{argument}= {formula}")];
     if let (Some(outcome), Some(span)) = (node.outcome, node.span) {
         lines.push(format!("{}, position {}", came_to(outcome), span.first));
     }

@@ -26,7 +26,7 @@ impl Counts {
     fn of(kind: Kind) -> Self {
         Counts {
             values: usize::from(kind == Kind::Value),
-            functions: usize::from(kind.is_function()),
+            functions: usize::from(kind == Kind::Function),
         }
     }
 

@@ -3,7 +3,7 @@
 
 use std::collections::BTreeMap;
 
-use lindypo::Sheet;
+use lindypo::{Kind, Sheet};
 
 use super::cards::Cards;
 use crate::mentions::{self, Mention};
@@ -133,7 +133,11 @@ fn trunks(side: Side, cards: &Cards, sheet: &Sheet) -> Vec<Trunk> {
 
 /// Calls on the left, reads on the right.
 fn mentions<'a>(side: Side, sheet: &'a Sheet) -> impl Iterator<Item = Mention> + 'a {
-    mentions::of(sheet).filter(move |mention| mention.kind.is_call() == (side == Side::Left))
+    let kind = match side {
+        Side::Left => Kind::Call,
+        Side::Right => Kind::Read,
+    };
+    mentions::of(sheet).filter(move |mention| mention.kind == kind)
 }
 
 /// Gives each trunk the nearest lane in which it meets no other, the short ones

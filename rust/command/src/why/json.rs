@@ -1,6 +1,6 @@
 //! How a value came to what it is, for programs.
 
-use lindypo::why::{Argument, Call, Failure, Half, Handed, Read, Why};
+use lindypo::why::{Call, Failure, Half, Handed, Read, Why};
 use lindypo::{formula, Label, Sheet};
 
 use super::text;
@@ -8,7 +8,7 @@ use crate::json::{Json, Object};
 use crate::values::{self, STATES};
 use crate::words::Field;
 
-pub const FIELDS: [Field; 55] = [
+pub const FIELDS: [Field; 48] = [
     ("label", "the value's label"),
     ("name", "its full name"),
     ("line", "the line that it stands in, from 1"),
@@ -29,11 +29,10 @@ pub const FIELDS: [Field; 55] = [
         "calls",
         "the first of the calls that it entered, in their sequence:",
     ),
-    ("calls.line", "the C or K line, from 1"),
+    ("calls.line", "the C line, from 1"),
     ("calls.label", "the label of the function"),
     ("calls.name", "the full name of the function"),
-    ("calls.argument", "the argument, the first of two"),
-    ("calls.second", "the second argument, of a call of two"),
+    ("calls.argument", "the argument"),
     (
         "calls.depth",
         "how deep the call is, 1 for one by the value itself",
@@ -59,26 +58,11 @@ pub const FIELDS: [Field; 55] = [
     ),
     ("began.name", "the full name of that value"),
     ("began.cause", "what the line could not do"),
-    (
-        "began.argument",
-        "of a line in an argument, the call that was not made:",
-    ),
-    ("began.argument.line", "the C or K line, from 1"),
-    ("began.argument.label", "the label of the function"),
-    ("began.argument.name", "the full name of the function"),
-    (
-        "began.argument.place",
-        "1 for the first argument, 2 for the second",
-    ),
     ("began.within", "the calls around it, outermost first:"),
-    ("began.within.line", "the C or K line, from 1"),
+    ("began.within.line", "the C line, from 1"),
     ("began.within.label", "the label of the function"),
     ("began.within.name", "the full name of the function"),
-    ("began.within.argument", "the argument, the first of two"),
-    (
-        "began.within.second",
-        "the second argument, of a call of two",
-    ),
+    ("began.within.argument", "the argument"),
     ("began.within.depth", "how deep the call is"),
     (
         "began.handed_on",
@@ -137,10 +121,8 @@ fn read_object(sheet: &Sheet, read: &Read) -> Object {
 }
 
 fn call_object(sheet: &Sheet, call: &Call) -> Object {
-    let mut arguments = call.arguments.iter().copied();
     line_object(sheet, call.line, call.function)
-        .with_some("argument", arguments.next())
-        .with_some("second", arguments.next())
+        .with("argument", call.argument)
         .with("depth", call.depth)
 }
 
@@ -157,17 +139,10 @@ fn began(sheet: &Sheet, failure: &Failure) -> Object {
     let within = failure.within.iter().map(|call| call_object(sheet, call));
     let handed_on = failure.handed_on.iter();
     let handed_on = handed_on.map(|handed| handed_object(sheet, handed));
-    let argument = failure.argument.as_ref();
-    let argument = argument.map(|argument| argument_object(sheet, argument));
     line_object(sheet, failure.line, failure.value)
         .with("cause", text::cause(sheet, failure))
-        .with_some("argument", argument)
         .with("within", within.collect::<Json>())
         .with("handed_on", handed_on.collect::<Json>())
-}
-
-fn argument_object(sheet: &Sheet, argument: &Argument) -> Object {
-    line_object(sheet, argument.line, argument.function).with("place", argument.place)
 }
 
 fn handed_object(sheet: &Sheet, handed: &Handed) -> Object {

@@ -23,16 +23,15 @@ pub const WORD: Word = Word {
     about: "\
 Evaluates one value once more and shows its formula, what it read with the values, and the calls
 that it entered with their arguments. Of a value without a number it says at which line that
-began, in which argument and in which calls, and by which reads it was handed on. NAME is the
-value's full name, as `lindypo plan` lists it, in capitals or small letters, or its label. Of many
-calls the first are shown, and the number of the others. Where a quotient was a half, it shows what
-that came to by the tie rule of line one.
+began, in which calls, and by which reads it was handed on. NAME is the value's full name, as
+`lindypo plan` lists it, in capitals or small letters, or its label. Of many calls the first are
+shown, and the number of the others. Where a quotient was a half, it shows what that came to by
+the tie rule of line one.
 ",
     options: &[],
-    examples: &[
-        Example {
-            words: "why sheets/01-example.sheet right.prism",
-            print: "\
+    examples: &[Example {
+        words: "why sheets/01-example.sheet right.prism",
+        print: "\
 right.prism = sphere * 10 / 100
 -33 in 5 steps; line 5, label 4
 
@@ -43,22 +42,7 @@ line  first half   number  times
   10  -3250 / 100     -33      1
 line one is `kind name a b c`: halves away from zero
 ",
-        },
-        Example {
-            words: "why sheets/order-6-prism.sheet right.base",
-            print: "\
-right.base = prism(sphere, dec)
--81 in 8 steps; line 7, label 6
-
-line  read          number  state     times
-  20  right.sphere    -325  a number      1
-  21  dec              250  a number      1
-
-line  depth  call              number  state
-  19      1  prism(-325, 250)     -81  a number
-",
-        },
-    ],
+    }],
     fields: &[&sheets::FIELDS, &values::TIES_FIELDS, &json::FIELDS],
     call,
 };

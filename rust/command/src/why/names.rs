@@ -27,12 +27,15 @@ pub fn unknown(sheet: &Sheet, name: &str) -> String {
     };
     match sheet.line(label).map(|line| line.kind) {
         Some(Kind::Group) => format!("{what} is a Group; {}", values_under(sheet, label)),
-        Some(kind) => {
-            let kind = kind.with_article();
-            format!("{what} is no value but {kind} (line {})", label + 1)
-        }
+        Some(kind) => format!("{what} is no value but {} (line {})", a(kind), label + 1),
         None => what,
     }
+}
+
+/// "a function", "an argument".
+fn a(kind: Kind) -> String {
+    let article = if kind == Kind::Argument { "an" } else { "a" };
+    format!("{article} {kind}")
 }
 
 /// Which values it may mean, or which there are.

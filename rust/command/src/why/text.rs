@@ -1,6 +1,6 @@
 //! How a value came to what it is, for people.
 
-use lindypo::why::{Argument, Call, Cause, Failure, Handed, Why};
+use lindypo::why::{Call, Cause, Failure, Handed, Why};
 use lindypo::{formula, Kind, Label, Sheet, State};
 
 use crate::numerals::counted;
@@ -88,7 +88,7 @@ fn calls(sheet: &Sheet, why: &Why, paint: Paint) -> String {
         [
             Cell::from(call.line + 1),
             Cell::from(call.depth),
-            Cell::from(called(sheet, call.function, &call.arguments)),
+            Cell::from(called(sheet, call.function, call.argument)),
             number,
             state,
         ]
@@ -118,10 +118,9 @@ fn halves(sheet: &Sheet, why: &Why, paint: Paint) -> String {
     )
 }
 
-/// `lib.abs(-325)`, `lib.prism(350, -325)`.
-fn called(sheet: &Sheet, function: Label, arguments: &[i64]) -> String {
-    let arguments: Vec<String> = arguments.iter().map(i64::to_string).collect();
-    format!("{}({})", sheet.full_name(function), arguments.join(", "))
+/// `lib.abs(-325)`.
+fn called(sheet: &Sheet, function: Label, argument: i64) -> String {
+    format!("{}({argument})", sheet.full_name(function))
 }
 
 /// Where a failure began, in which calls, and by whom it was handed on.
@@ -129,48 +128,30 @@ fn began(sheet: &Sheet, failure: &Failure, paint: Paint) -> String {
     let (value, line) = (sheet.full_name(failure.value), failure.line + 1);
     let cause = paint.bad(&cause(sheet, failure));
     let shown = line_of(sheet, failure.line);
-    let argument = failure.argument.as_ref();
-    let argument = argument.map_or(String::new(), |argument| in_argument(sheet, argument));
     let within = match &failure.within[..] {
         [] => String::new(),
         calls => format!("within {}\n", around(sheet, calls)),
     };
     let handed = failure.handed_on.iter().rev();
     let handed: String = handed.map(|handed| handed_on(sheet, handed)).collect();
-    format!(
-        "it began in {value}, at line {line}: {cause}\n{line} | {shown}\n{argument}{within}{handed}"
-    )
-}
-
-/// Which argument of which call a failure is in.
-fn in_argument(sheet: &Sheet, argument: &Argument) -> String {
-    let (name, line) = (sheet.full_name(argument.function), argument.line + 1);
-    let function = sheet.line(argument.function).map(|line| line.kind);
-    let which = match (function.map_or(1, Kind::takes), argument.place) {
-        (1, _) => "argument",
-        (_, 1) => "first argument",
-        _ => "second argument",
-    };
-    format!("in the {which} of {name} (line {line}), which was not called\n")
+    format!("it began in {value}, at line {line}: {cause}\n{line} | {shown}\n{within}{handed}")
 }
 
 /// What a line could not do.
 pub fn cause(sheet: &Sheet, failure: &Failure) -> String {
     match failure.cause {
         Cause::OutOfRange { a, b, result } => {
-            let line = sheet.line(failure.line);
-            let sign = line
-                .and_then(|line| formula::sign(line.kind))
-                .unwrap_or(' ');
+            let sign = match sheet.line(failure.line).map(|line| line.kind) {
+                Some(Kind::Sum) => '+',
+                Some(Kind::Difference) => '-',
+                _ => '*',
+            };
             format!("{a} {sign} {b} is {result}, {}", State::OutOfRange)
         }
         Cause::ZeroDivisor { a } => format!("{a} / 0, {}", State::ZeroDivisor),
         Cause::OutOfSteps => format!("{} to enter it", State::OutOfSteps),
-        Cause::TooDeep {
-            function,
-            arguments,
-        } => {
-            let call = called(sheet, function, &arguments);
+        Cause::TooDeep { function, argument } => {
+            let call = called(sheet, function, argument);
             format!("{call}, {}", State::TooDeep)
         }
     }
@@ -184,7 +165,7 @@ fn line_of(sheet: &Sheet, label: Label) -> String {
 
 /// Calls, the outermost first; the middle of many is left out.
 fn around(sheet: &Sheet, calls: &[Call]) -> String {
-    let name = |call: &Call| called(sheet, call.function, &call.arguments);
+    let name = |call: &Call| called(sheet, call.function, call.argument);
     let mut names: Vec<String> = calls.iter().map(name).collect();
     if names.len() > AROUND {
         let end = names.len() - AROUND / 2;

@@ -40,8 +40,8 @@ fn the_sheets_come_to_their_prints() {
         (0..5).for_each(|state| wanted[state] += states[state]);
     }
     assert_eq!(summary.states, wanted);
-    assert_eq!((summary.whole, summary.mixed), (21, 4));
-    assert_eq!(summary.refused.iter().map(|row| row.count).sum::<u64>(), 22);
+    assert_eq!((summary.whole, summary.mixed), (16, 4));
+    assert_eq!(summary.refused.iter().map(|row| row.count).sum::<u64>(), 19);
 }
 
 /// The sheets of a folder are checked, and no other file is forgotten.

@@ -125,8 +125,6 @@ fn calls(word: &Word) -> &'static [&'static str] {
             "sheets/03-mixed.sheet right",
             "sheets/04b-even-of-1.sheet answer",
             "sheets/05b-even-of-64.sheet answer",
-            "sheets/order-6-in-turn.sheet deepOfTwo",
-            "sheets/order-6-arguments.sheet second",
             "rust/command/tests/sheets/failures.sheet right.centre",
             "rust/command/tests/sheets/failures.sheet rim",
         ],

@@ -34,7 +34,7 @@ fn sheets() -> Vec<PathBuf> {
     let is_sheet = |name: &PathBuf| name.extension().is_some_and(|end| end == "sheet");
     let mut sheets: Vec<PathBuf> = names.filter(is_sheet).collect();
     sheets.sort();
-    assert_eq!(sheets.len(), 47, "all sample sheets are there");
+    assert_eq!(sheets.len(), 39, "all sample sheets are there");
     sheets
         .iter()
         .map(|name| Path::new("sheets").join(name))

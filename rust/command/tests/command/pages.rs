@@ -16,8 +16,6 @@ use std::os::unix::fs::{symlink, PermissionsExt};
 use std::path::{Path, PathBuf};
 use std::process::Command;
 
-use lindypo::Kind;
-
 use crate::{read_text, sheets, top};
 
 /// Where this is set, the tests write into the pages what their commands give,
@@ -244,24 +242,6 @@ fn refusals_with_a_heading(page: &str) -> Vec<u32> {
 fn every_refusal_is_in_the_language() {
     let numbers = refusals_with_a_heading(&read_text("docs/LANGUAGE.md"));
     assert_eq!(numbers, (1..=21).collect::<Vec<_>>());
-}
-
-/// Each kind has its row in the table, and a line in the sheet with every kind.
-#[test]
-fn every_kind_is_in_the_language() {
-    let page = read_text("docs/LANGUAGE.md");
-    let blocks = blocks(&page);
-    let sheet = blocks
-        .iter()
-        .find(|block| block.kind == "sheet kinds.sheet");
-    let sheet = sheet.expect("a sheet with every kind");
-    for kind in Kind::ALL {
-        let (code, letter) = (kind.code(), kind.letter());
-        let row = format!("\n| {code} | `{letter}` ");
-        assert_eq!(page.matches(&row).count(), 1, "{kind}");
-        let mut lines = sheet.lines.iter().skip(1);
-        assert!(lines.any(|line| line.starts_with(letter)), "{kind}");
-    }
 }
 
 #[test]

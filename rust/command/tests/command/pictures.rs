@@ -153,12 +153,12 @@ impl<'a> Drawn<'a> {
         blocks.filter(|cards| !cards.is_empty()).collect()
     }
 
-    /// The arrows: from which card to which, and whether by a call or a read.
-    fn arrows(&self, folded: &BTreeSet<Label>) -> BTreeSet<(Label, Label, bool)> {
+    /// The arrows: from which card to which, and by which kind of line.
+    fn arrows(&self, folded: &BTreeSet<Label>) -> BTreeSet<(Label, Label, i64)> {
         let arrow = |line: Line| {
             let (from, to) = (self.cards[line.owner?]?, self.cards[line.target?]?);
             let is_within = from == to && folded.contains(&from);
-            (!is_within).then_some((from, to, line.kind.is_call()))
+            (!is_within).then_some((from, to, line.kind.code()))
         };
         self.sheet.lines().filter_map(arrow).collect()
     }

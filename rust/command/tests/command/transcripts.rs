@@ -58,11 +58,6 @@ fn halves_away_and_to_even() {
 }
 
 #[test]
-fn functions_of_two_numbers() {
-    is_replayed("two-numbers.txt");
-}
-
-#[test]
 fn values_and_why() {
     is_replayed("why.txt");
 }

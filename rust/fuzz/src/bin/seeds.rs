@@ -1,7 +1,6 @@
 //! `seeds FOLDER FILE...`: writes inputs to begin with to a folder: the sheets of
 //! the files, the shapes of the speed figures, an everyday order under each first
-//! line that is allowed or taken for one, a short one with lists of about as many
-//! pairs as there may be, and sheets of the generator.
+//! line that is allowed or taken for one, and sheets of the generator.
 
 use std::path::Path;
 use std::process::ExitCode;
@@ -12,9 +11,6 @@ use generator::{Rng, FIRST_LINES, WRONG_LINES};
 
 /// How many sheets of the generator.
 const SHEETS: u64 = 400;
-
-/// Lines of a sheet that may have as many pairs as there may be.
-const FEW_LINES: usize = 20;
 
 fn main() -> ExitCode {
     let words: Vec<String> = env::args().skip(1).collect();
@@ -44,10 +40,6 @@ fn write_all(folder: &Path, files: &[String]) -> io::Result<()> {
     for (at, line) in lines.enumerate() {
         let text = generator::under(line, &everyday);
         write(folder, &format!("line-{at:03}"), plain, &text)?;
-    }
-    for (at, settings) in Settings::longest_pairs().into_iter().enumerate() {
-        let text = generator::everyday(FEW_LINES, 1);
-        write(folder, &format!("pairs-{at:03}"), settings, &text)?;
     }
     for seed in 0..SHEETS {
         let rng = &mut Rng::new(seed);

@@ -3,9 +3,8 @@
 
 use super::mistake::Place;
 use super::{Content, Definition, Expression, Mistake, Node};
-use crate::diagnosis::words::{only_has, quoted};
-use crate::kind::Form;
-use crate::Kind;
+use crate::diagnosis::forms::Form;
+use crate::diagnosis::words::quoted;
 
 pub(crate) const MOST_LINES: usize = 1_024;
 const MOST_BYTES: usize = 65_536;
@@ -56,28 +55,29 @@ fn definition_alone(definition: &Definition) -> Option<Finding> {
     if let Some(sentence) = form(Form::Name, name) {
         return Some((7, None, sentence));
     }
-    let body = definition.body.as_ref()?;
+    let body = definition.content.body()?;
+    let has_argument = matches!(definition.content, Content::Function(_));
     let levels = levels(body);
     let nodes = body.nodes().iter().zip(levels).enumerate();
     let mut findings = nodes.filter_map(|(at, (node, level))| {
-        let (row, sentence) = node_alone(node, level, definition.kind)?;
+        let (row, sentence) = node_alone(node, level, has_argument)?;
         Some((row, Some(at), sentence))
     });
     findings.next()
 }
 
-fn node_alone(node: &Node, level: usize, owner: Kind) -> Option<(u64, String)> {
-    let wrong_form = match &node.content {
-        Content::Path(path) => form(Form::Path, path),
-        Content::Number(number) => form(Form::Number, &number.to_string()),
-        Content::Nothing => None,
+fn node_alone(node: &Node, level: usize, has_argument: bool) -> Option<(u64, String)> {
+    let wrong_form = match node {
+        Node::Read(path) | Node::Call(path) => form(Form::Path, path),
+        Node::Number(number) => form(Form::Number, &number.to_string()),
+        _ => None,
     };
     if let Some(sentence) = wrong_form {
         return Some((7, sentence));
     }
-    if !owner.may_own(node.kind) {
-        let (kind, only) = (node.kind, only_has(node.kind));
-        return Some((10, format!("the {kind} stands in it; {only}")));
+    if *node == Node::Argument && !has_argument {
+        let sentence = "the argument stands in it; only a function has one";
+        return Some((10, sentence.to_string()));
     }
     let sentence =
         || format!("an expression is at level {level}; at most {MOST_LEVELS} levels are allowed");
@@ -119,6 +119,6 @@ fn title(definitions: &[Definition], at: usize) -> String {
         }
     }
     names.reverse();
-    let kind = definitions[at].kind;
+    let kind = definitions[at].content.kind();
     format!("the {kind} {}", quoted(&names.join(".")))
 }

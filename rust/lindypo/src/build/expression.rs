@@ -7,46 +7,47 @@ use crate::{Kind, Label, Sheet};
 
 /// One line of an expression.
 #[derive(Debug, Clone, PartialEq, Eq, Hash)]
-pub(crate) struct Node {
-    pub kind: Kind,
-    pub content: Content,
-}
-
-/// What a line holds besides its operands.
-#[derive(Debug, Clone, PartialEq, Eq, Hash)]
-pub(crate) enum Content {
-    Nothing,
+pub(crate) enum Node {
     Number(i64),
-    Path(String),
+    Argument,
+    Read(String),
+    Call(String),
+    Sum,
+    Difference,
+    Product,
+    Quotient,
+    Choice,
 }
 
 impl Node {
-    pub fn of(kind: Kind) -> Self {
-        let content = Content::Nothing;
-        Node { kind, content }
-    }
-
-    pub fn number(number: i64) -> Self {
-        Node {
-            kind: Kind::Number,
-            content: Content::Number(number),
+    pub fn kind(&self) -> Kind {
+        match self {
+            Node::Number(_) => Kind::Number,
+            Node::Argument => Kind::Argument,
+            Node::Read(_) => Kind::Read,
+            Node::Call(_) => Kind::Call,
+            Node::Sum => Kind::Sum,
+            Node::Difference => Kind::Difference,
+            Node::Product => Kind::Product,
+            Node::Quotient => Kind::Quotient,
+            Node::Choice => Kind::Choice,
         }
-    }
-
-    pub fn with_path(kind: Kind, path: String) -> Self {
-        let content = Content::Path(path);
-        Node { kind, content }
     }
 
     /// How many operands it has.
     pub fn operands(&self) -> usize {
-        self.kind.parts()
+        match self {
+            Node::Number(_) | Node::Argument | Node::Read(_) => 0,
+            Node::Call(_) => 1,
+            Node::Sum | Node::Difference | Node::Product | Node::Quotient => 2,
+            Node::Choice => 3,
+        }
     }
 
     /// The path of a read or call.
     pub fn path(&self) -> Option<&str> {
-        match &self.content {
-            Content::Path(path) => Some(path),
+        match self {
+            Node::Read(path) | Node::Call(path) => Some(path),
             _ => None,
         }
     }
@@ -55,11 +56,18 @@ impl Node {
     /// no expression.
     fn of_line(sheet: &Sheet, label: Label) -> Option<(Node, [i64; 3])> {
         let line = sheet.line(label)?;
-        let node = match (line.kind, line.name) {
-            (kind, _) if kind.is_definition() => return None,
-            (Kind::Number, _) => Node::number(line.a),
-            (kind, Some(path)) => Node::with_path(kind, path.to_string()),
-            (kind, None) => Node::of(kind),
+        let path = || line.name.unwrap_or_default().to_string();
+        let node = match line.kind {
+            Kind::Group | Kind::Value | Kind::Function => return None,
+            Kind::Number => Node::Number(line.a),
+            Kind::Argument => Node::Argument,
+            Kind::Read => Node::Read(path()),
+            Kind::Call => Node::Call(path()),
+            Kind::Sum => Node::Sum,
+            Kind::Difference => Node::Difference,
+            Kind::Product => Node::Product,
+            Kind::Quotient => Node::Quotient,
+            Kind::Choice => Node::Choice,
         };
         Some((node, [line.a, line.b, line.c]))
     }
@@ -126,39 +134,22 @@ impl Expression {
 
 /// N: a number, from -1,000,000,000 to 1,000,000,000.
 pub fn number(number: i64) -> Expression {
-    Expression::leaf(Node::number(number))
+    Expression::leaf(Node::Number(number))
 }
 
-/// P: the argument of the function, the first of a function of two.
+/// P: the argument of the function.
 pub fn argument() -> Expression {
-    Expression::leaf(Node::of(Kind::Argument))
-}
-
-/// Y: the second argument of a function of two.
-pub fn second_argument() -> Expression {
-    Expression::leaf(Node::of(Kind::SecondArgument))
+    Expression::leaf(Node::Argument)
 }
 
 /// R: reads the value that a path leads to.
 pub fn read(path: impl Into<String>) -> Expression {
-    Expression::leaf(Node::with_path(Kind::Read, path.into()))
+    Expression::leaf(Node::Read(path.into()))
 }
 
 /// C: calls the function that a path leads to.
 pub fn call(path: impl Into<String>, argument: impl Into<Expression>) -> Expression {
-    let node = Node::with_path(Kind::Call, path.into());
-    Expression::over(node, [argument.into()])
-}
-
-/// K: calls the function of two that a path leads to. The first argument is
-/// evaluated before the second.
-pub fn call_of_two(
-    path: impl Into<String>,
-    first: impl Into<Expression>,
-    second: impl Into<Expression>,
-) -> Expression {
-    let node = Node::with_path(Kind::CallOfTwo, path.into());
-    Expression::over(node, [first.into(), second.into()])
+    Expression::over(Node::Call(path.into()), [argument.into()])
 }
 
 /// I: the second where the first is not 0, else the third.
@@ -168,7 +159,7 @@ pub fn choice(
     otherwise: impl Into<Expression>,
 ) -> Expression {
     let operands = [test.into(), then.into(), otherwise.into()];
-    Expression::over(Node::of(Kind::Choice), operands)
+    Expression::over(Node::Choice, operands)
 }
 
 impl From<i64> for Expression {
@@ -179,11 +170,11 @@ impl From<i64> for Expression {
 
 /// A sign between two expressions, or between an expression and a number.
 macro_rules! operation {
-    ($operation:ident, $method:ident, $kind:ident) => {
+    ($operation:ident, $method:ident, $node:ident) => {
         impl<T: Into<Expression>> ops::$operation<T> for Expression {
             type Output = Expression;
             fn $method(self, other: T) -> Expression {
-                Expression::over(Node::of(Kind::$kind), [self, other.into()])
+                Expression::over(Node::$node, [self, other.into()])
             }
         }
 

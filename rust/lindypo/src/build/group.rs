@@ -21,10 +21,32 @@ pub struct Group {
 pub(crate) struct Definition {
     /// How many Groups it stands in, the one that holds the list aside.
     pub depth: usize,
-    pub kind: Kind,
     pub name: String,
-    /// None of a Group.
-    pub body: Option<Expression>,
+    pub content: Content,
+}
+
+#[derive(Debug, Clone, PartialEq, Eq, Hash)]
+pub(crate) enum Content {
+    Group,
+    Value(Expression),
+    Function(Expression),
+}
+
+impl Content {
+    pub fn kind(&self) -> Kind {
+        match self {
+            Content::Group => Kind::Group,
+            Content::Value(_) => Kind::Value,
+            Content::Function(_) => Kind::Function,
+        }
+    }
+
+    pub fn body(&self) -> Option<&Expression> {
+        match self {
+            Content::Group => None,
+            Content::Value(body) | Content::Function(body) => Some(body),
+        }
+    }
 }
 
 impl Group {
@@ -56,41 +78,17 @@ impl Group {
 
     /// Adds a value after the members that are there.
     pub fn value(&mut self, name: impl Into<String>, body: impl Into<Expression>) -> &mut Self {
-        self.add(0, Kind::Value, name.into(), Some(body.into()))
+        self.add(0, name.into(), Content::Value(body.into()))
     }
 
     /// Adds a function of one argument after the members that are there.
     pub fn function(&mut self, name: impl Into<String>, body: impl Into<Expression>) -> &mut Self {
-        self.add(0, Kind::Function, name.into(), Some(body.into()))
-    }
-
-    /// Adds a function of two arguments after the members that are there.
-    ///
-    /// ```
-    /// use lindypo::build::{argument, call_of_two, second_argument, Group};
-    /// use lindypo::{Sheet, State};
-    ///
-    /// let mut outermost = Group::new();
-    /// outermost
-    ///     .function_of_two("prism", argument() * second_argument() / 1000)
-    ///     .value("right", call_of_two("prism", 350, -325));
-    /// let text = outermost.text()?;
-    /// let sheet = Sheet::read(&text)?;
-    /// let right = sheet.run()?.results.of(3).unwrap();
-    /// assert_eq!((right.state, right.steps), (State::Number(-114), 8));
-    /// # Ok::<(), Box<dyn std::error::Error>>(())
-    /// ```
-    pub fn function_of_two(
-        &mut self,
-        name: impl Into<String>,
-        body: impl Into<Expression>,
-    ) -> &mut Self {
-        self.add(0, Kind::FunctionOfTwo, name.into(), Some(body.into()))
+        self.add(0, name.into(), Content::Function(body.into()))
     }
 
     /// Adds a Group after the members that are there. Its tie rule does not count.
     pub fn group(&mut self, name: impl Into<String>, members: Group) -> &mut Self {
-        self.add(0, Kind::Group, name.into(), None);
+        self.add(0, name.into(), Content::Group);
         let deeper = members.definitions.into_iter().map(|mut definition| {
             definition.depth += 1;
             definition
@@ -147,8 +145,7 @@ impl Group {
                 continue;
             };
             let name = line.name.unwrap_or_default().to_string();
-            let body = Expression::of_sheet(sheet, line.b as Label);
-            group.add(entered.len() - 1, line.kind, name, body);
+            group.add(entered.len() - 1, name, content(sheet, &line));
             entered.push(mem::take(&mut members[line.label]));
         }
         group
@@ -162,19 +159,12 @@ impl Group {
         &self.definitions
     }
 
-    pub(crate) fn add(
-        &mut self,
-        depth: usize,
-        kind: Kind,
-        name: String,
-        body: Option<Expression>,
-    ) -> &mut Self {
-        let lines = 1 + body.as_ref().map_or(0, Expression::lines);
+    pub(crate) fn add(&mut self, depth: usize, name: String, content: Content) -> &mut Self {
+        let lines = 1 + content.body().map_or(0, Expression::lines);
         let definition = Definition {
             depth,
-            kind,
             name,
-            body,
+            content,
         };
         self.extend(lines, [definition])
     }
@@ -186,5 +176,13 @@ impl Group {
             self.definitions.clear();
         }
         self
+    }
+}
+
+fn content(sheet: &Sheet, line: &Line) -> Content {
+    match (line.kind, Expression::of_sheet(sheet, line.b as Label)) {
+        (Kind::Value, Some(body)) => Content::Value(body),
+        (Kind::Function, Some(body)) => Content::Function(body),
+        _ => Content::Group,
     }
 }

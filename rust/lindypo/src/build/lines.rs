@@ -1,6 +1,6 @@
 //! Labels for all, and the text.
 
-use super::{Content, Definition, Expression};
+use super::{Content, Definition, Expression, Node};
 use crate::{Kind, Label, Ties};
 
 const OUTERMOST: Label = 1;
@@ -13,20 +13,19 @@ pub fn text(ties: Ties, definitions: &[Definition]) -> Vec<u8> {
     let mut groups = vec![OUTERMOST];
     let mut body = definitions.len() + 2;
     for (label, definition) in (OUTERMOST + 1..).zip(definitions) {
-        groups.truncate(definition.depth + 1);
-        let fields = [groups[definition.depth] as i64, body as i64];
-        let used = 1 + usize::from(definition.body.is_some());
-        line(
-            &mut lines,
-            definition.kind,
-            &definition.name,
-            &fields[..used],
-        );
+        let Definition { depth, name, .. } = definition;
+        groups.truncate(depth + 1);
+        let fields = [groups[*depth] as i64, body as i64];
+        let used = match &definition.content {
+            Content::Group => 1,
+            Content::Value(_) | Content::Function(_) => 2,
+        };
+        line(&mut lines, definition.content.kind(), name, &fields[..used]);
         groups.push(label);
-        body += definition.body.as_ref().map_or(0, |it| it.nodes().len());
+        body += definition.content.body().map_or(0, |it| it.nodes().len());
     }
     let mut first = definitions.len() + 2;
-    for body in definitions.iter().filter_map(|it| it.body.as_ref()) {
+    for body in definitions.iter().filter_map(|it| it.content.body()) {
         expression(&mut lines, body, first);
         first += body.nodes().len();
     }
@@ -38,9 +37,9 @@ fn expression(lines: &mut String, body: &Expression, first: Label) {
     for (node, operands) in body.nodes().iter().zip(operands(body)) {
         let labels: Vec<i64> = operands.iter().map(|&at| (first + at) as i64).collect();
         let name = node.path().unwrap_or(MISSING);
-        match node.content {
-            Content::Number(number) => line(lines, node.kind, name, &[number]),
-            _ => line(lines, node.kind, name, &labels),
+        match node {
+            Node::Number(number) => line(lines, node.kind(), name, &[*number]),
+            _ => line(lines, node.kind(), name, &labels),
         }
     }
 }

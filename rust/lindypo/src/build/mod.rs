@@ -34,11 +34,9 @@ mod lines;
 mod mistake;
 
 pub(crate) use check::MOST_LINES;
-pub use expression::{
-    argument, call, call_of_two, choice, number, read, second_argument, Expression,
-};
-pub(crate) use expression::{Content, Node};
-pub(crate) use group::Definition;
+pub(crate) use expression::Node;
+pub use expression::{argument, call, choice, number, read, Expression};
 pub use group::Group;
+pub(crate) use group::{Content, Definition};
 pub use mistake::Mistake;
 pub(crate) use mistake::Place;

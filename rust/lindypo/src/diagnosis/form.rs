@@ -1,9 +1,8 @@
 //! Refusal 7: the form of a field.
 
-use super::forms;
+use super::forms::{self, Form};
 use super::rows::{Rows, A, FIELDS, KIND};
 use super::{named, numbers, rewrite, words, Finding};
-use crate::kind::Form;
 use crate::{names, Kind, Label};
 
 /// What label 1 has to be.
@@ -42,7 +41,7 @@ pub fn form(rows: &Rows, label: Label, at: usize) -> Finding {
     if label == 1 {
         return outermost(rows, kind, at);
     }
-    let form = kind.forms()[at - 1];
+    let form = Form::wanted(kind)[at - 1];
     let (field, wanted) = (FIELDS[at], form.words(rows.count()));
     let (written, of_kind) = (words::quoted(rows.field(label, at)), words::of_kind(kind));
     let sentence = format!("field {field} of {of_kind} is {written}; it has to be {wanted}");
@@ -51,7 +50,7 @@ pub fn form(rows: &Rows, label: Label, at: usize) -> Finding {
     let help = match form {
         _ if field == "-" => None,
         Form::Number => numbers::instead(field),
-        Form::Group | Form::Part(_) => label_instead(rows, label, at),
+        Form::Label => label_instead(rows, label, at),
         Form::Name => name_instead(rows, field),
         Form::Path => path_instead(field),
         Form::Missing => None,
@@ -66,12 +65,7 @@ fn line_instead(rows: &Rows, label: Label, kind: Kind) -> String {
     if let Some(line) = rewrite::line(&fields.join(" "), rows.count()) {
         return format!("write `{line}`");
     }
-    let mut others = rewrite::other_kinds(fields, rows.count());
-    // of a definition another one is meant, of a line with a path another with one
-    let is_alike = |other: &Kind| other.forms()[0] == kind.forms()[0];
-    if others.iter().any(is_alike) {
-        others.retain(is_alike);
-    }
+    let others = rewrite::other_kinds(fields, rows.count());
     let others: Vec<String> = others.into_iter().map(words::of_kind).collect();
     let template = words::template(kind);
     match &others[..] {

@@ -1,6 +1,5 @@
-//! The forms of a field: what fits them, and their words.
+//! The forms of a field, and which form each kind wants.
 
-use crate::kind::Form;
 use crate::Kind;
 
 /// The most letters of a name, and the most names of a path.
@@ -10,10 +9,34 @@ pub const PATH_NAMES: usize = 8;
 /// The largest number; the smallest is as far below zero.
 pub const NUMBER: i64 = 1_000_000_000;
 
+#[derive(Clone, Copy, PartialEq, Eq)]
+pub enum Form {
+    Missing,
+    Name,
+    Path,
+    Label,
+    Number,
+}
+
 impl Form {
+    /// The forms of name, a, b and c.
+    pub fn wanted(kind: Kind) -> [Form; 4] {
+        use Form::{Label, Missing, Name, Number, Path};
+        match kind {
+            Kind::Group => [Name, Label, Missing, Missing],
+            Kind::Value | Kind::Function => [Name, Label, Label, Missing],
+            Kind::Number => [Missing, Number, Missing, Missing],
+            Kind::Argument => [Missing; 4],
+            Kind::Read => [Path, Missing, Missing, Missing],
+            Kind::Call => [Path, Label, Missing, Missing],
+            Kind::Choice => [Missing, Label, Label, Label],
+            _ => [Missing, Label, Label, Missing],
+        }
+    }
+
     /// The fields of a line that have not the form that its kind wants.
     pub fn misfits(kind: Kind, fields: &[&str], count: usize) -> Vec<usize> {
-        let wanted = kind.forms();
+        let wanted = Form::wanted(kind);
         let is_wrong = |&at: &usize| !wanted[at - 1].fits(fields[at], count);
         (1..=wanted.len()).filter(is_wrong).collect()
     }
@@ -24,7 +47,7 @@ impl Form {
             Form::Missing => field == "-",
             Form::Name => is_name(field),
             Form::Path => is_path(field),
-            Form::Group | Form::Part(_) => is_written(field, 1, count as i64),
+            Form::Label => is_written(field, 1, count as i64),
             Form::Number => is_written(field, -NUMBER, NUMBER),
         }
     }
@@ -37,9 +60,7 @@ impl Form {
             Form::Path => "a path: 1 to 8 names joined by dots, \
                            each of 1 to 16 letters or digits, a letter first"
                 .to_string(),
-            Form::Group | Form::Part(_) => {
-                format!("a label: 1 to {count}, with no leading zero")
-            }
+            Form::Label => format!("a label: 1 to {count}, with no leading zero"),
             Form::Number => "a whole number: -1000000000 to 1000000000, \
                              with no leading zero, plus sign or `-0`"
                 .to_string(),

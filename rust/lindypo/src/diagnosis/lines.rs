@@ -5,7 +5,7 @@ use super::{rewrite, words, Finding};
 use crate::{Kind, Label, Mark};
 
 /// How people write a kind in words or signs.
-const SIGNS: [(&str, Kind); 22] = [
+const SIGNS: [(&str, Kind); 15] = [
     ("+", Kind::Sum),
     ("add", Kind::Sum),
     ("plus", Kind::Sum),
@@ -21,13 +21,6 @@ const SIGNS: [(&str, Kind); 22] = [
     ("if", Kind::Choice),
     ("const", Kind::Number),
     ("arg", Kind::Argument),
-    ("f2", Kind::FunctionOfTwo),
-    ("function2", Kind::FunctionOfTwo),
-    ("c2", Kind::CallOfTwo),
-    ("call2", Kind::CallOfTwo),
-    ("p2", Kind::SecondArgument),
-    ("arg2", Kind::SecondArgument),
-    ("argument2", Kind::SecondArgument),
 ];
 
 /// A line that is to be left out: it is empty, a comment, or the column names
@@ -132,8 +125,7 @@ fn alike(found: Finding, rows: &Rows, label: Label) -> Finding {
 pub fn kind(rows: &Rows, label: Label) -> Finding {
     let word = rows.field(label, KIND);
     let quoted = words::quoted(word);
-    let letters = Kind::ALL.map(|kind| kind.letter().to_string()).join(" ");
-    let sentence = format!("{quoted} is no kind; the kinds are {letters}");
+    let sentence = format!("{quoted} is no kind; the kinds are G V F N P R C A S M D I");
     let found = Finding::at(rows.mark(label, KIND), sentence);
     if is_no_line(rows, label) {
         return left_out(found, rows, label);

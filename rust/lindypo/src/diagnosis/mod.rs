@@ -6,7 +6,6 @@
 //! in the paper's table found nothing that it rests on.
 
 pub(crate) mod bytes;
-pub(crate) mod counts;
 pub(crate) mod files;
 mod finding;
 pub(crate) mod form;

@@ -1,6 +1,5 @@
 //! Refusals 12 to 15: names and paths, and what was meant.
 
-use super::counts::Miscount;
 use super::near;
 use super::paths::{mark_name, names, outward, path_to, start, target_of, walk, wanted, Walk};
 use super::rows::{Rows, A, NAME};
@@ -73,33 +72,19 @@ pub fn member(rows: &Rows, label: Label) -> Finding {
 pub fn wrong_target(rows: &Rows, label: Label) -> Finding {
     let (start, path) = (start(rows, label), rows.name(label));
     let found = target_of(rows, start, path).unwrap_or(0);
-    let (title, miscount) = (rows.title(found), Miscount::of(rows, label));
-    let sentence = match &miscount {
-        Some(miscount) => miscount.by_letter(),
-        None => {
-            let line = rows.kind(label).map_or(String::new(), words::of_kind);
-            let end = wanted(rows, label).with_article();
-            format!("{line} has to lead to {end}; `{path}` leads to {title}")
-        }
+    let title = rows.title(found);
+    let must = match wanted(rows, label) {
+        Kind::Value => "a read (R) has to lead to a value",
+        _ => "a call (C) has to lead to a function",
     };
+    let sentence = format!("{must}; `{path}` leads to {title}");
     let finding = Finding::at(rows.mark(label, NAME), sentence)
         .see(rows.mark(found, NAME), format!("{title} is here"));
-    let mention = rows.kind(found).and_then(Kind::mentioning);
-    hidden(finding, rows, label).help(match (miscount, mention) {
-        (Some(miscount), _) => miscount.line(rows, label),
-        (None, Some(mention)) => {
-            let line = words::with_path(mention, path);
-            format!("{} it: {line}", verb(mention))
-        }
-        (None, None) => members_of_kind(rows, found, wanted(rows, label), path),
+    hidden(finding, rows, label).may_help(match rows.kind(found) {
+        Some(Kind::Function) => Some(format!("call it: `C {path} ARGUMENT - -`")),
+        Some(Kind::Value) => Some(format!("read it: `R {path} - - -`")),
+        _ => Some(members_of_kind(rows, found, wanted(rows, label), path)),
     })
-}
-
-fn verb(mention: Kind) -> &'static str {
-    match mention.is_call() {
-        true => "call",
-        false => "read",
-    }
 }
 
 /// What of a kind a Group has, to be written after its path.
@@ -121,12 +106,16 @@ fn members_of_kind(rows: &Rows, group: Label, kind: Kind, path: &str) -> String 
 
 /// How to use a value or function where the label of an expression is wanted.
 pub fn by_label(rows: &Rows, definition: Label, path: &str) -> Option<String> {
-    let mention = Kind::mentioning(rows.kind(definition)?)?;
-    let (verb, title) = (verb(mention), rows.title(definition));
-    let line = words::with_path(mention, path);
-    Some(format!(
-        "to {verb} {title}, write the label of a line {line}"
-    ))
+    let title = rows.title(definition);
+    match rows.kind(definition)? {
+        Kind::Value => Some(format!(
+            "to read {title}, write the label of a line `R {path} - - -`"
+        )),
+        Kind::Function => Some(format!(
+            "to call {title}, write the label of a line `C {path} ARGUMENT - -`"
+        )),
+        _ => None,
+    }
 }
 
 /// With the question whether a definition is meant, by a path that leads to it.

@@ -11,7 +11,7 @@ use crate::{Kind, Label};
 /// The most values that a sentence names.
 const VALUES: usize = 8;
 
-/// A mention: the R, C or K line, and the definition that it leads to.
+/// A mention: the R or C line, and the definition that it leads to.
 #[derive(Clone, Copy)]
 pub struct Mention {
     pub line: Label,
@@ -24,8 +24,8 @@ pub type Mentions = Vec<Vec<Mention>>;
 /// All mentions of lines whose paths lead to what they have to.
 pub fn mentions(rows: &Rows) -> Mentions {
     let mut mentions: Mentions = vec![vec![]; rows.count() + 1];
-    let has_path = |&label: &Label| paths::has_path(rows, label);
-    for line in rows.labels().filter(has_path) {
+    let is_path = |&label: &Label| matches!(rows.kind(label), Some(Kind::Read | Kind::Call));
+    for line in rows.labels().filter(is_path) {
         if let Some(target) = paths::target(rows, line) {
             mentions[rows.owner(line)].push(Mention { line, target });
         }
@@ -123,13 +123,13 @@ fn way_named(rows: &Rows, from: Label, way: &[Mention]) -> String {
     words::way(&names)
 }
 
-/// Every step of a way, with its R, C or K line.
+/// Every step of a way, with its R or C line.
 fn steps(found: Finding, rows: &Rows, from: Label, way: &[Mention]) -> Finding {
     let sources = std::iter::once(from).chain(way.iter().map(|mention| mention.target));
     sources.zip(way).fold(found, |found, (source, mention)| {
-        let verb = match rows.kind(mention.line).is_some_and(Kind::is_call) {
-            true => "calls",
-            false => "reads",
+        let verb = match rows.kind(mention.line) {
+            Some(Kind::Read) => "reads",
+            _ => "calls",
         };
         let [source, target] = [source, mention.target].map(|label| rows.shown_name(label));
         let mark = rows.mark(mention.line, NAME);

@@ -38,7 +38,7 @@ pub fn label(rows: &Rows, label: Label) -> Finding {
         });
     };
     match kind {
-        kind if kind.has_body() => definition(rows, label),
+        Kind::Value | Kind::Function => definition(rows, label),
         Kind::Group => {
             let title = rows.title(label);
             let sentence = format!("{title} is not a number");
@@ -113,8 +113,8 @@ fn outward<'a>(rows: &'a Rows, label: Label) -> impl Iterator<Item = Label> + 'a
     rows.outward(label).chain(groups)
 }
 
-/// The definitions that a Group, a definition or an expression reaches, by the R,
-/// C and K lines in it.
+/// The definitions that a Group, a definition or an expression reaches, by the R
+/// and C lines in it.
 fn reached(rows: &Rows, label: Label) -> BTreeSet<Label> {
     let mentions = order::mentions(rows);
     let is_in = |line: Label| line == label || outward(rows, line).any(|at| at == label);

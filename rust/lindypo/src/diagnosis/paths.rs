@@ -45,15 +45,12 @@ pub fn walk(rows: &Rows, group: Label, names: &[&str]) -> Walk {
     Walk { found, used }
 }
 
-/// Whether a line has a path.
-pub fn has_path(rows: &Rows, label: Label) -> bool {
-    rows.kind(label).and_then(Kind::target).is_some()
-}
-
-/// What the path of a line has to lead to.
+/// What a path has to lead to: a value for a read, a function for a call.
 pub fn wanted(rows: &Rows, label: Label) -> Kind {
-    let target = rows.kind(label).and_then(Kind::target);
-    target.unwrap_or(Kind::Value)
+    match rows.kind(label) {
+        Some(Kind::Read) => Kind::Value,
+        _ => Kind::Function,
+    }
 }
 
 /// What a path leads to from a Group, all its names used up.
@@ -63,7 +60,7 @@ pub fn target_of(rows: &Rows, group: Label, path: &str) -> Option<Label> {
     (used == names.len()).then_some(found)
 }
 
-/// The target of a path, where that is what it has to lead to.
+/// The target of an R or C, where its path leads to what it has to.
 pub fn target(rows: &Rows, label: Label) -> Option<Label> {
     let found = target_of(rows, start(rows, label), rows.name(label))?;
     (rows.kind(found) == Some(wanted(rows, label))).then_some(found)

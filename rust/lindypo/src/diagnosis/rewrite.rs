@@ -1,8 +1,8 @@
 //! A line as it may have been meant.
 
-use super::rows::FIELDS;
+use super::forms::Form;
+use super::rows::{FIELDS, NAME};
 use super::words;
-use crate::kind::Form;
 use crate::Kind;
 
 /// What stands between fields in tables of other sorts.
@@ -41,7 +41,7 @@ fn placed(kind: Kind, words: &[&str], count: usize) -> Option<String> {
         .copied()
         .filter(|word| !word.trim_matches('-').is_empty());
     let mut fields = vec![kind.letter().to_string()];
-    for form in kind.forms() {
+    for form in Form::wanted(kind) {
         let field = match form {
             Form::Missing => "-",
             _ => given.next()?,
@@ -59,7 +59,7 @@ fn placed(kind: Kind, words: &[&str], count: usize) -> Option<String> {
 pub fn name_in_two(line: &str) -> Option<String> {
     let words = words_of(line);
     let kind = Kind::of_field(words.first()?)?;
-    let has_name = kind.is_definition();
+    let has_name = Form::wanted(kind)[NAME - 1] == Form::Name;
     let [first, second] = [words.get(1)?, words.get(2)?];
     let is_word = |word: &str| word.starts_with(|letter: char| letter.is_ascii_alphabetic());
     let joined = format!("{first}{second}");

@@ -1,7 +1,6 @@
 //! The lines of a text as their fields, before there is a table.
 
 use super::words;
-use crate::kind::Form;
 use crate::{same_name, Kind, Label, Mark};
 
 /// The fields of a line.
@@ -84,10 +83,9 @@ impl<'text> Rows<'text> {
     /// Takes out a line of which nothing is known: it has no kind, uses nobody
     /// and is no member.
     pub fn unform(&mut self, label: Label) {
-        for field in self.part_fields(label) {
+        for field in self.part_fields(label).chain([A]) {
             self.unlink(label, field);
         }
-        self.unlink(label, A);
         self.lines[label - 1].kind = None;
         self.is_whole = false;
     }
@@ -150,11 +148,14 @@ impl<'text> Rows<'text> {
     }
 
     /// The fields of a line that name a body or an operand.
-    pub fn part_fields(&self, label: Label) -> Vec<usize> {
-        let forms = self.kind(label).map_or([Form::Missing; 4], Kind::forms);
-        let fields = (NAME..).zip(forms);
-        let parts = fields.filter(|(_, form)| matches!(form, Form::Part(_)));
-        parts.map(|(field, _)| field).collect()
+    pub fn part_fields(&self, label: Label) -> std::ops::Range<usize> {
+        match self.kind(label) {
+            Some(Kind::Value | Kind::Function) => B..B + 1,
+            Some(Kind::Call) => A..A + 1,
+            Some(Kind::Sum | Kind::Difference | Kind::Product | Kind::Quotient) => A..A + 2,
+            Some(Kind::Choice) => A..A + 3,
+            _ => A..A,
+        }
     }
 
     /// The fields that name an expression as body or operand, upward through

@@ -104,7 +104,7 @@ fn mended(rows: &Rows, label: Label, field: usize) -> Option<String> {
         Kind::Group if is_group => "a Group stands above its members: move its line up".to_string(),
         _ if is_group => "write the label of a Group; the outermost Group is `1`".to_string(),
         Kind::Group => "a Group has no number: read a value of it".to_string(),
-        kind if kind.has_body() => {
+        Kind::Value | Kind::Function => {
             return named::by_label(rows, part, &path_here(rows, label, part));
         }
         _ => "an expression stands below the line that uses it: move its line down".to_string(),
@@ -194,40 +194,11 @@ fn users_named(uses: &[Use]) -> String {
 /// Refusal 10.
 pub fn argument(rows: &Rows, label: Label) -> Finding {
     let owner = rows.owner(label);
-    let kind = rows.kind(label).unwrap_or(Kind::Argument);
-    let owner_kind = rows.kind(owner).unwrap_or(Kind::Value);
     let title = rows.title(owner);
-    let sentence = match owner_kind.takes() {
-        0 => {
-            let (stands, only) = (words::of_kind(kind), words::only_has(kind));
-            format!("{stands} stands in {title}; {only}")
-        }
-        count => {
-            let (takes, letter) = (words::numbers(count), kind.letter());
-            format!("{title} takes {takes}, so it has no {kind} ({letter})")
-        }
-    };
+    let sentence = format!("an argument (P) stands in {title}; only a function has one");
     Finding::at(rows.mark_line(label), sentence)
         .see(rows.mark(owner, NAME), format!("{title} is here"))
-        .help(argument_instead(kind, owner_kind))
-}
-
-/// What to put in the place of an argument, or to make of its owner.
-fn argument_instead(argument: Kind, owner: Kind) -> String {
-    let own = Kind::argument(owner.takes());
-    let own = own.map_or(String::new(), |own| {
-        format!("its {own} ({}), ", own.letter())
-    });
-    let function = argument.place().and_then(Kind::taking);
-    let function = function.unwrap_or(Kind::Function);
-    let call = Kind::mentioning(function).filter(|_| owner.is_function());
-    let call = call.map_or(String::new(), |call| {
-        format!(", called by {}", call.letter())
-    });
-    format!(
-        "put {own}a number (N) or a read (R) in its place, or make the {owner} {}{call}",
-        words::of_kind(function)
-    )
+        .help("put a number (N) or a read (R) in its place, or make the value a function (F)")
 }
 
 /// Refusal 11.

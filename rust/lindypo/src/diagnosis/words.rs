@@ -2,7 +2,6 @@
 
 use std::fmt::Display;
 
-use crate::kind::Form;
 use crate::names::lowercase;
 use crate::{Kind, Ties};
 
@@ -38,47 +37,26 @@ pub fn shortened(name: &str) -> String {
 
 /// A kind in words, with its letter: "a value (V)".
 pub fn of_kind(kind: Kind) -> String {
-    format!("{} ({})", kind.with_article(), kind.letter())
+    let article = match kind {
+        Kind::Argument => "an",
+        _ => "a",
+    };
+    format!("{article} {kind} ({})", kind.letter())
 }
 
 /// How a line of a kind is written; capitals stand for what is put there.
 pub fn template(kind: Kind) -> String {
-    with_path(kind, "PATH")
-}
-
-/// How a line of a kind is written with this path.
-pub fn with_path(kind: Kind, path: &str) -> String {
-    let fields = kind.forms().map(|form| match form {
-        Form::Missing => "-",
-        Form::Name => "NAME",
-        Form::Path => path,
-        Form::Group => "GROUP",
-        Form::Part(word) => word,
-        Form::Number => "NUMBER",
-    });
-    format!("`{} {}`", kind.letter(), fields.join(" "))
-}
-
-/// Which definition has what an argument stands for: "only a function has one".
-pub fn only_has(argument: Kind) -> String {
-    let function = argument.place().and_then(Kind::taking);
-    let function = function.map_or(String::new(), Kind::with_article);
-    format!("only {function} has one")
-}
-
-/// A small number in words.
-pub fn number(count: usize) -> String {
-    match count {
-        1 => "one".to_string(),
-        2 => "two".to_string(),
-        _ => count.to_string(),
-    }
-}
-
-/// "one number", "two numbers".
-pub fn numbers(count: usize) -> String {
-    let end = if count == 1 { "" } else { "s" };
-    format!("{} number{end}", number(count))
+    let fields = match kind {
+        Kind::Group => "NAME GROUP - -",
+        Kind::Value | Kind::Function => "NAME GROUP BODY -",
+        Kind::Number => "- NUMBER - -",
+        Kind::Argument => "- - - -",
+        Kind::Read => "PATH - - -",
+        Kind::Call => "PATH ARGUMENT - -",
+        Kind::Choice => "- TEST THEN ELSE",
+        _ => "- LEFT RIGHT -",
+    };
+    format!("`{} {fields}`", kind.letter())
 }
 
 /// "2, 3, 4".

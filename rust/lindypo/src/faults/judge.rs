@@ -7,7 +7,7 @@ use super::ways;
 use crate::diagnosis::rows::{Rows, Use, A, FIELDS};
 use crate::diagnosis::{bytes, form, lines, named, rows, tree, Finding};
 use crate::names::lowercase;
-use crate::{Label, Refusal};
+use crate::{Kind, Label, Refusal};
 
 /// What is known of a sheet. A line that refusals 1 and 5 to 7 are about is
 /// taken out of the rows, so that whatever rests on it is not judged.
@@ -160,12 +160,12 @@ impl<'text> Judge<'text> {
     /// Refusals 10 and 11. What stands in an expression that is too deep is too
     /// deep because of that.
     fn judge_tree(&mut self) {
-        let is_wrong = |&label: &Label| {
-            let owner = self.owners[label].and_then(|owner| self.rows.kind(owner));
-            let kinds = owner.zip(self.rows.kind(label));
-            kinds.is_some_and(|(owner, kind)| !owner.may_own(kind))
+        let is_value = |owner: Option<Label>| {
+            owner.is_some_and(|owner| self.rows.kind(owner) == Some(Kind::Value))
         };
-        let wrong: Vec<Label> = self.rows.labels().filter(is_wrong).collect();
+        let is_argument = |&label: &Label| self.rows.kind(label) == Some(Kind::Argument);
+        let arguments = self.rows.labels().filter(is_argument);
+        let wrong: Vec<Label> = arguments.filter(|&at| is_value(self.owners[at])).collect();
         for label in wrong {
             self.find(10, label, tree::argument(&self.rows, label));
         }

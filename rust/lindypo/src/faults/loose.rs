@@ -1,8 +1,7 @@
 //! What a line may be that has a fault in itself.
 
-use crate::diagnosis::forms;
+use crate::diagnosis::forms::{self, Form};
 use crate::diagnosis::rows::{Rows, FIELDS, KIND, NAME};
-use crate::kind::Form;
 use crate::{same_name, Kind, Label};
 
 /// The kind that a line has by its letter, be it small.
@@ -10,15 +9,18 @@ fn kind(rows: &Rows, label: Label) -> Option<Kind> {
     Kind::of_field(&rows.field(label, KIND).to_ascii_uppercase())
 }
 
-/// Whether it may use an expression: one of a kind without body and operands whose
+/// Whether it may use an expression: a Group, number, argument or read whose
 /// other fields are missing does not.
 pub fn may_use(rows: &Rows, label: Label) -> bool {
     let fields = rows.fields(label);
     let is_leaf = |kind: Kind| {
-        let forms = kind.forms();
+        let forms = Form::wanted(kind);
         let is_missing = |at: usize| forms[at - 1] != Form::Missing || fields[at] == "-";
-        let is_whole = fields.len() == FIELDS.len();
-        is_whole && kind.parts() == 0 && (NAME..FIELDS.len()).all(is_missing)
+        let is_kind = matches!(
+            kind,
+            Kind::Group | Kind::Number | Kind::Argument | Kind::Read
+        );
+        is_kind && fields.len() == FIELDS.len() && (NAME..FIELDS.len()).all(is_missing)
     };
     !kind(rows, label).is_some_and(is_leaf)
 }

@@ -28,8 +28,8 @@ impl End {
 }
 
 pub fn judge(judge: &mut Judge) {
-    let has_path = |&label: &Label| paths::has_path(&judge.rows, label);
-    let lines = judge.rows.labels().filter(has_path);
+    let is_path = |&label: &Label| matches!(judge.rows.kind(label), Some(Kind::Read | Kind::Call));
+    let lines = judge.rows.labels().filter(is_path);
     let ends: Vec<(Label, End)> = lines.filter_map(|at| Some((at, end(judge, at)?))).collect();
     for number in 13..=15 {
         for &(label, _) in ends.iter().filter(|(_, end)| end.number() == number) {
@@ -66,8 +66,8 @@ fn judge_cycles(judge: &mut Judge, ends: &[(Label, End)]) {
     }
 }
 
-/// What becomes of the path of a line; `None` where that rests on what is not
-/// known.
+/// What becomes of the path of an R or C; `None` where that rests on what is
+/// not known.
 fn end(judge: &Judge, label: Label) -> Option<End> {
     let owner = judge.owners[label].filter(|&owner| judge.is_placed(owner))?;
     let names = paths::names(&judge.rows, label);

@@ -6,9 +6,9 @@ use super::signs::{self, Strength};
 use super::tokens::{Names, Token, Tokens, BETWEEN_MARKS};
 use super::Mistake;
 use crate::build::{Node, MOST_LINES};
+use crate::diagnosis::forms::Form;
 use crate::diagnosis::words::quoted;
-use crate::kind::{Form, MOST_ARGUMENTS};
-use crate::{same_name, Kind, Mark};
+use crate::{same_name, Mark};
 
 /// An expression and where each of its nodes stands in the text; nodes as in
 /// `build::Expression`.
@@ -17,13 +17,12 @@ pub type Part = Vec<(Node, Mark)>;
 /// What waits for operands or for its end.
 enum Open {
     Parenthesis(Mark),
-    /// The path, and how many arguments there are with the one that is being read.
-    Call(String, usize, Mark),
+    Call(String, Mark),
     /// The choice of this `if`, which its test, then its branches follow.
     Test(Mark),
     Then(Mark),
     Else(Mark),
-    Sign(Kind, Strength, Mark),
+    Sign(Node, Strength, Mark),
 }
 
 impl Open {
@@ -44,12 +43,8 @@ impl Open {
             Open::Parenthesis(mark) => {
                 format!("`)` is missing: the `(` {} is not closed", place(mark))
             }
-            Open::Call(_, count, mark) => {
-                let missing = after_argument(*count);
-                format!(
-                    "{missing} is missing: the call {} is not closed",
-                    place(mark)
-                )
+            Open::Call(_, mark) => {
+                format!("`)` is missing: the call {} is not closed", place(mark))
             }
             Open::Else(_) | Open::Sign(..) => "an operand is missing".to_string(),
         }
@@ -60,22 +55,11 @@ fn place(mark: &Mark) -> String {
     format!("at line {}, column {}", mark.line, mark.column)
 }
 
-/// What may stand after so many arguments, of a function and of a call.
-pub fn after_argument(count: usize) -> &'static str {
-    match count < MOST_ARGUMENTS {
-        true => "`,` or `)`",
-        false => "`)`",
-    }
-}
-
-/// What is wrong where one more follows than a function takes.
-pub const TOO_MANY: &str = "a function takes one number or two, and no third";
-
 /// A formula as far as it has been read.
 pub struct Formula<'parser, 'text> {
     tokens: &'parser mut Tokens<'text>,
-    /// What the arguments are called, in a function.
-    arguments: &'parser [&'text str],
+    /// What the argument is called, in a function.
+    argument: Option<&'text str>,
     /// How many more lines the sheet may have.
     left: &'parser mut usize,
     operands: Vec<Part>,
@@ -85,12 +69,12 @@ pub struct Formula<'parser, 'text> {
 impl<'parser, 'text> Formula<'parser, 'text> {
     pub fn new(
         tokens: &'parser mut Tokens<'text>,
-        arguments: &'parser [&'text str],
+        argument: Option<&'text str>,
         left: &'parser mut usize,
     ) -> Self {
         Formula {
             tokens,
-            arguments,
+            argument,
             left,
             operands: vec![],
             open: vec![],
@@ -115,7 +99,7 @@ impl<'parser, 'text> Formula<'parser, 'text> {
                 Token::Word(Word::If) if !self.is_after_sign() => self.open.push(Open::Test(mark)),
                 Token::Names(names) if self.tokens.take_symbol('(')? => {
                     self.names_no_argument(&names, mark)?;
-                    self.open.push(Open::Call(names.path(), 1, mark));
+                    self.open.push(Open::Call(names.path(), mark));
                 }
                 Token::Names(names) => return self.read_or_argument(&names, mark),
                 Token::Digits(digits) => return self.number(digits, mark),
@@ -139,14 +123,13 @@ impl<'parser, 'text> Formula<'parser, 'text> {
                     self.branch(word, mark)?;
                     return Ok(true);
                 }
-                Token::Symbol(',') => return self.comma(mark),
                 Token::Symbol(symbol) => {
-                    let Some((kind, strength)) = signs::of_char(symbol) else {
+                    let Some((node, strength)) = signs::of_char(symbol) else {
                         return self.end(mark);
                     };
                     self.tokens.take()?;
                     self.settle(strength)?;
-                    self.open.push(Open::Sign(kind, strength, mark));
+                    self.open.push(Open::Sign(node, strength, mark));
                     return Ok(true);
                 }
                 _ => return self.end(mark),
@@ -160,27 +143,10 @@ impl<'parser, 'text> Formula<'parser, 'text> {
         self.settle(Strength::Choice)?;
         match self.open.pop() {
             Some(Open::Parenthesis(_)) => Ok(()),
-            Some(Open::Call(path, count, mark)) => {
-                let call = Kind::taking(count).and_then(Kind::mentioning);
-                let node = Node::with_path(call.unwrap_or(Kind::Call), path);
-                self.put(node, mark)
-            }
+            Some(Open::Call(path, mark)) => self.put(Node::Call(path), mark),
             Some(open) => Err(Mistake::at(mark, open.missing())),
             None => Err(Mistake::at(mark, "this `)` closes nothing")),
         }
-    }
-
-    /// A `,`: another argument has to follow. Where no call is open, the formula
-    /// ends before it.
-    fn comma(&mut self, mark: Mark) -> Result<bool, Mistake> {
-        self.settle(Strength::Choice)?;
-        match self.open.last_mut() {
-            Some(Open::Call(_, count, _)) if *count < MOST_ARGUMENTS => *count += 1,
-            Some(Open::Call(..)) => return Err(Mistake::at(mark, TOO_MANY)),
-            _ => return self.end(mark),
-        }
-        self.tokens.take()?;
-        Ok(true)
     }
 
     /// A `then` or `else`.
@@ -214,8 +180,8 @@ impl<'parser, 'text> Formula<'parser, 'text> {
         let is_whole = |open: &mut Open| open.strength() >= Some(least);
         while let Some(open) = self.open.pop_if(is_whole) {
             match open {
-                Open::Sign(kind, _, mark) => self.put(Node::of(kind), mark)?,
-                Open::Else(mark) => self.put(Node::of(Kind::Choice), mark)?,
+                Open::Sign(node, _, mark) => self.put(node, mark)?,
+                Open::Else(mark) => self.put(Node::Choice, mark)?,
                 _ => {}
             }
         }
@@ -234,35 +200,31 @@ impl<'parser, 'text> Formula<'parser, 'text> {
     }
 
     fn read_or_argument(&mut self, names: &Names, mark: Mark) -> Result<(), Mistake> {
-        let argument = self.argument_named(names).and_then(Kind::argument);
-        if let (Some(argument), [_]) = (argument, &names.names[..]) {
-            return self.put(Node::of(argument), mark);
+        if self.argument_named(names).is_some() && names.names.len() == 1 {
+            return self.put(Node::Argument, mark);
         }
         self.names_no_argument(names, mark)?;
-        self.put(Node::with_path(Kind::Read, names.path()), mark)
+        self.put(Node::Read(names.path()), mark)
     }
 
-    /// The place of the argument, from 1, whose name the first one is.
-    fn argument_named(&self, names: &Names) -> Option<usize> {
+    /// The argument, where the first name is its own.
+    fn argument_named(&self, names: &Names) -> Option<&'text str> {
         let is_meant = |argument: &&str| !names.is_marked && same_name(argument, names.names[0]);
-        let found = self.arguments.iter().position(is_meant);
-        found.map(|at| at + 1)
+        self.argument.filter(is_meant)
     }
 
-    /// A path whose first name is an argument's would be taken for it.
+    /// A path whose first name is the argument's would be taken for it.
     fn names_no_argument(&self, names: &Names, mark: Mark) -> Result<(), Mistake> {
-        let Some(place) = self.argument_named(names) else {
-            return Ok(());
-        };
-        let (argument, marked) = (self.arguments[place - 1], names::marked(names.names[0]));
-        let article = if self.arguments.len() == 1 {
-            "the"
-        } else {
-            "an"
-        };
-        let sentence =
-            format!("`{argument}` is {article} argument here, a number; {BETWEEN_MARKS}: {marked}");
-        Err(Mistake::at(mark, sentence))
+        match self.argument_named(names) {
+            Some(argument) => {
+                let marked = names::marked(names.names[0]);
+                let sentence = format!(
+                    "`{argument}` is the argument here, a number; {BETWEEN_MARKS}: {marked}"
+                );
+                Err(Mistake::at(mark, sentence))
+            }
+            None => Ok(()),
+        }
     }
 
     /// A minus sign where an operand has to stand: a number's.
@@ -286,7 +248,7 @@ impl<'parser, 'text> Formula<'parser, 'text> {
     fn number(&mut self, digits: &str, mark: Mark) -> Result<(), Mistake> {
         let is_number = Form::Number.fits(digits, 0);
         match digits.parse().ok().filter(|_| is_number) {
-            Some(number) => self.put(Node::number(number), mark),
+            Some(number) => self.put(Node::Number(number), mark),
             None => {
                 let (digits, form) = (quoted(digits), Form::Number.words(0));
                 Err(Mistake::at(mark, format!("{digits} is not {form}")))

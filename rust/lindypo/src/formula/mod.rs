@@ -17,9 +17,8 @@ pub use mistake::Mistake;
 /// The formula of a value or function, or of an expression by itself; `None`
 /// where the label is a Group's or no line's.
 ///
-/// The argument of a function is `x`, those of a function of two are `x` and `y`;
-/// a name that would hide one which the function reads or calls is left out, and
-/// the next taken: `z`, `x1`, `x2` and so on.
+/// The argument of a function is `x`, or `y` and so on where `x` would hide a
+/// name that the function reads or calls.
 ///
 /// ```
 /// use lindypo::{formula, Sheet};
@@ -35,13 +34,13 @@ pub use mistake::Mistake;
 /// ```
 pub fn of(sheet: &Sheet, label: Label) -> Option<String> {
     let (definition, at) = owned(sheet, label)?;
-    let arguments = arguments(sheet, definition);
+    let argument = argument(sheet, definition).unwrap_or_default();
     let expression = Expression::of_sheet(sheet, at)?;
-    Some(print::formula(&expression, &arguments))
+    Some(print::formula(&expression, &argument))
 }
 
-/// What [`of`] calls the arguments of a function, in their sequence; none where the
-/// label is no function's.
+/// What [`of`] calls the argument of a function; `None` where the label is no
+/// function's.
 ///
 /// ```
 /// use lindypo::{formula, Sheet};
@@ -50,42 +49,22 @@ pub fn of(sheet: &Sheet, label: Label) -> Option<String> {
 ///     b"kind name a b c\nG - 0 - -\nV x 1 3 -\nN - 5 - -\n\
 ///       F add 1 5 -\nA - 6 7 -\nP - - - -\nR x - - -\n",
 /// )?;
-/// assert_eq!(formula::arguments(&sheet, 4), ["y"]);
+/// assert_eq!(formula::argument(&sheet, 4).as_deref(), Some("y"));
 /// assert_eq!(formula::of(&sheet, 4).as_deref(), Some("y + x"));
-///
-/// let text = formula::write(b"prism(power, dec) = power * dec / 1000\n")?;
-/// let sheet = Sheet::read(&text)?;
-/// assert_eq!(formula::arguments(&sheet, 2), ["x", "y"]);
-/// assert_eq!(formula::of(&sheet, 2).as_deref(), Some("x * y / 1000"));
-/// # Ok::<(), Box<dyn std::error::Error>>(())
+/// # Ok::<(), lindypo::Refusal>(())
 /// ```
-pub fn arguments(sheet: &Sheet, label: Label) -> Vec<String> {
-    let line = sheet.line(label).filter(|line| line.kind.is_function());
-    let named = line.and_then(|line| {
-        let body = Expression::of_sheet(sheet, line.b as Label)?;
-        Some(names::arguments(&body, line.kind.takes()))
-    });
-    named.unwrap_or_default()
-}
-
-/// The sign between the operands of a kind of expression; `None` where it has none.
-///
-/// ```
-/// use lindypo::{formula, Kind};
-///
-/// assert_eq!(formula::sign(Kind::Product), Some('*'));
-/// assert_eq!(formula::sign(Kind::Choice), None);
-/// ```
-pub fn sign(kind: Kind) -> Option<char> {
-    signs::of_kind(kind).map(|(sign, _)| sign)
+pub fn argument(sheet: &Sheet, label: Label) -> Option<String> {
+    let line = sheet.line(label)?;
+    let body = Expression::of_sheet(sheet, line.b as Label)?;
+    (line.kind == Kind::Function).then(|| names::argument(&body))
 }
 
 /// The definition that a label is or stands in, and the expression meant.
 fn owned(sheet: &Sheet, label: Label) -> Option<(Label, Label)> {
     let line = sheet.line(label)?;
     match line.kind {
-        kind if kind.has_body() => Some((label, line.b as Label)),
-        kind if kind.is_definition() => None,
+        Kind::Group => None,
+        Kind::Value | Kind::Function => Some((label, line.b as Label)),
         _ => Some((line.owner?, label)),
     }
 }

@@ -1,4 +1,4 @@
-//! Names in formulas: words, marks, and what to call arguments.
+//! Names in formulas: words, marks, and what to call an argument.
 
 use crate::build::{Expression, Node};
 use crate::same_name;
@@ -49,17 +49,14 @@ pub fn written_path(path: &str) -> String {
     names.join(".")
 }
 
-/// Names for so many arguments that hide no name which the body reads or calls.
-pub fn arguments(body: &Expression, count: usize) -> Vec<String> {
+/// A name for the argument that hides no name which the body reads or calls.
+pub fn argument(body: &Expression) -> String {
     let heads: Vec<&str> = body.nodes().iter().filter_map(head).collect();
     let is_free = |name: &String| !heads.iter().any(|head| same_name(head, name));
     let letters = ["x", "y", "z"].map(str::to_string).into_iter();
     let numbered = (1..).map(|count| format!("x{count}"));
-    letters
-        .chain(numbered)
-        .filter(is_free)
-        .take(count)
-        .collect()
+    let mut names = letters.chain(numbered);
+    names.find(is_free).unwrap_or_default()
 }
 
 fn head(node: &Node) -> Option<&str> {

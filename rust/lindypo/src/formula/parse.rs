@@ -1,63 +1,35 @@
 //! A text of formulas taken apart.
 
-use super::expression::{after_argument, take_line, Formula, TOO_MANY};
+use super::expression::{take_line, Formula};
 use super::halves;
 use super::tokens::{is_word, Names, Token, Tokens};
 use super::Mistake;
-use crate::build::{Expression, Group, Place, MOST_LINES};
+use crate::build::{Content, Expression, Group, Place, MOST_LINES};
+use crate::diagnosis::forms::Form;
 use crate::diagnosis::words::quoted;
-use crate::kind::{Form, MOST_ARGUMENTS};
-use crate::{same_name, Kind, Label, Mark, Ties};
-
-/// How a function is written.
-const FUNCTIONS: &str = "a function is written `name(x) = formula` or `name(x, y) = formula`";
+use crate::{Label, Mark, Ties};
 
 /// Where all that a text defines stands in it.
 #[derive(Default)]
 pub struct Marks {
-    definitions: Vec<Written>,
-}
-
-/// Where a definition stands.
-struct Written {
-    name: Mark,
-    /// What it calls its arguments.
-    arguments: Vec<String>,
-    /// The nodes of its body.
-    nodes: Vec<Mark>,
-}
-
-impl Written {
-    fn new(name: Mark) -> Self {
-        Written {
-            name,
-            arguments: vec![],
-            nodes: vec![],
-        }
-    }
+    /// By definition: its name, and the nodes of its body.
+    definitions: Vec<(Mark, Vec<Mark>)>,
 }
 
 impl Marks {
     pub fn of_place(&self, place: Place) -> Option<Mark> {
         match place {
             Place::Sheet => None,
-            Place::Definition(at) => Some(self.definitions.get(at)?.name),
-            Place::Node(at, node) => self.definitions.get(at)?.nodes.get(node).copied(),
+            Place::Definition(at) => Some(self.definitions.get(at)?.0),
+            Place::Node(at, node) => self.definitions.get(at)?.1.get(node).copied(),
         }
     }
 
     /// The labels of a sheet that is built: label 1, definitions, bodies.
     pub fn of_label(&self, label: Label) -> Option<Mark> {
-        let names = self.definitions.iter().map(|it| &it.name);
-        let nodes = self.definitions.iter().flat_map(|it| &it.nodes);
+        let names = self.definitions.iter().map(|(name, _)| name);
+        let nodes = self.definitions.iter().flat_map(|(_, nodes)| nodes);
         names.chain(nodes).nth(label.checked_sub(2)?).copied()
-    }
-
-    /// What a definition of that sheet calls its arguments.
-    pub fn arguments(&self, definition: Label) -> &[String] {
-        let at = definition.checked_sub(2);
-        let written = at.and_then(|at| self.definitions.get(at));
-        written.map_or(&[], |written| &written.arguments)
     }
 }
 
@@ -139,10 +111,10 @@ impl<'text> Parser<'text> {
             let sentence = "the tie rule is said already: leave out one of the two";
             (sentence.to_string(), mark, "it is here")
         });
-        let defined = self.marks.definitions.first().map(|first| {
+        let defined = self.marks.definitions.first().map(|(name, _)| {
             let sentence =
                 format!("the tie rule stands before the first definition: put `{ties}` first");
-            (sentence, first.name, "the first definition is here")
+            (sentence, *name, "the first definition is here")
         });
         if let Some((sentence, other, what)) = said.or(defined) {
             return Err(Mistake::at(mark, sentence).see(other, what));
@@ -161,13 +133,13 @@ impl<'text> Parser<'text> {
         take_line(&mut self.left, mark)?;
         let (token, after) = self.tokens.take()?;
         match token {
-            Token::Symbol('=') => self.body(name, mark, &[]),
+            Token::Symbol('=') => self.body(name, mark, None),
             Token::Symbol('(') => {
-                let arguments = self.arguments()?;
-                self.body(name, mark, &arguments)
+                let argument = self.argument()?;
+                self.body(name, mark, Some(argument))
             }
             Token::Symbol('{') => {
-                self.add(name, Kind::Group, None, Written::new(mark));
+                self.add(name, (mark, vec![]), Content::Group);
                 self.open.push(mark);
                 Ok(())
             }
@@ -175,34 +147,10 @@ impl<'text> Parser<'text> {
         }
     }
 
-    /// What stands after the `(` of a function, up to the `=`: its arguments.
-    fn arguments(&mut self) -> Result<Vec<&'text str>, Mistake> {
-        let mut arguments: Vec<(&str, Mark)> = vec![];
-        loop {
-            arguments.push(self.argument(&arguments)?);
-            let (token, mark) = self.tokens.take()?;
-            match token {
-                Token::Symbol(')') => break,
-                Token::Symbol(',') if arguments.len() < MOST_ARGUMENTS => {}
-                Token::Symbol(',') => {
-                    return Err(Mistake::at(mark, format!("{TOO_MANY}; {FUNCTIONS}")));
-                }
-                token => {
-                    let wanted = after_argument(arguments.len());
-                    return Err(Mistake::at(mark, no_function(wanted, &token)));
-                }
-            }
-        }
-        match self.tokens.take()? {
-            (Token::Symbol('='), _) => Ok(arguments.iter().map(|(name, _)| *name).collect()),
-            (token, mark) => Err(Mistake::at(mark, no_function("`=`", &token))),
-        }
-    }
-
-    /// The name of an argument, which none before it has.
-    fn argument(&mut self, before: &[(&str, Mark)]) -> Result<(&'text str, Mark), Mistake> {
+    /// What stands after the `(` of a function, up to the `=`.
+    fn argument(&mut self) -> Result<&'text str, Mistake> {
         let (token, mark) = self.tokens.take()?;
-        let name = match &token {
+        let argument = match &token {
             Token::Names(names) if names.names.len() == 1 && !names.is_marked => names.names[0],
             token => {
                 let token = token.quoted();
@@ -210,52 +158,46 @@ impl<'text> Parser<'text> {
                 return Err(Mistake::at(mark, sentence));
             }
         };
-        if !Form::Name.fits(name, 0) {
-            let sentence = format!("{} is not {}", quoted(name), Form::Name.words(0));
+        if !Form::Name.fits(argument, 0) {
+            let sentence = format!("{} is not {}", quoted(argument), Form::Name.words(0));
             return Err(Mistake::at(mark, sentence));
         }
-        match before.iter().find(|(other, _)| same_name(other, name)) {
-            Some((first, place)) => {
-                let twice = Mistake::at(mark, same_argument(first, name));
-                Err(twice.see(*place, "the first is here"))
+        for symbol in [')', '='] {
+            let (token, mark) = self.tokens.take()?;
+            if token != Token::Symbol(symbol) {
+                let token = token.quoted();
+                let sentence = format!(
+                    "`{symbol}` has to stand here, not {token}; \
+                     a function is written `name(x) = formula`"
+                );
+                return Err(Mistake::at(mark, sentence));
             }
-            None => Ok((name, mark)),
         }
+        Ok(argument)
     }
 
-    /// The formula of a value, or of a function with these arguments.
-    fn body(&mut self, name: &str, mark: Mark, arguments: &[&'text str]) -> Result<(), Mistake> {
-        let part = Formula::new(&mut self.tokens, arguments, &mut self.left).read()?;
+    /// The formula of a value, or of a function with this argument.
+    fn body(
+        &mut self,
+        name: &str,
+        mark: Mark,
+        argument: Option<&'text str>,
+    ) -> Result<(), Mistake> {
+        let part = Formula::new(&mut self.tokens, argument, &mut self.left).read()?;
         let (nodes, marks) = part.into_iter().unzip();
-        let kind = Kind::taking(arguments.len()).unwrap_or(Kind::Value);
-        let written = Written {
-            arguments: arguments.iter().map(|name| name.to_string()).collect(),
-            nodes: marks,
-            ..Written::new(mark)
+        let body = Expression::of_nodes(nodes);
+        let content = match argument {
+            Some(_) => Content::Function(body),
+            None => Content::Value(body),
         };
-        self.add(name, kind, Some(Expression::of_nodes(nodes)), written);
+        self.add(name, (mark, marks), content);
         Ok(())
     }
 
-    fn add(&mut self, name: &str, kind: Kind, body: Option<Expression>, written: Written) {
-        let depth = self.open.len();
-        self.group.add(depth, kind, name.to_string(), body);
-        self.marks.definitions.push(written);
+    fn add(&mut self, name: &str, marks: (Mark, Vec<Mark>), content: Content) {
+        self.group.add(self.open.len(), name.to_string(), content);
+        self.marks.definitions.push(marks);
     }
-}
-
-fn no_function(wanted: &str, token: &Token) -> String {
-    let token = token.quoted();
-    format!("{wanted} has to stand here, not {token}; {FUNCTIONS}")
-}
-
-/// What is wrong where the second argument has the name of the first.
-fn same_argument(first: &str, second: &str) -> String {
-    let why = match first == second {
-        true => " too",
-        false => ", and names are compared without regard to capitals",
-    };
-    format!("the first argument is called `{first}`{why}; give one of the two another name")
 }
 
 fn no_beginning(token: &Token) -> String {

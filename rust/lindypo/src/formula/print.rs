@@ -4,7 +4,7 @@
 use super::names;
 use super::signs::{self, Strength};
 use crate::build::{Content, Expression, Group, Node};
-use crate::{Kind, Ties};
+use crate::Ties;
 
 /// One more Group around, up to a depth from which on it is not shown.
 const INDENT: &str = "    ";
@@ -22,16 +22,16 @@ pub fn definitions(group: &Group) -> String {
         close(&mut text, depth, definition.depth);
         depth = definition.depth;
         let name = names::written(&definition.name);
-        let line = match &definition.body {
-            None => format!("{name} {{"),
-            Some(body) => {
-                let arguments = names::arguments(body, definition.kind.takes());
-                let formula = formula(body, &arguments);
-                format!("{name}{} = {formula}", listed(&arguments))
+        let line = match &definition.content {
+            Content::Group => format!("{name} {{"),
+            Content::Value(body) => format!("{name} = {}", formula(body, "")),
+            Content::Function(body) => {
+                let argument = names::argument(body);
+                format!("{name}({argument}) = {}", formula(body, &argument))
             }
         };
         add(&mut text, depth, &line);
-        depth += usize::from(definition.body.is_none());
+        depth += usize::from(definition.content == Content::Group);
     }
     close(&mut text, depth, 0);
     text
@@ -66,50 +66,39 @@ impl Piece {
     }
 }
 
-/// Arguments in parentheses, as a function and a call have them; nothing for none.
-fn listed(arguments: &[String]) -> String {
-    match arguments {
-        [] => String::new(),
-        _ => format!("({})", arguments.join(", ")),
-    }
-}
-
-/// The formula, with names for the arguments.
-pub fn formula(expression: &Expression, arguments: &[String]) -> String {
+/// The formula, with a name for the argument.
+pub fn formula(expression: &Expression, argument: &str) -> String {
     // backward, so that the operands of a node are the last pieces, a on top
     let mut pieces = vec![];
     for node in expression.nodes().iter().rev() {
-        let piece = piece(node, arguments, &mut pieces);
+        let piece = piece(node, argument, &mut pieces);
         pieces.push(piece);
     }
     pieces.pop().map_or(String::new(), |piece| piece.text)
 }
 
-fn piece(node: &Node, arguments: &[String], operands: &mut Vec<Piece>) -> Piece {
+fn piece(node: &Node, argument: &str, operands: &mut Vec<Piece>) -> Piece {
     let mut operand = |least| operands.pop().map_or(String::new(), |it| it.within(least));
     let mut strength = Strength::Operand;
-    let text = match (&node.content, node.kind) {
-        (Content::Number(number), _) => number.to_string(),
-        (Content::Path(path), _) => {
-            let handed = (0..node.operands()).map(|_| operand(Strength::Choice));
-            let handed: Vec<String> = handed.collect();
-            format!("{}{}", names::written_path(path), listed(&handed))
+    let text = match node {
+        Node::Number(number) => number.to_string(),
+        Node::Argument => argument.to_string(),
+        Node::Read(path) => names::written_path(path),
+        Node::Call(path) => {
+            let argument = operand(Strength::Choice);
+            format!("{}({argument})", names::written_path(path))
         }
-        (Content::Nothing, Kind::Argument | Kind::SecondArgument) => {
-            let name = node.kind.place().and_then(|place| arguments.get(place - 1));
-            name.cloned().unwrap_or_default()
+        Node::Sum | Node::Difference | Node::Product | Node::Quotient => {
+            let (sign, own) = signs::of_node(node).unwrap_or((' ', strength));
+            strength = own;
+            let (a, b) = (operand(own), operand(own.next()));
+            format!("{a} {sign} {b}")
         }
-        (Content::Nothing, Kind::Choice) => {
+        Node::Choice => {
             strength = Strength::Choice;
             let (test, then) = (operand(Strength::Sum), operand(Strength::Sum));
             let otherwise = operand(Strength::Choice);
             format!("if {test} then {then} else {otherwise}")
-        }
-        (Content::Nothing, kind) => {
-            let (sign, own) = signs::of_kind(kind).unwrap_or((' ', strength));
-            strength = own;
-            let (a, b) = (operand(own), operand(own.next()));
-            format!("{a} {sign} {b}")
         }
     };
     Piece { text, strength }

@@ -1,12 +1,9 @@
 //! The refusal of a sheet that was written, in the words of its formulas: who
 //! writes these sees no labels and no lines of the sheet.
 
-use super::names::{self, Word};
 use super::parse::Marks;
 use super::Mistake;
-use crate::diagnosis::counts::Miscount;
-use crate::diagnosis::rows::Rows;
-use crate::{Help, Kind, Label, Mark, Refusal};
+use crate::{Help, Label, Mark, Refusal};
 
 /// Where the name or path of a line begins: after its kind and a space.
 const NAME_COLUMN: usize = 3;
@@ -17,7 +14,6 @@ pub fn mistake(sheet: &[u8], marks: &Marks, refusal: &Refusal) -> Mistake {
         let whole = marks.of_label(mark.line - 1)?;
         Some(within(whole, name_of(sheet, mark.line), mark))
     };
-    let rows = Rows::new(sheet);
     let help = refusal.help().iter().map(|help| Help {
         sentence: by_line(marks, &as_formula(&help.sentence)),
         mark: help.mark.and_then(place),
@@ -25,41 +21,9 @@ pub fn mistake(sheet: &[u8], marks: &Marks, refusal: &Refusal) -> Mistake {
     Mistake {
         row: Some(refusal.number()),
         mark: refusal.mark().and_then(place),
-        sentence: sentence(&rows, marks, refusal),
-        help: help.chain(one_more(&rows, marks, refusal)).collect(),
+        sentence: by_line(marks, refusal.sentence()),
+        help: help.collect(),
     }
-}
-
-/// What is wrong. Formulas have no letters for calls, but numbers of arguments.
-fn sentence(rows: &Rows, marks: &Marks, refusal: &Refusal) -> String {
-    let miscount = match refusal {
-        Refusal::Target(fault) => Miscount::of(rows, fault.place as Label),
-        _ => None,
-    };
-    match miscount {
-        Some(miscount) => miscount.by_number(),
-        None => by_line(marks, refusal.sentence()),
-    }
-}
-
-/// A name that is not found may be meant as one more argument of its function.
-fn one_more(rows: &Rows, marks: &Marks, refusal: &Refusal) -> Option<Help> {
-    let Refusal::Head(fault) = refusal else {
-        return None;
-    };
-    let label = fault.place as Label;
-    let (name, owner) = (rows.name(label), rows.owner(label));
-    let arguments = marks.arguments(owner);
-    let is_read = rows.kind(label) == Some(Kind::Read);
-    let may_be = is_read && !name.contains('.') && Word::of(name).is_none();
-    Kind::taking(arguments.len() + 1).filter(|_| may_be && !arguments.is_empty())?;
-    let (function, arguments) = (names::written(rows.name(owner)), arguments.join(", "));
-    let sentence =
-        format!("if `{name}` is one more argument, write `{function}({arguments}, {name}) = ...`");
-    Some(Help {
-        sentence,
-        mark: None,
-    })
 }
 
 /// The name or path of a line.
@@ -104,21 +68,13 @@ fn by_line(marks: &Marks, sentence: &str) -> String {
     words.join(" ")
 }
 
-/// A hint that shows a line of a sheet with a path shows a formula instead, and
-/// says no more than that.
+/// A hint that shows a line of a sheet shows a formula instead.
 fn as_formula(hint: &str) -> String {
-    let shown = || {
-        let (words, line) = hint.split_once(": `")?;
-        let fields: Vec<&str> = line.split('`').next()?.split(' ').collect();
-        let [kind, path, ..] = fields[..] else {
-            return None;
-        };
-        let kind = Kind::of_field(kind).filter(|kind| kind.target().is_some())?;
-        let arguments = match kind.parts() {
-            0 => String::new(),
-            count => format!("({})", vec!["..."; count].join(", ")),
-        };
-        Some(format!("{words}: `{path}{arguments}`"))
+    let path = |kind: &str, rest: &str| {
+        let (words, line) = hint.split_once(&format!(": `{kind} "))?;
+        Some((words.to_string(), line.strip_suffix(rest)?.to_string()))
     };
-    shown().unwrap_or_else(|| hint.to_string())
+    let called = path("C", " ARGUMENT - -`").map(|(words, path)| format!("{words}: `{path}(...)`"));
+    let read = path("R", " - - -`").map(|(words, path)| format!("{words}: `{path}`"));
+    called.or(read).unwrap_or_else(|| hint.to_string())
 }

@@ -1,6 +1,6 @@
 //! The signs between operands, and how firmly each holds.
 
-use crate::Kind;
+use crate::build::Node;
 
 /// How firmly a formula holds together.
 #[derive(Debug, Clone, Copy, PartialEq, Eq, PartialOrd, Ord)]
@@ -23,21 +23,21 @@ impl Strength {
     }
 }
 
-const SIGNS: [(char, Kind, Strength); 4] = [
-    ('+', Kind::Sum, Strength::Sum),
-    ('-', Kind::Difference, Strength::Sum),
-    ('*', Kind::Product, Strength::Product),
-    ('/', Kind::Quotient, Strength::Product),
+const SIGNS: [(char, Node, Strength); 4] = [
+    ('+', Node::Sum, Strength::Sum),
+    ('-', Node::Difference, Strength::Sum),
+    ('*', Node::Product, Strength::Product),
+    ('/', Node::Quotient, Strength::Product),
 ];
 
 /// What a sign stands for.
-pub fn of_char(sign: char) -> Option<(Kind, Strength)> {
+pub fn of_char(sign: char) -> Option<(Node, Strength)> {
     let found = SIGNS.into_iter().find(|(of, ..)| *of == sign);
-    found.map(|(_, kind, strength)| (kind, strength))
+    found.map(|(_, node, strength)| (node, strength))
 }
 
-/// The sign that stands for a kind.
-pub fn of_kind(kind: Kind) -> Option<(char, Strength)> {
-    let found = SIGNS.into_iter().find(|(_, of, _)| *of == kind);
+/// The sign that stands for a node.
+pub fn of_node(node: &Node) -> Option<(char, Strength)> {
+    let found = SIGNS.into_iter().find(|(_, of, _)| of == node);
     found.map(|(sign, _, strength)| (sign, strength))
 }

@@ -207,7 +207,7 @@ impl<'text> Tokens<'text> {
             ),
             33..=126 => format!(
                 "`{}` means nothing in a formula; names are letters and digits, \
-                 the signs are + - * / ( ) {{ }} = ,",
+                 the signs are + - * / ( ) {{ }} =",
                 char::from(byte)
             ),
             _ => format!(

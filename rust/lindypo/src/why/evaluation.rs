@@ -2,7 +2,7 @@
 
 use std::cmp::Ordering;
 
-use super::{Argument, Arguments, Call, Half, Read, CALLS};
+use super::{Call, Half, Read, CALLS};
 use crate::diagnosis::forms::NUMBER;
 use crate::{Kind, Label, Line, Outcome, Results, Sheet, State, Ties};
 
@@ -20,10 +20,7 @@ pub enum Cause {
     /// The line was to be entered.
     OutOfSteps,
     /// The function was to be called.
-    TooDeep {
-        function: Label,
-        arguments: Arguments,
-    },
+    TooDeep { function: Label, argument: i64 },
 }
 
 impl Cause {
@@ -42,8 +39,6 @@ pub struct Stop {
     pub line: Label,
     /// Its own cause, or the value that it read without a number.
     pub cause: Result<Cause, Label>,
-    /// The innermost argument that it is in, of a call by the same definition.
-    pub argument: Option<Argument>,
     /// The calls around it, outermost first.
     pub within: Vec<Call>,
 }
@@ -51,21 +46,11 @@ pub struct Stop {
 /// A number, else the state without one.
 type Answer = Result<i64, State>;
 
-/// What one call carries: its arguments and its depth. A value has none, and is at
-/// depth 0.
-#[derive(Clone, Copy, Default)]
+/// What one call carries: its argument and its depth.
+#[derive(Clone, Copy)]
 struct Frame {
-    arguments: Arguments,
+    argument: i64,
     depth: u32,
-}
-
-impl Frame {
-    /// What a P or Y line stands for. Read lets none pass that has nothing to stand
-    /// for.
-    fn argument(&self, kind: Kind) -> i64 {
-        let at = kind.place().map_or(0, |place| place - 1);
-        self.arguments.get(at).copied().unwrap_or_default()
-    }
 }
 
 pub struct Evaluation<'sheet> {
@@ -109,7 +94,12 @@ impl<'sheet> Evaluation<'sheet> {
         }
         self.steps_left = STEPS;
         self.within.clear();
-        let answer = self.expression(line.b as Label, Frame::default());
+        // a value has no argument, so it is never asked for
+        let frame = Frame {
+            argument: 0,
+            depth: 0,
+        };
+        let answer = self.expression(line.b as Label, frame);
         let steps = STEPS - self.steps_left;
         let state = answer.map_or_else(|failure| failure, State::Number);
         Some(Outcome { state, steps })
@@ -123,22 +113,19 @@ impl<'sheet> Evaluation<'sheet> {
         let line = self.lines[label - 1];
         match line.kind {
             Kind::Number => Ok(line.a),
-            Kind::Argument | Kind::SecondArgument => Ok(frame.argument(line.kind)),
+            Kind::Argument => Ok(frame.argument),
             Kind::Read => self.read(line),
-            Kind::Call | Kind::CallOfTwo => self.call(line, frame),
+            Kind::Call => self.call(line, frame),
             Kind::Choice => {
                 let test = self.expression(line.a as Label, frame)?;
                 let branch = if test != 0 { line.b } else { line.c };
                 self.expression(branch as Label, frame)
             }
-            Kind::Sum | Kind::Difference | Kind::Product | Kind::Quotient => {
+            _ => {
                 let a = self.expression(line.a as Label, frame)?;
                 let b = self.expression(line.b as Label, frame)?;
                 let result = self.operate(line, a, b);
                 result.or_else(|cause| self.fail(label, cause))
-            }
-            Kind::Group | Kind::Value | Kind::Function | Kind::FunctionOfTwo => {
-                unreachable!("label {label} is a definition")
             }
         }
     }
@@ -165,38 +152,23 @@ impl<'sheet> Evaluation<'sheet> {
             .ok_or_else(|| self.stop(label, Err(value), state))
     }
 
-    /// The arguments one after the other, then the function's body one deeper.
     fn call(&mut self, line: Line, frame: Frame) -> Answer {
         let function = line.target.unwrap_or(0);
-        let mut arguments = Arguments::default();
-        let operands = [line.a, line.b, line.c].into_iter();
-        for (place, operand) in (1..).zip(operands.take(line.kind.parts())) {
-            let argument = Argument {
-                line: line.label,
-                function,
-                place,
-            };
-            let answer = self.expression(operand as Label, frame);
-            arguments.add(answer.map_err(|state| self.fail_in(argument, state))?);
-        }
+        let argument = self.expression(line.a as Label, frame)?;
         if frame.depth == DEPTH {
-            let cause = Cause::TooDeep {
-                function,
-                arguments,
-            };
-            return self.fail(line.label, cause);
+            return self.fail(line.label, Cause::TooDeep { function, argument });
         }
         let depth = frame.depth + 1;
         let place = self.enter(Call {
             line: line.label,
             function,
-            arguments,
+            argument,
             depth,
             // until it is left
             state: State::Number(0),
         });
         let body = self.lines[function - 1].b;
-        let answer = self.expression(body as Label, Frame { arguments, depth });
+        let answer = self.expression(body as Label, Frame { argument, depth });
         self.within.pop();
         if let Some(call) = self.calls.get_mut(place) {
             call.state = answer.map_or_else(|failure| failure, State::Number);
@@ -253,24 +225,12 @@ impl<'sheet> Evaluation<'sheet> {
         Err(self.stop(line, Ok(cause), cause.state()))
     }
 
-    /// Notes in which argument the evaluation failed, if not within a function that
-    /// was called for it.
-    fn fail_in(&mut self, argument: Argument, state: State) -> State {
-        let depth = self.within.len();
-        let is_here = |stop: &&mut Stop| stop.argument.is_none() && stop.within.len() == depth;
-        if let Some(stop) = self.stop.as_mut().filter(is_here) {
-            stop.argument = Some(argument);
-        }
-        state
-    }
-
     /// Notes where the evaluation failed; the calls around it failed by that.
     fn stop(&mut self, line: Label, cause: Result<Cause, Label>, state: State) -> State {
         let within = self.within.iter().map(|&call| Call { state, ..call });
         self.stop = Some(Stop {
             line,
             cause,
-            argument: None,
             within: within.collect(),
         });
         state

@@ -7,9 +7,6 @@
 mod evaluation;
 mod names;
 
-use std::ops::Deref;
-
-use crate::kind::MOST_ARGUMENTS;
 use crate::{Label, Outcome, Results, Sheet, State};
 use evaluation::{Evaluation, Stop};
 
@@ -52,51 +49,14 @@ pub struct Read {
 /// A call that was entered.
 #[derive(Debug, Clone, Copy, PartialEq, Eq)]
 pub struct Call {
-    /// The C or K line.
+    /// The C line.
     pub line: Label,
     pub function: Label,
-    pub arguments: Arguments,
+    pub argument: i64,
     /// 1 for a call by the value itself.
     pub depth: u32,
     /// What it came to.
     pub state: State,
-}
-
-/// The arguments of a call, as many as its function takes, in their sequence.
-///
-/// ```
-/// let arguments = lindypo::why::Arguments::of(&[350, -325]);
-/// assert_eq!(arguments[..], [350, -325]);
-/// ```
-#[derive(Debug, Clone, Copy, Default, PartialEq, Eq)]
-pub struct Arguments {
-    numbers: [i64; MOST_ARGUMENTS],
-    /// How many of them count; the others are 0.
-    count: usize,
-}
-
-impl Arguments {
-    /// These numbers, as far as a function takes so many.
-    pub fn of(numbers: &[i64]) -> Self {
-        let mut arguments = Arguments::default();
-        numbers.iter().for_each(|&number| arguments.add(number));
-        arguments
-    }
-
-    fn add(&mut self, number: i64) {
-        if let Some(place) = self.numbers.get_mut(self.count) {
-            *place = number;
-            self.count += 1;
-        }
-    }
-}
-
-impl Deref for Arguments {
-    type Target = [i64];
-
-    fn deref(&self) -> &[i64] {
-        &self.numbers[..self.count]
-    }
 }
 
 /// A D line whose quotient was a half, in the value itself or in a function.
@@ -118,23 +78,10 @@ pub struct Failure {
     pub value: Label,
     pub line: Label,
     pub cause: Cause,
-    /// Where it is in an argument: of which call, which then was not made. The
-    /// innermost is named.
-    pub argument: Option<Argument>,
     /// The calls around it in that value, outermost first.
     pub within: Vec<Call>,
     /// The reads that handed it on, that of the value asked about first.
     pub handed_on: Vec<Handed>,
-}
-
-/// An argument of a call.
-#[derive(Debug, Clone, Copy, PartialEq, Eq)]
-pub struct Argument {
-    /// The C or K line.
-    pub line: Label,
-    pub function: Label,
-    /// 1 for the first, 2 for the second.
-    pub place: usize,
 }
 
 /// A read by which a failure was handed on.
@@ -200,7 +147,6 @@ fn began(mut evaluation: Evaluation, label: Label, first: Stop) -> Option<Failur
                     value,
                     line: stop.line,
                     cause,
-                    argument: stop.argument,
                     within: stop.within,
                     handed_on,
                 });

@@ -9,7 +9,6 @@ mod refusals;
 mod retouching;
 mod samples;
 mod tangles;
-mod two_numbers;
 
 use reference::{Order, Refusal};
 
@@ -24,7 +23,7 @@ fn sheet(lines: &str) -> Vec<u8> {
 }
 
 /// A sheet put together line by line. Expressions are written operator first:
-/// `A C:f 1 R:x.y` adds f of 1 and the value x.y; `K:h 1 2` calls h on two numbers.
+/// `A C:f 1 R:x.y` adds f of 1 and the value x.y.
 struct Builder {
     lines: Vec<String>,
 }
@@ -46,7 +45,7 @@ impl Builder {
         self.line(&format!("G {name} {group} - -"))
     }
 
-    /// Adds a V, F or H and its body; gives its label.
+    /// Adds a V or F and its body; gives its label.
     fn define(&mut self, kind: &str, name: &str, group: usize, body: &str) -> usize {
         let label = self.line("");
         let body = self.expression(&mut body.split(' '));
@@ -60,7 +59,7 @@ impl Builder {
         let (kind, path) = word.split_once(':').unwrap_or((word, "-"));
         let operands = match kind {
             "C" => 1,
-            "A" | "S" | "M" | "D" | "K" => 2,
+            "A" | "S" | "M" | "D" => 2,
             "I" => 3,
             _ => 0,
         };

@@ -21,7 +21,7 @@ fn retouch(text: &[u8], pairs: &[i64]) -> (Result<(usize, Order), Refusal>, Buff
 
 /// The changes of a list that is answered, three cells a pair.
 #[track_caller]
-pub fn changes(text: &[u8], pairs: &[i64]) -> Vec<[i64; 3]> {
+fn changes(text: &[u8], pairs: &[i64]) -> Vec<[i64; 3]> {
     let (answer, [.., changes]) = retouch(text, pairs);
     assert!(answer.is_ok(), "{answer:?}");
     let (own, rest) = changes.split_at(3 * (pairs.len() / 2));

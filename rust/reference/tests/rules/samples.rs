@@ -177,18 +177,10 @@ fn sample_9_used_twice() {
     assert_eq!(reference::print(&text), b"refusal place\n9 4\n");
 }
 
-/// One value after the functions d0 to d11 and one that calls itself.
-fn doubling(plus: [bool; 11], value: &str) -> [i64; 3] {
-    let mut builder = doublings(plus);
-    builder.define("F", "f", 1, "C:f P");
-    let label = builder.define("V", "v", 1, value);
-    result_of(&builder.text(), label)
-}
-
 /// Functions d0, d1, ... each of which takes about twice the steps of the one
-/// before (the sheets folder explains the counting). `plus` tells which ones add
-/// their argument once more.
-fn doublings<const COUNT: usize>(plus: [bool; COUNT]) -> Builder {
+/// before (the sheets folder explains the counting), and one value. `plus`
+/// tells which ones add their argument once more.
+fn doubling(plus: [bool; 11], value: &str) -> [i64; 3] {
     let mut builder = Builder::new();
     builder.define("F", "d0", 1, "A P P");
     for (before, plus) in plus.into_iter().enumerate() {
@@ -196,7 +188,9 @@ fn doublings<const COUNT: usize>(plus: [bool; COUNT]) -> Builder {
         let body = format!("{more}A C:d{before} P C:d{before} P");
         builder.define("F", &format!("d{}", before + 1), 1, &body);
     }
-    builder
+    builder.define("F", "f", 1, "C:f P");
+    let label = builder.define("V", "v", 1, value);
+    result_of(&builder.text(), label)
 }
 
 #[test]
@@ -213,23 +207,4 @@ fn sample_10_steps() {
     assert_eq!(doubling(deep, "A C:d11 1 C:f 1"), [5, 0, 20_000]);
     assert_eq!(doubling(deep, "A A C:d11 1 C:f 1 0"), [4, 0, 20_000]);
     assert_eq!(doubling(deep, "A 0 A C:d11 1 C:f 1"), [4, 0, 20_000]);
-}
-
-/// With a call of two (order 6) a number takes all 20,000 steps: K, three for the
-/// first argument, one for the second, and a body of 2 (4 + 9,995) + 1.
-#[test]
-fn sample_10_a_number_in_all_steps() {
-    let long = |value: &str| {
-        let (y, n) = (true, false);
-        let mut builder = doublings([y, y, y, n, n, n, y, n, n, n]);
-        builder.define("H", "h", 1, "A C:d10 P C:d10 Y");
-        builder.define("H", "first", 1, "P");
-        let label = builder.define("V", "v", 1, value);
-        result_of(&builder.text(), label)
-    };
-    assert_eq!(long("K:h 1 1"), [1, 5904, 19_998]);
-    assert_eq!(long("K:h A 1 0 1"), [1, 5904, 20_000]);
-    assert_eq!(long("K:h 1 A 1 0"), [1, 5904, 20_000]);
-    assert_eq!(long("K:h K:first 1 0 1"), [4, 0, 20_000]);
-    assert_eq!(long("K:h 1 K:first 1 0"), [4, 0, 20_000]);
 }

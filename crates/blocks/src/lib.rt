@@ -1,6 +1,8 @@
 // The blocks of some items whose needs stand in rows of marks. They are found by one search along paths (Gabow), which goes from an item to
 // those that need it, since that is what the rows have; then the rows of each block are made one.
 
+#![tactic(auto)]
+
 ghost use Rattle.std.specs.Prelude.{◌≡◌, true, false, ◌⊎◌, ℕ, ◌+◌, ◌*◌, ◌≤◌, ◌<◌, length, get_or, take};
 ghost use Rattle.order.specs.LabelLists.{◌∈◌, one};
 ghost use Rattle.marks.specs.Marks.{mark, InSquare, Added, Dropped};
@@ -10,7 +12,7 @@ ghost use Rattle.blocks.specs.Search.{Going, Kept, Nearer, CommonMark, Lowest, S
 ghost use Rattle.blocks.specs.Merged.{heads, Mergeable, Joined, Following, LeadOf, ClosedRow, ClosedRows, Merged, LeadersGathered};
 
 // How many the three stacks hold: items on the stack, starts of classes, positions on the path.
-#[derive(Drop)]
+#[derive(Clone, Copy)]
 struct Depths(usize, usize, usize);
 
 // The marks of the mask.

@@ -1,5 +1,7 @@
 // Plan, Run and Follow: document 01's rows of refusals in their order, and what each call writes. A refused call leaves nothing but zeros.
 
+#![tactic(auto)]
+
 ghost use Rattle.std.specs.Prelude.{◌≡◌, ◌*◌, ◌≤◌, length};
 ghost use Rattle.cells.specs.Cells.{zeros};
 ghost use Rattle.cells.specs.Accepted.{Accepted};
@@ -14,7 +16,7 @@ use planning::Planned;
 use refusals::{Reply, Verdict};
 
 // What Plan and Run answer: the length of a whole or a mixed plan, or a refusal.
-#[derive(Drop)]
+#[derive(Clone, Copy)]
 pub enum PlanReply {
     Whole(u64),
     Mixed(u64),

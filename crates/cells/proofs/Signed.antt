@@ -66,7 +66,7 @@ fits_by x k h t = record { sfits = omega (arith, mag_le x, ltb→lt k (2 ^ 63) t
 -- ---- a value read back from its bits
 
 pub whole : (z : ℤ) → mag z < 2 ^ 63 → to_z w64 (of_z w64 z) ≡ z
-whole z h = to_z-of_z (sfits_of h)
+whole z h = to_z-of_z (sfits_of {w = w64} {z = z} h)
 
 -- the code's test x < 0, as a sign
 pub test_negative : (x : ℤ) (b : Bool) → SFits w64 x → lt_z (to_z w64 (of_z w64 x)) (pos 0) ≡ b → is_negative x ≡ b

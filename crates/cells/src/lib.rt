@@ -1,6 +1,8 @@
 // Signed cells of lent buffers. Arithmetic on a cell's sign and bits stands here, so that what is above works on
 // usize, u64 and bool and passes an i64 on whole. Readers are total: past the end there is a 0.
 
+#![tactic(auto)]
+
 ghost use Rattle.std.specs.Prelude.{◌≡◌, [], ◌∷◌, ◌+◌, ◌-◌, ◌*◌, ◌^◌, ◌≤◌, ◌<◌, length, set, pos, nat_abs};
 ghost use Rattle.std.proofs.lemmas.List.Edits.{sets};
 ghost use Rattle.cells.specs.Limits.{size_limit};

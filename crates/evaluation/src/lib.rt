@@ -1,5 +1,8 @@
 // Evaluation of a sheet's values, document 01's "Working out". Cells are read where they stand, by labels that `Entry`
 // knows to be the table's, so that no read needs a test.
+
+#![tactic(auto)]
+
 ghost use Rattle.std.specs.Prelude.{◌≡◌, ◌-◌, ◌*◌, ◌≤◌, ◌<◌, length, nat_abs};
 ghost use Rattle.cells.specs.Table.{cell, line_number, target};
 ghost use Rattle.cells.specs.Limits.{number_limit};
@@ -27,7 +30,7 @@ pub const TOO_DEEP: u32 = 5;
 
 // What an expression comes to, and the steps left. A failure has number 0. The fields leave no gap, which keeps a copy
 // cheap: one is made at every return.
-#[derive(Drop)]
+#[derive(Clone, Copy)]
 pub struct Outcome {
     pub number: i64,
     pub state: u32,
@@ -35,7 +38,7 @@ pub struct Outcome {
 }
 
 // What a value comes to, and the steps taken.
-#[derive(Drop)]
+#[derive(Clone, Copy)]
 pub struct Value {
     pub number: i64,
     pub state: u32,
@@ -43,14 +46,14 @@ pub struct Value {
 }
 
 // What a call hands to the body of its target.
-#[derive(Drop)]
+#[derive(Clone, Copy)]
 pub struct Arguments {
     pub first: i64,
 }
 
 // What a value may still use: steps left, and how deep its calls have gone. The arithmetic that it is evaluated by goes with
 // them: eight bytes are passed in one register, and a parameter more would not be.
-#[derive(Drop)]
+#[derive(Clone, Copy)]
 pub struct Allowance {
     pub left: u32,
     pub depth: u16,

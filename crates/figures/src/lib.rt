@@ -1,4 +1,7 @@
 // Working down an order list: each label's results, which are the same whichever proper order the list is.
+
+#![tactic(auto)]
+
 ghost use Rattle.std.specs.Prelude.{◌≡◌, ◌*◌, ◌≤◌, length, take};
 ghost use Rattle.cells.specs.Accepted.{Accepted};
 ghost use Rattle.order.specs.Following.{ProperList, labels_of};

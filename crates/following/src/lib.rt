@@ -1,6 +1,8 @@
 // Rows 16 to 18 for an order list. One row of marks has the values that the list has still to name: a position that is not in it is bad
 // by row 17, what is in it at the end is missing, and a value whose reach row meets it comes early.
 
+#![tactic(auto)]
+
 ghost use Rattle.std.specs.Prelude.{◌≡◌, true, [], ◌↔◌, ℕ, ◌+◌, ◌*◌, ◌≤◌, length};
 ghost use Rattle.cells.specs.Accepted.{Accepted};
 ghost use Rattle.refusals.specs.Refusal.{or_else, found_at};

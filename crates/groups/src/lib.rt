@@ -1,5 +1,7 @@
 // The members of every Group in order, by the one rule of placing, up to a Group that gets stuck; and a block of several opened.
 
+#![tactic(auto)]
+
 ghost use Rattle.std.specs.Prelude.{◌≡◌, true, List, ◌++◌, ℕ, ◌+◌, ◌-◌, ◌*◌, ◌≤◌, ◌<◌, length, get_or, take};
 ghost use Rattle.cells.specs.Limits.{label_limit};
 ghost use Rattle.cells.specs.Accepted.{Accepted};

@@ -1,6 +1,8 @@
 // Document 01's table of kinds, and what a kind is: the other crates ask here. The constant table holds the fields; the other columns of a
 // row are matches on its code.
 
+#![tactic(auto)]
+
 ghost use Rattle.std.specs.Prelude.{◌≡◌, true};
 ghost use Rattle.kinds.specs.Kinds.{fields_at, code_of, is_kind, is_definition, is_expression, has_path, clause_of, wanted_by, takes, argument_place};
 ghost use Rattle.kinds.specs.GivesValues.{gives_values};
@@ -8,7 +10,7 @@ ghost use Rattle.kinds.specs.GivesValues.{gives_values};
 // ---- what a row holds
 
 // What a field of a line holds. `Missing` is `-` alone; `Group` and `Operand` are label fields, of a Group and of an expression.
-#[derive(Drop)]
+#[derive(Clone, Copy)]
 pub enum Form {
     Missing,
     Name,
@@ -19,7 +21,7 @@ pub enum Form {
 }
 
 // The five fields of a line: the letter of its kind, and what the others hold.
-#[derive(Drop)]
+#[derive(Clone, Copy)]
 pub struct Fields {
     pub letter: u8,
     pub name: Form,
@@ -29,7 +31,7 @@ pub struct Fields {
 }
 
 // A, S, M and D of document 01; the difference is a - b.
-#[derive(Drop)]
+#[derive(Clone, Copy)]
 pub enum Operation {
     Sum,
     Difference,
@@ -39,7 +41,7 @@ pub enum Operation {
 
 // The clause of document 01's "Working out" that evaluates an expression; a definition has none. An argument has its place among those
 // of a function, from 1, and a call the number of arguments that it hands on.
-#[derive(Drop)]
+#[derive(Clone, Copy)]
 pub enum Clause {
     None,
     Number,

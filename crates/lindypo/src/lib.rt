@@ -1,5 +1,7 @@
 // The C interface: include/lindypo.h declares what is exported here.
 
+#![tactic(auto)]
+
 ghost use Rattle.std.specs.Prelude.{◌≡◌, length};
 ghost use Rattle.reading.specs.Name.{PartLeaves};
 ghost use Rattle.printing.specs.Print.{PrintLeaves};
@@ -12,7 +14,7 @@ use refusals::Reply;
 
 // What a call answers, as C sees it. A refused reply has count 0 and order 0.
 #[repr(C)]
-#[derive(Drop)]
+#[derive(Clone, Copy)]
 pub struct CReply {
     pub refusal: u64,
     pub place: u64,

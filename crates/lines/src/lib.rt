@@ -1,5 +1,7 @@
 // The lines of a sheet: rows 1 to 3 and 5 to 7 of document 01's table of refusals, and the cells of each line that passes.
 
+#![tactic(auto)]
+
 ghost use Rattle.std.specs.Prelude.{◌≡◌, true, cond, ℕ, ◌+◌, ◌-◌, ◌*◌, ◌≤◌, ◌<◌, pos, length, take};
 ghost use Rattle.std.proofs.Math.Seq.{slice};
 ghost use Rattle.std.proofs.lemmas.List.Edits.{sets};
@@ -23,7 +25,7 @@ use refusals::{Reply, Verdict};
 // ---- one field
 
 // What a field holds for its cell, or that it is of wrong form.
-#[derive(Drop)]
+#[derive(Clone, Copy)]
 pub enum Field {
     Holds(i64),
     Wrong,
@@ -98,7 +100,7 @@ fn kind_code(text: &[u8], from: usize, to: usize) -> usize
 // ---- one line
 
 // Where the five fields of a line end; the last one ends where the line does.
-#[derive(Drop)]
+#[derive(Clone, Copy)]
 pub struct Ends {
     pub kind: usize,
     pub name: usize,
@@ -108,7 +110,7 @@ pub struct Ends {
 }
 
 // A line as five fields, none of them empty; or any other line, which row 5 refuses.
-#[derive(Drop)]
+#[derive(Clone, Copy)]
 pub enum Split {
     Five(Ends),
     Other,
@@ -149,7 +151,7 @@ fn split_line(text: &[u8], from: usize) -> Split
 }
 
 // The cells of a line, and where the line ends.
-#[derive(Drop)]
+#[derive(Clone, Copy)]
 pub struct LineCells {
     pub code: i64,
     pub start: i64,
@@ -161,7 +163,7 @@ pub struct LineCells {
 }
 
 // A line that passes rows 5 to 7, or the number of the row that refuses it.
-#[derive(Drop)]
+#[derive(Clone, Copy)]
 pub enum LineJudged {
     Passes(LineCells),
     Fails(u64),
@@ -176,7 +178,7 @@ fn cell_of(x: usize) -> i64
 }
 
 // What the fields a, b and c hold, or that one of them is of wrong form.
-#[derive(Drop)]
+#[derive(Clone, Copy)]
 pub enum Operands {
     Hold(i64, i64, i64),
     Wrong,
@@ -290,7 +292,7 @@ fn read_five(text: &[u8], from: usize, e: Ends, n: usize, label: usize) -> LineJ
 // ---- a line in one scan
 
 // Where a field ends that is read in one scan, and what it holds for its cell. End 0 says nothing.
-#[derive(Drop)]
+#[derive(Clone, Copy)]
 pub struct Scan {
     pub end: usize,
     pub value: i64,
@@ -372,7 +374,7 @@ fn scan_first(text: &[u8], from: usize, form: Form, n: usize) -> Scan
 }
 
 // The fields a, b and c in one scan. They are found where c has an end.
-#[derive(Drop)]
+#[derive(Clone, Copy)]
 pub struct Scans {
     pub a: Scan,
     pub b: Scan,
@@ -418,7 +420,7 @@ fn scan_called(text: &[u8], from: usize, form: Form) -> usize
 }
 
 // A line that one scan finds to pass rows 5 to 7, or one that it says nothing of.
-#[derive(Drop)]
+#[derive(Clone, Copy)]
 pub enum Quick {
     Line(LineCells),
     Slow,
@@ -509,7 +511,7 @@ fn put_cells(table: &mut [i64], base: usize, row: LineCells)
 }
 
 // Where the next line begins, or the row that refuses this one.
-#[derive(Drop)]
+#[derive(Clone, Copy)]
 pub enum Next {
     At(usize),
     Stop(u64),

@@ -1,5 +1,7 @@
 // Rows of marks, one bit a mark, in words that the caller lends: a square of w words a row.
 
+#![tactic(auto)]
+
 ghost use Rattle.std.specs.Prelude.{◌≡◌, true, false, ◌++◌, ℕ, ◌+◌, ◌*◌, ◌≤◌, ◌<◌, length, take};
 ghost use Rattle.marks.specs.Marks.{mark, InSquare, Added, Dropped, places, Common, Rising, First};
 

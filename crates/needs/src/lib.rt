@@ -1,6 +1,8 @@
 // What the members of Groups need, made in place from the rows of what reaches each value: rows are added to those of their Groups, and
 // nothing needs itself.
 
+#![tactic(auto)]
+
 ghost use Rattle.std.specs.Prelude.{◌+◌, ◌*◌, ◌≤◌, length};
 ghost use Rattle.cells.specs.Limits.{label_limit};
 ghost use Rattle.cells.specs.Accepted.{Accepted};

@@ -1,5 +1,7 @@
 // Numbers of a sheet: exact arithmetic with a rounded quotient, and decimal numbers from bytes.
 
+#![tactic(auto)]
+
 ghost use Rattle.std.specs.Prelude.{◌≡◌, ◌^◌, ◌≤◌, ◌<◌, length, nat_abs};
 ghost use Rattle.std.proofs.Math.Seq.{slice};
 ghost use Rattle.cells.specs.Limits.{number_limit};
@@ -36,7 +38,7 @@ pub fn in_range(x: i64) -> bool
 // ---- rounding
 
 // What becomes of a half: the neighbour of larger size, or the even one.
-#[derive(Drop)]
+#[derive(Clone, Copy)]
 pub enum Tie {
     Away,
     Even,
@@ -80,7 +82,7 @@ pub fn nearest(tie: Tie, a: i64, b: i64) -> i64
 // ---- arithmetics
 
 // The arithmetic by which a sheet is evaluated: whole numbers, with a tie rule for quotients.
-#[derive(Drop)]
+#[derive(Clone, Copy)]
 pub enum Arithmetic {
     HalvesAway,
     HalvesToEven,
@@ -109,7 +111,7 @@ pub fn rounding_by(tie: Tie) -> Arithmetic
 // ---- the four operations
 
 // What an operation gives: a number of a sheet, or why there is none.
-#[derive(Drop)]
+#[derive(Clone, Copy)]
 pub enum Calculated {
     Number(i64),
     OutOfRange,
@@ -148,14 +150,14 @@ pub fn calculate(arithmetic: Arithmetic, op: Operation, a: i64, b: i64) -> Calcu
 // ---- decimal numbers
 
 // What a decimal in the text is, if it has the form asked for.
-#[derive(Drop)]
+#[derive(Clone, Copy)]
 pub enum Decimal {
     Is(u64),
     Not,
 }
 
 // What a number in the text is, with its sign, if it has the form of one.
-#[derive(Drop)]
+#[derive(Clone, Copy)]
 pub enum Number {
     Is(i64),
     Not,

@@ -1,5 +1,7 @@
 // Groups with blocks of several put in order: the blocks are placed, and their chains joined into that of the Group.
 
+#![tactic(auto)]
+
 ghost use Rattle.std.specs.Prelude.{◌≡◌, ◌+◌, ◌*◌, ◌≤◌, ◌<◌, length, take};
 ghost use Rattle.cells.specs.Limits.{label_limit};
 ghost use Rattle.cells.specs.Accepted.{Accepted};

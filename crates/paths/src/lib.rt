@@ -1,6 +1,8 @@
 // Names and paths: rows 12 to 15 of document 01's table of refusals, and the target of each R and C.
 // Each Group has buckets of its own: a lookup in a Group walks those of its members that stand in the bucket of the name looked for.
 
+#![tactic(auto)]
+
 ghost use Rattle.std.specs.Prelude.{◌≡◌, true, ◌&&◌, ℕ, ◌+◌, ◌-◌, ◌*◌, ◌%◌, ◌≤◌, ◌<◌, min, eqb, pos, length, get_or, set, drop};
 ghost use Rattle.std.proofs.Math.Seq.{slice};
 ghost use Rattle.cells.specs.Limits.{label_limit};

@@ -2,6 +2,8 @@
 // are unmet is counted once; each placing lowers the counts of those that need what is placed. Items that need only earlier ones are
 // placed as they stand.
 
+#![tactic(auto)]
+
 ghost use Rattle.std.specs.Prelude.{◌≡◌, true, false, [], ◌↔◌, ℕ, ◌+◌, ◌*◌, ◌≤◌, ◌<◌, length, get_or, take};
 ghost use Rattle.order.specs.LabelLists.{one, count, ◌∈◌, filter};
 ghost use Rattle.marks.specs.Marks.{mark, places};

@@ -1,5 +1,7 @@
 // The plan of an accepted table: the blocks of every Group in order, listed Group by Group. It is mixed where a Group had to be opened.
 
+#![tactic(auto)]
+
 ghost use Rattle.std.specs.Prelude.{◌≡◌, ℕ, ◌+◌, ◌*◌, ◌≤◌, ◌<◌, length};
 ghost use Rattle.kinds.specs.Kinds.{group_code};
 ghost use Rattle.cells.specs.Table.{kind};
@@ -15,7 +17,7 @@ ghost use Rattle.planning.specs.Listing.{list_of, PutAt};
 ghost use Rattle.planning.specs.Plans.{PlanIs};
 
 // What planning finds: the smallest value that reaches itself, or the length of a whole or a mixed plan.
-#[derive(Drop)]
+#[derive(Clone, Copy)]
 pub enum Planned {
     Cycle(u64),
     Whole(u64),

@@ -1,5 +1,7 @@
 // What the program prints of a sheet, as bytes in a lent buffer.
 
+#![tactic(auto)]
+
 ghost use Rattle.std.specs.Prelude.{◌≡◌, [], ◌∷◌, ◌++◌, ◌+◌, ◌-◌, ◌≤◌, ◌<◌, min, length, nat_abs};
 ghost use Rattle.cells.specs.Characters.{space};
 ghost use Rattle.cells.specs.Cells.{nat_of};
@@ -247,7 +249,7 @@ fn put_zeros(out: &mut [u8], at: usize) -> usize
 
 // What the print answers: Run's refusal and its place, 0 and 0 on an answer; and the length of the whole print.
 #[repr(C)]
-#[derive(Drop)]
+#[derive(Clone, Copy)]
 pub struct Printed {
     pub refusal: u64,
     pub place: u64,

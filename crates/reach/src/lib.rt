@@ -1,6 +1,8 @@
 // What each value reaches, or is reached from: a row of marks for each, made from the rows of those that it links to, so that no definition is
 // looked at twice for one value. With a V its row has the Groups around it, since Groups need what their values do.
 
+#![tactic(auto)]
+
 ghost use Rattle.std.specs.Prelude.{◌≡◌, ◌⊎◌, ℕ, ◌+◌, ◌*◌, ◌≤◌, ◌<◌, length, get_or, take};
 ghost use Rattle.cells.specs.Limits.{label_limit};
 ghost use Rattle.kinds.specs.Kinds.{value_code};

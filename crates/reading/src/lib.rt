@@ -1,5 +1,7 @@
 // Read: rows 1 to 15 of document 01's table of refusals in its order, and the table of the sheet.
 
+#![tactic(auto)]
+
 ghost use Rattle.std.specs.Prelude.{◌≡◌, ◌*◌, ◌≤◌, length};
 ghost use Rattle.lines.specs.Lined.{Lined};
 ghost use Rattle.reading.specs.Read.{ReadLeaves};
@@ -68,7 +70,7 @@ pub fn read(text: &[u8], table: &mut [i64]) -> Reply
 
 // A part of the text: its start and its length, 0 and 0 where it is empty. C sees it as it is.
 #[repr(C)]
-#[derive(Drop)]
+#[derive(Clone, Copy)]
 pub struct TextPart {
     pub start: u64,
     pub length: u64,

@@ -1,6 +1,8 @@
 // Order 4's pairs, applied in turn to a sheet whose values have been evaluated: after each number, the values that depend on it are
 // evaluated again in plan order, and no others.
 
+#![tactic(auto)]
+
 ghost use Rattle.std.specs.Prelude.{◌≡◌, [], ◌∷◌, ℕ, ◌+◌, ◌*◌, ◌^◌, ◌≤◌, ◌<◌, length, get_or, pos};
 ghost use Rattle.std.proofs.lemmas.List.Edits.{sets};
 ghost use Rattle.cells.specs.Cells.{nat_at};
@@ -22,7 +24,7 @@ ghost use Rattle.redoing.specs.RedoStages.{FoundWindow, OwnersMarked, OwnersWind
 use numbers::Arithmetic;
 
 // "For each pair, how many values were redone, how many now fail, and the sum of all step counts."
-#[derive(Drop)]
+#[derive(Clone, Copy)]
 pub struct Change {
     pub redone: u64,
     pub failing: u64,
@@ -393,7 +395,7 @@ fn apply(
 }
 
 // What a Run has completed of a sheet: how many labels it has, how many values its plan lists, and the arithmetic that it was evaluated by.
-#[derive(Drop)]
+#[derive(Clone, Copy)]
 pub struct Completed {
     pub n: usize,
     pub count: usize,

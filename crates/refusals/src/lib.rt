@@ -1,5 +1,7 @@
 // Refusals: the numbers of document 01's table "Where each refusal is found" and of document 02's orders, and the answers that carry one.
 
+#![tactic(auto)]
+
 // Rows of the table, in its order. The paper's words stand in specs/Rows.antt.
 pub const TEXT: u64 = 1;
 
@@ -45,14 +47,14 @@ pub const PAIR_LABEL: u64 = 20;
 pub const PAIR_NUMBER: u64 = 21;
 
 // What a pass finds: nothing, or a refusal, which is a number and a place.
-#[derive(Drop)]
+#[derive(Clone, Copy)]
 pub enum Verdict {
     Fine,
     Refused(u64, u64),
 }
 
 // What a call answers: a count, or a refusal.
-#[derive(Drop)]
+#[derive(Clone, Copy)]
 pub enum Reply {
     Answered(u64),
     Refused(u64, u64),

@@ -1,5 +1,7 @@
 // Order 4's Retouch: Run, then a list of new numbers applied in turn. A refused call leaves nothing but zeros.
 
+#![tactic(auto)]
+
 ghost use Rattle.std.specs.Prelude.{◌≡◌, ◌*◌, ◌≤◌, length};
 ghost use Rattle.cells.specs.Cells.{zeros};
 ghost use Rattle.reading.specs.ReadStages.{Passed};

@@ -1,4 +1,7 @@
 // The program: reads a sheet from standard input, or from each file that an argument names, and prints what running it gives.
+
+#![tactic(auto)]
+
 use libc::{STDIN_FILENO, STDOUT_FILENO};
 
 // Prints what running a text gives: at most 49,188 bytes, as `printing::print` promises.

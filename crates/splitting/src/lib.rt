@@ -1,5 +1,7 @@
 // A Group split into its blocks: the lead of each member is found, and the values under a block of several stand in the chain of its leader.
 
+#![tactic(auto)]
+
 ghost use Rattle.std.specs.Prelude.{◌≡◌, ◌+◌, ◌*◌, ◌≤◌, ◌<◌, length, get_or, take};
 ghost use Rattle.cells.specs.Limits.{label_limit};
 ghost use Rattle.cells.specs.Accepted.{Accepted};

@@ -1,6 +1,8 @@
 // The text of a sheet: its bytes, the pieces between separators, and the forms of a field.
 // A part of the text is given by two positions, `from` and `to`, the second past its last byte.
 
+#![tactic(auto)]
+
 ghost use Rattle.std.specs.Prelude.{◌≡◌, ◌+◌, ◌^◌, ◌≤◌, ◌<◌, eqb, length, true};
 ghost use Rattle.std.proofs.Math.Seq.{slice};
 ghost use Rattle.cells.specs.Limits.{label_limit, number_limit, size_limit};
@@ -38,14 +40,14 @@ fn newline(b: u8) -> u8
 }
 
 // How many bytes of a text row 1 does not allow, and how many lines it has.
-#[derive(Drop)]
+#[derive(Clone, Copy)]
 pub struct Counts {
     pub bad: u32,
     pub lines: u32,
 }
 
 // The same of at most 128 bytes: counts of one byte, so that sixteen bytes are counted at once.
-#[derive(Drop)]
+#[derive(Clone, Copy)]
 pub struct BlockCounts {
     pub bad: u8,
     pub lines: u8,
@@ -421,7 +423,7 @@ pub fn scan_path(text: &[u8], from: usize, stop: u8) -> usize
 }
 
 // Where digits end, and their value.
-#[derive(Drop)]
+#[derive(Clone, Copy)]
 pub struct Digits {
     pub end: usize,
     pub value: u64,

@@ -1,6 +1,8 @@
 // The tree of a table: rows 8 to 11 of document 01's table of refusals, and the owner of each label. A user's label is below that of what
 // it uses, so that one pass upward through the labels does it all; levels stand in the target cells meanwhile.
 
+#![tactic(auto)]
+
 ghost use Rattle.std.specs.Prelude.{◌≡◌, true, cond, ◌&&◌, ◌+◌, ◌*◌, ◌≤◌, ◌<◌, length};
 ghost use Rattle.cells.specs.Limits.{label_limit};
 ghost use Rattle.cells.specs.Lists.{all, or_if_zero};
@@ -19,7 +21,7 @@ use refusals::Verdict;
 // ---- one line
 
 // What a line is in the tree: whether it is a definition, and what its fields a, b and c hold as its body or operands, else 0.
-#[derive(Drop)]
+#[derive(Clone, Copy)]
 pub struct Node {
     pub definition: bool,
     pub a: usize,

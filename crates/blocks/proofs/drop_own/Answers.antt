@@ -1,0 +1,13 @@
+use mathlib.Core.Path.{refl, sym, ◌∙◌}
+use borrow.Author.Rules.{rules}
+use Rattle.blocks.proofs.drop_own.Goals as goal
+
+pub drop_mark-requires : goal.drop_mark-requires
+drop_mark-requires c =
+    let entry = c.before.before.before.before.before in record {
+  in_square = entry.requires;
+  q_value = sym c.has_mark.ensures ∙ c.if-has_mark.true;
+}
+
+pub returns-else-has_mark : goal.returns-else-has_mark
+returns-else-has_mark c = record { gone = sym c.has_mark.ensures ∙ c.if-has_mark.false; others = λ a b d. refl }

@@ -1,0 +1,18 @@
+use mathlib.Core.Path.{◌≡◌}
+use mathlib.Core.Bool.{true, false}
+use Prim.Native.Nat.{ℕ, ◌+◌, ◌-◌, ◌*◌, ◌<◌, ◌≤◌}
+use native.Mathlib.Omega.{arith}
+use borrow.Author.Rules.{rules}
+use lib.Bits.{bit_and, and_lt}
+use lib.Count.{trailing_le}
+use lib.ListN.{get_or}
+use Rattle.marks.specs.Marks.{mark}
+use Rattle.marks.proofs.Squares.{mark_in}
+use Rattle.blocks.proofs.Parts.{common_found, common_turn}
+use Rattle.blocks.proofs.first_common.Given as goal
+
+abbrev pub invariant-loop-j : goal.invariant-loop-j
+invariant-loop-j l = (l.j ≤ l.w) × ((q : ℕ) → q < 64 * l.j → mark l.mask l.w 0 q ≡ true → mark l.s l.w l.p q ≡ false)
+
+abbrev pub decreases-loop-j : goal.decreases-loop-j
+decreases-loop-j l = l.w - l.j

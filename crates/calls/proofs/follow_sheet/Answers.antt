@@ -1,0 +1,35 @@
+-- The list accepted, and the results down it; or a refusal.
+use mathlib.Core.Path.{◌∙◌, ap, sym}
+use Prim.Native.Nat.{◌*◌}
+use native.Mathlib.Omega.{arith}
+use lib.ListN.{length}
+use lib.Seq.{length-take-le}
+use borrow.Author.Rules.{rules}
+use Rattle.cells.specs.Cells.{zeros}
+use Rattle.calls.proofs.Lists.{list_ready, list_follows, list_refused}
+use Rattle.calls.proofs.follow_sheet.Goals as goal
+
+pub arithmetic_of-own-requires : goal.arithmetic_of-own-requires
+arithmetic_of-own-requires c = c.requires.0.head
+
+pub enum_told-1 : goal.enum_told-1
+enum_told-1 c = search rules
+
+pub slice_bounds-run_down-end-in-Fine : goal.slice_bounds-run_down-end-in-Fine
+slice_bounds-run_down-end-in-Fine c = sym (length-take-le (8 * c.args.n) c.follow_rows.new.table (omega (arith, c.requires.1, c.follow_rows.auto.table)))
+
+pub run_down-requires : goal.run_down-requires
+run_down-requires c =
+    let w = list_ready _ c.args.order.now (length c.args.table.now) _ c.requires.0 _ _ c.follow_rows.ensures c.in-Fine.is in
+    (w.0, omega arith, c.requires.2, w.1)
+
+pub returns-in-Fine : goal.returns-in-Fine
+returns-in-Fine c =
+    list_follows _ c.args.order.now (length c.args.table.now) _ c.requires.0 _ _ c.follow_rows.ensures c.arithmetic_of-own.ensures _ _
+    c.in-Fine.is c.run_down.ensures
+
+pub returns-in-Refused : goal.returns-in-Refused
+returns-in-Refused c =
+    let zeroed = c.clear_both.ensures in
+    list_refused _ c.args.order.now (length c.args.table.now) _ c.requires.0 _ _ c.follow_rows.ensures _ _ _ _ _
+    c.in-Refused.is (zeroed.0 ∙ ap zeros c.follow_rows.auto.table) zeroed.1

@@ -1,0 +1,19 @@
+-- Rows 1 to 4, then the others.
+use lib.ListN.{length}
+use borrow.Author.Rules.{rules}
+use Rattle.calls.proofs.Calls.{plan_ready, plan_answered, plan_refused}
+use Rattle.calls.proofs.plan.Goals as goal
+
+pub plan_sheet-requires : goal.plan_sheet-requires
+plan_sheet-requires c = plan_ready c.args.text.now (length c.args.table.now) (length c.args.plan.now) _ c.head_plan.ensures _ c.in-Answered.is
+
+pub returns-in-Answered : goal.returns-in-Answered
+returns-in-Answered c =
+    plan_answered c.args.text.now (length c.args.table.now) (length c.args.plan.now) _
+    c.head_plan.ensures _ _ _ _ c.in-Answered.is c.plan_sheet.ensures
+
+pub returns-in-Refused : goal.returns-in-Refused
+returns-in-Refused c =
+    let zeroed = c.clear_both.ensures in
+    plan_refused c.args.text.now (length c.args.table.now) (length c.args.plan.now) _
+    c.head_plan.ensures _ _ _ _ c.in-Refused.is zeroed.0 zeroed.1

@@ -1,0 +1,27 @@
+-- Rows 5 to 15, then row 16 and the plan.
+use mathlib.Core.Path.{◌∙◌, ap}
+use native.Mathlib.Omega.{arith}
+use lib.ListN.{length}
+use borrow.Author.Rules.{rules}
+use Rattle.cells.specs.Cells.{zeros}
+use Rattle.calls.proofs.Sheets.{sheet_ready, sheet_plans, sheet_refused, refused_plans}
+use Rattle.calls.proofs.plan_sheet.Goals as goal
+
+pub enum_told-1 : goal.enum_told-1
+enum_told-1 c = search rules
+
+pub plan_table-requires : goal.plan_table-requires
+plan_table-requires c =
+    let ok = sheet_ready _ (length c.args.table.now) _ c.requires.0 _ _ c.read_sheet.ensures c.in-Fine.is in
+    (ok, omega (arith, c.requires.1, c.read_sheet.auto.table), c.requires.2)
+
+pub returns-in-Fine : goal.returns-in-Fine
+returns-in-Fine c =
+    sheet_plans _ (length c.args.table.now) _ c.requires.0 _ _ c.read_sheet.ensures _ _ _ _
+    c.in-Fine.is c.read_sheet.auto.table c.plan_table.ensures
+
+pub returns-in-Refused : goal.returns-in-Refused
+returns-in-Refused c =
+    let refused = sheet_refused _ (length c.args.table.now) _ c.requires.0 _ _ c.read_sheet.ensures _ _ c.in-Refused.is in
+    let zeroed = c.clear_both.ensures in
+    refused_plans _ _ (length c.args.table.now) _ _ _ _ _ refused (zeroed.0 ∙ ap zeros c.read_sheet.auto.table) zeroed.1

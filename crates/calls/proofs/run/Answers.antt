@@ -1,0 +1,21 @@
+-- Rows 1 to 4, then the others and the results.
+use lib.ListN.{length}
+use borrow.Author.Rules.{rules}
+use Rattle.calls.proofs.Calls.{run_ready, run_answered, run_refused}
+use Rattle.calls.proofs.run.Goals as goal
+
+pub run_sheet-requires : goal.run_sheet-requires
+run_sheet-requires c =
+    run_ready c.args.text.now (length c.args.table.now) (length c.args.plan.now) (length c.args.results.now) _
+    c.head_run.ensures _ c.in-Answered.is
+
+pub returns-in-Answered : goal.returns-in-Answered
+returns-in-Answered c =
+    run_answered c.args.text.now (length c.args.table.now) (length c.args.plan.now) (length c.args.results.now) _
+    c.head_run.ensures _ _ _ _ _ c.in-Answered.is c.run_sheet.ensures
+
+pub returns-in-Refused : goal.returns-in-Refused
+returns-in-Refused c =
+    let zeroed = c.clear_both.ensures in
+    run_refused c.args.text.now (length c.args.table.now) (length c.args.plan.now) (length c.args.results.now) _
+    c.head_run.ensures _ _ _ _ _ c.in-Refused.is zeroed.0 zeroed.1 c.clear.ensures

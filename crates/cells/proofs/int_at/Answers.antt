@@ -1,0 +1,8 @@
+use lib.IntN.{pos}
+use mathlib.Core.Path.{sym}
+use lib.ListN.{get_or-eq_default}
+use borrow.Author.Rules.{rules}
+use Rattle.cells.proofs.int_at.Goals as goal
+
+pub returns-else-i-t : goal.returns-else-i-t
+returns-else-i-t c = sym (get_or-eq_default c.args.t.now (pos 0) c.if-i-t.false)

@@ -1,0 +1,25 @@
+use mathlib.Core.Logic.{inl, inr}
+use Prim.Native.Nat.{ℕ}
+use native.Mathlib.Omega.{arith}
+use lib.ListN.{length-replicate}
+use Rattle.following.proofs.Places.{cycle_stop, cycle_on}
+use borrow.Author.Rules.{rules}
+use Rattle.following.proofs.check_in.Goals as goal
+
+pub find_cycle-v-requires : goal.find_cycle-v-requires
+find_cycle-v-requires c = let pre = c.requires in (pre.0, (search (inl, inr), pre.1))
+
+pub returns-then-v-ne0 : goal.returns-then-v-ne0
+returns-then-v-ne0 c = cycle_stop _ _ _ _ _ c.find_cycle-v.ensures.0 c.if-v-ne0.true c.found_at.ensures
+
+pub check_list-requires : goal.check_list-requires
+check_list-requires c =
+    let pre = c.before.before.before.before.before.before.before.before.requires in
+    let w = length-replicate {0} {A = ℕ} 17 0 in record {
+  accepted = pre.0;
+  n_in_bounds = (omega (arith, pre.1.0, c.find_cycle-v.auto.square), c.find_cycle-v.ensures.1);
+  n_in_bounds_2 = omega (arith, w, pre.0.few);
+}
+
+pub returns : goal.returns
+returns c = cycle_on _ _ _ _ _ c.find_cycle-v.ensures.0 c.if-v-ne0.false c.check_list.ensures

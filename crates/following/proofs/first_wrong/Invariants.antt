@@ -1,0 +1,20 @@
+use mathlib.Core.Path.{◌≡◌, refl, sym, ◌∙◌}
+use mathlib.Core.List.{[]}
+use Prim.Native.Nat.{◌-◌, ◌≤◌}
+use native.Mathlib.Omega.{arith}
+use borrow.Author.Rules.{rules}
+use lib.ListN.{length, take}
+use Rattle.order.specs.Following.{labels_of, first_position}
+use Rattle.marks.proofs.Squares.{mark_in}
+use Rattle.following.specs.Left.{Left, lacks}
+use Rattle.following.proofs.Steps.{onward}
+use Rattle.following.proofs.Taken.{left_all, left_turn, left_end, wrong_here, wrong_turn, onward_none}
+use Rattle.following.proofs.first_wrong.Given as goal
+
+abbrev pub invariant-loop-i : goal.invariant-loop-i
+invariant-loop-i l =
+    (length l.left ≡ length l.initial.left) × (l.i ≤ length l.order) × Left l.initial.left l.w (take l.i (labels_of l.order)) l.left
+    × (onward (lacks l.initial.left l.w) (labels_of l.order) l.i ≡ first_position (lacks l.initial.left l.w) [] 1 (labels_of l.order))
+
+abbrev pub decreases-loop-i : goal.decreases-loop-i
+decreases-loop-i l = length l.order - l.i

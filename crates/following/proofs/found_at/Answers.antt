@@ -1,0 +1,6 @@
+use Rattle.following.proofs.Places.{found_is}
+use borrow.Author.Rules.{rules}
+use Rattle.following.proofs.found_at.Goals as goal
+
+pub returns : goal.returns
+returns c = found_is _ _ c.if-place-eq0.false

@@ -1,0 +1,19 @@
+use mathlib.Core.Path.{◌≡◌, refl, sym, ◌∙◌}
+use mathlib.Core.Logic.{⊎_elim}
+use mathlib.Core.Bool.{◌&&◌}
+use Prim.Native.Nat.{ℕ, ◌+◌, ◌-◌, ◌≤◌}
+use native.Mathlib.Omega.{arith}
+use borrow.Author.Rules.{rules}
+use lib.Dec.{ltb}
+use lib.ListN.{length}
+use Rattle.order.specs.Order.{is_v}
+use Rattle.marks.specs.Marks.{mark}
+use Rattle.reach.specs.MarkRows.{width}
+use Rattle.following.proofs.Words.{values_start, values_skip, values_put, values_end}
+use Rattle.following.proofs.mark_values.Given as goal
+
+abbrev pub invariant-loop-v : goal.invariant-loop-v
+invariant-loop-v l = (length l.left ≡ length l.initial.left) × (1 ≤ l.v) × (l.v ≤ l.n + 1) × ((q : ℕ) → mark l.left (width l.n) 0 q ≡ (ltb q l.v && is_v l.table q))
+
+abbrev pub decreases-loop-v : goal.decreases-loop-v
+decreases-loop-v l = l.n + 1 - l.v

@@ -1,0 +1,17 @@
+use mathlib.Core.Path.{◌≡◌, refl}
+use mathlib.Core.Bool.{true, false}
+use Prim.Native.Nat.{ℕ, ◌+◌, ◌-◌, ◌*◌, ◌≤◌, ◌<◌}
+use native.Mathlib.Omega.{arith}
+use borrow.Author.Rules.{rules}
+use lib.Bits.{bit_and, and_le_r}
+use lib.ListN.{get_or}
+use Rattle.order.proofs.Tests.{both_ways}
+use Rattle.marks.specs.Marks.{mark}
+use Rattle.following.proofs.Words.{apart_turn, meets_here, meets_none}
+use Rattle.following.proofs.meets.Given as goal
+
+abbrev pub invariant-loop-j : goal.invariant-loop-j
+invariant-loop-j l = (l.j ≤ l.w) × ((q : ℕ) → q < 64 * l.j → mark l.square l.w l.v q ≡ true → mark l.left l.w 0 q ≡ true → ⊥)
+
+abbrev pub decreases-loop-j : goal.decreases-loop-j
+decreases-loop-j l = l.w - l.j

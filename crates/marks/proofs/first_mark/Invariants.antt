@@ -1,0 +1,16 @@
+use mathlib.Core.Path.{◌≡◌}
+use mathlib.Core.Bool.{false}
+use Prim.Native.Nat.{ℕ, ◌-◌, ◌*◌, ◌<◌, ◌≤◌}
+use native.Mathlib.Omega.{arith}
+use borrow.Author.Rules.{rules}
+use lib.Count.{trailing_le}
+use lib.ListN.{get_or}
+use Rattle.marks.specs.Marks.{mark}
+use Rattle.marks.proofs.Squares.{first_turn, first_found}
+use Rattle.marks.proofs.first_mark.Given as goal
+
+abbrev pub invariant-loop-j : goal.invariant-loop-j
+invariant-loop-j l = (l.j ≤ l.w) × ((q : ℕ) → q < 64 * l.j → mark l.s l.w 0 q ≡ false)
+
+abbrev pub decreases-loop-j : goal.decreases-loop-j
+decreases-loop-j l = l.w - l.j

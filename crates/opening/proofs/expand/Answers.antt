@@ -1,0 +1,58 @@
+use mathlib.Core.Path.{◌≡◌, refl, sym, ◌∙◌}
+use Prim.Native.Nat.{◌-◌, ◌≤◌, ◌<◌}
+use native.Mathlib.Omega.{arith}
+use borrow.Author.Rules.{rules}
+use lib.ListN.{length, get_or, take}
+use lib.Seq.{length-take-le, get_or-take}
+use Rattle.order.specs.LabelLists.{◌∈◌}
+use Rattle.splitting.proofs.Linking.{Expanding, expanding_none, expand_item, expand_walk, expanding_turn, expanding_all}
+use Rattle.opening.proofs.expand.Goals as goal
+use Rattle.opening.proofs.expand.Goals.{After-widen-b}
+
+-- in a turn: the one at hand
+module _ (c : After-widen-b) where
+  before : c.loop-i.i < length (take c.args.k c.args.order.now)
+  before =
+      omega (arith, c.loop-i-test.true, length-take-le c.args.k c.args.order.now c.requires.n_le_label_limit.2)
+
+  here : c.widen-b.result ≡ get_or (take c.args.k c.args.order.now) c.loop-i.i 0
+  here =
+      c.widen-b.ensures ∙ sym (get_or-take c.args.k c.args.order.now c.loop-i.i 0 c.loop-i-test.true)
+
+  item : c.widen-b.result ∈ take c.args.k c.args.order.now
+  item = expand_item _ _ _ _ c.requires.chains _ c.loop-i.invariant.0 _ _ c.loop-i.invariant.2 before _ here
+
+pub loop-i-init : goal.loop-i-init
+loop-i-init c = (refl, omega arith, expanding_none _ _ _ _ c.requires.chains _)
+
+pub bounds-order-i : goal.bounds-order-i
+bounds-order-i c = omega (arith, c.loop-i-test.true, c.requires.n_le_label_limit.2)
+
+pub append_chain-m-requires : goal.append_chain-m-requires
+append_chain-m-requires c =
+    let p = c.requires in (
+      (p.0.0, p.1.label _ (item (goal.at.append_chain-m-requires c).After-widen-b), p.0.1, c.loop-i.invariant.2.short),
+      expand_walk _ _ _ _ p.1 _ c.loop-i.invariant.0 _ _ c.loop-i.invariant.2 (before (goal.at.append_chain-m-requires c).After-widen-b) _ (here (goal.at.append_chain-m-requires c).After-widen-b),
+    )
+
+pub overflow_add-i : goal.overflow_add-i
+overflow_add-i c = omega (arith, c.loop-i-test.true, c.ranges)
+
+pub loop-i-smaller : goal.loop-i-smaller
+loop-i-smaller c = omega (arith, c.loop-i-test.true)
+
+pub loop-i-preserved : goal.loop-i-preserved
+loop-i-preserved c =
+    let p = c.requires in (
+      c.append_chain-m.auto.items ∙ c.loop-i.invariant.0,
+      omega (arith, c.loop-i-test.true),
+      expanding_turn _ _ _ _ p.1 _ c.loop-i.invariant.0 _ _ c.loop-i.invariant.2 (before (goal.at.loop-i-preserved c).After-widen-b) _ (here (goal.at.loop-i-preserved c).After-widen-b) _ _ c.append_chain-m.ensures,
+    )
+
+pub shape_of-out : goal.shape_of-out
+shape_of-out c = c.loop-i.invariant.0
+
+pub returns : goal.returns
+returns c =
+    let p = c.requires in
+    expanding_all _ _ _ _ p.1 _ _ _ c.loop-i.invariant.2 (omega (arith, c.loop-i-test.false, length-take-le c.args.k c.args.order.now p.0.2))

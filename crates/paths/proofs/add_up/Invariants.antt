@@ -1,0 +1,11 @@
+use mathlib.Core.Path.{refl}
+use Prim.Native.Nat.{◌+◌, ◌-◌, ◌≤◌}
+use Rattle.paths.proofs.Allotting.{Summed, sum_start, sum_next, sum_turn, sum_rises}
+use native.Mathlib.Omega.{arith}
+use Rattle.paths.proofs.add_up.Given as goal
+
+abbrev pub invariant-loop-group : goal.invariant-loop-group
+invariant-loop-group l = (l.group ≤ l.n + 1) × Summed l.initial.starts l.group l.starts
+
+abbrev pub decreases-loop-group : goal.decreases-loop-group
+decreases-loop-group l = l.n + 1 - l.group

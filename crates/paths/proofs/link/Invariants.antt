@@ -1,0 +1,12 @@
+use mathlib.Core.Path.{◌∙◌, sym}
+use Prim.Native.Nat.{◌+◌, ◌-◌}
+use Rattle.paths.proofs.Passes.{pass_stop, pass_done, not_fine}
+use Rattle.paths.proofs.Linking.{Linking, linking_start, linking_turn, linking_done}
+use native.Mathlib.Omega.{arith}
+use Rattle.paths.proofs.link.Given as goal
+
+abbrev pub invariant-loop-label : goal.invariant-loop-label
+invariant-loop-label l = Linking l.text l.table l.n l.starts l.initial.links l.links l.label
+
+abbrev pub decreases-loop-label : goal.decreases-loop-label
+decreases-loop-label l = l.n + 1 - l.label

@@ -1,0 +1,11 @@
+use mathlib.Core.Path.{◌∙◌}
+use Prim.Native.Nat.{◌-◌}
+use native.Mathlib.Omega.{arith}
+use Rattle.paths.proofs.SameName.{Comparing, compare_start, lowered_same, compare_turn, compare_miss, compare_rest}
+use Rattle.paths.proofs.same_name.Given as goal
+
+abbrev pub invariant-loop-i : goal.invariant-loop-i
+invariant-loop-i l = Comparing l.text l.a l.b l.size l.i
+
+abbrev pub decreases-loop-i : goal.decreases-loop-i
+decreases-loop-i l = l.size - l.i

@@ -1,0 +1,26 @@
+use Prim.Native.Nat.{◌≤◌}
+use native.Mathlib.Omega.{arith}
+use borrow.Author.Rules.{rules}
+use Rattle.cells.specs.Limits.{label_limit}
+use Rattle.planning.proofs.Plans.{zero_search}
+use Rattle.planning.proofs.open_stuck.Goals as goal
+
+pub open_small-requires : goal.open_small-requires
+open_small-requires c =
+    let p = c.requires in record {
+  accepted = p.0;
+  n_bound = c.if-n-le127.true;
+  n_in_bounds = p.1.0;
+  n_in_bounds_2 = p.1.1;
+}
+
+pub open_groups-requires : goal.open_groups-requires
+open_groups-requires c =
+    let p = c.requires in
+    let h : c.args.n ≤ label_limit = p.0.0.few in
+    let z = zero_search c.args.n 1025 17 (omega arith) (omega arith) in record {
+  accepted = p.0;
+  n_in_bounds = ((p.1.0.0.0, p.1.0.0.1, z.0), p.1.0.1);
+  search_room = z.1;
+  n_in_bounds_2 = p.1.1;
+}

@@ -1,0 +1,7 @@
+use mathlib.Core.Path.{ap, ◌∙◌}
+use borrow.Author.Rules.{rules}
+use Rattle.kinds.specs.Kinds as kinds
+use Rattle.reach.proofs.has_path.Goals as goal
+
+pub returns : goal.returns
+returns c = c.has_path.ensures ∙ ap kinds.has_path c.kind_of.ensures

@@ -1,0 +1,20 @@
+-- Two cells of the label in the table that Read leaves.
+use mathlib.Core.Path.{refl}
+use mir.Facts.{to_z-of_z}
+use lib.ListN.{length}
+use borrow.Author.Rules.{rules}
+use Rattle.reading.proofs.Named.{part_answered, part_refused}
+use Rattle.reading.proofs.name_part.Goals as goal
+
+pub enum_told-1 : goal.enum_told-1
+enum_told-1 c = search rules
+
+pub returns-in-Answered : goal.returns-in-Answered
+returns-in-Answered c =
+    let entry = done.before.before.before in
+    let leaves = c.read.ensures in
+    part_answered entry.args.text.now (length entry.args.table.now) entry.args.label _ _ _ _ (rw c.in-Answered.is at leaves)
+    (rw (to_z-of_z entry.ranges.label) at c.label_in-l.ensures) c.cell_at.ensures c.cell_at-in-Answered.ensures
+
+pub returns-in-Refused : goal.returns-in-Refused
+returns-in-Refused c = part_refused c.args.text.now (length c.args.table.now) c.args.label _ _ _ _ (rw c.in-Refused.is at c.read.ensures) refl refl

@@ -1,0 +1,60 @@
+use mathlib.Core.Path.{refl}
+use mathlib.Core.Logic.{inl}
+use Prim.Native.Nat.{◌-◌}
+use native.Mathlib.Omega.{arith}
+use Rattle.redoing.specs.Pairs.{pair_count}
+use Rattle.redoing.proofs.Owners.{Marking, pair_line, pair_owner, marking_start, marking_room, marking_next, marking_done}
+use Rattle.redoing.proofs.mark_owners.Goals as goal
+
+pub loop-k-init : goal.loop-k-init
+loop-k-init c =
+    let pre = c.requires in
+    marking_start _ _ _ pre.0.0 pre.0.1 _ _ _ pre.1.1.1.0 pre.1.1.1.1
+
+pub label_of-label-requires : goal.label_of-label-requires
+label_of-label-requires c = omega (arith, c.loop-k-test.true)
+
+pub cell_of-d-requires : goal.cell_of-d-requires
+cell_of-d-requires c =
+    let pre = c.requires in
+    let l = pair_line _ _ _ pre.0.0 pre.0.1 _ c.loop-k-test.true c.label_of-label.ensures in
+    (pre.0.0, (l.0, l.1, omega arith, omega arith))
+
+pub visit-requires : goal.visit-requires
+visit-requires c =
+    let pre = c.requires in
+    let inv = c.loop-k.invariant in
+    let room = marking_room _ _ _ pre.0.0 pre.0.1 _ _ _ pre.1.1.1.0 inv pre.1.1.0 in
+    let body = pair_owner _ _ _ pre.0.0 pre.0.1 _ c.loop-k-test.true c.label_of-label.ensures c.cell_of-d.ensures in record {
+  accepted = pre.0.0;
+  column = inl refl;
+  n_in_bounds = pre.1.0;
+  marks_room = room;
+  mark_rows = (inv.going.rows, body);
+}
+
+pub overflow_add-k : goal.overflow_add-k
+overflow_add-k c = omega (arith, c.loop-k-test.true)
+
+pub loop-k-smaller : goal.loop-k-smaller
+loop-k-smaller c = omega (arith, c.loop-k-test.true)
+
+pub loop-k-preserved : goal.loop-k-preserved
+loop-k-preserved c =
+    let pre = c.requires in
+    marking_next _ _ _ pre.0.0 pre.0.1 _ _ _ pre.1.1.1.0 c.loop-k.invariant c.loop-k-test.true c.label_of-label.ensures
+    c.cell_of-d.ensures c.visit.ensures c.visit.auto.state c.visit.auto.square c.visit.auto.stack
+
+pub shape_of-state : goal.shape_of-state
+shape_of-state c = c.loop-k.invariant.going.states
+
+pub shape_of-square : goal.shape_of-square
+shape_of-square c = c.loop-k.invariant.going.squares
+
+pub shape_of-stack : goal.shape_of-stack
+shape_of-stack c = c.loop-k.invariant.going.stacks
+
+pub returns : goal.returns
+returns c =
+    let pre = c.requires in
+    marking_done _ _ _ pre.0.0 pre.0.1 _ _ _ pre.1.1.1.0 c.loop-k.invariant c.loop-k-test.false

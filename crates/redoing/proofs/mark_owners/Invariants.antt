@@ -1,0 +1,13 @@
+use mathlib.Core.Path.{refl}
+use mathlib.Core.Logic.{inl}
+use Prim.Native.Nat.{◌-◌}
+use native.Mathlib.Omega.{arith}
+use Rattle.redoing.specs.Pairs.{pair_count}
+use Rattle.redoing.proofs.Owners.{Marking, pair_line, pair_owner, marking_start, marking_room, marking_next, marking_done}
+use Rattle.redoing.proofs.mark_owners.Given as goal
+
+abbrev pub invariant-loop-k : goal.invariant-loop-k
+invariant-loop-k l = Marking l.table l.n l.pairs l.initial.state l.initial.square l.initial.stack l.state l.square l.stack l.k
+
+abbrev pub decreases-loop-k : goal.decreases-loop-k
+decreases-loop-k l = pair_count l.pairs - l.k

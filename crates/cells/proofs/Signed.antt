@@ -66,18 +66,18 @@ fits_by x k h t = record { sfits = omega (arith, mag_le x, ltb→lt k (2 ^ 63) t
 -- ---- a value read back from its bits
 
 pub whole : (z : ℤ) → mag z < 2 ^ 63 → to_z w64 (of_z w64 z) ≡ z
-whole z h = to_z-of_z (sfits_of {w = w64} {z = z} h)
+whole z h = to_z-of_z {w = w64} (sfits_of {w = w64} {z = z} h)
 
 -- the code's test x < 0, as a sign
 pub test_negative : (x : ℤ) (b : Bool) → SFits w64 x → lt_z (to_z w64 (of_z w64 x)) (pos 0) ≡ b → is_negative x ≡ b
-test_negative x b f e = sym (lt_zero x) ∙ (rw (to_z-of_z f) at e)
+test_negative x b f e = sym (lt_zero x) ∙ (rw (to_z-of_z {w = w64} f) at e)
 
 -- what a cast to a usize asks of a number that the test passed, and what it gives
 pub cast_ok : (x : ℤ) → SFits w64 x → is_negative x ≡ false → T (non_neg (to_z w64 (of_z w64 x))) × Fits w64 (nat_abs (to_z w64 (of_z w64 x)))
-cast_ok x f e = rw (to_z-of_z f) (non_neg_is x e, Fits-nat_abs tt f)
+cast_ok x f e = rw (to_z-of_z {w = w64} f) (non_neg_is x e, Fits-nat_abs tt f)
 
 pub cast_is : (x : ℤ) → SFits w64 x → is_negative x ≡ false → nat_abs (to_z w64 (of_z w64 x)) ≡ nat_of x
-cast_is x f e = rw (to_z-of_z f) (nat_abs_nat_of x e)
+cast_is x f e = rw (to_z-of_z {w = w64} f) (nat_abs_nat_of x e)
 
 -- ---- equal bits
 

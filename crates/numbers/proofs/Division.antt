@@ -24,16 +24,16 @@ rem_size (negsuc a) b = nat_abs_neg (pos (suc a % nat_abs b))
 module _ (a b : ℤ) (fa : SFits w64 a) (fb : SFits w64 b) (h : nat_abs a ≤ number_limit) where
   pub quot_fits : SFits w64 (quot_z (to_z w64 (of_z w64 a)) (to_z w64 (of_z w64 b)))
   quot_fits =
-      rw (to_z-of_z fa, to_z-of_z fb)
+      rw (to_z-of_z {w = w64} fa, to_z-of_z {w = w64} fb)
       (fits_by (quot_z a b) number_limit (omega (arith, quot_size a b, div-le_self (nat_abs a) (nat_abs b))) tt)
 
   pub quot_read : nat_abs (to_z w64 (of_z w64 (quot_z (to_z w64 (of_z w64 a)) (to_z w64 (of_z w64 b))))) ≡ nat_abs a / nat_abs b
-  quot_read = rw (to_z-of_z quot_fits, to_z-of_z fa, to_z-of_z fb) (quot_size a b)
+  quot_read = rw (to_z-of_z {w = w64} quot_fits, to_z-of_z {w = w64} fa, to_z-of_z {w = w64} fb) (quot_size a b)
 
   rem_fits : SFits w64 (rem_z (to_z w64 (of_z w64 a)) (to_z w64 (of_z w64 b)))
   rem_fits =
-      rw (to_z-of_z fa, to_z-of_z fb)
+      rw (to_z-of_z {w = w64} fa, to_z-of_z {w = w64} fb)
       (fits_by (rem_z a b) number_limit (omega (arith, rem_size a b, mod-le (nat_abs a) (nat_abs b))) tt)
 
   pub rem_read : nat_abs (to_z w64 (of_z w64 (rem_z (to_z w64 (of_z w64 a)) (to_z w64 (of_z w64 b))))) ≡ nat_abs a % nat_abs b
-  rem_read = rw (to_z-of_z rem_fits, to_z-of_z fa, to_z-of_z fb) (rem_size a b)
+  rem_read = rw (to_z-of_z {w = w64} rem_fits, to_z-of_z {w = w64} fa, to_z-of_z {w = w64} fb) (rem_size a b)

@@ -91,9 +91,9 @@ calculated_by α op arm a b z p q e f = rw (p, q, ← e) f
 -- the operands and the result are read back from their bits
 module _ (α : Arithmetic) (arm : Operation) (a b : ℤ) (fa : SFits w64 a) (fb : SFits w64 b) (ha : nat_abs a ≤ number_limit) (hb : nat_abs b ≤ number_limit) where
   pub arm_fits : SFits w64 (result α arm (to_z w64 (of_z w64 a)) (to_z w64 (of_z w64 b)))
-  arm_fits = rw (to_z-of_z fa, to_z-of_z fb) (result_fits α arm a b ha hb)
+  arm_fits = rw (to_z-of_z {w = w64} fa, to_z-of_z {w = w64} fb) (result_fits α arm a b ha hb)
 
   pub arm_is : (op : Operation) {r : Calculated} → op ≡ arm → divides_by_zero arm b ≡ false
       → r ≡ ranged_of (to_z w64 (of_z w64 (result α arm (to_z w64 (of_z w64 a)) (to_z w64 (of_z w64 b)))))
       → r ≡ calculated α op a b
-  arm_is op p q e = calculated_by α op arm a b _ p q (rw (to_z-of_z fa, to_z-of_z fb) (to_z-of_z (result_fits α arm a b ha hb))) e
+  arm_is op p q e = calculated_by α op arm a b _ p q (rw (to_z-of_z {w = w64} fa, to_z-of_z {w = w64} fb) (to_z-of_z {w = w64} (result_fits α arm a b ha hb))) e

@@ -1,5 +1,5 @@
 -- Counting, membership, splitting, and the functions of specs/Lists.antt.
-use mathlib.Core.Path.{◌≡◌, refl, ap, ◌∙◌}
+use mathlib.Core.Path.{◌≡◌, refl, ap, ◌∙◌, subst}
 use mathlib.Core.Logic.{◌⊎◌, inl, inr}
 use mathlib.Core.List.{List, [], ◌∷◌, ◌++◌}
 use mathlib.Core.Bool.{Bool, true, false, cond}
@@ -160,7 +160,7 @@ first_some f (y ∷ l) p h = go (f y) refl (first_some f l p)
     go true e r =
         let h₁ : some y ≡ some p = rw e at h in
         let q : y ≡ p = cc in
-        (rw (← q) (in_here y l), rw (← q) e)
+        (subst (λ (x : ℕ). x ∈ y ∷ l) q (in_here y l), subst (λ (x : ℕ). f x ≡ true) q e)
     go false e r = let s = r (rw e at h) in (in_there p y l s.0, s.1)
 
 pub first_none : (f : ℕ → Bool) (l : List ℕ) → first f l ≡ none → (x : ℕ) → x ∈ l → f x ≡ false

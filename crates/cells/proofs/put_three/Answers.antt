@@ -1,3 +1,4 @@
+use mir.Syntax.{w64}
 use native.Mathlib.Omega.{arith}
 use native.Mathlib.Numerals.{towards_suc}
 use lib.ListN.{length-set}
@@ -12,4 +13,4 @@ pub bounds-t-i-3 : goal.bounds-t-i-3
 bounds-t-i-3 c = simp length-set (omega arith)
 
 pub returns : goal.returns
-returns c = simp (towards_suc, to_z-of_z c.ranges.x, to_z-of_z c.ranges.y, to_z-of_z c.ranges.z)
+returns c = simp (towards_suc, to_z-of_z {w = w64} c.ranges.x, to_z-of_z {w = w64} c.ranges.y, to_z-of_z {w = w64} c.ranges.z)

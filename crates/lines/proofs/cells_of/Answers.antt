@@ -13,24 +13,24 @@ pub returns-then-is_dash : goal.returns-then-is_dash
 returns-then-is_dash c =
     simp (
       sym c.is_dash.ensures ∙ c.if-is_dash.true,
-      to_z-of_z (sfits_of {w = w64} {z = c.cell_of-code.result} c.cell_of-code.type_inv)
+      to_z-of_z {w = w64} (sfits_of {w = w64} {z = c.cell_of-code.result} c.cell_of-code.type_inv)
           ∙ c.cell_of-code.ensures,
-      to_z-of_z c.ranges.a,
-      to_z-of_z c.ranges.b,
-      to_z-of_z c.ranges.c,
+      to_z-of_z {w = w64} c.ranges.a,
+      to_z-of_z {w = w64} c.ranges.b,
+      to_z-of_z {w = w64} c.ranges.c,
     )
 
 pub returns : goal.returns
 returns c =
     simp (
       sym c.is_dash.ensures ∙ c.if-is_dash.false,
-      to_z-of_z (sfits_of {w = w64} {z = c.cell_of-code.result} c.cell_of-code.type_inv)
+      to_z-of_z {w = w64} (sfits_of {w = w64} {z = c.cell_of-code.result} c.cell_of-code.type_inv)
           ∙ c.cell_of-code.ensures,
-      to_z-of_z (sfits_of {w = w64} {z = c.cell_of-start.result} c.cell_of-start.type_inv)
+      to_z-of_z {w = w64} (sfits_of {w = w64} {z = c.cell_of-start.result} c.cell_of-start.type_inv)
           ∙ c.cell_of-start.ensures,
-      to_z-of_z (sfits_of {w = w64} {z = c.cell_of-length.result} c.cell_of-length.type_inv)
+      to_z-of_z {w = w64} (sfits_of {w = w64} {z = c.cell_of-length.result} c.cell_of-length.type_inv)
           ∙ c.cell_of-length.ensures,
-      to_z-of_z c.ranges.a,
-      to_z-of_z c.ranges.b,
-      to_z-of_z c.ranges.c,
+      to_z-of_z {w = w64} c.ranges.a,
+      to_z-of_z {w = w64} c.ranges.b,
+      to_z-of_z {w = w64} c.ranges.c,
     )

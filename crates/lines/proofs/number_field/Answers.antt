@@ -10,7 +10,7 @@ pub enum_told-1 : goal.enum_told-1
 enum_told-1 c = search rules
 
 pub returns-in-Is : goal.returns-in-Is
-returns-in-Is c = rw (sym c.read_number.ensures ∙ c.in-Is.is) (ap Holds (to_z-of_z (sfits_of {w = w64} {z = c.in-Is.x} c.in-Is.known_told-1-own.given.0.1)))
+returns-in-Is c = rw (sym c.read_number.ensures ∙ c.in-Is.is) (ap Holds (to_z-of_z {w = w64} (sfits_of {w = w64} {z = c.in-Is.x} c.in-Is.known_told-1-own.given.0.1)))
 
 pub returns-in-Not : goal.returns-in-Not
 returns-in-Not c = rw (sym c.read_number.ensures ∙ c.in-Not.is)

@@ -42,7 +42,7 @@ returns-then-text-from-eq45 c =
         sym (number_negative args.from r.end args.text.now (omega (arith, f.0.wide)) (omega (arith, f.0.inside)) c.if-text-from-eq45.true),
         f.1,
         ne_eqb r.value 0 c.if-d-eq0.false,
-      ) (ap Holds (sym (to_z-of_z (sfits_of {w = w64} {z = c.with_sign.result} c.with_sign.type_inv) ∙ c.with_sign.ensures))),
+      ) (ap Holds (sym (to_z-of_z {w = w64} (sfits_of {w = w64} {z = c.with_sign.result} c.with_sign.type_inv) ∙ c.with_sign.ensures))),
     )
 
 pub with_sign-requires-2 : goal.with_sign-requires-2
@@ -55,5 +55,5 @@ returns c =
     λ h. let f = c.scan_decimal-d-2.ensures.ends_at h in (
       f.0,
       rw (sym (number_plain args.from r.end args.text.now f.0.wide (omega (arith, f.0.inside)) c.if-text-from-eq45.false), f.1)
-          (ap Holds (sym (to_z-of_z (sfits_of {w = w64} {z = c.with_sign-2.result} c.with_sign-2.type_inv) ∙ c.with_sign-2.ensures))),
+          (ap Holds (sym (to_z-of_z {w = w64} (sfits_of {w = w64} {z = c.with_sign-2.result} c.with_sign-2.type_inv) ∙ c.with_sign-2.ensures))),
     )

@@ -36,10 +36,10 @@ returns c =
     let row = c.args.row in
     simp (
       towards_suc,
-      to_z-of_z (sfits_of {w = w64} {z = row.code} c.struct_told-6-1.given.0.1),
-      to_z-of_z (sfits_of {w = w64} {z = row.start} c.struct_told-6-1.given.1.0.1),
-      to_z-of_z (sfits_of {w = w64} {z = row.length} c.struct_told-6-1.given.1.1.0.1),
-      to_z-of_z (sfits_of {w = w64} {z = row.a} c.struct_told-6-1.given.1.1.1.0.1),
-      to_z-of_z (sfits_of {w = w64} {z = row.b} c.struct_told-6-1.given.1.1.1.1.0.1),
-      to_z-of_z (sfits_of {w = w64} {z = row.c} c.struct_told-6-1.given.1.1.1.1.1.0.1),
+      to_z-of_z {w = w64} (sfits_of {w = w64} {z = row.code} c.struct_told-6-1.given.0.1),
+      to_z-of_z {w = w64} (sfits_of {w = w64} {z = row.start} c.struct_told-6-1.given.1.0.1),
+      to_z-of_z {w = w64} (sfits_of {w = w64} {z = row.length} c.struct_told-6-1.given.1.1.0.1),
+      to_z-of_z {w = w64} (sfits_of {w = w64} {z = row.a} c.struct_told-6-1.given.1.1.1.0.1),
+      to_z-of_z {w = w64} (sfits_of {w = w64} {z = row.b} c.struct_told-6-1.given.1.1.1.1.0.1),
+      to_z-of_z {w = w64} (sfits_of {w = w64} {z = row.c} c.struct_told-6-1.given.1.1.1.1.1.0.1),
     )

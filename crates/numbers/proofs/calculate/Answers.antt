@@ -39,7 +39,7 @@ unfolding result
 overflow_mul-a c = fits (goal.at.overflow_mul-a c).Start Product
 
 pub nearest-requires : goal.nearest-requires
-nearest-requires c = rw (to_z-of_z c.ranges.a, to_z-of_z c.ranges.b) (c.requires.0, c.requires.1, nonzero_size c.args.b (unequal c.args.b 0 c.if-b-eq0.false))
+nearest-requires c = rw (to_z-of_z {w = w64} c.ranges.a, to_z-of_z {w = w64} c.ranges.b) (c.requires.0, c.requires.1, nonzero_size c.args.b (unequal c.args.b 0 c.if-b-eq0.false))
 
 pub returns-in-Sum : goal.returns-in-Sum
 unfolding result
@@ -63,5 +63,5 @@ returns-else-b-eq0 c =
     calculated_by c.args.arithmetic c.args.op Quotient c.args.a c.args.b _
     c.in-Quotient.is
     (unequal c.args.b 0 c.if-b-eq0.false)
-    (to_z-of_z (sfits_of c.nearest.type_inv) ∙ (rw (to_z-of_z c.ranges.a, to_z-of_z c.ranges.b, c.tie_rule.ensures) at c.nearest.ensures))
+    (to_z-of_z {w = w64} (sfits_of c.nearest.type_inv) ∙ (rw (to_z-of_z {w = w64} c.ranges.a, to_z-of_z {w = w64} c.ranges.b, c.tie_rule.ensures) at c.nearest.ensures))
     c.ranged-else-b-eq0.ensures

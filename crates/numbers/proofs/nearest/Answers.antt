@@ -1,3 +1,4 @@
+use mir.Syntax.{w64}
 use mathlib.Core.Path.{◌≡◌, ◌∙◌}
 use Prim.Native.Nat.{◌/◌, ◌%◌, ◌+◌, ◌<◌, ◌^◌}
 use native.Mathlib.Omega.{arith}
@@ -23,7 +24,7 @@ size_r c =
 size_b : (c : After-magnitude-2) →
     c.magnitude-2.result ≡ nat_abs c.args.b
 size_b c =
-    rw (to_z-of_z c.ranges.b) at c.magnitude-2.ensures
+    rw (to_z-of_z {w = w64} c.ranges.b) at c.magnitude-2.ensures
 
 small : (c : After-is_negative-2) →
     c.magnitude-m.result + c.round_up-up.result < 2 ^ 63
@@ -51,7 +52,7 @@ magnitude-requires c =
     omega (arith, e, mod-le (nat_abs x.a) (nat_abs x.b))
 
 pub magnitude-requires-2 : goal.magnitude-requires-2
-magnitude-requires-2 c = rw (to_z-of_z c.ranges.b) (omega arith)
+magnitude-requires-2 c = rw (to_z-of_z {w = w64} c.ranges.b) (omega arith)
 
 pub round_up-up-requires : goal.round_up-up-requires
 round_up-up-requires c =
@@ -66,7 +67,7 @@ with_sign-requires c = omega (arith, small (goal.at.with_sign-requires c).After-
 
 pub returns : goal.returns
 returns c =
-    to_z-of_z (sfits_of c.with_sign.type_inv)
+    to_z-of_z {w = w64} (sfits_of c.with_sign.type_inv)
     ∙ quotient_by c.args.tie c.args.a c.args.b (size_q (goal.at.returns c).After-magnitude-m) (size_r (goal.at.returns c).After-magnitude)
     (rw (size_b (goal.at.returns c).After-magnitude-2) at c.round_up-up.ensures)
-    (rw (c.is_negative.ensures, c.is_negative-2.ensures, to_z-of_z c.ranges.a, to_z-of_z c.ranges.b) at c.with_sign.ensures)
+    (rw (c.is_negative.ensures, c.is_negative-2.ensures, to_z-of_z {w = w64} c.ranges.a, to_z-of_z {w = w64} c.ranges.b) at c.with_sign.ensures)

@@ -1,3 +1,4 @@
+use mir.Syntax.{w64}
 use mathlib.Core.Path.{ap, subst, ◌∙◌}
 use mathlib.Core.Bool.{and-false}
 use native.Mathlib.Omega.{arith}
@@ -19,4 +20,4 @@ pub returns : goal.returns
 returns c =
     let args = c.args in
     rw (c.in-Is.is, ne_eqb c.in-Is.v 0 c.if-v-eq0.false, and-false args.negative)
-    (ap Is (to_z-of_z (sfits_of c.with_sign.type_inv) ∙ c.with_sign.ensures))
+    (ap Is (to_z-of_z {w = w64} (sfits_of c.with_sign.type_inv) ∙ c.with_sign.ensures))

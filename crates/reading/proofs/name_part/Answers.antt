@@ -1,4 +1,5 @@
 -- Two cells of the label in the table that Read leaves.
+use mir.Syntax.{w64}
 use mathlib.Core.Path.{refl}
 use mir.Facts.{to_z-of_z}
 use lib.ListN.{length}
@@ -14,7 +15,7 @@ returns-in-Answered c =
     let entry = done.before.before.before in
     let leaves = c.read.ensures in
     part_answered entry.args.text.now (length entry.args.table.now) entry.args.label _ _ _ _ (rw c.in-Answered.is at leaves)
-    (rw (to_z-of_z entry.ranges.label) at c.label_in-l.ensures) c.cell_at.ensures c.cell_at-in-Answered.ensures
+    (rw (to_z-of_z {w = w64} entry.ranges.label) at c.label_in-l.ensures) c.cell_at.ensures c.cell_at-in-Answered.ensures
 
 pub returns-in-Refused : goal.returns-in-Refused
 returns-in-Refused c = part_refused c.args.text.now (length c.args.table.now) c.args.label _ _ _ _ (rw c.in-Refused.is at c.read.ensures) refl refl

@@ -3,9 +3,8 @@ use borrow.Author.Rules.{rules}
 use Rattle.blocks.proofs.drop_own.Goals as goal
 
 pub drop_mark-requires : goal.drop_mark-requires
-drop_mark-requires c =
-    let entry = c.before.before.before.before.before in record {
-  in_square = entry.requires;
+drop_mark-requires c = record {
+  in_square = c.requires;
   q_value = sym c.has_mark.ensures ∙ c.if-has_mark.true;
 }
 

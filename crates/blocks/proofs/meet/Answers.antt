@@ -10,7 +10,7 @@ returns-then-n-eq0 c = record { least = λ x a b. omega arith; is = inl (sym c.i
 
 pub lowest_place-requires : goal.lowest_place-requires
 lowest_place-requires c =
-    let pre = c.before.before.before.before.before.before.before.before.before.before.requires in (
+    let pre = c.requires in (
       omega (arith, c.list_marks-m.ensures.1, c.list_marks-m.auto.list, pre.0),
       λ x m. pre.1 x (listed _ _ c.list_marks-m.new.list _ _ c.list_marks-m.result c.list_marks-m.ensures.0 x m).1,
     )

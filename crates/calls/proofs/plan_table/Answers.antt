@@ -8,7 +8,7 @@ use Rattle.calls.proofs.Answers.{table_plans}
 use Rattle.calls.proofs.plan_table.Goals as goal
 
 pub slice_bounds-plan_of-end-2 : goal.slice_bounds-plan_of-end-2
-slice_bounds-plan_of-end-2 c = let entry = c.before in sym (length-take-le (8 * entry.args.n) entry.args.table.now entry.requires.1)
+slice_bounds-plan_of-end-2 c = sym (length-take-le (8 * c.args.n) c.args.table.now c.requires.1)
 
 pub returns-in-Whole : goal.returns-in-Whole
 returns-in-Whole c = table_plans _ _ _ _ _ c.requires.0 c.plan_of.ensures (made.Whole _) _ _ c.in-Whole.is refl c.clear_from.ensures

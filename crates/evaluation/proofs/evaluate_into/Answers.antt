@@ -5,11 +5,7 @@ use borrow.Author.Rules.{rules}
 use Rattle.evaluation.proofs.evaluate_into.Goals as goal
 
 pub put_value-requires : goal.put_value-requires
-put_value-requires c =
-    let entry = c.before.before.before in
-    value_room entry.requires
+put_value-requires c = value_room c.requires
 
 pub returns : goal.returns
-returns c =
-    let entry = c.before.before.before.before.before in
-    c.put_value.ensures ∙ ap (λ v. store entry.args.results.now entry.args.label v) c.evaluate-v.ensures
+returns c = c.put_value.ensures ∙ ap (λ v. store c.args.results.now c.args.label v) c.evaluate-v.ensures

@@ -14,7 +14,7 @@ returns-then-v-ne0 c = cycle_stop _ _ _ _ _ c.find_cycle-v.ensures.0 c.if-v-ne0.
 
 pub check_list-requires : goal.check_list-requires
 check_list-requires c =
-    let pre = c.before.before.before.before.before.before.before.before.requires in
+    let pre = c.requires in
     let w = length-replicate {0} {A = ℕ} 17 0 in record {
   accepted = pre.0;
   n_in_bounds = (omega (arith, pre.1.0, c.find_cycle-v.auto.square), c.find_cycle-v.ensures.1);

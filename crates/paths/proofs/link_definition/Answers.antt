@@ -29,7 +29,7 @@ hash_name-hash-requires c = (omega arith, inside (goal.at.hash_name-hash-require
 
 pub member_in-found-requires : goal.member_in-found-requires
 member_in-found-requires c =
-    let p = c.before.before.before.before.before.before.before.before.requires in
+    let p = c.requires in
     let o = own (goal.at.member_in-found-requires c).After-hash_name-hash in
     let group = own_group p.0.0 p.0.1 p.1.0 p.1.1 o in
     let walks = walkable p.0.0 p.0.1 p.1.0 c.label_cell-group.result group in
@@ -37,14 +37,14 @@ member_in-found-requires c =
 
 pub bucket-requires : goal.bucket-requires
 bucket-requires c =
-    let p = c.before.before.before.before.before.before.before.before.before.before.requires in
+    let p = c.requires in
     let o = own (goal.at.bucket-requires c).After-hash_name-hash in
     let group = own_group p.0.0 p.0.1 p.1.0 p.1.1 o in
     (stretch p.0.1.allotted c.label_cell-group.result group p.0.0.few, rw o.hashed (hash_small _))
 
 pub push-requires : goal.push-requires
 push-requires c =
-    let p = c.before.before.before.before.before.before.before.before.before.before.before.requires in
+    let p = c.requires in
     let r = p.0.0 in
     let h = p.0.1 in
     let room = own_room r h p.1.0 p.1.1 (own (goal.at.push-requires c).After-hash_name-hash) p.1.2 c.bucket.ensures in
@@ -52,7 +52,7 @@ push-requires c =
 
 pub returns : goal.returns
 returns c =
-    let p = c.before.before.before.before.before.before.before.before.before.before.before.before.before.before.requires in
+    let p = c.requires in
     let r = p.0.0 in
     let h = p.0.1 in
     let linked = own_linked r h p.1.0 p.1.1 (own (goal.at.returns c).After-hash_name-hash) p.1.2 c.bucket.ensures c.push.ensures in record {

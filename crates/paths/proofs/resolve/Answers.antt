@@ -10,7 +10,7 @@ enum_told-1 c = search rules
 
 pub resolve_heads-requires : goal.resolve_heads-requires
 resolve_heads-requires c =
-    let p = c.before.before.before.before.before.before.before.before.before.before.before.before.requires in
+    let p = c.requires in
     (p.0, c.link.ensures.all_linked c.in-Fine.is)
 
 pub returns-in-Fine : goal.returns-in-Fine

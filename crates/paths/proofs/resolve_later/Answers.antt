@@ -10,9 +10,8 @@ enum_told-1 c = search rules
 
 pub returns-in-Fine : goal.returns-in-Fine
 returns-in-Fine c =
-    let entry = c.before.before.before.before.before.before.before.before.before.before in
-    let p = entry.requires in
-    let a = entry.args in
+    let p = c.requires in
+    let a = c.args in
     let e = c.settle_targets.ensures.table_after c.in-Fine.is in
     let checked = targets_checked a.text.now a.table.now c.settle_targets.new.table a.n e p.0.0.room in record {
   value = or_next _ _ _ _ c.settle_targets.ensures.value c.in-Fine.is (c.check_targets.ensures ∙ checked);

@@ -35,16 +35,14 @@ settle_target-end-requires c =
     ((rows, linked_alike a.text.now a.table.now c.loop-label.table al c.requires.searchable.1), (g.pass.low, omega arith, omega (arith, head)))
 
 pub is_unresolved-requires : goal.is_unresolved-requires
-is_unresolved-requires c =
-    let e = c.before.before.before.before.before.before.before.before.before in
-    (c.loop-label.invariant.pass.low, omega (arith, c.settle_target-end.auto.table, settle_size c.loop-label.invariant, e.requires.0.0.room))
+is_unresolved-requires c = (c.loop-label.invariant.pass.low, omega (arith, c.settle_target-end.auto.table, settle_size c.loop-label.invariant, c.requires.searchable.0.room))
 
 pub shape_of-table-then-is_unresolved : goal.shape_of-table-then-is_unresolved
 shape_of-table-then-is_unresolved c = settle_kept c.loop-label.invariant (same (goal.at.shape_of-table-then-is_unresolved c).At-loop-label) c.settle_target-end.ensures.table_after
 
 pub returns-then-is_unresolved : goal.returns-then-is_unresolved
 returns-then-is_unresolved c =
-    let a = c.before.before.before.before.before.before.before.before.before.before.before.args in
+    let a = c.args in
     let h = c.settle_target-end.ensures in
     let rule = later_rule a.text.now a.table.now a.n in
     let stop = settle_stop c.loop-label.invariant (same (goal.at.returns-then-is_unresolved c).At-loop-label) h.1 later_row rule h.0 c.is_unresolved.ensures in record {
@@ -54,12 +52,12 @@ returns-then-is_unresolved c =
 
 pub overflow_add-label : goal.overflow_add-label
 overflow_add-label c =
-    let p = c.before.before.before.before.before.before.before.before.before.before.before.requires in
+    let p = c.requires in
     omega (arith, p.0.0.few)
 
 pub loop-label-preserved : goal.loop-label-preserved
 loop-label-preserved c =
-    let a = c.before.before.before.before.before.before.before.before.before.before.before.args in
+    let a = c.args in
     let h = c.settle_target-end.ensures in
     let rule = later_rule a.text.now a.table.now a.n in
     settle_turn c.loop-label.invariant (same (goal.at.loop-label-preserved c).At-loop-label) h.1 later_row rule h.0 c.is_unresolved.ensures (omega arith) c.if-is_unresolved.false

@@ -10,9 +10,8 @@ use Rattle.reach.proofs.meet.Goals as goal
 
 pub has_mark-requires : goal.has_mark-requires
 has_mark-requires c =
-    let entry = c.before.before.before.before in
-    let p = entry.requires in
-    (omega (arith, body_label _ _ p.0 entry.args.f p.1.1.1.0), row_room _ _ _ _ p.1.1.0.0 p.1.0.rows)
+    let p = c.requires in
+    (omega (arith, body_label _ _ p.0 c.args.f p.1.1.1.0), row_room _ _ _ _ p.1.1.0.0 p.1.0.rows)
 
 pub shape_of-square-then-has_mark : goal.shape_of-square-then-has_mark
 shape_of-square-then-has_mark c = refl
@@ -37,7 +36,7 @@ returns-then-state-f-eq2 c =
 
 pub mark_around-requires : goal.mark_around-requires
 mark_around-requires c =
-    let pre = c.before.before.before.before.before.before.before.before.before.before.before.before.before.requires in record {
+    let pre = c.requires in record {
   accepted = pre.0;
   d_le_n = (pre.1.1.0.0, omega (arith, pre.1.0.rows, c.merge_row.auto.s));
   has_body = pre.1.1.1.0;

@@ -6,12 +6,12 @@ use Rattle.reach.proofs.share_row.Goals as goal
 
 pub has_mark-requires : goal.has_mark-requires
 has_mark-requires c =
-    let pre = c.before.before.before.before.before.requires in
+    let pre = c.requires in
     (omega (arith, pre.1), row_room _ _ _ _ pre.2 pre.4)
 
 pub merge_row-requires : goal.merge_row-requires
 merge_row-requires c =
-    let pre = c.before.before.before.before.before.before.before.before.requires in
+    let pre = c.requires in
     (row_room _ _ _ _ pre.2 pre.4, row_room _ _ _ _ pre.1 pre.4)
 
 pub returns-then-has_mark : goal.returns-then-has_mark

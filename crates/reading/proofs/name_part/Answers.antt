@@ -12,10 +12,9 @@ enum_told-1 c = search rules
 
 pub returns-in-Answered : goal.returns-in-Answered
 returns-in-Answered c =
-    let entry = done.before.before.before in
     let leaves = c.read.ensures in
-    part_answered entry.args.text.now (length entry.args.table.now) entry.args.label _ _ _ _ (rw c.in-Answered.is at leaves)
-    (rw (to_z-of_z {w = w64} entry.ranges.label) at c.label_in-l.ensures) c.cell_at.ensures c.cell_at-in-Answered.ensures
+    part_answered c.args.text.now (length c.args.table.now) c.args.label _ _ _ _ (rw c.in-Answered.is at leaves)
+    (rw (to_z-of_z {w = w64} c.ranges.label) at c.label_in-l.ensures) c.cell_at.ensures c.cell_at-in-Answered.ensures
 
 pub returns-in-Refused : goal.returns-in-Refused
 returns-in-Refused c = part_refused c.args.text.now (length c.args.table.now) c.args.label _ _ _ _ (rw c.in-Refused.is at c.read.ensures) refl refl

@@ -6,15 +6,15 @@ use Rattle.redoing.proofs.apply.Goals as goal
 
 pub tally-change-requires : goal.tally-change-requires
 tally-change-requires c =
-    let st = c.before.before.before.requires.0.0 in
+    let st = c.requires.standing.0 in
     ((st.fit, st.accepted.few), steps_standing _ _ _ _ _ _ st)
 
 pub loop-k-init : goal.loop-k-init
-loop-k-init c = applying_start _ _ _ _ _ _ _ _ c.before.before.before.before.requires.0.0 c.tally-change.ensures
+loop-k-init c = applying_start _ _ _ _ _ _ _ _ c.requires.standing.0 c.tally-change.ensures
 
 pub retouch_pair-change-requires : goal.retouch_pair-change-requires
 retouch_pair-change-requires c =
-    let pre = turn.before.before.before.before.before.before.requires in
+    let pre = c.requires in
     let inv = c.loop-k.invariant in
     let taken = c.loop-k-test.true in (
       inv.standing,
@@ -25,14 +25,14 @@ retouch_pair-change-requires c =
     )
 
 pub overflow_add-k : goal.overflow_add-k
-overflow_add-k c = omega (arith, c.loop-k-test.true, turn.before.before.before.before.before.before.requires.0.2)
+overflow_add-k c = omega (arith, c.loop-k-test.true, c.requires.standing.2)
 
 pub loop-k-smaller : goal.loop-k-smaller
 loop-k-smaller c = omega (arith, c.loop-k-test.true)
 
 pub loop-k-preserved : goal.loop-k-preserved
 loop-k-preserved c =
-    let pre = turn.before.before.before.before.before.before.requires in
+    let pre = c.requires in
     applying_next _ _ _ _ _ _ _ _ c.loop-k.invariant c.loop-k-test.true pre.0.3 pre.0.1 c.retouch_pair-change.ensures
 
 pub shape_of-table : goal.shape_of-table

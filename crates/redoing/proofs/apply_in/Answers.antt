@@ -6,7 +6,7 @@ use Rattle.redoing.proofs.apply_in.Goals as goal
 
 pub find_windows-requires : goal.find_windows-requires
 find_windows-requires c =
-    let pre = marked.before.before.before.before.requires in
+    let pre = c.requires in
     let st = pre.0.0 in
     let few = st.accepted.few in record {
   accepted = (st.accepted, pre.0.1);
@@ -16,7 +16,7 @@ find_windows-requires c =
 
 pub apply-requires : goal.apply-requires
 apply-requires c =
-    let pre = marked.before.before.before.before.requires in
+    let pre = c.requires in
     let few = pre.0.0.accepted.few in record {
   standing = pre.0;
   n_in_bounds = (omega (arith, pre.1.0, c.mark_pairs.auto.square), c.mark_pairs.ensures);

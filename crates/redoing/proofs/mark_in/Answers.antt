@@ -15,5 +15,5 @@ link-requires c =
 
 pub mark_owners-requires : goal.mark_owners-requires
 mark_owners-requires c =
-    let pre = c.before.before.before.before.before.before.before.before.before.before.before.before.requires in
+    let pre = c.requires in
     (pre.0, ((omega (arith, pre.1.0.0, c.link.auto.chains), c.link.ensures), pre.1.1))

@@ -7,29 +7,27 @@ use borrow.Author.Rules.{rules}
 use Rattle.redoing.proofs.redo.Goals as goal
 
 pub failed-requires : goal.failed-requires
-failed-requires c = value_room c.before.requires.0.0
+failed-requires c = value_room c.requires.evaluable.0
 
 pub overflow_sub-failing : goal.overflow_sub-failing
 overflow_sub-failing c =
-    let entry = c.before.before.before in
     omega (
       arith,
       c.failed.ensures.0,
-      entry.requires.1.0.failed,
-      (failing_moves entry.args.own entry.args.table.now entry.args.results.now entry.args.label entry.args.n (value_room entry.requires.0.0) entry.requires.0.1).0,
+      c.requires.tallied.0.failed,
+      (failing_moves c.args.own c.args.table.now c.args.results.now c.args.label c.args.n (value_room c.requires.evaluable.0) c.requires.evaluable.1).0,
     )
 
 pub steps_of-requires : goal.steps_of-requires
-steps_of-requires c = value_room c.before.before.before.before.requires.0.0
+steps_of-requires c = value_room c.requires.evaluable.0
 
 pub overflow_sub-steps : goal.overflow_sub-steps
 overflow_sub-steps c =
-    let entry = c.before.before.before.before.before.before in
     omega (
       arith,
       c.steps_of.ensures,
-      entry.requires.1.0.taken,
-      (steps_move entry.args.own entry.args.table.now entry.args.results.now entry.args.label entry.args.n (value_room entry.requires.0.0) entry.requires.0.1).0,
+      c.requires.tallied.0.taken,
+      (steps_move c.args.own c.args.table.now c.args.results.now c.args.label c.args.n (value_room c.requires.evaluable.0) c.requires.evaluable.1).0,
     )
 
 pub failed-requires-2 : goal.failed-requires-2
@@ -49,9 +47,8 @@ overflow_add-result-3 c =
 
 pub returns : goal.returns
 returns c =
-    let failing = steps.before.before.before in
     let tallied = redone_tally c.args.own c.args.table.now c.args.results.now c.args.label c.args.n (value_room c.requires.evaluable.0) c.requires.evaluable.1
-    c.args.before c.requires.tallied.0 c.evaluate_into.ensures failing.failed.ensures.0 c.steps_of.ensures c.failed-2.ensures.0
+    c.args.before c.requires.tallied.0 c.evaluate_into.ensures c.failed.ensures.0 c.steps_of.ensures c.failed-2.ensures.0
     c.steps_of-2.ensures in record {
   results_after = c.evaluate_into.ensures;
   redone_value = (refl, tallied);

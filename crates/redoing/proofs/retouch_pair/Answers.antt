@@ -67,11 +67,10 @@ put_number-requires c =
 
 pub cell_of-d-requires : goal.cell_of-d-requires
 cell_of-d-requires c =
-    let entry = label.before.before.before in
-    let right = entry.requires.1.0.1 in
+    let right = c.requires.k_bound.1 in
     let named = c.label_of-label.ensures in
-    let l = number_label _ _ entry.requires.0.accepted (pair_label entry.args.pairs.now (entry.args.k + 1)) right.line in
-    (accepted_still _ _ _ (entry.args.k + 1) named c.put_number.ensures entry.requires.0.accepted right, (rw named l.0, rw named l.1, omega arith, omega arith))
+    let l = number_label _ _ c.requires.standing.accepted (pair_label c.args.pairs.now (c.args.k + 1)) right.line in
+    (accepted_still _ _ _ (c.args.k + 1) named c.put_number.ensures c.requires.standing.accepted right, (rw named l.0, rw named l.1, omega arith, omega arith))
 
 pub overflow_mul-d : goal.overflow_mul-d
 overflow_mul-d c = omega (arith, owner_small (goal.at.overflow_mul-d c).After-cell_of-d)

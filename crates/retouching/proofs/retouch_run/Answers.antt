@@ -8,29 +8,23 @@ use borrow.Author.Rules.{rules}
 use Rattle.retouching.proofs.retouch_run.Goals as goal
 
 pub slice_bounds-check_pairs-end-2 : goal.slice_bounds-check_pairs-end-2
-slice_bounds-check_pairs-end-2 c =
-    let entry = c.before in
-    sym (length-take-le (8 * entry.args.n) entry.args.table.now entry.requires.1)
+slice_bounds-check_pairs-end-2 c = sym (length-take-le (8 * c.args.n) c.args.table.now c.requires.1)
 
 pub enum_told-1 : goal.enum_told-1
 enum_told-1 c = search rules
 
 pub slice_bounds-apply_pairs-end-in-Fine : goal.slice_bounds-apply_pairs-end-in-Fine
-slice_bounds-apply_pairs-end-in-Fine c =
-    let entry = c.before.before.before.before.before.before.before.before in
-    sym (length-take-le (8 * entry.args.n) entry.args.table.now entry.requires.1)
+slice_bounds-apply_pairs-end-in-Fine c = sym (length-take-le (8 * c.args.n) c.args.table.now c.requires.1)
 
 pub apply_pairs-requires : goal.apply_pairs-requires
 apply_pairs-requires c =
-    let entry = c.before.before.before.before.before.before.before.before.before.before.before in
     let fine = sym c.check_pairs.ensures ∙ c.in-Fine.is in
-    (entry.requires.0, pairs_right _ _ fine, pairs_few _ _ fine, omega (arith, entry.requires.2, c.clear_from.auto.t))
+    (c.requires.0, pairs_right _ _ fine, pairs_few _ _ fine, omega (arith, c.requires.2, c.clear_from.auto.t))
 
 pub returns-in-Fine : goal.returns-in-Fine
 returns-in-Fine c =
-    let entry = c.before.before.before.before.before.before.before.before.before.before.before.before.before.before.before in
     let fine = sym c.check_pairs.ensures ∙ c.in-Fine.is in
-    run_applied _ _ _ _ _ entry.args.results.now entry.args.changes.now fine entry.requires.2 c.clear_from.ensures c.apply_pairs.ensures
+    run_applied _ _ _ _ _ c.args.results.now c.args.changes.now fine c.requires.2 c.clear_from.ensures c.apply_pairs.ensures
 
 pub returns-in-Refused : goal.returns-in-Refused
 returns-in-Refused c =

@@ -6,15 +6,13 @@ use Rattle.tree.proofs.claim.Goals as goal
 
 pub returns-then-label_cell-ne0 : goal.returns-then-label_cell-ne0
 returns-then-label_cell-ne0 c =
-    let entry = c.before.before.before.before.before.before.before in
     c.put_cell.ensures
-    ∙ sym (claimed_again entry.args.x entry.args.table.now entry.args.owner entry.args.level (λ z. c.if-label_cell-ne0.true (c.label_cell.ensures ∙ z)))
+    ∙ sym (claimed_again c.args.x c.args.table.now c.args.owner c.args.level (λ z. c.if-label_cell-ne0.true (c.label_cell.ensures ∙ z)))
 
 pub returns-else-label_cell-ne0 : goal.returns-else-label_cell-ne0
 returns-else-label_cell-ne0 c =
-    let entry = c.before.before.before.before.before.before.before in
     c.assign.ensures
-    ∙ sym (claimed_first entry.args.x entry.args.table.now entry.args.owner entry.args.level (sym c.label_cell.ensures ∙ c.if-label_cell-ne0.false))
+    ∙ sym (claimed_first c.args.x c.args.table.now c.args.owner c.args.level (sym c.label_cell.ensures ∙ c.if-label_cell-ne0.false))
 
 pub returns-else-x-ne0 : goal.returns-else-x-ne0
 returns-else-x-ne0 c = sym (claimed_none c.args.x c.args.table.now c.args.owner c.args.level c.if-x-ne0.false)

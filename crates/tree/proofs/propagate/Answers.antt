@@ -14,52 +14,44 @@ use Rattle.tree.proofs.propagate.Goals as goal
 
 pub assign-requires : goal.assign-requires
 assign-requires c =
-    let entry = c.before.before.before.before in
-    let d = sym (ap (λ (p : Node). p.definition) entry.requires.1) ∙ c.if-node.true in
-    (entry.requires.0.line.cells.1, omega (arith, c.label_cell-group.ensures, entry.requires.0.group d), omega arith)
+    let d = sym (ap (λ (p : Node). p.definition) c.requires.1) ∙ c.if-node.true in
+    (c.requires.0.line.cells.1, omega (arith, c.label_cell-group.ensures, c.requires.0.group d), omega arith)
 
 pub claim_parts-requires : goal.claim_parts-requires
 claim_parts-requires c =
-    let entry = c.before.before.before.before.before.before.before in
-    let same = ap length c.assign.ensures ∙ assigned_length entry.args.label c.label_cell-group.result 0 entry.args.table.now entry.requires.0.line.cells.1 in
-    (inside_same entry.args.table.now c.assign.new.table entry.args.node same (rw entry.requires.1 entry.requires.0.inside), entry.requires.0.few, omega arith)
+    let same = ap length c.assign.ensures ∙ assigned_length c.args.label c.label_cell-group.result 0 c.args.table.now c.requires.0.line.cells.1 in
+    (inside_same c.args.table.now c.assign.new.table c.args.node same (rw c.requires.1 c.requires.0.inside), c.requires.0.few, omega arith)
 
 pub returns-then-node : goal.returns-then-node
 returns-then-node c =
-    let entry = c.before.before.before.before.before.before.before.before.before in
-    let d = sym (ap (λ (p : Node). p.definition) entry.requires.1) ∙ c.if-node.true in record {
+    let d = sym (ap (λ (p : Node). p.definition) c.requires.1) ∙ c.if-node.true in record {
   value = rw d;
-  table_after = rw (c.claim_parts.ensures, c.assign.ensures, c.label_cell-group.ensures, entry.requires.1) (sym (propagated_definition entry.args.label entry.args.table.now d));
+  table_after = rw (c.claim_parts.ensures, c.assign.ensures, c.label_cell-group.ensures, c.requires.1) (sym (propagated_definition c.args.label c.args.table.now d));
 }
 
 pub overflow_add-level : goal.overflow_add-level
 overflow_add-level c =
-    let entry = c.before.before.before.before.before.before.before.before in
-    let d = sym (ap (λ (p : Node). p.definition) entry.requires.1) ∙ c.before.before.before.before.before.before.before.if1.false in
-    omega (arith, c.label_cell-level.ensures, entry.requires.0.level d)
+    let d = sym (ap (λ (p : Node). p.definition) c.requires.1) ∙ c.if-node.false in
+    omega (arith, c.label_cell-level.ensures, c.requires.0.level d)
 
 pub claim_parts-requires-then-used_once : goal.claim_parts-requires-then-used_once
 claim_parts-requires-then-used_once c =
-    let entry = c.before.before.before.before.before.before.before.before in
-    let d = sym (ap (λ (p : Node). p.definition) entry.requires.1) ∙ c.before.before.before.before.before.before.before.if1.false in
+    let d = sym (ap (λ (p : Node). p.definition) c.requires.1) ∙ c.if-node.false in
     let owner = c.label_cell-owner.result in
     let once = sym c.used_once.ensures ∙ c.if-used_once.true in
     let few = ltb-true owner twice (and_right (ltb 0 owner) (ltb owner twice) once) in
-    (rw entry.requires.1 entry.requires.0.inside, omega arith, omega (arith, c.label_cell-level.ensures, entry.requires.0.level d))
+    (rw c.requires.1 c.requires.0.inside, omega arith, omega (arith, c.label_cell-level.ensures, c.requires.0.level d))
 
 pub returns-then-used_once : goal.returns-then-used_once
 returns-then-used_once c =
-    let entry = c.before.before.before.before.before.before.before.before.before.before in
-    let if1 = c.before.before.before.before.before.before.before.before.before.if1 in
-    let d = sym (ap (λ (p : Node). p.definition) entry.requires.1) ∙ if1.false in record {
+    let d = sym (ap (λ (p : Node). p.definition) c.requires.1) ∙ c.if-node.false in record {
   value = rw (d, ← c.label_cell-owner.ensures) (sym c.if-used_once.true ∙ c.used_once.ensures);
-  table_after = rw (c.claim_parts-then-used_once.ensures, c.label_cell-owner.ensures, c.label_cell-level.ensures, entry.requires.1) (sym (propagated_expression entry.args.label entry.args.table.now d));
+  table_after = rw (c.claim_parts-then-used_once.ensures, c.label_cell-owner.ensures, c.label_cell-level.ensures, c.requires.1) (sym (propagated_expression c.args.label c.args.table.now d));
 }
 
 pub returns : goal.returns
 returns c =
-    let entry = c.before.before.before.before.before in
-    let d = sym (ap (λ (p : Node). p.definition) entry.requires.1) ∙ c.if-node.false in record {
+    let d = sym (ap (λ (p : Node). p.definition) c.requires.1) ∙ c.if-node.false in record {
   value = rw (d, ← c.label_cell-owner.ensures) (sym c.if-used_once.false ∙ c.used_once.ensures);
   table_after = refl;
 }

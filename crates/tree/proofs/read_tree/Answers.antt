@@ -23,34 +23,30 @@ settle-requires c = going_ready c.args.table.now c.args.n c.requires.formed c.lo
 
 pub loop-label-preserved : goal.loop-label-preserved
 loop-label-preserved c =
-    let s = passed.before.before.before.before.before.before in
-    let g = passed.before.before.before.before.before.loop in
-    let both : (structure_right g.table g.label && used_right g.table g.label) ≡ true = sym c.settle.ensures.value ∙ c.if-settle.true in
-    let now : c.settle.new.table ≡ propagated g.label g.table = rw c.if-settle.true at c.settle.ensures.table_after in
+    let both : (structure_right c.loop-label.table c.loop-label.label && used_right c.loop-label.table c.loop-label.label) ≡ true = sym c.settle.ensures.value ∙ c.if-settle.true in
+    let now : c.settle.new.table ≡ propagated c.loop-label.label c.loop-label.table = rw c.if-settle.true at c.settle.ensures.table_after in
     (
       omega arith,
       omega arith,
       rw (c.put_cell.ensures, c.first_of-argument.ensures, c.argument_bad.ensures, c.first_of-level.ensures, c.level_bad.ensures, now)
-          (going_turn s.args.table.now s.args.n s.requires.formed g.table g.label g.argument g.level g.invariant.0 (omega arith) g.invariant.2
-          (and_left (structure_right g.table g.label) (used_right g.table g.label) both) (and_right (structure_right g.table g.label) (used_right g.table g.label) both)),
+          (going_turn c.args.table.now c.args.n c.requires.formed c.loop-label.table c.loop-label.label c.loop-label.argument c.loop-label.level c.loop-label.invariant.0 (omega arith) c.loop-label.invariant.2
+          (and_left (structure_right c.loop-label.table c.loop-label.label) (used_right c.loop-label.table c.loop-label.label) both) (and_right (structure_right c.loop-label.table c.loop-label.label) (used_right c.loop-label.table c.loop-label.label) both)),
     )
 
 pub early_verdict-requires : goal.early_verdict-requires
 early_verdict-requires c =
-    let s = f.before.before.before.before.before.before in
     let now : c.settle.new.table ≡ c.loop-label.table = rw c.if-settle.false at c.settle.ensures.table_after in
-    rw now (over_formed s.args.table.now s.args.n c.loop-label.table c.loop-label.invariant.2.claims.over s.requires.formed)
+    rw now (over_formed c.args.table.now c.args.n c.loop-label.table c.loop-label.invariant.2.claims.over c.requires.formed)
 
 pub returns-else-settle : goal.returns-else-settle
 returns-else-settle c =
-    let s = f.before.before.before.before.before.before in
     let both : (structure_right c.loop-label.table c.loop-label.label && used_right c.loop-label.table c.loop-label.label) ≡ false = sym c.settle.ensures.value ∙ c.if-settle.false in
     let now : c.settle.new.table ≡ c.loop-label.table = rw c.if-settle.false at c.settle.ensures.table_after in
-    let stop = going_stop s.args.table.now s.args.n s.requires.formed c.loop-label.table c.loop-label.label c.loop-label.argument c.loop-label.level c.loop-label.invariant.0 (omega arith) c.loop-label.invariant.2 both in
-    let row8 = first_bad (structure_bad c.loop-label.table) 1 s.args.n in
+    let stop = going_stop c.args.table.now c.args.n c.requires.formed c.loop-label.table c.loop-label.label c.loop-label.argument c.loop-label.level c.loop-label.invariant.0 (omega arith) c.loop-label.invariant.2 both in
+    let row8 = first_bad (structure_bad c.loop-label.table) 1 c.args.n in
     let found : c.early_verdict.result ≡ or_else row8 (Refused uses_row c.loop-label.label) = rw now at c.early_verdict.ensures in record {
   value = found ∙ stop;
-  written = not_written row8 c.early_verdict.result uses_row c.loop-label.label s.args.table.now s.args.n c.settle.new.table found (ap length now ∙ c.loop-label.invariant.2.claims.over.size);
+  written = not_written row8 c.early_verdict.result uses_row c.loop-label.label c.args.table.now c.args.n c.settle.new.table found (ap length now ∙ c.loop-label.invariant.2.claims.over.size);
 }
 
 pub shape_of-table : goal.shape_of-table

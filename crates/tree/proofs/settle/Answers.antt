@@ -5,13 +5,11 @@ use Rattle.tree.proofs.settle.Goals as goal
 
 pub propagate-requires : goal.propagate-requires
 propagate-requires c =
-    let entry = c.before.before.before.before.before.before in
     let right = sym c.structure_right.ensures ∙ c.if-structure_right.true in
-    (entry.requires.1 right, c.node_at-node.ensures)
+    (c.requires.1 right, c.node_at-node.ensures)
 
 pub returns-then-structure_right : goal.returns-then-structure_right
 returns-then-structure_right c =
-    let entry = c.before.before.before.before.before.before.before.before in
     let right = sym c.structure_right.ensures ∙ c.if-structure_right.true in record {
   value = rw right c.propagate.ensures.value;
   table_after = c.propagate.ensures.table_after;

@@ -28,6 +28,8 @@ pub struct Item {
     pub public: bool,
     /// Whether C can call it.
     pub exported: bool,
+    /// The name of the functions that call one another, where it is one of them.
+    pub cycle: Option<String>,
     pub first: usize,
     /// The last line of its head and contract, and of all of it.
     pub headed: usize,
@@ -116,6 +118,17 @@ fn words<'a>(lexemes: impl Iterator<Item = &'a Lexeme>) -> Vec<Word> {
     lexemes.filter_map(word).collect()
 }
 
+/// The word in `#[cycle(word)]`.
+fn cycle(marks: &[Lexeme]) -> Option<String> {
+    let at = marks
+        .iter()
+        .position(|lexeme| lexeme.word() == Some("cycle"))?;
+    marks[at + 1..]
+        .iter()
+        .find_map(Lexeme::word)
+        .map(str::to_string)
+}
+
 /// The places of the words before a sign, just inside the first brackets.
 fn labels(lexemes: &[Lexeme], open: char, before: &[char]) -> Vec<usize> {
     let Some(open) = outside(lexemes, |lexeme| lexeme.is_sign(open)) else {
@@ -179,10 +192,21 @@ impl Reader {
     }
 
     fn import(&mut self, lexemes: &[Lexeme]) -> usize {
-        if let Some(Sort::Word(word)) = lexemes.get(1).map(|lexeme| &lexeme.sort) {
-            self.code.uses.push((word.path.clone(), lexemes[0].line));
+        let end = outside(lexemes, |lexeme| lexeme.is_sign(';')).unwrap_or(lexemes.len() - 1);
+        let mut brought = words(lexemes[1..end].iter())
+            .into_iter()
+            .map(|word| word.path);
+        let first = brought.next().unwrap_or_default();
+        let line = lexemes[0].line;
+        match lexemes[..end].iter().any(|lexeme| lexeme.is_sign('{')) {
+            // `a::{b, c}` brings in `a::b` and `a::c`
+            true => {
+                let whole = brought.map(|path| ([&first[..], &path[..]].concat(), line));
+                self.code.uses.extend(whole);
+            }
+            false => self.code.uses.push((first, line)),
         }
-        end(lexemes).1 + 1
+        end + 1
     }
 
     fn methods(&mut self, lexemes: &[Lexeme]) -> usize {
@@ -225,6 +249,7 @@ impl Reader {
             of: of.map(str::to_string),
             public: is_marked("pub"),
             exported: is_marked("extern"),
+            cycle: cycle(marks),
             first,
             headed: rest[open.saturating_sub(1)].line,
             last: rest[close].line,
@@ -256,7 +281,7 @@ mod tests {
 
     const TEXT: &str = "\
 ghost use lib.A.{x};
-use other::T;
+use other::{T, U};
 
 // A kind.
 pub enum Kind {
@@ -269,19 +294,20 @@ const TABLE: [Kind; 2] = [Kind::One, Kind::Two(1)];
 impl Kind {
     // Its number.
     pub fn number(self) -> usize
-        ensures { λ r. ⌜ r ≡ x self ⌝ }
+        ensures { result ≡ x self }
     {
         other::f(1)
     }
 }
 
 // Exported.
-#[no_mangle]
+#[cycle(both)]
+#[unsafe(no_mangle)]
 pub extern \"C\" fn g(
     a: &[u8],
     b: T,
 ) -> usize
-    requires { ⌜ 0 < a ⌝ }
+    requires { 0 < a }
 {
     f(a)
 }
@@ -296,7 +322,11 @@ pub extern \"C\" fn g(
         let words: Vec<&str> = code.items[0].head.iter().map(|w| &w.path[0][..]).collect();
         assert_eq!(words, ["u8"]);
         assert_eq!(code.items[2].of.as_deref(), Some("Kind"));
-        assert_eq!((code.ghosts.len(), code.uses.len()), (1, 1));
+        let uses: Vec<String> = code.uses.iter().map(|(path, _)| path.join("::")).collect();
+        assert_eq!(
+            (code.ghosts.len(), uses.join(" ")),
+            (1, "other::T other::U".to_string())
+        );
     }
 
     #[test]
@@ -306,7 +336,8 @@ pub extern \"C\" fn g(
         assert_eq!(g.parameters, ["a", "b"]);
         assert_eq!(g.contracts.len(), 1);
         assert_eq!(g.contracts[0].keyword, "requires");
-        assert_eq!((g.first, g.headed, g.last), (22, 27, 30));
+        assert_eq!((g.first, g.headed, g.last), (22, 28, 31));
+        assert_eq!(g.cycle.as_deref(), Some("both"));
         assert_eq!(g.comment, ["Exported."]);
     }
 }

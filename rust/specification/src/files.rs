@@ -12,7 +12,7 @@ use crate::code::{self, Code};
 pub enum Folder {
     Specs,
     Proofs,
-    /// The proof of a function, in a folder of the function's name.
+    /// A part of the proof of a function, in a folder of the function's name.
     FunctionProof,
     Src,
 }
@@ -86,7 +86,9 @@ fn folder(parts: &[&str]) -> Option<Folder> {
     };
     match (*folder, file.rsplit_once('.')?) {
         ("specs", (_, "antt")) => Some(Folder::Specs),
-        ("proofs", ("Proof", "antt")) => Some(Folder::FunctionProof),
+        ("proofs", ("Answers" | "Invariants" | "Proof", "antt")) if parts.len() > 4 => {
+            Some(Folder::FunctionProof)
+        }
         ("proofs", (_, "antt")) => Some(Folder::Proofs),
         ("src", (_, "rt")) => Some(Folder::Src),
         _ => None,

@@ -131,8 +131,7 @@ impl Graph {
                 nodes: words.targets(&item.body, &mut spoken),
                 ..Meant::default()
             };
-            let proofs = index.proofs.get(&(package.clone(), item.name.clone()));
-            made.nodes.extend(proofs.into_iter().flatten());
+            made.nodes.extend(index.proofs(package, item));
             edges.push((node, stated, made));
         }
         let unused = names::unused(&code.ghosts, &used);

@@ -39,8 +39,10 @@ pub struct Index {
     /// What an `impl` gives to a type, by name.
     pub methods: HashMap<String, Vec<usize>>,
     pub functions: HashSet<usize>,
-    /// By crate and function: what its proof makes public.
+    /// By crate and the folder of a proof: what it makes public.
     pub proofs: HashMap<(String, String), Vec<usize>>,
+    /// The crates.
+    pub packages: HashSet<String>,
     /// By crate, folder and name.
     pub modules: HashMap<(String, Folder, String), usize>,
     /// Names that files pass on, by file and name, where another takes them.
@@ -51,6 +53,7 @@ impl Index {
     /// Takes in a file, whose declarations or items are nodes from `first` on.
     pub fn add(&mut self, files: &[File], file: usize, first: usize) {
         let of = &files[file];
+        self.packages.insert(of.package.clone());
         let module = (of.package.clone(), of.folder, of.name.clone());
         self.modules.insert(module, file);
         match &of.content {
@@ -76,10 +79,8 @@ impl Index {
             self.declared.insert(place(&member.name), target);
         }
         if of.folder == Folder::FunctionProof && it.public {
-            for function in of.name.split('+').filter(|name| !name.is_empty()) {
-                let place = (of.package.clone(), function.to_string());
-                self.proofs.entry(place).or_default().push(node);
-            }
+            let place = (of.package.clone(), of.name.clone());
+            self.proofs.entry(place).or_default().push(node);
         }
     }
 
@@ -93,6 +94,16 @@ impl Index {
             None => self.items.entry((package.to_string(), name)).or_default(),
         };
         nodes.push(node);
+    }
+
+    /// What the proof of a function makes public: in the folder of its name, or in
+    /// that of the functions that call one another.
+    pub fn proofs(&self, package: &str, item: &Item) -> Vec<usize> {
+        let cycle = item.cycle.as_ref().unwrap_or(&item.name);
+        let folders = [item.name.clone(), format!("+{cycle}")].into_iter();
+        let places = folders.map(|folder| (package.to_string(), folder));
+        let nodes = places.filter_map(|place| self.proofs.get(&place));
+        nodes.flatten().copied().collect()
     }
 
     pub fn items(&self, package: &str, name: &str) -> &[usize] {

@@ -14,7 +14,8 @@ pub struct Word {
 pub enum Sort {
     Word(Word),
     Sign(char),
-    /// `requires` or `ensures`, and the text between its braces.
+    /// `requires` or `ensures`, and the text between its braces, a name between them
+    /// left out.
     Contract(String, String),
     /// `ghost use ..`, the first word left out.
     Ghost(String),
@@ -184,7 +185,7 @@ mod tests {
 
     #[test]
     fn words_contracts_and_signs() {
-        let text = "// c\nghost use A.{b};\nfn f(x: u8) -> T\n    ensures { λ r. ⌜ r ≡ g {x = 1} ⌝ }\n{ a::b(x.len(), b'{', b\"}\") }\n";
+        let text = "// c\nghost use A.{b};\nfn f(x: u8) -> T\n    ensures same { result ≡ g {x = 1} }\n{ a::b(x.len(), b'{', b\"}\") }\n";
         let (lexemes, comments) = lexemes(text);
         assert_eq!(comments, [(1, "c".to_string())]);
         assert_eq!(lexemes[0].sort, Sort::Ghost("use A.{b}".to_string()));
@@ -192,7 +193,7 @@ mod tests {
             Sort::Contract(keyword, text) => Some((lexeme.line, &keyword[..], &text[..])),
             _ => None,
         });
-        assert_eq!(contract, Some((4, "ensures", " λ r. ⌜ r ≡ g {x = 1} ⌝ ")));
+        assert_eq!(contract, Some((4, "ensures", " result ≡ g {x = 1} ")));
         let words = lexemes.iter().filter_map(|lexeme| match &lexeme.sort {
             Sort::Word(word) => Some((word.path.join("::"), word.called, word.member)),
             _ => None,

@@ -24,7 +24,7 @@ Reads the Rattle crates of the repository at ROOT, or here.
   mixed     lists the files of specs/ that hold both what readers believe and what
             functions promise each other
   twice     lists the names that two definitions, types or files of specs/ have, and
-            of what readers believe those that differ in the case of letters alone
+            of what readers believe those that differ in case and underscores alone
   page      writes docs/SPECIFICATION.md, what a reader has to believe;
             with --check it only says whether the page there is that one;
             lists the definitions that stand in proofs/ and the theorems that no

@@ -7,6 +7,9 @@ use crate::files::{Content, File, Folder};
 use crate::index::{Index, Module, Target};
 use crate::scope::{key, Path, Scope};
 
+/// The top of each path to a module of a crate.
+const TOP: &str = "Rattle";
+
 pub struct Names<'a> {
     files: &'a [File],
     index: &'a Index,
@@ -68,16 +71,21 @@ impl<'a> Names<'a> {
         self.ours(path).unwrap_or_else(external)
     }
 
-    /// A module of this repository's crates: `Rattle·crate.specs.File` or
-    /// `Rattle·crate·specs.specs.File`, so too of `proofs`; a declared type; or what
-    /// the checker makes of a function.
+    /// A module of this repository's crates: `Rattle.crate.specs.File`, so too of
+    /// `proofs`; a declared type; or what the checker makes of a function.
     fn ours(&self, path: &[String]) -> Option<Module> {
-        let package = path.first()?.strip_prefix("Rattle·")?;
-        let package = package.split('·').next()?;
+        let [top, package, rest @ ..] = path else {
+            return None;
+        };
+        let is_ours = top == TOP && self.index.packages.contains(package);
         let item = |name: &str| self.index.items(package, name).first().copied();
-        let parts: Vec<&str> = path[1..].iter().map(String::as_str).collect();
+        let parts: Vec<&str> = rest
+            .iter()
+            .map(String::as_str)
+            .filter(|_| is_ours)
+            .collect();
         match parts[..] {
-            ["specs", "declared", .., of, "the-variants"] => item(of).map(Module::Variants),
+            ["specs", "declared", .., of, "TheVariants"] => item(of).map(Module::Variants),
             ["specs", "declared", .., of] => item(of).map(Module::Type),
             [folder, ..] => {
                 let folder = match folder {
@@ -100,8 +108,9 @@ impl<'a> Names<'a> {
     fn member(&self, module: &Module, name: &str) -> Option<Target> {
         match module {
             Module::External(path) => Some(Target::External(format!("{path}.{name}"))),
-            Module::Type(node) | Module::Function(node) => Some(Target::Node(*node)),
-            Module::Variants(node) => Some(Target::Constructor(*node)),
+            Module::Type(node) => Some(Target::Node(*node)),
+            // what the checker makes of a function has the ways through its branches
+            Module::Variants(node) | Module::Function(node) => Some(Target::Constructor(*node)),
             Module::File(file) => {
                 let place = (*file, key(name).to_string());
                 let declared = self.index.declared.get(&place).cloned();
@@ -129,7 +138,7 @@ impl<'a> Names<'a> {
 
     fn target(&self, path: &[String]) -> Option<Target> {
         let first = key(path.first()?);
-        if path.len() > 1 && path[0].starts_with("Rattle·") {
+        if path.len() > 1 && path[0] == TOP {
             let module = self.module(&path[..path.len() - 1]);
             return self.member(&module, path.last()?);
         }
@@ -149,7 +158,7 @@ impl<'a> Names<'a> {
             match self.target(path) {
                 Some(Target::Node(node) | Target::Constructor(node)) => {
                     meant.nodes.push(node);
-                    let is_through = path.len() > 1 && !path[0].starts_with("Rattle·");
+                    let is_through = path.len() > 1 && path[0] != TOP;
                     if is_through || self.renamed.contains(&path[0]) {
                         meant.aliases.push((node, path[0].clone()));
                     }
@@ -171,7 +180,7 @@ impl Scope for Names<'_> {
     }
 
     fn is_module(&self, name: &str) -> bool {
-        name.starts_with("Rattle·") || matches!(self.brought.get(name), Some(Target::Module(_)))
+        name == TOP || matches!(self.brought.get(name), Some(Target::Module(_)))
     }
 }
 

@@ -26,9 +26,9 @@ pub struct References {
     pub unfolding: Vec<Path>,
 }
 
-/// The part of a name by which a text uses it: `+` of `_+_`.
+/// The part of a name by which a text uses it: `+` of `◌+◌`.
 pub fn key(name: &str) -> &str {
-    let mut parts = name.split('_').filter(|part| !part.is_empty());
+    let mut parts = name.split('◌').filter(|part| !part.is_empty());
     parts.next().unwrap_or("")
 }
 

@@ -237,8 +237,8 @@ mod tests {
     fn names_are_runs_between_spaces_and_brackets() {
         assert_eq!(texts("n+n (x .y)"), ["n+n", "(", "x", ".", "y", ")"]);
         assert_eq!(
-            texts("λ r. ⌜ a ≡ b ⌝"),
-            ["λ", "r", ".", "⌜", "a", "≡", "b", "⌝"]
+            texts("λ r. a ≡ r.b"),
+            ["λ", "r", ".", "a", "≡", "r", ".", "b"]
         );
         assert_eq!(
             texts("f \"a (b\\\" c\" ∷ []"),

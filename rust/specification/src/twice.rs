@@ -7,9 +7,9 @@ use crate::files::Folder;
 use crate::graph::Graph;
 
 /// What `kinds` asks of a code, and `cells` of the line that has it.
-const SHARED: [&str; 4] = ["hasBody", "hasPath", "isDefinition", "isExpression"];
+const SHARED: [&str; 4] = ["has_body", "has_path", "is_definition", "is_expression"];
 
-/// A type beside the definition that has its word with a small letter: what that
+/// A type beside the definition that has its words with small letters: what that
 /// gives, the relation that it computes, or what is told of it.
 const PAIRED: [&str; 21] = [
     "answer",
@@ -18,26 +18,26 @@ const PAIRED: [&str; 21] = [
     "early",
     "evaluated",
     "field",
-    "firstPosition",
+    "first_position",
     "given",
-    "hasBody",
-    "hasPath",
+    "has_body",
+    "has_path",
     "kind",
     "line",
     "mentions",
     "missing",
-    "notNew",
-    "numberPut",
+    "not_new",
+    "number_put",
     "outcome",
-    "planReply",
-    "printLine",
+    "plan_reply",
+    "print_line",
     "reaches",
     "within",
 ];
 
 /// The names that two definitions or types have, a line each: of those that readers
 /// believe, wherever they stand, of `specs/` and of the types of the code; of those
-/// that readers believe, names too that differ in the case of letters alone. The
+/// that readers believe, names too that differ in case and underscores alone. The
 /// files of `specs/` with one name. What is allowed here and not met.
 pub fn twice(graph: &Graph, believed: &HashSet<usize>) -> Vec<String> {
     let is_asked = |node: &usize| believed.contains(node) || is_word(graph, *node);
@@ -46,12 +46,17 @@ pub fn twice(graph: &Graph, believed: &HashSet<usize>) -> Vec<String> {
     believed.sort_unstable();
     let same = groups(graph, asked, str::to_string).into_iter();
     let same = same.filter(|nodes| nodes.len() > 1).collect();
-    let cases = groups(graph, believed, str::to_lowercase).into_iter();
+    let cases = groups(graph, believed, letters).into_iter();
     let cases = cases.filter(|nodes| differ(graph, nodes)).collect();
     let mut found = others(graph, same, &SHARED);
     found.extend(others(graph, cases, &PAIRED));
     found.extend(files(graph));
     found
+}
+
+/// The letters of a name, small and in one word.
+fn letters(name: &str) -> String {
+    name.to_lowercase().replace('_', "")
 }
 
 /// Nodes by what is made of their names.

@@ -10,8 +10,7 @@ use Rattle.text.proofs.alphanumeric_end.Goals as goal
 
 pub loop-i-preserved : goal.loop-i-preserved
 loop-i-preserved c =
-    let a = c.args in
-    (
+    let a = c.args in (
       omega arith,
       omega arith,
       run_more is_alphanumeric a.text.now c.loop-i.i a.to (omega arith) (omega arith) (sym c.is_alphanumeric.ensures ∙ c.if-is_alphanumeric.true) ∙ c.loop-i.invariant.2,

@@ -17,16 +17,16 @@ bounds-text-i c = c.loop-from.invariant.inside
 pub returns-then-c-lt48 : goal.returns-then-c-lt48
 returns-then-c-lt48 c =
     let args = c.args in record {
-  value_le_max = c.loop-from.invariant.most;
-  digits_to = λ h. digits_done args.max args.text.now args.from c.loop-from.i c.loop-from.v c.loop-from.invariant;
-}
+      value_le_max = c.loop-from.invariant.most;
+      digits_to = λ h. digits_done args.max args.text.now args.from c.loop-from.i c.loop-from.v c.loop-from.invariant;
+    }
 
 pub returns-then-c-gt57 : goal.returns-then-c-gt57
 returns-then-c-gt57 c =
     let args = c.args in record {
-  value_le_max = c.loop-from.invariant.most;
-  digits_to = λ h. digits_done args.max args.text.now args.from c.loop-from.i c.loop-from.v c.loop-from.invariant;
-}
+      value_le_max = c.loop-from.invariant.most;
+      digits_to = λ h. digits_done args.max args.text.now args.from c.loop-from.i c.loop-from.v c.loop-from.invariant;
+    }
 
 pub overflow_mul-more : goal.overflow_mul-more
 overflow_mul-more c = omega (arith, c.loop-from.invariant.most)

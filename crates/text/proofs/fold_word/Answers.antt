@@ -20,7 +20,7 @@ pub overflow_sub-capitals-2 : goal.overflow_sub-capitals-2
 overflow_sub-capitals-2 c = and_le_r c.args.w 9259542123273814144
 
 pub overflow_add-result : goal.overflow_add-result
-overflow_add-result c = record { fits = (word_folds (goal.at.overflow_add-result c).Start).ranges }
+overflow_add-result c = record { fits = (word_folds (goal.at.overflow_add-result c).Start).fits }
 
 pub returns : goal.returns
 returns c = (word_folds (goal.at.returns c).Start).bytes

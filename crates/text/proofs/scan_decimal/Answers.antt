@@ -13,12 +13,12 @@ pub returns-then-text-from-ne48 : goal.returns-then-text-from-ne48
 returns-then-text-from-ne48 c =
     let args = c.args in
     let r = c.scan_digits.result in record {
-  value_le_max = c.scan_digits.ensures.value_le_max;
-  ends_at = λ h. let f = c.scan_digits.ensures.ends_at h in (
+      value_le_max = c.scan_digits.ensures.value_le_max;
+      ends_at = λ h. let f = c.scan_digits.ensures.ends_at h in (
         f.0,
         sym (decimal_plain args.from r.end args.text.now f.0.wide (omega (arith, f.0.inside)) args.max c.if-text-from-ne48.true) ∙ f.1,
       );
-}
+    }
 
 -- a digit does not end the text
 next : (c : Else-text-from-ne48) →
@@ -46,9 +46,9 @@ pub returns : goal.returns
 returns c =
     let args = c.args in
     let i = next (goal.at.returns c).Else-text-from-ne48 in record {
-  value_le_max = omega arith;
-  ends_at = λ h. (
+      value_le_max = omega arith;
+      ends_at = λ h. (
         record { wide = omega arith; inside = i; by = c.if-text-from.false },
         sym (decimal_zero args.from (args.from + 1) args.text.now (omega arith) (omega (arith, i)) args.max c.if-text-from-ne48.false (omega arith)),
       );
-}
+    }

@@ -30,6 +30,6 @@ returns-then-text-end c = record {
 pub returns : goal.returns
 returns c =
     let d = found (goal.at.returns c).Else-end-from in record {
-  value_le_max = c.digits_end-d.ensures.value_le_max;
-  ends_at = λ h. (record { wide = c.if-end-from.false; inside = d.inside; by = c.if-text-end.false }, d.value);
-}
+      value_le_max = c.digits_end-d.ensures.value_le_max;
+      ends_at = λ h. (record { wide = c.if-end-from.false; inside = d.inside; by = c.if-text-end.false }, d.value);
+    }

@@ -24,8 +24,8 @@ returns c =
     let s = args.text.now in
     let n = args.n in
     let r = c.scan_digits.result in record {
-  value_le_n = c.scan_digits.ensures.value_le_max;
-  ends_at = λ h. let f = c.scan_digits.ensures.ends_at h in
+      value_le_n = c.scan_digits.ensures.value_le_max;
+      ends_at = λ h. let f = c.scan_digits.ensures.ends_at h in
           let k : r.end ≤ length s = omega (arith, f.0.inside) in
           let d : decimal_of n (slice args.from r.end s) ≡ Is r.value = sym (decimal_plain args.from r.end s f.0.wide k n c.if-text-from-eq48.false) ∙ f.1 in
           let l = slice_at s args.from r.end f.0.wide k in (
@@ -33,4 +33,4 @@ returns c =
             label_is n (slice args.from r.end s) r.value d
                 (decimal_some n (get_or s args.from 0) (slice (args.from + 1) r.end s) r.value (sym (ap (decimal_of n) l) ∙ d) c.if-text-from-eq48.false),
           );
-}
+    }

@@ -43,7 +43,8 @@ returns-then-text-end-ne46 c = λ h. absurd (h refl)
 turned : (c : Else-text-end-ne46) →
     NamesLeft c.args.text.now c.args.from (c.next_name-end.result + 1) (c.loop-names.names + 1)
 turned c =
-    names_turn c.args.text.now c.args.from c.loop-names.at c.loop-names.names c.next_name-end.result c.loop-names.invariant (found c.before.before.before.before) c.requires.1 c.if-text-end-ne46.false
+    names_turn c.args.text.now c.args.from c.loop-names.at c.loop-names.names c.next_name-end.result c.loop-names.invariant
+    (c.next_name-end.ensures c.if-end-eq0.false) c.requires.1 c.if-text-end-ne46.false
 
 pub overflow_add-at : goal.overflow_add-at
 overflow_add-at c = omega (arith, (turned (goal.at.overflow_add-at c).Else-text-end-ne46).inside)

@@ -25,9 +25,9 @@ claim_parts-requires c =
 pub returns-then-node : goal.returns-then-node
 returns-then-node c =
     let d = sym (ap (λ (p : Node). p.definition) c.requires.1) ∙ c.if-node.true in record {
-  value = rw d;
-  table_after = rw (c.claim_parts.ensures, c.assign.ensures, c.label_cell-group.ensures, c.requires.1) (sym (propagated_definition c.args.label c.args.table.now d));
-}
+      value = rw d;
+      table_after = rw (c.claim_parts.ensures, c.assign.ensures, c.label_cell-group.ensures, c.requires.1) (sym (propagated_definition c.args.label c.args.table.now d));
+    }
 
 pub overflow_add-level : goal.overflow_add-level
 overflow_add-level c =
@@ -45,13 +45,13 @@ claim_parts-requires-then-used_once c =
 pub returns-then-used_once : goal.returns-then-used_once
 returns-then-used_once c =
     let d = sym (ap (λ (p : Node). p.definition) c.requires.1) ∙ c.if-node.false in record {
-  value = rw (d, ← c.label_cell-owner.ensures) (sym c.if-used_once.true ∙ c.used_once.ensures);
-  table_after = rw (c.claim_parts-then-used_once.ensures, c.label_cell-owner.ensures, c.label_cell-level.ensures, c.requires.1) (sym (propagated_expression c.args.label c.args.table.now d));
-}
+      value = rw (d, ← c.label_cell-owner.ensures) (sym c.if-used_once.true ∙ c.used_once.ensures);
+      table_after = rw (c.claim_parts-then-used_once.ensures, c.label_cell-owner.ensures, c.label_cell-level.ensures, c.requires.1) (sym (propagated_expression c.args.label c.args.table.now d));
+    }
 
 pub returns : goal.returns
 returns c =
     let d = sym (ap (λ (p : Node). p.definition) c.requires.1) ∙ c.if-node.false in record {
-  value = rw (d, ← c.label_cell-owner.ensures) (sym c.if-used_once.false ∙ c.used_once.ensures);
-  table_after = refl;
-}
+      value = rw (d, ← c.label_cell-owner.ensures) (sym c.if-used_once.false ∙ c.used_once.ensures);
+      table_after = refl;
+    }

@@ -24,8 +24,7 @@ settle-requires c = going_ready c.args.table.now c.args.n c.requires.formed c.lo
 pub loop-label-preserved : goal.loop-label-preserved
 loop-label-preserved c =
     let both : (structure_right c.loop-label.table c.loop-label.label && used_right c.loop-label.table c.loop-label.label) ≡ true = sym c.settle.ensures.value ∙ c.if-settle.true in
-    let now : c.settle.new.table ≡ propagated c.loop-label.label c.loop-label.table = rw c.if-settle.true at c.settle.ensures.table_after in
-    (
+    let now : c.settle.new.table ≡ propagated c.loop-label.label c.loop-label.table = rw c.if-settle.true at c.settle.ensures.table_after in (
       omega arith,
       omega arith,
       rw (c.put_cell.ensures, c.first_of-argument.ensures, c.argument_bad.ensures, c.first_of-level.ensures, c.level_bad.ensures, now)
@@ -45,9 +44,9 @@ returns-else-settle c =
     let stop = going_stop c.args.table.now c.args.n c.requires.formed c.loop-label.table c.loop-label.label c.loop-label.argument c.loop-label.level c.loop-label.invariant.0 (omega arith) c.loop-label.invariant.2 both in
     let row8 = first_bad (structure_bad c.loop-label.table) 1 c.args.n in
     let found : c.early_verdict.result ≡ or_else row8 (Refused uses_row c.loop-label.label) = rw now at c.early_verdict.ensures in record {
-  value = found ∙ stop;
-  written = not_written row8 c.early_verdict.result uses_row c.loop-label.label c.args.table.now c.args.n c.settle.new.table found (ap length now ∙ c.loop-label.invariant.2.claims.over.size);
-}
+      value = found ∙ stop;
+      written = not_written row8 c.early_verdict.result uses_row c.loop-label.label c.args.table.now c.args.n c.settle.new.table found (ap length now ∙ c.loop-label.invariant.2.claims.over.size);
+    }
 
 pub shape_of-table : goal.shape_of-table
 shape_of-table c = c.loop-label.invariant.2.claims.over.size
@@ -56,5 +55,5 @@ pub returns : goal.returns
 returns c = record {
   value = c.late_verdict.ensures ∙ going_done c.args.table.now c.args.n c.requires c.loop-label.table c.loop-label.label c.loop-label.argument c.loop-label.level c.loop-label.invariant.1 (omega arith) c.loop-label.invariant.2;
   written = written c.late_verdict.result c.args.table.now c.args.n c.loop-label.table
-          (going_table c.args.table.now c.args.n c.requires c.loop-label.table c.loop-label.label c.loop-label.argument c.loop-label.level c.loop-label.invariant.1 (omega arith) c.loop-label.invariant.2);
+      (going_table c.args.table.now c.args.n c.requires c.loop-label.table c.loop-label.label c.loop-label.argument c.loop-label.level c.loop-label.invariant.1 (omega arith) c.loop-label.invariant.2);
 }

@@ -11,13 +11,13 @@ propagate-requires c =
 pub returns-then-structure_right : goal.returns-then-structure_right
 returns-then-structure_right c =
     let right = sym c.structure_right.ensures ∙ c.if-structure_right.true in record {
-  value = rw right c.propagate.ensures.value;
-  table_after = c.propagate.ensures.table_after;
-}
+      value = rw right c.propagate.ensures.value;
+      table_after = c.propagate.ensures.table_after;
+    }
 
 pub returns : goal.returns
 returns c =
     let wrong = sym c.structure_right.ensures ∙ c.if-structure_right.false in record {
-  value = rw wrong;
-  table_after = refl;
-}
+      value = rw wrong;
+      table_after = refl;
+    }

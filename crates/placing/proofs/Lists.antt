@@ -96,7 +96,7 @@ rising_once [] r x = omega arith
 rising_once (y ∷ l) r x = go (ℕ_discrete x y) (rising_once l r.1 x)
   where
     go : Dec (x ≡ y) → count x l ≤ 1 → count x (y ∷ l) ≤ 1
-    go (yes e) i = rw e (omega (arith, count_here y l, above y l r.0))
+    go (yes e) i = omega (arith, ap (λ (v : ℕ). count v (y ∷ l)) e, count_here y l, above y l r.0)
     go (no e) i = omega (arith, count_there x y l e)
 
 -- the least that passes is the first

@@ -1,5 +1,5 @@
 -- Items that need only such as stand before them are placed as they stand.
-use mathlib.Core.Path.{◌≡◌, refl, sym, ap, ◌∙◌}
+use mathlib.Core.Path.{◌≡◌, refl, sym, ap, ◌∙◌, subst}
 use mathlib.Core.Logic.{◌⊎◌, inl, inr}
 use mathlib.Core.List.{List, [], ◌∷◌}
 use mathlib.Core.Bool.{Bool, true, false, not, ◌&&◌, and-false}
@@ -37,7 +37,7 @@ lower_before (y ∷ l) rs zero x h m s = go (in_cons x y l m)
 lower_before (y ∷ l) rs (suc k) x h m s = go (in_cons x y l m) (lower_before l rs.1 k x (omega arith))
   where
     go : (x ≡ y) ⊎ (x ∈ l) → (x ∈ l → x < get_or l k 0 → x ∈ take k l) → x ∈ y ∷ take k l
-    go (inl e) r = rw e (in_here y (take k l))
+    go (inl e) r = subst (λ (z : ℕ). z ∈ y ∷ take k l) (sym e) (in_here y (take k l))
     go (inr i) r = in_there x y (take k l) (r i s)
 
 module _ (R : ℕ → ℕ → Bool) (items : List ℕ) (rising : Rising items) (o : Ordered R items) where

@@ -35,27 +35,27 @@ close_row-requires c =
     let m = here (goal.at.close_row-requires c).After-widen-x in
     let inv = c.loop-i.invariant in
     let pre = c.requires in record {
-  in_square = ((pre.0.below _ m, omega (arith, pre.0.rows _ m, inv.0)), pre.0.narrow, pre.1.1, omega (arith, pre.1.2, inv.1));
-  following = pre.1.0;
-}
+      in_square = ((pre.mergeable.below _ m, omega (arith, pre.mergeable.rows _ m, inv.0)), pre.mergeable.narrow, pre.following.1, omega (arith, pre.following.2, inv.1));
+      following = pre.following.0;
+    }
 
 pub loop-i-preserved : goal.loop-i-preserved
 loop-i-preserved c =
     let h = c.loop-i-test.true in
     let ok = c.requires.mergeable in
     elim c.if-b-x.branch [
-      then-b-x w ↦ rw (w.square-is, w.list-is) (
-      w.close_row.auto.square ∙ c.loop-i.invariant.0,
-      w.close_row.auto.list ∙ c.loop-i.invariant.1,
-      omega arith,
-      closed_turn _ _ _ _ _ _ _ _ h c.widen-x.ensures c.loop-i.invariant.3 (rising_once c.args.items.now ok.rising _) (sym c.widen-b.ensures ∙ w.if-b-x.true) _ w.close_row.ensures,
-    )
-    | else-b-x w ↦ rw (w.square-is, w.list-is) (
-      c.loop-i.invariant.0,
-      c.loop-i.invariant.1,
-      omega arith,
-      closed_skip _ _ _ _ _ _ _ _ h c.widen-x.ensures c.loop-i.invariant.3 (λ e. w.if-b-x.false (c.widen-b.ensures ∙ e)),
-    )
+      | then-b-x w ↦ rw (w.square-is, w.list-is) (
+        w.close_row.auto.square ∙ c.loop-i.invariant.0,
+        w.close_row.auto.list ∙ c.loop-i.invariant.1,
+        omega arith,
+        closed_turn _ _ _ _ _ _ _ _ h c.widen-x.ensures c.loop-i.invariant.3 (rising_once c.args.items.now ok.rising _) (sym c.widen-b.ensures ∙ w.if-b-x.true) _ w.close_row.ensures,
+      )
+      | else-b-x w ↦ rw (w.square-is, w.list-is) (
+        c.loop-i.invariant.0,
+        c.loop-i.invariant.1,
+        omega arith,
+        closed_skip _ _ _ _ _ _ _ _ h c.widen-x.ensures c.loop-i.invariant.3 (λ e. w.if-b-x.false (c.widen-b.ensures ∙ e)),
+      )
     ]
 
 pub shape_of-square : goal.shape_of-square

@@ -37,7 +37,7 @@ long c =
 pub copy_marks-requires : goal.copy_marks-requires
 copy_marks-requires c =
     let pre = c.requires in
-    (pre.0.mask_room, pre.1.fresh_room)
+    (pre.in_rows.mask_room, pre.room.fresh_room)
 
 pub clear_marks-requires : goal.clear_marks-requires
 clear_marks-requires c = c.requires.room.stacked_room
@@ -62,11 +62,11 @@ search-requires c =
     let inv = c.loop-i.invariant in
     let items = c.args.items.now in
     let item = subst (λ (x : ℕ). x ∈ items) (sym c.widen-q.ensures) (in_at items c.loop-i.i c.loop-i-test.true) in record {
-  in_rows = c.requires.in_rows;
-  room = room_as (long (goal.at.search-requires c).At-loop-i) c.requires.room;
-  q = item;
-  going = (inv.1, inv.2);
-}
+      in_rows = c.requires.in_rows;
+      room = room_as (long (goal.at.search-requires c).At-loop-i) c.requires.room;
+      q = item;
+      going = (inv.1, inv.2);
+    }
 
 pub overflow_add-i : goal.overflow_add-i
 overflow_add-i c = omega (arith, c.loop-i-test.true, c.requires.room.few)

@@ -44,19 +44,19 @@ loop-i-preserved c =
     let h = c.loop-i-test.true in
     let ok = c.requires.mergeable in
     elim c.if-b-x.branch [
-      then-b-x w ↦ rw (w.square-is, w.followers-is) (
-      w.merge_row.auto.s ∙ c.loop-i.invariant.0,
-      w.put_mark.auto.s ∙ c.loop-i.invariant.1,
-      omega arith,
-      joined_turn _ _ _ _ _ _ _ _ h c.widen-x.ensures c.loop-i.invariant.3 ok.head (λ e. w.if-b-x.true (c.widen-b.ensures ∙ e)) (ok.below _ (here (goal.at.loop-i-preserved c).After-widen-x)) _
-          c.widen-b.ensures _ _ w.put_mark.ensures w.merge_row.ensures,
-    )
-    | else-b-x w ↦ rw (w.square-is, w.followers-is) (
-      c.loop-i.invariant.0,
-      c.loop-i.invariant.1,
-      omega arith,
-      joined_skip _ _ _ _ _ _ _ _ h c.widen-x.ensures c.loop-i.invariant.3 (sym c.widen-b.ensures ∙ w.if-b-x.false),
-    )
+      | then-b-x w ↦ rw (w.square-is, w.followers-is) (
+        w.merge_row.auto.s ∙ c.loop-i.invariant.0,
+        w.put_mark.auto.s ∙ c.loop-i.invariant.1,
+        omega arith,
+        joined_turn _ _ _ _ _ _ _ _ h c.widen-x.ensures c.loop-i.invariant.3 ok.head (λ e. w.if-b-x.true (c.widen-b.ensures ∙ e)) (ok.below _ (here (goal.at.loop-i-preserved c).After-widen-x)) _
+            c.widen-b.ensures _ _ w.put_mark.ensures w.merge_row.ensures,
+      )
+      | else-b-x w ↦ rw (w.square-is, w.followers-is) (
+        c.loop-i.invariant.0,
+        c.loop-i.invariant.1,
+        omega arith,
+        joined_skip _ _ _ _ _ _ _ _ h c.widen-x.ensures c.loop-i.invariant.3 (sym c.widen-b.ensures ∙ w.if-b-x.false),
+      )
     ]
 
 pub shape_of-square : goal.shape_of-square

@@ -28,10 +28,10 @@ bounds-lead-p c = inside (goal.at.bounds-lead-p c).After-widen-p
 
 pub loop-i-preserved : goal.loop-i-preserved
 loop-i-preserved c = (
-      length-set c.loop-i.lead _ _ ∙ c.loop-i.invariant.0,
-      omega (arith, c.loop-i-test.true),
-      lead_turn c.args.items.now c.loop-i.lead c.loop-i.i _ _ c.loop-i-test.true c.widen-p.ensures refl (inside (goal.at.loop-i-preserved c).After-widen-p) c.loop-i.invariant.2,
-    )
+  length-set c.loop-i.lead _ _ ∙ c.loop-i.invariant.0,
+  omega (arith, c.loop-i-test.true),
+  lead_turn c.args.items.now c.loop-i.lead c.loop-i.i _ _ c.loop-i-test.true c.widen-p.ensures refl (inside (goal.at.loop-i-preserved c).After-widen-p) c.loop-i.invariant.2,
+)
 
 pub shape_of-lead : goal.shape_of-lead
 shape_of-lead c = c.loop-i.invariant.0

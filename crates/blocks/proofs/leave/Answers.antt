@@ -35,9 +35,9 @@ bounds-stack-i c = omega (arith, c.loop-i-test.true, c.requires.s_le_n)
 pub drop_mark-requires : goal.drop_mark-requires
 drop_mark-requires c =
     let inv = c.loop-i.invariant in record {
-  in_square = (mark_in _ _ _ _ (own (goal.at.drop_mark-requires c).After-widen-x).0, omega (arith, inv.0, c.requires.s_le_n));
-  q_value = still _ _ _ _ _ _ _ _ _ _ inv.4 inv.2 c.widen-x.ensures (once (goal.at.drop_mark-requires c).After-widen-x) ∙ (own (goal.at.drop_mark-requires c).After-widen-x).0;
-}
+      in_square = (mark_in _ _ _ _ (own (goal.at.drop_mark-requires c).After-widen-x).0, omega (arith, inv.0, c.requires.s_le_n));
+      q_value = still _ _ _ _ _ _ _ _ _ _ inv.4 inv.2 c.widen-x.ensures (once (goal.at.drop_mark-requires c).After-widen-x) ∙ (own (goal.at.drop_mark-requires c).After-widen-x).0;
+    }
 
 pub offset_bounds-lead-x : goal.offset_bounds-lead-x
 offset_bounds-lead-x c = omega (arith, c.widen-x.ensures, c.type_inv.stack c.loop-i.i)
@@ -47,8 +47,7 @@ bounds-lead-x c = inside (goal.at.bounds-lead-x c).After-widen-x
 
 pub loop-i-preserved : goal.loop-i-preserved
 loop-i-preserved c =
-    let taken = c.loop-i-test.true in
-    (
+    let taken = c.loop-i-test.true in (
       c.drop_mark.auto.s ∙ c.loop-i.invariant.0,
       length-set c.loop-i.lead _ _ ∙ c.loop-i.invariant.1,
       omega (arith, c.loop-i.invariant.2),

@@ -9,11 +9,10 @@ pub returns-then-n-eq0 : goal.returns-then-n-eq0
 returns-then-n-eq0 c = record { least = λ x a b. omega arith; is = inl (sym c.if-n-eq0.true) }
 
 pub lowest_place-requires : goal.lowest_place-requires
-lowest_place-requires c =
-    let pre = c.requires in (
-      omega (arith, c.list_marks-m.ensures.1, c.list_marks-m.auto.list, pre.0),
-      λ x m. pre.1 x (listed _ _ c.list_marks-m.new.list _ _ c.list_marks-m.result c.list_marks-m.ensures.0 x m).1,
-    )
+lowest_place-requires c = (
+  omega (arith, c.list_marks-m.ensures.1, c.list_marks-m.auto.list, c.requires.w_in_bounds),
+  λ x m. c.requires.by_index x (listed _ _ c.list_marks-m.new.list _ _ c.list_marks-m.result c.list_marks-m.ensures.0 x m).1,
+)
 
 pub returns : goal.returns
 returns c = met_of _ _ c.list_marks-m.new.list _ _ c.list_marks-m.result c.list_marks-m.ensures.0 _ _ _ c.lowest_place.ensures

@@ -9,16 +9,16 @@ clear_marks-requires c = c.requires.w_in_bounds.0
 pub join_rows-requires : goal.join_rows-requires
 join_rows-requires c =
     let pre = c.requires in record {
-  mergeable = pre.0;
-  w_in_bounds = (omega (arith, pre.1.0, c.clear_marks.auto.s), c.clear_marks.ensures);
-}
+      mergeable = pre.mergeable;
+      w_in_bounds = (omega (arith, pre.w_in_bounds.0, c.clear_marks.auto.s), c.clear_marks.ensures);
+    }
 
 pub close_rows-requires : goal.close_rows-requires
 close_rows-requires c =
     let pre = c.requires in record {
-  mergeable = mergeable_as _ _ _ _ _ c.join_rows.auto.square pre.0;
-  following = (following_of _ _ _ _ _ _ pre.0 c.join_rows.ensures, omega (arith, pre.1.0, c.clear_marks.auto.s, c.join_rows.auto.followers), pre.1.1);
-}
+      mergeable = mergeable_as _ _ _ _ _ c.join_rows.auto.square pre.mergeable;
+      following = (following_of _ _ _ _ _ _ pre.mergeable c.join_rows.ensures, omega (arith, pre.w_in_bounds.0, c.clear_marks.auto.s, c.join_rows.auto.followers), pre.w_in_bounds.1);
+    }
 
 pub shape_of-square : goal.shape_of-square
 shape_of-square c = c.close_rows.auto.square ∙ c.join_rows.auto.square

@@ -4,7 +4,6 @@ use mathlib.Core.Bool.{true}
 use Prim.Native.Nat.{◌+◌, ◌*◌, ◌<◌}
 use native.Mathlib.Omega.{arith}
 use borrow.Author.Rules.{rules}
-use borrow.Author.Tests.{not-true, not-false}
 use Rattle.marks.specs.Marks.{mark}
 use Rattle.blocks.specs.Search.{fresh_count, Search, Settled, Kept}
 use Rattle.blocks.proofs.Rooms.{Same, room_as, pushable}
@@ -16,7 +15,7 @@ use Rattle.blocks.proofs.search.Goals.{After-push-b, At-loop-p, Else-not-has_mar
 unmet : (c : Else-not-has_mark) →
     let a = c.args in
     mark a.fresh.now a.w 0 a.q ≡ true
-unmet c = sym c.has_mark.ensures ∙ not-false _ c.if-not-has_mark.false
+unmet c = sym c.has_mark.ensures ∙ c.if-not-has_mark.false
 
 -- the first item is met
 module _ (c : After-push-b) where
@@ -27,7 +26,7 @@ module _ (c : After-push-b) where
       × Settled a.items.now a.square.now a.mask.now c.push-b.new.fresh c.push-b.new.stacked a.lead.now a.w
       × (fresh_count a.items.now c.push-b.new.fresh a.w < fresh_count a.items.now a.fresh.now a.w) × Kept a.fresh.now c.push-b.new.fresh a.w
   pushed =
-      push_turn c.requires.in_rows c.requires.going.0 (unmet c.before.before.before.before.before.before.before.before) (inl refl) c.push-b.ensures c.args.lead.now c.requires.going.1
+      push_turn c.requires.in_rows c.requires.going.0 (sym c.has_mark.ensures ∙ c.if-not-has_mark.false) (inl refl) c.push-b.ensures c.args.lead.now c.requires.going.1
 
 -- in the loop: the lists are as long as at entry
 long : (c : At-loop-p) →
@@ -50,12 +49,12 @@ long c =
 pub has_mark-requires : goal.has_mark-requires
 has_mark-requires c =
     let pre = c.requires in
-    (pre.0.below _ pre.1.1.0, omega (arith, pre.1.0.fresh_room))
+    (pre.in_rows.below _ pre.q, omega (arith, pre.room.fresh_room))
 
 pub returns-then-not-has_mark : goal.returns-then-not-has_mark
 returns-then-not-has_mark c = record {
   going_2 = c.requires.going;
-  kept = (λ x f. f, sym c.has_mark.ensures ∙ not-true _ c.if-not-has_mark.true);
+  kept = (λ x f. f, sym c.has_mark.ensures ∙ c.if-not-has_mark.true);
 }
 
 pub push-b-requires : goal.push-b-requires
@@ -67,7 +66,12 @@ loop-p-init c =
     (record { same_fresh = refl; same_stacked = refl; same_list = refl; same_stack = refl; same_place = refl; same_starts = refl; same_path = refl; same_lead = refl }, r.0, r.1, λ x f. f)
 
 pub step-t-requires : goal.step-t-requires
-step-t-requires c = (c.requires.in_rows, (room_as (long (goal.at.step-t-requires c).At-loop-p) c.requires.room, (c.loop-p-test.true, (c.loop-p.invariant.1, c.loop-p.invariant.2))))
+step-t-requires c = record {
+  in_rows = c.requires.in_rows;
+  room = room_as (long (goal.at.step-t-requires c).At-loop-p) c.requires.room;
+  p_nonzero = c.loop-p-test.true;
+  going = (c.loop-p.invariant.1, c.loop-p.invariant.2);
+}
 
 pub loop-p-smaller : goal.loop-p-smaller
 loop-p-smaller c = omega (arith, c.step-t.ensures.nearer.less)
@@ -119,6 +123,6 @@ pub returns : goal.returns
 returns c =
     let z : c.loop-p.p ≡ 0 = omega (arith, c.loop-p-test.false) in
     let inv = c.loop-p.invariant in record {
-  going_2 = (search_empty c.requires.in_rows inv.1 z, inv.2);
-  kept = (λ x f. inv.3 x ((pushed (goal.at.returns c).After-push-b).3 x f), inv.3 c.args.q c.push-b.ensures.dropped.gone);
-}
+      going_2 = (search_empty c.requires.in_rows inv.1 z, inv.2);
+      kept = (λ x f. inv.3 x ((pushed (goal.at.returns c).After-push-b).3 x f), inv.3 c.args.q c.push-b.ensures.dropped.gone);
+    }

@@ -8,7 +8,7 @@ use Rattle.order.specs.LabelLists.{◌∈◌}
 use Rattle.blocks.proofs.Rooms.{bounds, top_item, top_needed, top_quiet, starts_in, pushable, leads_in}
 use Rattle.blocks.proofs.Steps.{once, push_turn, search_back, found_turn}
 use Rattle.blocks.proofs.step.Goals as goal
-use Rattle.blocks.proofs.step.Goals.{After-slice_known-10-1, After-slice_known-8-1, After-widen, After-widen-at, Start}
+use Rattle.blocks.proofs.step.Goals.{After-widen, After-widen-at, Start}
 
 module _ (e : Start) where
   few :
@@ -47,7 +47,7 @@ pub bounds-stack-at : goal.bounds-stack-at
 bounds-stack-at c = let f = few (goal.at.bounds-stack-at c).Start in omega (arith, at_within (goal.at.bounds-stack-at c).After-widen-at, c.requires.room.stack_room)
 
 pub first_common-q-requires : goal.first_common-q-requires
-first_common-q-requires c = (c.requires.in_rows.rows _ (item (goal.at.first_common-q-requires c).After-slice_known-10-1), c.requires.room.fresh_room, c.requires.in_rows.narrow)
+first_common-q-requires c = (c.requires.in_rows.rows _ (item (goal.at.first_common-q-requires c).After-widen), c.requires.room.fresh_room, c.requires.in_rows.narrow)
 
 pub push-c-requires : goal.push-c-requires
 push-c-requires c =
@@ -66,9 +66,9 @@ returns-then-q-w c =
     let found = c.first_common-q.ensures.here c.if-q-w.true in
     let step = top_needed c.requires.in_rows c.requires.room g c.requires.p_nonzero (top_of (goal.at.returns-then-q-w c).After-widen) c.widen.ensures _ found.0 found.1 in
     let r = push_turn c.requires.in_rows g found.1 (inr step) c.push-c.ensures c.args.lead.now c.requires.going.1 in record {
-  going_2 = (r.0, r.1);
-  nearer = record { kept = r.3; less = omega (arith, r.2) };
-}
+      going_2 = (r.0, r.1);
+      nearer = record { kept = r.3; less = omega (arith, r.2) };
+    }
 
 pub overflow_sub-b : goal.overflow_sub-b
 overflow_sub-b c = let h = some_starts (goal.at.overflow_sub-b c).Start in omega arith
@@ -82,10 +82,10 @@ bounds-starts-b c = let h = some_starts (goal.at.bounds-starts-b c).Start in ome
 pub finish-requires : goal.finish-requires
 finish-requires c =
     let f = few (goal.at.finish-requires c).Start in record {
-  s_lt_n = (at_within (goal.at.finish-requires c).After-slice_known-8-1, omega (arith, c.requires.room.stack_room), c.requires.room.stacked_room);
-  by_index = λ k l h. leads_in c.requires.in_rows c.requires.room c.requires.going.0 k h;
-  by_index_2 = once c.requires.in_rows c.requires.going.0;
-}
+      s_lt_n = (at_within (goal.at.finish-requires c).After-widen-at, omega (arith, c.requires.room.stack_room), c.requires.room.stacked_room);
+      by_index = λ k l h. leads_in c.requires.in_rows c.requires.room c.requires.going.0 k h;
+      by_index_2 = once c.requires.in_rows c.requires.going.0;
+    }
 
 pub overflow_sub-result : goal.overflow_sub-result
 overflow_sub-result c = let h = some_starts (goal.at.overflow_sub-result c).Start in omega arith
@@ -103,9 +103,9 @@ returns-then-at-widen c =
     let same = c.if-at-widen.true ∙ c.widen-2.ensures in
     let r =
     found_turn c.requires.in_rows g c.requires.p_nonzero top quiet same finish.smallest finish.left c.requires.going.1 in record {
-  going_2 = (r.0, r.1);
-  nearer = record { kept = λ x f. f; less = omega (arith, c.requires.p_nonzero) };
-}
+      going_2 = (r.0, r.1);
+      nearer = record { kept = λ x f. f; less = omega (arith, c.requires.p_nonzero) };
+    }
 
 pub returns : goal.returns
 returns c =
@@ -113,6 +113,6 @@ returns c =
     let top = top_of (goal.at.returns c).After-widen in
     let none = c.first_common-q.ensures.none (omega (arith, c.if-q-w.false, c.first_common-q.ensures.within)) in
     let quiet = top_quiet c.requires.in_rows c.requires.room g c.requires.p_nonzero (top_of (goal.at.returns c).After-widen) c.widen.ensures none in record {
-  going_2 = (search_back c.requires.in_rows g c.requires.p_nonzero top quiet (λ z. c.if-at-widen.false (z ∙ sym c.widen-2.ensures)), c.requires.going.1);
-  nearer = record { kept = λ x f. f; less = omega (arith, c.requires.p_nonzero) };
-}
+      going_2 = (search_back c.requires.in_rows g c.requires.p_nonzero top quiet (λ z. c.if-at-widen.false (z ∙ sym c.widen-2.ensures)), c.requires.going.1);
+      nearer = record { kept = λ x f. f; less = omega (arith, c.requires.p_nonzero) };
+    }

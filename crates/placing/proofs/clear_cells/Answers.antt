@@ -28,10 +28,10 @@ bounds-cells-p c = inside (goal.at.bounds-cells-p c).After-widen-p
 
 pub loop-i-preserved : goal.loop-i-preserved
 loop-i-preserved c = (
-      length-set c.loop-i.cells _ _ ∙ c.loop-i.invariant.0,
-      omega (arith, c.loop-i-test.true),
-      clear_turn c.args.items.now c.loop-i.cells c.loop-i.i _ c.loop-i-test.true c.widen-p.ensures (inside (goal.at.loop-i-preserved c).After-widen-p) c.loop-i.invariant.2,
-    )
+  length-set c.loop-i.cells _ _ ∙ c.loop-i.invariant.0,
+  omega (arith, c.loop-i-test.true),
+  clear_turn c.args.items.now c.loop-i.cells c.loop-i.i _ c.loop-i-test.true c.widen-p.ensures (inside (goal.at.loop-i-preserved c).After-widen-p) c.loop-i.invariant.2,
+)
 
 pub shape_of-cells : goal.shape_of-cells
 shape_of-cells c = c.loop-i.invariant.0

@@ -30,9 +30,9 @@ bounds-items-i c = omega (arith, c.loop-i-test.true)
 pub raise-requires : goal.raise-requires
 raise-requires c =
     let f = c.requires.fits in record {
-  row = row_of _ _ _ _ _ _ c.loop-i.invariant.0 f _ (here (goal.at.raise-requires c).After-widen-q);
-  raisable = λ p i. count_room _ _ _ _ c.loop-i.i _ c.widen-q.ensures c.loop-i-test.true c.loop-i.unmet c.loop-i.invariant.2 f.few p (need_item _ _ _ _ _ _ f p (one_in _ i));
-}
+      row = row_of _ _ _ _ _ _ c.loop-i.invariant.0 f _ (here (goal.at.raise-requires c).After-widen-q);
+      raisable = λ p i. count_room _ _ _ _ c.loop-i.i _ c.widen-q.ensures c.loop-i-test.true c.loop-i.unmet c.loop-i.invariant.2 f.few p (need_item _ _ _ _ _ _ f p (one_in _ i));
+    }
 
 pub overflow_add-i : goal.overflow_add-i
 overflow_add-i c = omega (arith, c.loop-i-test.true, c.requires.fits.few)
@@ -42,8 +42,7 @@ loop-i-smaller c = omega (arith, c.loop-i-test.true)
 
 pub loop-i-preserved : goal.loop-i-preserved
 loop-i-preserved c =
-    let taken = c.loop-i-test.true in
-    (
+    let taken = c.loop-i-test.true in (
       c.raise.auto.unmet ∙ c.loop-i.invariant.0,
       omega (arith, taken),
       count_turn _ _ _ _ c.loop-i.i _ c.widen-q.ensures taken c.loop-i.unmet c.loop-i.invariant.2 c.raise.new.unmet c.raise.ensures,

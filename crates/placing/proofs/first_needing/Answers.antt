@@ -2,7 +2,6 @@ use mathlib.Core.Path.{◌≡◌, refl, sym, ◌∙◌}
 use Prim.Native.Nat.{ℕ, ◌+◌, ◌-◌, ◌*◌, ◌≤◌, ◌<◌}
 use native.Mathlib.Omega.{arith}
 use borrow.Author.Rules.{rules}
-use borrow.Author.Tests.{not-true}
 use lib.Bits.{bit_and, and_le_r}
 use lib.Count.{trailing_le}
 use lib.ListN.{get_or}
@@ -27,7 +26,7 @@ pub overflow_add-result : goal.overflow_add-result
 overflow_add-result c = let pre = c.requires in omega (arith, pre)
 
 pub returns-then-not-has_mark : goal.returns-then-not-has_mark
-returns-then-not-has_mark c = λ p h. rw (sym c.has_mark.ensures ∙ not-true _ c.if-not-has_mark.true) refl
+returns-then-not-has_mark c = λ p h. rw (sym c.has_mark.ensures ∙ c.if-not-has_mark.true) refl
 
 pub overflow_mul-a : goal.overflow_mul-a
 overflow_mul-a c = let pre = c.requires in search rules

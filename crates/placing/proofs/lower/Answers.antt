@@ -4,7 +4,6 @@ use Prim.Native.Nat.{ℕ, ◌-◌, ◌*◌, ◌≤◌}
 use native.Mathlib.Omega.{arith}
 use native.Mathlib.Nat.{le_antisymm}
 use borrow.Author.Rules.{rules}
-use borrow.Author.Tests.{not-true, not-false}
 use lib.ListN.{length}
 use Rattle.marks.specs.Marks.{mark}
 use Rattle.marks.proofs.Squares.{mark_in, common_turn}
@@ -15,7 +14,7 @@ use Rattle.placing.proofs.lower.Goals.{Else-not-has_mark}
 
 -- q is in the mask
 masked : (c : Else-not-has_mark) → mark c.args.mask.now c.args.w 0 c.args.q ≡ true
-masked c = sym c.has_mark.ensures ∙ not-false _ c.if-not-has_mark.false
+masked c = sym c.has_mark.ensures ∙ c.if-not-has_mark.false
 
 pub has_mark-requires : goal.has_mark-requires
 has_mark-requires c =
@@ -23,7 +22,7 @@ has_mark-requires c =
     (row.below, omega (arith, row.mask_room))
 
 pub returns-then-not-has_mark : goal.returns-then-not-has_mark
-returns-then-not-has_mark c = lowered_none _ (needed_none _ _ _ _ (sym c.has_mark.ensures ∙ not-true _ c.if-not-has_mark.true)) _ _ _
+returns-then-not-has_mark c = lowered_none _ (needed_none _ _ _ _ (sym c.has_mark.ensures ∙ c.if-not-has_mark.true)) _ _ _
 
 pub overflow_mul-a : goal.overflow_mul-a
 overflow_mul-a c =
@@ -54,18 +53,18 @@ overflow_mul-j c = omega (arith, c.requires.row.narrow, c.loop-j-test.true)
 pub lower_word-requires : goal.lower_word-requires
 lower_word-requires c =
     let row = c.requires.row in record {
-  base_bound = (
+      base_bound = (
         omega (arith, row.narrow, c.loop-j-test.true),
         λ p i. omega (arith, row.counted p (in_word c.args.square.now c.args.mask.now c.args.w c.args.q c.loop-j.j c.loop-j-test.true p i), c.loop-j.invariant.0),
         λ p i. mark_in _ _ _ p (in_word c.args.square.now c.args.mask.now c.args.w c.args.q c.loop-j.j c.loop-j-test.true p i),
       );
-  by_index = (
+      by_index = (
         λ p.
             let l = word_le c.args.square.now c.args.mask.now c.args.w c.args.q (masked (goal.at.lower_word-requires c).Else-not-has_mark) c.loop-j.j c.loop-j-test.true p in
             omega (arith, l, c.loop-j.invariant.3.counts p, c.requires.by_index.0 p),
         omega (arith, c.requires.by_index.1, c.loop-j.invariant.1),
       );
-}
+    }
 
 pub overflow_add-j : goal.overflow_add-j
 overflow_add-j c = omega (arith, c.requires.row.narrow, c.loop-j-test.true)
@@ -75,11 +74,11 @@ loop-j-smaller c = omega (arith, c.loop-j-test.true)
 
 pub loop-j-preserved : goal.loop-j-preserved
 loop-j-preserved c = (
-      c.lower_word.auto.unmet ∙ c.loop-j.invariant.0,
-      c.lower_word.auto.ready ∙ c.loop-j.invariant.1,
-      omega (arith, c.loop-j-test.true),
-      lowered_on _ _ _ (common_turn _ _ _ _ c.loop-j.j c.loop-j-test.true) _ _ _ _ _ _ _ c.loop-j.invariant.3 c.lower_word.ensures,
-    )
+  c.lower_word.auto.unmet ∙ c.loop-j.invariant.0,
+  c.lower_word.auto.ready ∙ c.loop-j.invariant.1,
+  omega (arith, c.loop-j-test.true),
+  lowered_on _ _ _ (common_turn _ _ _ _ c.loop-j.j c.loop-j-test.true) _ _ _ _ _ _ _ c.loop-j.invariant.3 c.lower_word.ensures,
+)
 
 pub shape_of-unmet : goal.shape_of-unmet
 shape_of-unmet c = c.loop-j.invariant.0

@@ -41,13 +41,13 @@ loop-i-preserved c =
     let items = c.args.items.now in
     let unmet = c.args.unmet.now in
     elim c.if-unmet-p-eq0.branch [
-      then-unmet-p-eq0 w ↦ rw w.ready-is (
-      w.put_mark.auto.s ∙ c.loop-i.invariant.0,
-      omega arith,
-      ready_put items unmet c.loop-i.ready c.loop-i.i c.args.w _ c.widen-p.ensures h c.loop-i.invariant.2
-          (c.requires.all_below.1 _ (here (goal.at.loop-i-preserved c).After-widen-p)) w.if-unmet-p-eq0.true _ w.put_mark.ensures,
-    )
-    | else-unmet-p-eq0 w ↦ rw w.ready-is (c.loop-i.invariant.0, omega arith, ready_skip items unmet c.loop-i.ready c.loop-i.i c.args.w _ c.widen-p.ensures h c.loop-i.invariant.2 w.if-unmet-p-eq0.false)
+      | then-unmet-p-eq0 w ↦ rw w.ready-is (
+        w.put_mark.auto.s ∙ c.loop-i.invariant.0,
+        omega arith,
+        ready_put items unmet c.loop-i.ready c.loop-i.i c.args.w _ c.widen-p.ensures h c.loop-i.invariant.2
+            (c.requires.all_below.1 _ (here (goal.at.loop-i-preserved c).After-widen-p)) w.if-unmet-p-eq0.true _ w.put_mark.ensures,
+      )
+      | else-unmet-p-eq0 w ↦ rw w.ready-is (c.loop-i.invariant.0, omega arith, ready_skip items unmet c.loop-i.ready c.loop-i.i c.args.w _ c.widen-p.ensures h c.loop-i.invariant.2 w.if-unmet-p-eq0.false)
     ]
 
 pub shape_of-ready : goal.shape_of-ready

@@ -7,7 +7,7 @@ use Rattle.placing.specs.UnmetCounts.{needed}
 use Rattle.placing.proofs.Counts.{need_item, row_of}
 use Rattle.placing.proofs.Going.{Going, going_start, going_end, going_none, item_is, unmet_of, going_step}
 use Rattle.placing.proofs.place_counted.Goals as goal
-use Rattle.placing.proofs.place_counted.Goals.{After-slice_known-5-1, At-loop-k, Else-q-w}
+use Rattle.placing.proofs.place_counted.Goals.{At-loop-k, Else-q-w}
 
 -- in the loop: buffers are as long as at entry
 module _ (l : At-loop-k) where
@@ -31,15 +31,15 @@ module _ (c : Else-q-w) where
 pub start-requires : goal.start-requires
 start-requires c =
     let pre = c.requires in record {
-  fits = pre.0;
-  w_in_bounds = pre.1.0;
-}
+      fits = pre.fits;
+      w_in_bounds = pre.w_in_bounds.0;
+    }
 
 pub loop-k-init : goal.loop-k-init
 loop-k-init c = (refl, refl, refl, going_start _ _ c.requires.fits.in_rows.rising _ _ _ _ c.start.ensures)
 
 pub first_mark-q-requires : goal.first_mark-q-requires
-first_mark-q-requires c = (omega (arith, long (goal.at.first_mark-q-requires c).After-slice_known-5-1, c.requires.w_in_bounds.0), c.requires.fits.in_rows.narrow)
+first_mark-q-requires c = (omega (arith, long (goal.at.first_mark-q-requires c).At-loop-k, c.requires.w_in_bounds.0), c.requires.fits.in_rows.narrow)
 
 pub overflow_mul-w : goal.overflow_mul-w
 overflow_mul-w c = omega (arith, c.requires.fits.in_rows.narrow)
@@ -83,12 +83,12 @@ overflow_add-k c = omega (arith, c.loop-k-test.true, c.requires.fits.few)
 pub lower-requires : goal.lower-requires
 lower-requires c =
     let f = c.requires.fits in record {
-  row = row_of _ _ _ _ _ _ (long (goal.at.lower-requires c).At-loop-k).0 f _ (item (goal.at.lower-requires c).Else-q-w);
-  by_index = (
+      row = row_of _ _ _ _ _ _ (long (goal.at.lower-requires c).At-loop-k).0 f _ (item (goal.at.lower-requires c).Else-q-w);
+      by_index = (
         unmet_of _ _ f.in_rows.rising _ _ _ _ _ c.loop-k.invariant.3 _ c.first_mark-q.ensures (low (goal.at.lower-requires c).Else-q-w) (need_item _ _ _ _ _ _ f),
         omega (arith, c.drop_mark.auto.s, (long (goal.at.lower-requires c).At-loop-k).1, c.requires.w_in_bounds.0),
       );
-}
+    }
 
 pub loop-k-smaller : goal.loop-k-smaller
 loop-k-smaller c = omega (arith, c.loop-k-test.true)

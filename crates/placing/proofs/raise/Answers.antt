@@ -4,7 +4,6 @@ use Prim.Native.Nat.{ℕ, ◌+◌, ◌-◌, ◌*◌, ◌≤◌}
 use native.Mathlib.Omega.{arith}
 use native.Mathlib.Nat.{le_antisymm}
 use borrow.Author.Rules.{rules}
-use borrow.Author.Tests.{not-true, not-false}
 use lib.ListN.{length, get_or}
 use Rattle.marks.specs.Marks.{mark}
 use Rattle.marks.proofs.Squares.{common_turn}
@@ -14,7 +13,7 @@ use Rattle.placing.proofs.raise.Goals.{Else-not-has_mark}
 
 -- q is in the mask
 masked : (c : Else-not-has_mark) → mark c.args.mask.now c.args.w 0 c.args.q ≡ true
-masked c = sym c.has_mark.ensures ∙ not-false _ c.if-not-has_mark.false
+masked c = sym c.has_mark.ensures ∙ c.if-not-has_mark.false
 
 pub has_mark-requires : goal.has_mark-requires
 has_mark-requires c =
@@ -24,7 +23,7 @@ has_mark-requires c =
 pub returns-then-not-has_mark : goal.returns-then-not-has_mark
 returns-then-not-has_mark c =
     let args = c.args in
-    λ p. omega (arith, needed_none args.square.now args.mask.now args.w args.q (sym c.has_mark.ensures ∙ not-true _ c.if-not-has_mark.true) p)
+    λ p. omega (arith, needed_none args.square.now args.mask.now args.w args.q (sym c.has_mark.ensures ∙ c.if-not-has_mark.true) p)
 
 pub overflow_mul-a : goal.overflow_mul-a
 overflow_mul-a c =
@@ -70,15 +69,15 @@ loop-j-smaller c = omega (arith, c.loop-j-test.true)
 
 pub loop-j-preserved : goal.loop-j-preserved
 loop-j-preserved c = (
-      c.raise_word.auto.unmet ∙ c.loop-j.invariant.0,
-      omega (arith, c.loop-j-test.true),
-      λ p. omega (
-        arith,
-        c.raise_word.ensures p,
-        c.loop-j.invariant.2 p,
-        common_turn c.args.square.now c.args.mask.now c.args.w c.args.q c.loop-j.j c.loop-j-test.true p,
-      ),
-    )
+  c.raise_word.auto.unmet ∙ c.loop-j.invariant.0,
+  omega (arith, c.loop-j-test.true),
+  λ p. omega (
+    arith,
+    c.raise_word.ensures p,
+    c.loop-j.invariant.2 p,
+    common_turn c.args.square.now c.args.mask.now c.args.w c.args.q c.loop-j.j c.loop-j-test.true p,
+  ),
+)
 
 pub shape_of-unmet : goal.shape_of-unmet
 shape_of-unmet c = c.loop-j.invariant.0

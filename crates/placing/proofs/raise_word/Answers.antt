@@ -60,11 +60,11 @@ loop-x-smaller c = omega (arith, c.loop-x-test.true, and_le_r c.loop-x.x (c.loop
 
 pub loop-x-preserved : goal.loop-x-preserved
 loop-x-preserved c = (
-      length-set c.loop-x.unmet _ _ ∙ c.loop-x.invariant.0,
-      omega (arith, and_le_l c.loop-x.x (c.loop-x.x - 1), c.loop-x.invariant.1),
-      λ p. omega (arith, counted (goal.at.loop-x-preserved c).In-loop-x p, c.loop-x.invariant.2 p),
-      λ p. omega (arith, counted (goal.at.loop-x-preserved c).In-loop-x p, c.loop-x.invariant.3 p, raised_one c.loop-x.unmet (lowest (goal.at.loop-x-preserved c).In-loop-x) (inside (goal.at.loop-x-preserved c).In-loop-x) p),
-    )
+  length-set c.loop-x.unmet _ _ ∙ c.loop-x.invariant.0,
+  omega (arith, and_le_l c.loop-x.x (c.loop-x.x - 1), c.loop-x.invariant.1),
+  λ p. omega (arith, counted (goal.at.loop-x-preserved c).In-loop-x p, c.loop-x.invariant.2 p),
+  λ p. omega (arith, counted (goal.at.loop-x-preserved c).In-loop-x p, c.loop-x.invariant.3 p, raised_one c.loop-x.unmet (lowest (goal.at.loop-x-preserved c).In-loop-x) (inside (goal.at.loop-x-preserved c).In-loop-x) p),
+)
 
 pub shape_of-unmet : goal.shape_of-unmet
 shape_of-unmet c = c.loop-x.invariant.0

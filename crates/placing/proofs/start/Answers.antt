@@ -20,9 +20,9 @@ pub mark_ready-requires : goal.mark_ready-requires
 mark_ready-requires c =
     let f = c.requires.fits in
     let k = c.count_needs.auto.unmet ∙ c.clear_cells.auto.cells in record {
-  all_below = (λ p m. omega (arith, k, f.counted p m), f.in_rows.below, omega (arith, c.requires.w_in_bounds, c.clear_marks.auto.s));
-  by_index = c.clear_marks.ensures;
-}
+      all_below = (λ p m. omega (arith, k, f.counted p m), f.in_rows.below, omega (arith, c.requires.w_in_bounds, c.clear_marks.auto.s));
+      by_index = c.clear_marks.ensures;
+    }
 
 pub shape_of-unmet : goal.shape_of-unmet
 shape_of-unmet c = c.count_needs.auto.unmet ∙ c.clear_cells.auto.cells

@@ -1,6 +1,5 @@
 use mathlib.Core.Path.{◌∙◌}
 use Rattle.cells.proofs.Clearing.{clear_all}
-use borrow.Author.Rules.{rules}
 use Rattle.cells.proofs.clear.Goals as goal
 
 pub returns : goal.returns

@@ -1,9 +1,6 @@
-use mathlib.Core.Path.{◌≡◌, refl, ◌∙◌, sym}
-use Prim.Native.Nat.{◌-◌}
-use native.Mathlib.Omega.{arith}
-use lib.ListN.{length, length-set}
+use mathlib.Core.Path.{refl, ◌∙◌, sym}
+use lib.ListN.{length-set}
 use lib.IntN.{pos}
-use Rattle.cells.specs.Clearing.{clear_from}
 use Rattle.cells.proofs.Clearing.{clear_step, clear_done}
 use Rattle.cells.proofs.clear_from.Goals as goal
 

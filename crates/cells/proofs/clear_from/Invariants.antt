@@ -1,10 +1,7 @@
-use mathlib.Core.Path.{◌≡◌, refl, ◌∙◌, sym}
+use mathlib.Core.Path.{◌≡◌}
 use Prim.Native.Nat.{◌-◌}
-use native.Mathlib.Omega.{arith}
-use lib.ListN.{length, length-set}
-use lib.IntN.{pos}
+use lib.ListN.{length}
 use Rattle.cells.specs.Clearing.{clear_from}
-use Rattle.cells.proofs.Clearing.{clear_step, clear_done}
 use Rattle.cells.proofs.clear_from.Given as goal
 
 abbrev pub invariant-loop-i : goal.invariant-loop-i

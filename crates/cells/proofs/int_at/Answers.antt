@@ -1,7 +1,6 @@
 use lib.IntN.{pos}
 use mathlib.Core.Path.{sym}
 use lib.ListN.{get_or-eq_default}
-use borrow.Author.Rules.{rules}
 use Rattle.cells.proofs.int_at.Goals as goal
 
 pub returns-else-i-t : goal.returns-else-i-t

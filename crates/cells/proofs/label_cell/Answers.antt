@@ -3,7 +3,6 @@ use Prim.Native.Nat.{◌+◌, ◌-◌, ◌*◌}
 use Rattle.cells.specs.Cells.{int_at, nat_of}
 use Rattle.cells.proofs.Signed.{whole}
 use Rattle.cells.proofs.Table.{cell_at}
-use borrow.Author.Rules.{rules}
 use Rattle.cells.proofs.label_cell.Goals as goal
 
 pub returns : goal.returns

@@ -3,7 +3,6 @@ use mathlib.Core.Bool.{true, false}
 use lib.IntN.{+ℤ_idl}
 use mir.Facts.{to_z-of_z, Fits-nat_abs}
 use Rattle.cells.proofs.Signed.{neg_fits, nat_abs_neg, non_neg_neg, test_negative, cast_ok}
-use borrow.Author.Rules.{rules}
 use Rattle.cells.proofs.magnitude.Goals as goal
 
 pub overflow_sub-result : goal.overflow_sub-result

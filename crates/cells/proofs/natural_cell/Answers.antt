@@ -1,4 +1,3 @@
-use borrow.Author.Rules.{rules}
 use Rattle.cells.proofs.Signed.{cast_natural, is_natural}
 use Rattle.cells.proofs.natural_cell.Goals as goal
 

@@ -3,7 +3,6 @@ use lib.IntN.{pos, +ℤ_idl}
 use mir.Facts.{to_z-of_z, to_z_pos}
 use mir.Syntax.{w64}
 use Rattle.cells.proofs.Signed.{neg_fits}
-use borrow.Author.Rules.{rules}
 use Rattle.cells.proofs.with_sign.Goals as goal
 
 pub overflow_sub-result : goal.overflow_sub-result

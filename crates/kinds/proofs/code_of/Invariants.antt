@@ -1,10 +1,7 @@
-use mathlib.Core.Path.{◌≡◌, ◌∙◌, sym, ap}
+use mathlib.Core.Path.{◌≡◌}
 use Prim.Native.Nat.{◌-◌, ◌≤◌}
-use native.Mathlib.Omega.{arith}
 use lib.ListN.{drop}
-use borrow.Author.Rules.{rules}
 use Rattle.kinds.specs.Kinds.{kinds, code_in, code_of}
-use Rattle.kinds.proofs.Codes.{code_within, letter_hit, letter_miss, letter_none}
 use Rattle.kinds.proofs.code_of.Given as goal
 
 abbrev pub invariant-loop-code : goal.invariant-loop-code

@@ -1,6 +1,5 @@
 -- A definition is none; of the other codes, those of the table are.
 use mathlib.Core.Path.{◌∙◌, sym}
-use borrow.Author.Rules.{rules}
 use Rattle.kinds.specs.Kinds.{is_kind, is_expression}
 use Rattle.kinds.proofs.Laws.{not_expression, rest_expression}
 use Rattle.kinds.proofs.is_expression.Goals as goal

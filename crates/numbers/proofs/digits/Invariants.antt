@@ -1,11 +1,7 @@
-use mathlib.Core.Path.{◌≡◌, refl, sym, ◌∙◌, ap}
-use Prim.Native.Nat.{◌≤◌, ◌-◌, ◌+◌}
-use mathlib.Core.List.{◌∷◌}
-use native.Mathlib.Omega.{arith}
-use lib.ListN.{get_or}
+use mathlib.Core.Path.{◌≡◌}
+use Prim.Native.Nat.{◌≤◌, ◌-◌}
 use lib.Seq.{slice}
 use Rattle.numbers.specs.Decimal.{digits_of}
-use Rattle.numbers.proofs.Decimals.{slice_next, slice_none, digit_is, digit_low, digit_high, digits_step, digits_bad, digits_over, digits_end}
 use Rattle.numbers.proofs.digits.Given as goal
 
 abbrev pub invariant-loop-i : goal.invariant-loop-i

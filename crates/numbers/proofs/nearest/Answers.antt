@@ -5,7 +5,7 @@ use native.Mathlib.Omega.{arith}
 use native.Mathlib.Nat.{div-le_self, mod-le}
 use lib.IntN.{nat_abs}
 use mir.Facts.{to_z-of_z}
-use borrow.Author.Rules.{rules, sfits_of}
+use borrow.Author.Rules.{sfits_of}
 use Rattle.cells.proofs.Signed.{bits_pos}
 use Rattle.numbers.proofs.Division.{quot_fits, quot_read, rem_read}
 use Rattle.numbers.proofs.Rounding.{up_size, quotient_by}

@@ -1,7 +1,6 @@
 use mir.Syntax.{w64}
 use mathlib.Core.Path.{sym, ◌∙◌}
 use mir.Facts.{to_z-of_z}
-use borrow.Author.Rules.{rules}
 use Rattle.numbers.proofs.Operations.{in_number, out_of_range_lem}
 use Rattle.numbers.proofs.ranged.Goals as goal
 

@@ -1,7 +1,6 @@
 use mathlib.Core.Path.{◌∙◌}
 use native.Mathlib.Omega.{arith}
 use Rattle.numbers.proofs.Decimals.{decimal_empty, decimal_led, decimal_zero, decimal_plain}
-use borrow.Author.Rules.{rules}
 use Rattle.numbers.proofs.read_decimal.Goals as goal
 
 pub returns-then-from-to : goal.returns-then-from-to

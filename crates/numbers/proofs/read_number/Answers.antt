@@ -4,7 +4,6 @@ use native.Mathlib.Omega.{arith}
 use Rattle.cells.specs.Limits.{number_limit}
 use Rattle.numbers.specs.Decimal.{signed_of}
 use Rattle.numbers.proofs.Decimals.{decimal_most, number_empty, number_negative, number_plain}
-use borrow.Author.Rules.{rules}
 use Rattle.numbers.proofs.read_number.Goals as goal
 
 pub returns-then-from-to : goal.returns-then-from-to

@@ -1,5 +1,4 @@
 use native.Mathlib.Omega.{arith}
-use borrow.Author.Rules.{rules}
 use Rattle.numbers.proofs.Rounding.{tie_size, up_more, up_not}
 use Rattle.numbers.proofs.round_up.Goals as goal
 

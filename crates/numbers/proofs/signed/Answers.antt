@@ -3,7 +3,7 @@ use mathlib.Core.Path.{ap, subst, ◌∙◌}
 use mathlib.Core.Bool.{and-false}
 use native.Mathlib.Omega.{arith}
 use borrow.Author.Tests.{ne_eqb}
-use borrow.Author.Rules.{sfits_of, rules}
+use borrow.Author.Rules.{sfits_of}
 use mir.Facts.{to_z-of_z}
 use Rattle.cells.specs.Limits.{number_limit}
 use Rattle.numbers.specs.Bounds.{AtMost}

@@ -84,8 +84,8 @@ found : map text_bad sheets ≡ Refused 1 0
     ∷ Refused 7 2
     ∷ Fine
     ∷ []
-unfolding sheets head_bad is_text is_allowed labels line first_line lines_bad line_bad root_line kinds kind_at code_of field_of is_name is_path is_letter is_alphanumeric label_of number_of decimal_of digits_of
-    digits_value all_digits
+unfolding sheets head_bad is_text is_allowed labels line first_line lines_bad line_bad root_line kinds kind_at code_of field_of is_name is_path is_letter
+    is_alphanumeric label_of number_of decimal_of digits_of digits_value all_digits
 found = refl
 
 -- the rule goes by the first line alone

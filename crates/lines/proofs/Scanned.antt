@@ -95,7 +95,8 @@ module _ (s : List ℕ) (ends : ends_lines s) (from : ℕ) (f : code_of (get_or 
   pub after_kind : from < length s → get_or s (from + 1) 0 ≡ space → from + 1 + 1 < length s
   after_kind h g = inside_next s (from + 1) (after_letter h) ends (λ q. omega (arith, sym g ∙ q))
 
-module _ (s : List ℕ) (ends : ends_lines s) (allowed : all is_allowed s ≡ true) (from : ℕ) (h : from + 1 < length s) (f : code_of (get_or s from 0) ≡ 0 → ⊥) (g : get_or s (from + 1) 0 ≡ space)
+module _ (s : List ℕ) (ends : ends_lines s) (allowed : all is_allowed s ≡ true) (from : ℕ) (h : from + 1 < length s)
+    (f : code_of (get_or s from 0) ≡ 0 → ⊥) (g : get_or s (from + 1) 0 ≡ space)
     (kind : Fields) (n name : ℕ) (r : Scans) where
   abbrev placed : Ends
   placed = record { kind = from + 1; name = name; a = r.a.end; b = r.b.end; c = r.c.end }

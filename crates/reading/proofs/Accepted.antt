@@ -169,7 +169,8 @@ module _ (s : List ℕ) (t : List ℤ) (n : ℕ) (is : Lined s t n) (tree : tree
 
   found : (first_bad (target_bad s u n) 1 n ≡ Fine)
   unfolding paths_bad
-  found = (both_fine (first_bad (later_bad s u n) 1 n) (first_bad (target_bad s u n) 1 n) (both_fine (first_bad (path_head_bad s u n) 1 n) _ (both_fine (first_bad (duplicate_bad s u) 1 n) _ paths).1).1).1
+  found = (both_fine (first_bad (later_bad s u n) 1 n) (first_bad (target_bad s u n) 1 n)
+      (both_fine (first_bad (path_head_bad s u n) 1 n) _ (both_fine (first_bad (duplicate_bad s u) 1 n) _ paths).1).1).1
 
   aimed : (l : ℕ) → 1 ≤ l → l ≤ n → has_path u l ≡ true → kind u (target_of s u n l) ≡ wanted_by (kind u l)
   unfolding target_bad

@@ -33,7 +33,8 @@ after_space s from e ends a = inside_next s e a.inside ends (λ q. omega (arith,
 
 -- ---- a field of printed bytes is found by its end
 
-run_printed : (s : List ℕ) (e k i : ℕ) → i + k ≡ e → e < length s → all is_printed (slice i e s) ≡ true → is_graphic (get_or s e 0) ≡ false → run_end is_graphic s i (length s) ≡ e
+run_printed : (s : List ℕ) (e k i : ℕ) → i + k ≡ e → e < length s → all is_printed (slice i e s) ≡ true → is_graphic (get_or s e 0) ≡ false
+    → run_end is_graphic s i (length s) ≡ e
 run_printed s e zero i q h a b =
     let z : i ≡ e = omega arith in
     run_stop is_graphic s i (length s) (omega arith) (omega arith) (ap (λ (n : ℕ). is_graphic (get_or s n 0)) z ∙ b) ∙ z
@@ -44,7 +45,8 @@ run_printed s e (suc k) i q h a b =
     let g : is_graphic x ≡ true = and_left (is_graphic x) (leb x last_printable) (and_left (is_printed x) (all is_printed l) w) in
     sym (run_more is_graphic s i (length s) (omega arith) (omega arith) g) ∙ run_printed s e k (i + 1) (omega arith) h (and_right (is_printed x) (all is_printed l) w) b
 
-pub field_found : (s : List ℕ) (from stop e : ℕ) → ends_lines s → EndsAt s from stop e → all is_printed (slice from e s) ≡ true → is_graphic stop ≡ false → e ≡ field_end s from stop
+pub field_found : (s : List ℕ) (from stop e : ℕ) → ends_lines s → EndsAt s from stop e → all is_printed (slice from e s) ≡ true
+    → is_graphic stop ≡ false → e ≡ field_end s from stop
 field_found s from stop e ends f a g =
     let w = f.wide in
     let r : run_end is_graphic s from (length s) ≡ e = run_printed s e (e - from) from (omega arith) f.inside a (ap is_graphic f.by ∙ g) in

@@ -7,7 +7,9 @@ use borrow.Author.Rules.{rules}
 use Rattle.following.proofs.check_in.Goals as goal
 
 pub find_cycle-v-requires : goal.find_cycle-v-requires
-find_cycle-v-requires c = let pre = c.requires in (pre.0, (search (inl, inr), pre.1))
+find_cycle-v-requires c =
+    let pre = c.requires in
+    record { accepted = pre.accepted; column = search (inl, inr); n_in_bounds = pre.n_in_bounds }
 
 pub returns-then-v-ne0 : goal.returns-then-v-ne0
 returns-then-v-ne0 c = cycle_stop _ _ _ _ _ c.find_cycle-v.ensures.0 c.if-v-ne0.true c.found_at.ensures
@@ -16,10 +18,10 @@ pub check_list-requires : goal.check_list-requires
 check_list-requires c =
     let pre = c.requires in
     let w = length-replicate {0} {A = ℕ} 17 0 in record {
-  accepted = pre.0;
-  n_in_bounds = (omega (arith, pre.1.0, c.find_cycle-v.auto.square), c.find_cycle-v.ensures.1);
-  n_in_bounds_2 = omega (arith, w, pre.0.few);
-}
+      accepted = pre.accepted;
+      n_in_bounds = (omega (arith, pre.n_in_bounds.0, c.find_cycle-v.auto.square), c.find_cycle-v.ensures.1);
+      n_in_bounds_2 = omega (arith, w, pre.accepted.few);
+    }
 
 pub returns : goal.returns
 returns c = cycle_on _ _ _ _ _ c.find_cycle-v.ensures.0 c.if-v-ne0.false c.check_list.ensures

@@ -10,11 +10,11 @@ returns-then-p-ne0 c = listed_stop _ _ _ _ _ c.listed_place-p.ensures c.if-p-ne0
 pub early_place-requires : goal.early_place-requires
 early_place-requires c =
     let pre = c.requires in record {
-  accepted = pre.0;
-  n_in_bounds = pre.1.0;
-  n_in_bounds_2 = omega (arith, pre.1.1, c.listed_place-p.auto.left);
-  order_value = sym c.listed_place-p.ensures ∙ c.if-p-ne0.false;
-}
+      accepted = pre.accepted;
+      n_in_bounds = pre.n_in_bounds;
+      n_in_bounds_2 = omega (arith, pre.n_in_bounds_2, c.listed_place-p.auto.left);
+      order_value = sym c.listed_place-p.ensures ∙ c.if-p-ne0.false;
+    }
 
 pub returns : goal.returns
 returns c = listed_on _ _ _ _ _ c.listed_place-p.ensures c.if-p-ne0.false _ c.early_place.ensures c.found_at-2.ensures

@@ -7,12 +7,12 @@ use Rattle.following.proofs.early_place.Goals as goal
 pub first_early-requires : goal.first_early-requires
 first_early-requires c =
     let p = c.requires in record {
-  w_in_bounds = omega (arith, p.1.1.0, c.mark_values.auto.left);
-  by_index = row_fits _ _ p.0 _ c.mark_values.ensures _ p.1.0.0;
-  order_value = none_wrong _ _ p.0 _ c.mark_values.ensures c.args.order.now p.1.1.1;
-}
+      w_in_bounds = omega (arith, p.n_in_bounds_2, c.mark_values.auto.left);
+      by_index = row_fits _ _ p.accepted _ c.mark_values.ensures _ p.n_in_bounds.0;
+      order_value = none_wrong _ _ p.accepted _ c.mark_values.ensures c.args.order.now p.order_value;
+    }
 
 pub returns : goal.returns
 returns c =
     let p = c.requires in
-    c.first_early.ensures ∙ place_early _ _ p.0 _ c.mark_values.ensures c.args.order.now p.1.1.1 _ p.1.0.1
+    c.first_early.ensures ∙ place_early _ _ p.accepted _ c.mark_values.ensures c.args.order.now p.order_value _ p.n_in_bounds.1

@@ -18,9 +18,9 @@ pub drop_mark-requires : goal.drop_mark-requires
 drop_mark-requires c =
     let inv = c.loop-i.invariant in
     let m = sym c.holds.ensures ∙ c.if-holds.true in record {
-  in_square = (mark_in _ _ _ _ m, omega (arith, inv.0, c.requires.0));
-  q_value = m;
-}
+      in_square = (mark_in _ _ _ _ m, omega (arith, inv.0, c.requires.0));
+      q_value = m;
+    }
 
 pub shape_of-left-else-holds : goal.shape_of-left-else-holds
 shape_of-left-else-holds c =
@@ -30,16 +30,15 @@ shape_of-left-else-holds c =
 pub returns-else-holds : goal.returns-else-holds
 returns-else-holds c =
     let o = c.args.order.now in record {
-  value = sym (wrong_here o _ _ _ _ c.loop-i.invariant.2 c.loop-i-test.true _ c.nat_at-label.ensures (sym c.holds.ensures ∙ c.if-holds.false)) ∙ c.loop-i.invariant.3;
-  left = λ z. absurd (omega arith);
-}
+      value = sym (wrong_here o _ _ _ _ c.loop-i.invariant.2 c.loop-i-test.true _ c.nat_at-label.ensures (sym c.holds.ensures ∙ c.if-holds.false)) ∙ c.loop-i.invariant.3;
+      left = λ z. absurd (omega arith);
+    }
 
 pub loop-i-preserved : goal.loop-i-preserved
 loop-i-preserved c =
     let o = c.args.order.now in
     let taken = c.loop-i-test.true in
-    let nat-at-ensures = c.nat_at-label.ensures in
-    (
+    let nat-at-ensures = c.nat_at-label.ensures in (
       c.drop_mark.auto.s ∙ c.loop-i.invariant.0,
       omega (arith, taken),
       left_turn o _ _ _ _ c.loop-i.invariant.2 taken _ nat-at-ensures _ c.drop_mark.ensures,
@@ -53,6 +52,6 @@ pub returns : goal.returns
 returns c =
     let o = c.args.order.now in
     let h : length o ≤ c.loop-i.i = omega (arith, c.loop-i-test.false) in record {
-  value = sym (onward_none _ o _ h) ∙ c.loop-i.invariant.3;
-  left = λ _. left_end o _ _ _ _ h c.loop-i.invariant.2;
-}
+      value = sym (onward_none _ o _ h) ∙ c.loop-i.invariant.3;
+      left = λ _. left_end o _ _ _ _ h c.loop-i.invariant.2;
+    }

@@ -14,4 +14,5 @@ returns-then-first_mark-w c =
 pub returns : goal.returns
 returns c =
     let left = c.if-p-ne0.false in
-    place_full _ _ c.requires.accepted _ c.mark_values.ensures c.args.order.now _ c.first_wrong-p.ensures.value left _ (c.first_wrong-p.ensures.left left) _ c.first_mark.ensures (omega (arith, c.if-first_mark-w.false))
+    place_full _ _ c.requires.accepted _ c.mark_values.ensures c.args.order.now _ c.first_wrong-p.ensures.value left
+    _ (c.first_wrong-p.ensures.left left) _ c.first_mark.ensures (omega (arith, c.if-first_mark-w.false))

@@ -20,20 +20,25 @@ pub put_mark-requires : goal.put_mark-requires
 put_mark-requires c =
     let inv = c.loop-v.invariant in
     let pre = c.requires in
-    (omega (arith, c.loop-v-test.true), omega (arith, pre.1, c.clear_marks.auto.s, inv.0))
+    (omega (arith, c.loop-v-test.true), omega (arith, pre.n_in_bounds, c.clear_marks.auto.s, inv.0))
 
 pub loop-v-preserved : goal.loop-v-preserved
 loop-v-preserved c =
     let t = c.args.table.now in
     let taken = c.loop-v-test.true in
     elim c.if-kind_of-eq-VALUE.branch [
-      then-kind_of-eq-VALUE w ↦ rw w.left-is (
-      w.put_mark.auto.s ∙ c.loop-v.invariant.0,
-      omega arith,
-      omega (arith, taken),
-      values_put t c.loop-v.false _ _ c.loop-v.invariant.3 _ (omega (arith, taken)) (sym c.kind_of.ensures ∙ w.if-kind_of-eq-VALUE.true) w.put_mark.ensures,
-    )
-    | else-kind_of-eq-VALUE w ↦ rw w.left-is (c.loop-v.invariant.0, omega arith, omega (arith, taken), values_skip t c.loop-v.false _ _ c.loop-v.invariant.3 (λ k. w.if-kind_of-eq-VALUE.false (c.kind_of.ensures ∙ k)))
+      | then-kind_of-eq-VALUE w ↦ rw w.left-is (
+        w.put_mark.auto.s ∙ c.loop-v.invariant.0,
+        omega arith,
+        omega (arith, taken),
+        values_put t c.loop-v.left _ _ c.loop-v.invariant.3 _ (omega (arith, taken)) (sym c.kind_of.ensures ∙ w.if-kind_of-eq-VALUE.true) w.put_mark.ensures,
+      )
+      | else-kind_of-eq-VALUE w ↦ rw w.left-is (
+        c.loop-v.invariant.0,
+        omega arith,
+        omega (arith, taken),
+        values_skip t c.loop-v.left _ _ c.loop-v.invariant.3 (λ k. w.if-kind_of-eq-VALUE.false (c.kind_of.ensures ∙ k)),
+      )
     ]
 
 pub shape_of-left : goal.shape_of-left

@@ -50,5 +50,9 @@ returns c =
     read_right c.args.n c.args.text.now c.args.from c.args.e c.requires.0 c.args.code c.fields_of-kind.result c.requires.1 c.fields_of-kind.ensures
     c.in-Holds.field-0 c.in-Hold.a c.in-Hold.b c.in-Hold.c c.cells_of.result
     (sym c.read_field.ensures ∙ c.in-Holds.is) (sym c.read_operands.ensures ∙ c.in-Hold.is)
-    (simp (to_z-of_z {w = w64} (sfits_of {w = w64} {z = c.in-Hold.a} c.in-Hold.known_told-1-own.given.0.1), to_z-of_z {w = w64} (sfits_of {w = w64} {z = c.in-Hold.b} c.in-Hold.known_told-1-own.given.1.0.1), to_z-of_z {w = w64} (sfits_of {w = w64} {z = c.in-Hold.c} c.in-Hold.known_told-1-own.given.1.1.0.1)) at
+    (simp (
+      to_z-of_z {w = w64} (sfits_of {w = w64} {z = c.in-Hold.a} c.in-Hold.known_told-1-own.given.0.1),
+      to_z-of_z {w = w64} (sfits_of {w = w64} {z = c.in-Hold.b} c.in-Hold.known_told-1-own.given.1.0.1),
+      to_z-of_z {w = w64} (sfits_of {w = w64} {z = c.in-Hold.c} c.in-Hold.known_told-1-own.given.1.1.0.1),
+    ) at
     c.cells_of.ensures)

@@ -22,7 +22,7 @@ pub step-requires : goal.step-requires
 step-requires c =
     let h = headed c.args.text.now c.requires.0 in
     let inv = c.loop-label.invariant in record {
-  at_in_bounds = (
+      at_in_bounds = (
         inside c.args.text.now c.args.n (headed c.args.text.now c.requires.0) c.requires.1 c.args.table.now c.loop-label.at
             c.loop-label.label c.loop-label.table c.loop-label.invariant (omega arith),
         omega (arith, h.high),
@@ -30,13 +30,13 @@ step-requires c =
         h.ends,
         h.allowed,
       );
-  le_label = (
+      le_label = (
         inv.low,
         omega
             (arith, h.high),
         omega (arith, inv.size, c.requires.2),
       );
-}
+    }
 
 refused : (c : In-Stop) →
     Stopped c.args.n c.loop-label.label c.args.text.now c.loop-label.at c.in-Stop.row
@@ -57,7 +57,7 @@ shape_of-table-in-Stop c =
 pub returns-in-Stop : goal.returns-in-Stop
 returns-in-Stop c = record {
   value = stop c.args.text.now c.args.n (headed c.args.text.now c.requires.0) c.requires.1 c.args.table.now c.loop-label.at c.loop-label.label c.loop-label.table c.loop-label.invariant
-          (omega arith) c.in-Stop.row (refused (goal.at.returns-in-Stop c).In-Stop);
+      (omega arith) c.in-Stop.row (refused (goal.at.returns-in-Stop c).In-Stop);
   table_after = kept (goal.at.returns-in-Stop c).In-Stop ∙ c.loop-label.invariant.table;
 }
 
@@ -74,7 +74,7 @@ pub returns : goal.returns
 returns c =
     let inv = c.loop-label.invariant in
     let q : c.loop-label.label - 1 ≡ c.args.n = omega (arith, inv.high) in record {
-  value = done c.args.text.now c.args.n (headed c.args.text.now c.requires.0) c.requires.1 c.args.table.now c.loop-label.at c.loop-label.label
+      value = done c.args.text.now c.args.n (headed c.args.text.now c.requires.0) c.requires.1 c.args.table.now c.loop-label.at c.loop-label.label
           c.loop-label.table c.loop-label.invariant (omega arith);
-  table_after = inv.table ∙ ap (λ k. lines_written c.args.text.now c.args.n k c.args.table.now) q;
-}
+      table_after = inv.table ∙ ap (λ k. lines_written c.args.text.now c.args.n k c.args.table.now) q;
+    }

@@ -15,7 +15,8 @@ pub returns-in_default-read_field : goal.returns-in_default-read_field
 returns-in_default-read_field c = rw (sym c.read_field.ensures ∙ c.in-Holds.is, sym c.read_field-2.ensures ∙ c.in_default-read_field.is)
 
 pub returns-in_default-read_field-2 : goal.returns-in_default-read_field-2
-returns-in_default-read_field-2 c = rw (sym c.read_field.ensures ∙ c.in-Holds.is, sym c.read_field-2.ensures ∙ c.in-Holds-read_field.is, sym c.read_field-3.ensures ∙ c.in_default-read_field-2.is)
+returns-in_default-read_field-2 c =
+    rw (sym c.read_field.ensures ∙ c.in-Holds.is, sym c.read_field-2.ensures ∙ c.in-Holds-read_field.is, sym c.read_field-3.ensures ∙ c.in_default-read_field-2.is)
 
 pub returns : goal.returns
 returns c =

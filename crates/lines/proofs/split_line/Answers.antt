@@ -13,22 +13,25 @@ left1 c =
     (left_all c.args.text.now c.requires.1 c.requires.2 c.args.from c.requires.0) c.field_end-kind.ensures c.if-kind-eq0.false
 
 left2 : (c : Else-name-eq0) →
+    Left c.args.text.now c.args.from 4 (c.field_end-kind.result + 1) →
     Left c.args.text.now c.args.from 3 (c.field_end-name.result + 1)
-left2 c =
+left2 c l =
     left_next c.args.text.now c.requires.1 c.requires.2 c.args.from 3 (c.field_end-kind.result + 1) c.field_end-name.result
-    (left1 c.before.before) c.field_end-name.ensures c.if-name-eq0.false
+    l c.field_end-name.ensures c.if-name-eq0.false
 
 left3 : (c : Else-a-eq0) →
+    Left c.args.text.now c.args.from 3 (c.field_end-name.result + 1) →
     Left c.args.text.now c.args.from 2 (c.field_end-a.result + 1)
-left3 c =
+left3 c l =
     left_next c.args.text.now c.requires.1 c.requires.2 c.args.from 2 (c.field_end-name.result + 1) c.field_end-a.result
-    (left2 c.before.before) c.field_end-a.ensures c.if-a-eq0.false
+    l c.field_end-a.ensures c.if-a-eq0.false
 
 left4 : (c : Else-b-eq0) →
+    Left c.args.text.now c.args.from 2 (c.field_end-a.result + 1) →
     Left c.args.text.now c.args.from 1 (c.field_end-b.result + 1)
-left4 c =
+left4 c l =
     left_next c.args.text.now c.requires.1 c.requires.2 c.args.from 1 (c.field_end-a.result + 1) c.field_end-b.result
-    (left3 c.before.before) c.field_end-b.ensures c.if-b-eq0.false
+    l c.field_end-b.ensures c.if-b-eq0.false
 
 pub returns-then-kind-eq0 : goal.returns-then-kind-eq0
 returns-then-kind-eq0 c =
@@ -36,57 +39,114 @@ returns-then-kind-eq0 c =
     (left_all c.args.text.now c.requires.1 c.requires.2 c.args.from c.requires.0) c.field_end-kind.ensures c.if-kind-eq0.true
 
 pub overflow_add-kind : goal.overflow_add-kind
-overflow_add-kind c = omega (arith, (left1 (goal.at.overflow_add-kind c).Else-kind-eq0).here)
+overflow_add-kind c =
+    let p = goal.at.overflow_add-kind c in
+    let l1 = left1 p.Else-kind-eq0 in
+    omega (arith, l1.here)
 
 pub field_end-name-requires : goal.field_end-name-requires
-field_end-name-requires c = ((left1 (goal.at.field_end-name-requires c).Else-kind-eq0).here, c.requires.1, c.requires.3)
+field_end-name-requires c =
+    let p = goal.at.field_end-name-requires c in
+    let l1 = left1 p.Else-kind-eq0 in
+    (l1.here, c.requires.1, c.requires.3)
 
 pub returns-then-name-eq0 : goal.returns-then-name-eq0
 returns-then-name-eq0 c =
-    left_none c.args.text.now c.requires.1 c.requires.2 c.args.from 2 (c.field_end-kind.result + 1) c.field_end-name.result (left1 (goal.at.returns-then-name-eq0 c).Else-kind-eq0)
+    let p = goal.at.returns-then-name-eq0 c in
+    let l1 = left1 p.Else-kind-eq0 in
+    left_none c.args.text.now c.requires.1 c.requires.2 c.args.from 2 (c.field_end-kind.result + 1) c.field_end-name.result l1
     c.field_end-name.ensures c.if-name-eq0.true
 
 pub overflow_add-name : goal.overflow_add-name
-overflow_add-name c = omega (arith, (left2 (goal.at.overflow_add-name c).Else-name-eq0).here)
+overflow_add-name c =
+    let p = goal.at.overflow_add-name c in
+    let l1 = left1 p.Else-kind-eq0 in
+    let l2 = left2 p.Else-name-eq0 l1 in
+    omega (arith, l2.here)
 
 pub field_end-a-requires : goal.field_end-a-requires
-field_end-a-requires c = ((left2 (goal.at.field_end-a-requires c).Else-name-eq0).here, c.requires.1, c.requires.3)
+field_end-a-requires c =
+    let p = goal.at.field_end-a-requires c in
+    let l1 = left1 p.Else-kind-eq0 in
+    let l2 = left2 p.Else-name-eq0 l1 in
+    (l2.here, c.requires.1, c.requires.3)
 
 pub returns-then-a-eq0 : goal.returns-then-a-eq0
 returns-then-a-eq0 c =
-    left_none c.args.text.now c.requires.1 c.requires.2 c.args.from 1 (c.field_end-name.result + 1) c.field_end-a.result (left2 (goal.at.returns-then-a-eq0 c).Else-name-eq0)
+    let p = goal.at.returns-then-a-eq0 c in
+    let l1 = left1 p.Else-kind-eq0 in
+    let l2 = left2 p.Else-name-eq0 l1 in
+    left_none c.args.text.now c.requires.1 c.requires.2 c.args.from 1 (c.field_end-name.result + 1) c.field_end-a.result l2
     c.field_end-a.ensures c.if-a-eq0.true
 
 pub overflow_add-a : goal.overflow_add-a
-overflow_add-a c = omega (arith, (left3 (goal.at.overflow_add-a c).Else-a-eq0).here)
+overflow_add-a c =
+    let p = goal.at.overflow_add-a c in
+    let l1 = left1 p.Else-kind-eq0 in
+    let l2 = left2 p.Else-name-eq0 l1 in
+    let l3 = left3 p.Else-a-eq0 l2 in
+    omega (arith, l3.here)
 
 pub field_end-b-requires : goal.field_end-b-requires
-field_end-b-requires c = ((left3 (goal.at.field_end-b-requires c).Else-a-eq0).here, c.requires.1, c.requires.3)
+field_end-b-requires c =
+    let p = goal.at.field_end-b-requires c in
+    let l1 = left1 p.Else-kind-eq0 in
+    let l2 = left2 p.Else-name-eq0 l1 in
+    let l3 = left3 p.Else-a-eq0 l2 in
+    (l3.here, c.requires.1, c.requires.3)
 
 pub returns-then-b-eq0 : goal.returns-then-b-eq0
 returns-then-b-eq0 c =
-    left_none c.args.text.now c.requires.1 c.requires.2 c.args.from 0 (c.field_end-a.result + 1) c.field_end-b.result (left3 (goal.at.returns-then-b-eq0 c).Else-a-eq0)
+    let p = goal.at.returns-then-b-eq0 c in
+    let l1 = left1 p.Else-kind-eq0 in
+    let l2 = left2 p.Else-name-eq0 l1 in
+    let l3 = left3 p.Else-a-eq0 l2 in
+    left_none c.args.text.now c.requires.1 c.requires.2 c.args.from 0 (c.field_end-a.result + 1) c.field_end-b.result l3
     c.field_end-b.ensures c.if-b-eq0.true
 
 pub overflow_add-b : goal.overflow_add-b
-overflow_add-b c = omega (arith, (left4 (goal.at.overflow_add-b c).Else-b-eq0).here)
+overflow_add-b c =
+    let p = goal.at.overflow_add-b c in
+    let l1 = left1 p.Else-kind-eq0 in
+    let l2 = left2 p.Else-name-eq0 l1 in
+    let l3 = left3 p.Else-a-eq0 l2 in
+    let l4 = left4 p.Else-b-eq0 l3 in
+    omega (arith, l4.here)
 
 pub field_end-c-requires : goal.field_end-c-requires
-field_end-c-requires c = ((left4 (goal.at.field_end-c-requires c).Else-b-eq0).here, c.requires.1, c.requires.3)
+field_end-c-requires c =
+    let p = goal.at.field_end-c-requires c in
+    let l1 = left1 p.Else-kind-eq0 in
+    let l2 = left2 p.Else-name-eq0 l1 in
+    let l3 = left3 p.Else-a-eq0 l2 in
+    let l4 = left4 p.Else-b-eq0 l3 in
+    (l4.here, c.requires.1, c.requires.3)
 
 pub returns-then-c-eq0 : goal.returns-then-c-eq0
 returns-then-c-eq0 c =
-    left_last c.args.text.now c.requires.1 c.requires.2 c.args.from (c.field_end-b.result + 1) c.field_end-c.result (left4 (goal.at.returns-then-c-eq0 c).Else-b-eq0)
+    let p = goal.at.returns-then-c-eq0 c in
+    let l1 = left1 p.Else-kind-eq0 in
+    let l2 = left2 p.Else-name-eq0 l1 in
+    let l3 = left3 p.Else-a-eq0 l2 in
+    let l4 = left4 p.Else-b-eq0 l3 in
+    left_last c.args.text.now c.requires.1 c.requires.2 c.args.from (c.field_end-b.result + 1) c.field_end-c.result l4
     c.field_end-c.ensures c.if-c-eq0.true
 
 pub returns : goal.returns
 returns c =
+    let p = goal.at.returns c in
+    let l1 = left1 p.Else-kind-eq0 in
+    let l2 = left2 p.Else-name-eq0 l1 in
+    let l3 = left3 p.Else-a-eq0 l2 in
+    let l4 = left4 p.Else-b-eq0 l3 in
     five c.args.text.now c.args.from
-    (record { kind = c.field_end-kind.result; name = c.field_end-name.result; a = c.field_end-a.result; b = c.field_end-b.result; (goal.at.returns c).Else-c-eq0 = c.field_end-c.result })
+    (record { kind = c.field_end-kind.result; name = c.field_end-name.result; a = c.field_end-a.result; b = c.field_end-b.result; c = c.field_end-c.result })
     (spaced_at c.args.text.now c.requires.1 c.requires.2 c.args.from c.args.from c.field_end-kind.result c.requires.0 c.field_end-kind.ensures c.if-kind-eq0.false)
-    (spaced_at c.args.text.now c.requires.1 c.requires.2 c.args.from (c.field_end-kind.result + 1) c.field_end-name.result (left1 (goal.at.returns c).Else-kind-eq0).here c.field_end-name.ensures c.if-name-eq0.false)
-    (spaced_at c.args.text.now c.requires.1 c.requires.2 c.args.from (c.field_end-name.result + 1) c.field_end-a.result (left2 (goal.at.returns c).Else-name-eq0).here c.field_end-a.ensures c.if-a-eq0.false)
-    (spaced_at c.args.text.now c.requires.1 c.requires.2 c.args.from (c.field_end-a.result + 1) c.field_end-b.result (left3 (goal.at.returns c).Else-a-eq0).here c.field_end-b.ensures
+    (spaced_at c.args.text.now c.requires.1 c.requires.2 c.args.from (c.field_end-kind.result + 1) c.field_end-name.result l1.here c.field_end-name.ensures
+    c.if-name-eq0.false)
+    (spaced_at c.args.text.now c.requires.1 c.requires.2 c.args.from (c.field_end-name.result + 1) c.field_end-a.result l2.here c.field_end-a.ensures
+    c.if-a-eq0.false)
+    (spaced_at c.args.text.now c.requires.1 c.requires.2 c.args.from (c.field_end-a.result + 1) c.field_end-b.result l3.here c.field_end-b.ensures
     c.if-b-eq0.false)
-    (last_at c.args.text.now c.requires.1 c.requires.2 c.args.from (c.field_end-b.result + 1) c.field_end-c.result (left4 (goal.at.returns c).Else-b-eq0).here
+    (last_at c.args.text.now c.requires.1 c.requires.2 c.args.from (c.field_end-b.result + 1) c.field_end-c.result l4.here
     c.field_end-c.ensures c.if-c-eq0.false)

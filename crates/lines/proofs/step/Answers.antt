@@ -18,13 +18,13 @@ overflow_add-next c =
 pub returns-in-Fails : goal.returns-in-Fails
 returns-in-Fails c =
     let e = sym c.read_line.ensures ∙ c.in-Fails.is in record {
-  value = sym (ap step_of e);
-  table_after = sym (ap (λ l. line_written l (8 * (c.args.label - 1)) c.args.table.now) e);
-}
+      value = sym (ap step_of e);
+      table_after = sym (ap (λ l. line_written l (8 * (c.args.label - 1)) c.args.table.now) e);
+    }
 
 pub returns-in-Passes : goal.returns-in-Passes
 returns-in-Passes c =
     let e = sym c.read_line.ensures ∙ c.in-Passes.is in record {
-  value = sym (ap step_of e);
-  table_after = c.put_cells.ensures ∙ sym (ap (λ l. line_written l (8 * (c.args.label - 1)) c.args.table.now) e);
-}
+      value = sym (ap step_of e);
+      table_after = c.put_cells.ensures ∙ sym (ap (λ l. line_written l (8 * (c.args.label - 1)) c.args.table.now) e);
+    }

@@ -8,7 +8,9 @@ use Rattle.text.proofs.Bytes.{count_end}
 use Rattle.text.proofs.survey.Given as goal
 
 abbrev pub invariant-loop-i : goal.invariant-loop-i
-invariant-loop-i l = (l.i ≤ length l.text) × (l.bad ≤ l.i) × (l.lines ≤ l.i) × (l.bad + count_by is_bad (drop l.i l.text) ≡ count_by is_bad l.text) × (l.lines + count_by is_newline (drop l.i l.text) ≡ count_by is_newline l.text)
+invariant-loop-i l =
+    (l.i ≤ length l.text) × (l.bad ≤ l.i) × (l.lines ≤ l.i) × (l.bad + count_by is_bad (drop l.i l.text) ≡ count_by is_bad l.text) ×
+    (l.lines + count_by is_newline (drop l.i l.text) ≡ count_by is_newline l.text)
 
 abbrev pub decreases-loop-i : goal.decreases-loop-i
 decreases-loop-i l = length l.text - l.i

@@ -137,7 +137,7 @@ links_first : {t : List ℤ} {j d e f : ℕ} → Link t j d e → Links t j e f 
 links_first l (once k) = then (once l) k
 links_first l (then r k) = then (links_first l r) k
 
-back_of : {t : List ℤ} {d e : ℕ} → Links t 6 e d → Reaches t d e
+back_of : {t : List ℤ} {e d : ℕ} → Links t 6 e d → Reaches t d e
 back_of (once l) = mention (back l)
 back_of (then r l) = reaches_first (back l) (back_of r)
 

@@ -1,17 +1,11 @@
-use mathlib.Core.Path.{◌≡◌, refl, ◌∙◌, subst}
-use mathlib.Core.Logic.{inl, inr}
+use mathlib.Core.Path.{◌≡◌}
 use mathlib.Core.Bool.{true}
 use Prim.Native.Nat.{ℕ, ◌+◌, ◌-◌, ◌≤◌}
-use native.Mathlib.Omega.{arith}
-use borrow.Author.Rules.{rules}
 use lib.ListN.{length, take}
-use Rattle.cells.specs.Accepted.{HasBody}
 use Rattle.marks.specs.Marks.{mark}
-use Rattle.reach.specs.Links.{Link, Links}
-use Rattle.reach.specs.MarkRows.{width, MarksRoom}
+use Rattle.reach.specs.Links.{Link}
+use Rattle.reach.specs.MarkRows.{width}
 use Rattle.reach.specs.Turns.{Spread, mark_count}
-use Rattle.reach.proofs.Links.{body_label}
-use Rattle.reach.proofs.Spread.{spread_none, popped, grown_less, rows_kept, filled}
 use Rattle.reach.proofs.fill.Given as goal
 
 abbrev pub invariant-loop-top : goal.invariant-loop-top

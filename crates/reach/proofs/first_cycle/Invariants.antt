@@ -1,15 +1,8 @@
-use mathlib.Core.Path.{◌≡◌, sym, ◌∙◌}
-use mathlib.Core.Logic.{⊎_elim}
+use mathlib.Core.Path.{◌≡◌}
 use Prim.Native.Nat.{ℕ, ◌+◌, ◌-◌, ◌≤◌, ◌<◌}
-use native.Mathlib.Omega.{arith}
-use borrow.Author.Rules.{rules}
-use borrow.Author.Count.{below_more}
 use Rattle.kinds.specs.Kinds.{value_code}
 use Rattle.cells.specs.Table.{kind}
 use Rattle.cells.specs.Reaches.{Reaches}
-use Rattle.order.proofs.Tables.{kind_label}
-use Rattle.reach.proofs.Reading.{row_room}
-use Rattle.reach.proofs.Cycle.{smallest_is, none_is, cycle_marked, cycle_unmarked}
 use Rattle.reach.proofs.first_cycle.Given as goal
 
 abbrev pub invariant-loop-v : goal.invariant-loop-v

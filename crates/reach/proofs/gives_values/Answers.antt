@@ -1,5 +1,4 @@
 use mathlib.Core.Path.{ap, ◌∙◌}
-use borrow.Author.Rules.{rules}
 use Rattle.kinds.specs.GivesValues.{gives_values}
 use Rattle.reach.proofs.gives_values.Goals as goal
 

@@ -1,17 +1,8 @@
-use mathlib.Core.Path.{◌≡◌, refl, sym, ◌∙◌, subst}
-use mathlib.Core.Logic.{◌⊎◌, inl, inr}
-use Prim.Native.Nat.{ℕ, ◌+◌, ◌-◌, ◌≤◌}
-use native.Mathlib.Omega.{arith}
-use borrow.Author.Rules.{rules}
-use lib.ListN.{length, get_or, take}
-use lib.Seq.{length-take-le}
-use Rattle.cells.specs.Table.{cell}
-use Rattle.cells.specs.Accepted.{HasBody}
-use Rattle.reach.specs.Links.{Link, Links, once, then}
-use Rattle.reach.specs.Chains.{Hangs, Last}
-use Rattle.reach.specs.MarkRows.{MarksRoom}
-use Rattle.reach.proofs.Links.{column_range, body_label, end_body}
-use Rattle.reach.proofs.Spread.{Growing, growing_start, growing_turn, growing_end, row_above, rows_kept}
+use mathlib.Core.Path.{◌≡◌}
+use Prim.Native.Nat.{◌≤◌}
+use lib.ListN.{length, take}
+use Rattle.reach.specs.Chains.{Hangs}
+use Rattle.reach.proofs.Spread.{Growing}
 use Rattle.reach.proofs.grow.Given as goal
 
 abbrev pub invariant-loop-x : goal.invariant-loop-x

@@ -1,5 +1,4 @@
 use mathlib.Core.Path.{ap, ◌∙◌}
-use borrow.Author.Rules.{rules}
 use Rattle.kinds.specs.Kinds as kinds
 use Rattle.reach.proofs.is_definition.Goals as goal
 

@@ -1,4 +1,3 @@
-use borrow.Author.Rules.{rules}
 use Rattle.cells.proofs.Signed.{cast_natural, is_natural}
 use Rattle.reach.proofs.Reading.{kind_is}
 use Rattle.reach.proofs.kind_of.Goals as goal
@@ -6,9 +5,9 @@ use Rattle.reach.proofs.kind_of.Goals as goal
 pub overflow_cast-result : goal.overflow_cast-result
 overflow_cast-result c =
     let pre = c.requires in
-    cast_natural _ _ (kind_is _ _ pre.0 _ pre.1.0 pre.1.1) c.result-1.given
+    cast_natural _ _ (kind_is _ _ pre.accepted _ pre.le_label.0 pre.le_label.1) c.result-1.given
 
 pub returns : goal.returns
 returns c =
     let pre = c.requires in
-    is_natural _ _ (kind_is _ _ pre.0 _ pre.1.0 pre.1.1) c.result-1.given
+    is_natural _ _ (kind_is _ _ pre.accepted _ pre.le_label.0 pre.le_label.1) c.result-1.given

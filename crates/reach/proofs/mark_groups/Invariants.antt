@@ -1,10 +1,6 @@
-use mathlib.Core.Path.{◌≡◌, refl, sym, ◌∙◌}
-use Prim.Native.Nat.{◌+◌, ◌*◌, ◌/◌, ◌≤◌, ◌<◌}
-use native.Mathlib.Omega.{arith}
-use borrow.Author.Rules.{rules}
+use mathlib.Core.Path.{◌≡◌}
 use lib.ListN.{length}
-use Rattle.reach.proofs.Reading.{row_room}
-use Rattle.reach.proofs.Raise.{Climb, climb_start, climb_turn, climb_end, climb_found}
+use Rattle.reach.proofs.Raise.{Climb}
 use Rattle.reach.proofs.mark_groups.Given as goal
 
 abbrev pub invariant-loop-g : goal.invariant-loop-g

@@ -1,6 +1,5 @@
 use mathlib.Core.Path.{refl, sym, ◌∙◌}
 use native.Mathlib.Omega.{arith}
-use borrow.Author.Rules.{rules}
 use lib.ListN.{length-set}
 use Rattle.reach.specs.Turns.{marked, added, pushed}
 use Rattle.reach.proofs.Links.{body_label}
@@ -11,7 +10,7 @@ use Rattle.reach.proofs.meet.Goals as goal
 pub has_mark-requires : goal.has_mark-requires
 has_mark-requires c =
     let p = c.requires in
-    (omega (arith, body_label _ _ p.0 c.args.f p.1.1.1.0), row_room _ _ _ _ p.1.1.0.0 p.1.0.rows)
+    (omega (arith, body_label _ _ p.accepted c.args.f p.has_body), row_room _ _ _ _ p.d_le_n.0 p.marks_room.rows)
 
 pub shape_of-square-then-has_mark : goal.shape_of-square-then-has_mark
 shape_of-square-then-has_mark c = refl
@@ -37,11 +36,11 @@ returns-then-state-f-eq2 c =
 pub mark_around-requires : goal.mark_around-requires
 mark_around-requires c =
     let pre = c.requires in record {
-  accepted = pre.0;
-  d_le_n = (pre.1.1.0.0, omega (arith, pre.1.0.rows, c.merge_row.auto.s));
-  has_body = pre.1.1.1.0;
-  raised = row_raised _ _ _ _ _ _ pre.1.1.1.1.0 (pre.1.1.1.1.1 c.if-state-f-eq2.true) c.merge_row.ensures;
-}
+      accepted = pre.accepted;
+      d_le_n = (pre.d_le_n.0, omega (arith, pre.marks_room.rows, c.merge_row.auto.s));
+      has_body = pre.has_body;
+      raised = row_raised _ _ _ _ _ _ pre.raised (pre.raised_2 c.if-state-f-eq2.true) c.merge_row.ensures;
+    }
 
 pub shape_of-square-then-state-f-eq2 : goal.shape_of-square-then-state-f-eq2
 shape_of-square-then-state-f-eq2 c = c.mark_around.auto.square ∙ c.merge_row.auto.s
@@ -49,11 +48,11 @@ shape_of-square-then-state-f-eq2 c = c.mark_around.auto.square ∙ c.merge_row.a
 pub mark_around-requires-2 : goal.mark_around-requires-2
 mark_around-requires-2 c =
     let pre = c.requires in record {
-  accepted = pre.0;
-  d_le_n = (pre.1.1.0.0, pre.1.0.rows);
-  has_body = pre.1.1.1.0;
-  raised = pre.1.1.1.1.0;
-}
+      accepted = pre.accepted;
+      d_le_n = (pre.d_le_n.0, pre.marks_room.rows);
+      has_body = pre.has_body;
+      raised = pre.raised;
+    }
 
 pub overflow_cast-stack : goal.overflow_cast-stack
 overflow_cast-stack c = omega (arith, c.requires.accepted.few, body_label _ _ c.requires.accepted c.args.f c.requires.has_body)
@@ -61,17 +60,17 @@ overflow_cast-stack c = omega (arith, c.requires.accepted.few, body_label _ _ c.
 pub offset_bounds-stack-top : goal.offset_bounds-stack-top
 offset_bounds-stack-top c =
     let pre = c.requires in
-    omega (arith, pre.0.few, pre.1.1.0)
+    omega (arith, pre.accepted.few, pre.d_le_n)
 
 pub bounds-stack-top : goal.bounds-stack-top
 bounds-stack-top c =
     let pre = c.requires in
-    omega (arith, pre.1.0.heights, pre.1.1.0)
+    omega (arith, pre.marks_room.heights, pre.d_le_n)
 
 pub overflow_add-result : goal.overflow_add-result
 overflow_add-result c =
     let pre = c.requires in
-    omega (arith, pre.0.few, pre.1.1.0)
+    omega (arith, pre.accepted.few, pre.d_le_n)
 
 pub shape_of-square : goal.shape_of-square
 shape_of-square c = c.mark_around-2.auto.square

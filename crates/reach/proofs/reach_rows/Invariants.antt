@@ -1,14 +1,9 @@
-use mathlib.Core.Path.{◌≡◌, sym, ◌∙◌}
-use mathlib.Core.Logic.{⊎_elim}
+use mathlib.Core.Path.{◌≡◌}
 use Prim.Native.Nat.{ℕ, ◌+◌, ◌-◌, ◌≤◌, ◌<◌}
-use native.Mathlib.Omega.{arith}
-use borrow.Author.Rules.{rules}
-use borrow.Author.Count.{below_more}
 use lib.ListN.{get_or}
-use Rattle.kinds.proofs.Codes.{value_body}
 use Rattle.kinds.specs.Kinds.{value_code}
 use Rattle.cells.specs.Table.{kind}
-use Rattle.reach.proofs.Visits.{Going, going_start, going_room, going_more, begun_more, rows_none, rows_all}
+use Rattle.reach.proofs.Visits.{Going}
 use Rattle.reach.proofs.reach_rows.Given as goal
 
 abbrev pub invariant-loop-v : goal.invariant-loop-v

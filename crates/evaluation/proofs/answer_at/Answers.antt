@@ -1,7 +1,6 @@
 use mathlib.Core.Path.{sym, ◌∙◌}
 use native.Mathlib.Omega.{arith}
 use Rattle.evaluation.proofs.Leaves.{state_is, number_is, answer_number, answer_failed}
-use borrow.Author.Rules.{rules}
 use Rattle.evaluation.proofs.answer_at.Goals as goal
 
 pub overflow_cast-state : goal.overflow_cast-state

@@ -1,7 +1,6 @@
 use native.Mathlib.Omega.{arith}
 use Rattle.cells.proofs.Signed.{equal, unequal}
 use Rattle.evaluation.proofs.Leaves.{branch_zero, branch_other}
-use borrow.Author.Rules.{rules}
 use Rattle.evaluation.proofs.branch_of.Goals as goal
 
 pub returns-then-test-eq0 : goal.returns-then-test-eq0

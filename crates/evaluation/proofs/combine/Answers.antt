@@ -2,7 +2,6 @@ use mir.Syntax.{w64}
 use mathlib.Core.Path.{ap, ◌∙◌}
 use mir.Facts.{to_z-of_z}
 use Rattle.evaluation.specs.Evaluation.{outcome_of}
-use borrow.Author.Rules.{rules}
 use Rattle.evaluation.proofs.combine.Goals as goal
 
 pub returns : goal.returns

@@ -2,7 +2,6 @@ use native.Mathlib.Omega.{arith}
 use Rattle.cells.proofs.Signed.{whole}
 use Rattle.evaluation.proofs.Entries.{value_cell, value_entry, left_less_by}
 use Rattle.evaluation.proofs.Answers.{value_is}
-use borrow.Author.Rules.{rules}
 use Rattle.evaluation.proofs.evaluate.Goals as goal
 
 pub field-body-requires : goal.field-body-requires

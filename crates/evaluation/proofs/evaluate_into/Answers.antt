@@ -1,7 +1,6 @@
 use mathlib.Core.Path.{ap, ◌∙◌}
 use Rattle.evaluation.specs.Results.{store}
 use Rattle.evaluation.proofs.Entries.{value_room}
-use borrow.Author.Rules.{rules}
 use Rattle.evaluation.proofs.evaluate_into.Goals as goal
 
 pub put_value-requires : goal.put_value-requires

@@ -1,5 +1,4 @@
 use Rattle.evaluation.proofs.Leaves.{field_cast, field_is}
-use borrow.Author.Rules.{rules}
 use Rattle.evaluation.proofs.field.Goals as goal
 
 pub overflow_cast-result : goal.overflow_cast-result

@@ -1,7 +1,6 @@
 use mathlib.Core.Path.{sym, ◌∙◌}
 use Rattle.cells.proofs.Signed.{whole}
 use Rattle.cells.proofs.Table.{number_at_lem}
-use borrow.Author.Rules.{rules}
 use Rattle.evaluation.proofs.number_of.Goals as goal
 
 pub returns : goal.returns

@@ -1,7 +1,6 @@
 use native.Mathlib.Omega.{arith}
 use mir.Syntax.{w64}
 use mir.Facts.{to_z_pos}
-use borrow.Author.Rules.{rules}
 use Rattle.cells.proofs.Signed.{whole}
 use Rattle.evaluation.proofs.Stored.{three_stored}
 use Rattle.evaluation.proofs.put_value.Goals as goal

@@ -1,6 +1,5 @@
 use mathlib.Core.Path.{ap, ◌∙◌}
 use Rattle.evaluation.specs.Evaluation.{answer_at}
-use borrow.Author.Rules.{rules}
 use Rattle.evaluation.proofs.read.Goals as goal
 
 pub answer_at-requires : goal.answer_at-requires

@@ -1,7 +1,5 @@
-use Prim.Native.Nat.{◌-◌}
 use native.Mathlib.Omega.{arith}
-use borrow.Author.Rules.{rules}
-use Rattle.figures.proofs.Loop.{Going, start, names_value, reached_before, turn, done}
+use Rattle.figures.proofs.Loop.{start, names_value, reached_before, turn, done}
 use Rattle.figures.proofs.evaluate_down.Goals as goal
 
 pub loop-i-init : goal.loop-i-init

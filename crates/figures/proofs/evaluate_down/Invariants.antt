@@ -1,7 +1,5 @@
 use Prim.Native.Nat.{◌-◌}
-use native.Mathlib.Omega.{arith}
-use borrow.Author.Rules.{rules}
-use Rattle.figures.proofs.Loop.{Going, start, names_value, reached_before, turn, done}
+use Rattle.figures.proofs.Loop.{Going}
 use Rattle.figures.proofs.evaluate_down.Given as goal
 
 abbrev pub invariant-loop-i : goal.invariant-loop-i

@@ -1,5 +1,4 @@
 use Rattle.figures.proofs.Loop.{listed, settles}
-use borrow.Author.Rules.{rules}
 use Rattle.figures.proofs.run_down.Goals as goal
 
 pub evaluate_down-requires : goal.evaluate_down-requires

@@ -23,13 +23,13 @@ pub loop-p-init : goal.loop-p-init
 loop-p-init c = (refl, walk_start _ _ _ _ _ c.requires.n_le_label_limit.3 c.requires.walkable_chain)
 
 pub offset_bounds-items-m : goal.offset_bounds-items-m
-offset_bounds-items-m c = omega (arith, room (goal.at.offset_bounds-items-m c).In-loop-p, c.loop-p.invariant.0, c.good)
+offset_bounds-items-m c = omega (arith, room (goal.at.offset_bounds-items-m c).In-loop-p, c.loop-p.invariant.0, c.well_formed)
 
 pub bounds-items-m : goal.bounds-items-m
 bounds-items-m c = room (goal.at.bounds-items-m c).In-loop-p
 
 pub overflow_add-m : goal.overflow_add-m
-overflow_add-m c = omega (arith, room (goal.at.overflow_add-m c).In-loop-p, c.loop-p.invariant.0, c.good)
+overflow_add-m c = omega (arith, room (goal.at.overflow_add-m c).In-loop-p, c.loop-p.invariant.0, c.well_formed)
 
 pub overflow_add-p : goal.overflow_add-p
 overflow_add-p c = omega (arith, label (goal.at.overflow_add-p c).In-loop-p, c.widen.ensures, c.requires.n_le_label_limit.0)

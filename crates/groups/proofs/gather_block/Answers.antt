@@ -11,7 +11,7 @@ use Rattle.groups.specs.Opening.{Siblings, MemberChains, ChainsCleared, AllInsid
 use Rattle.groups.proofs.Orders.{walkable}
 use Rattle.groups.proofs.Opening.{values_listed, block_siblings, block_few}
 use Rattle.groups.proofs.gather_block.Goals as goal
-use Rattle.groups.proofs.gather_block.Goals.{After-append_chain-m, After-open_members-arg-2-1, After-open_members-k}
+use Rattle.groups.proofs.gather_block.Goals.{After-append_chain-m, After-open_members-k}
 
 -- the block's members
 gathered : (c : After-append_chain-m) →
@@ -27,51 +27,51 @@ opened : (c : After-open_members-k) →
 opened c =
     let a = c.args in
     subst (λ (block : List ℕ). AllInside a.table.now block c.open_members-k.new.items c.open_members-k.result × ChainsCleared a.table.now block a.next.now c.open_members-k.new.next)
-    (gathered c.before.before.before.before.before).cells c.open_members-k.ensures
+    (c.append_chain-m.ensures _ c.requires.chain.0).cells (c.open_members-k.ensures.all_inside, c.open_members-k.ensures.chains_cleared)
 
 pub append_chain-m-requires : goal.append_chain-m-requires
 append_chain-m-requires c =
     let p = c.requires in
     let a = c.args in
-    let s = block_siblings a.table.now a.n p.0 a.group a.b in
-    let f = block_few a.table.now a.n p.0 a.group a.b in
-    ((p.0.few, p.1.0.0, p.1.0.2, omega arith), walkable _ _ p.0 (member_block a.table.now a.n a.group a.b) _ _ _ p.1.1.0 s.defs (omega (arith, f, p.1.0.3)))
+    let s = block_siblings a.table.now a.n p.accepted a.group a.b in
+    let f = block_few a.table.now a.n p.accepted a.group a.b in
+    record {
+      n_le_label_limit = (p.accepted.few, p.b_le_n.0, p.b_le_n.2, omega arith);
+      walkable_chain = walkable _ _ p.accepted (member_block a.table.now a.n a.group a.b) _ _ _ p.chain.0 s.defs (omega (arith, f, p.b_le_n.3));
+    }
 
 pub open_members-k-requires : goal.open_members-k-requires
 open_members-k-requires c =
     let p = c.requires in
     let a = c.args in
     let g = gathered (goal.at.open_members-k-requires c).After-append_chain-m in
-    (
-      p.0,
-      (
-        (p.1.0.1, omega (arith, c.append_chain-m.auto.items, p.1.0.3), g.within),
-        (
-          subst (Siblings a.table.now) (sym g.cells) (block_siblings _ _ p.0 a.group a.b),
-          subst (λ (block : List ℕ). MemberChains a.table.now a.n block a.next.now) (sym g.cells) p.1.1.1,
-        ),
-      ),
-    )
+    record {
+      accepted = p.accepted;
+      n_in_bounds = (p.b_le_n.1, omega (arith, c.append_chain-m.auto.items, p.b_le_n.3), g.within);
+      siblings = (
+        subst (Siblings a.table.now) (sym g.cells) (block_siblings _ _ p.accepted a.group a.b),
+        subst (λ (block : List ℕ). MemberChains a.table.now a.n block a.next.now) (sym g.cells) p.chain.1,
+      );
+    }
 
 pub slice_bounds-mask_items-end : goal.slice_bounds-mask_items-end
-slice_bounds-mask_items-end c = (opened (goal.at.slice_bounds-mask_items-end c).After-open_members-arg-2-1).0.within
+slice_bounds-mask_items-end c = (opened (goal.at.slice_bounds-mask_items-end c).After-open_members-k).0.within
 
 pub mask_items-requires : goal.mask_items-requires
 mask_items-requires c =
     let p = c.requires in
     let z : c.open_members-k.result - 0 ≡ c.open_members-k.result = omega arith in record {
-  accepted = p.0;
-  by_index = (λ x m. (opened (goal.at.mask_items-requires c).After-open_members-k).0.defs x (subst (λ (k : ℕ). x ∈ take k c.open_members-k.new.items) z m), p.1.0.4);
-}
+      accepted = p.accepted;
+      by_index = (λ x m. (opened (goal.at.mask_items-requires c).After-open_members-k).0.defs x (subst (λ (k : ℕ). x ∈ take k c.open_members-k.new.items) z m), p.b_le_n.4);
+    }
 
 pub list_marks-requires : goal.list_marks-requires
 list_marks-requires c =
-    let p = c.requires in
-    (
-      omega (arith, c.mask_items.auto.mask, p.1.0.4),
-      omega (arith, c.mask_items.auto.mask, p.1.0.4),
-      omega (arith, c.open_members-k.auto.items, c.append_chain-m.auto.items, p.1.0.3),
-      omega (arith, p.0.few),
+    let p = c.requires in (
+      omega (arith, c.mask_items.auto.mask, p.b_le_n.4),
+      omega (arith, c.mask_items.auto.mask, p.b_le_n.4),
+      omega (arith, c.open_members-k.auto.items, c.append_chain-m.auto.items, p.b_le_n.3),
+      omega (arith, p.accepted.few),
     )
 
 pub shape_of-next : goal.shape_of-next
@@ -86,8 +86,8 @@ shape_of-mask c = c.mask_items.auto.mask
 pub returns : goal.returns
 returns c =
     let p = c.requires in record {
-  gathered = values_listed _ _ p.0 _ (block_siblings _ _ p.0 c.args.group c.args.b) _ _ _ _ _ (opened (goal.at.returns c).After-open_members-k).0 c.mask_items.ensures
+      gathered = values_listed _ _ p.accepted _ (block_siblings _ _ p.accepted c.args.group c.args.b) _ _ _ _ _ (opened (goal.at.returns c).After-open_members-k).0 c.mask_items.ensures
           c.list_marks.ensures.0 c.list_marks.ensures.2
-          (omega (arith, c.list_marks.ensures.1, c.list_marks.auto.list, c.open_members-k.auto.items, c.append_chain-m.auto.items, p.1.0.3));
-  chains_cleared = (opened (goal.at.returns c).After-open_members-k).1;
-}
+          (omega (arith, c.list_marks.ensures.1, c.list_marks.auto.list, c.open_members-k.auto.items, c.append_chain-m.auto.items, p.b_le_n.3));
+      chains_cleared = (opened (goal.at.returns c).After-open_members-k).1;
+    }

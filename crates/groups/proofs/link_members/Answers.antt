@@ -6,7 +6,7 @@ use borrow.Author.Rules.{rules}
 use lib.ListN.{length, set, length-set}
 use Rattle.groups.proofs.Chains.{Linked, linked_none, linked_skip, linked_push, linked_all}
 use Rattle.groups.proofs.link_members.Goals as goal
-use Rattle.groups.proofs.link_members.Goals.{After-cell_of-o, After-is_definition, else-is_definition, then-is_definition}
+use Rattle.groups.proofs.link_members.Goals.{After-cell_of-o, else-is_definition, then-is_definition}
 
 low : (c : After-cell_of-o) →
     c.cell_of-o.result ≤ c.args.n
@@ -15,7 +15,7 @@ low c =
     omega (arith, c.cell_of-o.ensures, c.requires.accepted.falls c.loop-l.l h c.loop-l.invariant.1, c.loop-l.invariant.1)
 
 pub loop-l-init : goal.loop-l-init
-loop-l-init c = let pre = c.requires in (refl, omega arith, linked_none _ _ _ pre.1.1)
+loop-l-init c = let pre = c.requires in (refl, omega arith, linked_none _ _ _ pre.n_in_bounds.1)
 
 pub is_definition-requires : goal.is_definition-requires
 is_definition-requires c = record {
@@ -26,7 +26,7 @@ is_definition-requires c = record {
 pub cell_of-o-requires : goal.cell_of-o-requires
 cell_of-o-requires c =
     let inv = c.loop-l.invariant in
-    (c.requires.accepted, (omega (arith, c.loop-l-test.true), inv.1, omega arith, omega arith))
+    record { accepted = c.requires.accepted; le_label = (omega (arith, c.loop-l-test.true), inv.1, omega arith, omega arith) }
 
 pub offset_bounds-next-o : goal.offset_bounds-next-o
 offset_bounds-next-o c = omega (arith, low (goal.at.offset_bounds-next-o c).After-cell_of-o, c.requires.accepted.few)
@@ -70,14 +70,15 @@ loop-l-preserved c =
     let k = c.loop-l.l in
     let some : 1 ≤ k = omega (arith, c.loop-l-test.true) in
     elim c.if-is_definition.branch [
-      then-is_definition w ↦ let p : tie.After-cell-of invariant-loop decreases-loop = record { before = record { before = (goal.at.loop-l-preserved c).After-is_definition; if1 = w.if-is_definition }; cell-of = w.cell_of-o } in
-    rw w.next-is (
-      length-set (set c.loop-l.next _ _) _ _ ∙ length-set c.loop-l.next _ _ ∙ c.loop-l.invariant.0,
-      omega arith,
-      linked_push _ _ _ some c.loop-l.invariant.1 _ c.loop-l.invariant.2 (sym c.is_definition.ensures ∙ w.if-is_definition.true)
-          (omega (arith, c.requires.n_in_bounds.0, c.loop-l.invariant.0)) (omega (arith, low p, w.cell_of-o.ensures)) _ w.cell_of-o.ensures,
-    )
-    | else-is_definition w ↦ rw w.next-is (c.loop-l.invariant.0, omega arith, linked_skip _ _ _ some c.loop-l.invariant.1 _ c.loop-l.invariant.2 (sym c.is_definition.ensures ∙ w.if-is_definition.false))
+      | then-is_definition w ↦
+          let low : w.cell_of-o.result ≤ c.args.n = omega (arith, w.cell_of-o.ensures, c.requires.accepted.falls k some c.loop-l.invariant.1, c.loop-l.invariant.1) in
+          rw w.next-is (
+            length-set (set c.loop-l.next _ _) _ _ ∙ length-set c.loop-l.next _ _ ∙ c.loop-l.invariant.0,
+            omega arith,
+            linked_push _ _ _ some c.loop-l.invariant.1 _ c.loop-l.invariant.2 (sym c.is_definition.ensures ∙ w.if-is_definition.true)
+                (omega (arith, c.requires.n_in_bounds.0, c.loop-l.invariant.0)) (omega (arith, low, w.cell_of-o.ensures)) _ w.cell_of-o.ensures,
+          )
+      | else-is_definition w ↦ rw w.next-is (c.loop-l.invariant.0, omega arith, linked_skip _ _ _ some c.loop-l.invariant.1 _ c.loop-l.invariant.2 (sym c.is_definition.ensures ∙ w.if-is_definition.false))
     ]
 
 pub shape_of-next : goal.shape_of-next

@@ -49,18 +49,18 @@ loop-i-preserved c =
     let taken = c.loop-i-test.true in
     let b = label (goal.at.loop-i-preserved c).After-widen-p in
     elim c.if-is_masked.branch [
-      then-is_masked w ↦ rw w.mask-is (
-      w.put_mark.auto.s ∙ c.loop-i.invariant.0,
-      omega arith,
-      mask_put a.table.now a.n a.groups a.items.now c.loop-i.mask c.loop-i.i _ c.widen-p.ensures taken c.loop-i.invariant.2 (omega (arith, b))
-          (sym c.is_masked.ensures ∙ w.if-is_masked.true) _ w.put_mark.ensures,
-    )
-    | else-is_masked w ↦ rw w.mask-is (
-      c.loop-i.invariant.0,
-      omega arith,
-      mask_skip a.table.now a.n a.groups a.items.now c.loop-i.mask c.loop-i.i _ c.widen-p.ensures taken c.loop-i.invariant.2
-          (sym c.is_masked.ensures ∙ w.if-is_masked.false),
-    )
+      | then-is_masked w ↦ rw w.mask-is (
+        w.put_mark.auto.s ∙ c.loop-i.invariant.0,
+        omega arith,
+        mask_put a.table.now a.n a.groups a.items.now c.loop-i.mask c.loop-i.i _ c.widen-p.ensures taken c.loop-i.invariant.2 (omega (arith, b))
+            (sym c.is_masked.ensures ∙ w.if-is_masked.true) _ w.put_mark.ensures,
+      )
+      | else-is_masked w ↦ rw w.mask-is (
+        c.loop-i.invariant.0,
+        omega arith,
+        mask_skip a.table.now a.n a.groups a.items.now c.loop-i.mask c.loop-i.i _ c.widen-p.ensures taken c.loop-i.invariant.2
+            (sym c.is_masked.ensures ∙ w.if-is_masked.false),
+      )
     ]
 
 pub shape_of-mask : goal.shape_of-mask

@@ -29,7 +29,7 @@ module _ (c : After-widen) where
       c.requires.by_index.0 c.widen.result here
 
 pub loop-i-init : goal.loop-i-init
-loop-i-init c = let pre = c.requires in (refl, omega arith, relinking_none _ _ _ _ (omega (arith, length-take-le c.args.r c.args.order.now pre.0.3)))
+loop-i-init c = let pre = c.requires in (refl, omega arith, relinking_none _ _ _ _ (omega (arith, length-take-le c.args.r c.args.order.now pre.n_le_label_limit.3)))
 
 pub bounds-order-i : goal.bounds-order-i
 bounds-order-i c = omega (arith, c.loop-i.invariant.1, c.requires.n_le_label_limit.3, c.loop-i-test.true)

@@ -30,29 +30,20 @@ bounds-order-i c = omega (arith, c.loop-i-test.true, c.requires.n_le_label_limit
 
 pub append_chain-m-requires : goal.append_chain-m-requires
 append_chain-m-requires c =
-    let p = c.requires in (
-      (p.0.0, p.1.label _ (item (goal.at.append_chain-m-requires c).After-widen-b), p.0.1, c.loop-i.invariant.2.short),
-      expand_walk _ _ _ _ p.1 _ c.loop-i.invariant.0 _ _ c.loop-i.invariant.2 (before (goal.at.append_chain-m-requires c).After-widen-b) _ (here (goal.at.append_chain-m-requires c).After-widen-b),
-    )
-
-pub overflow_add-i : goal.overflow_add-i
-overflow_add-i c = omega (arith, c.loop-i-test.true, c.ranges)
-
-pub loop-i-smaller : goal.loop-i-smaller
-loop-i-smaller c = omega (arith, c.loop-i-test.true)
+    let p = c.requires in record {
+  n_le_label_limit = (p.n_le_label_limit.0, p.chains.label _ (item (goal.at.append_chain-m-requires c).After-widen-b), p.n_le_label_limit.1, c.loop-i.invariant.2.short);
+  walkable_chain = expand_walk _ _ _ _ p.chains _ c.loop-i.invariant.0 _ _ c.loop-i.invariant.2 (before (goal.at.append_chain-m-requires c).After-widen-b) _ (here (goal.at.append_chain-m-requires c).After-widen-b);
+}
 
 pub loop-i-preserved : goal.loop-i-preserved
 loop-i-preserved c =
     let p = c.requires in (
       c.append_chain-m.auto.items ∙ c.loop-i.invariant.0,
       omega (arith, c.loop-i-test.true),
-      expanding_turn _ _ _ _ p.1 _ c.loop-i.invariant.0 _ _ c.loop-i.invariant.2 (before (goal.at.loop-i-preserved c).After-widen-b) _ (here (goal.at.loop-i-preserved c).After-widen-b) _ _ c.append_chain-m.ensures,
+      expanding_turn _ _ _ _ p.chains _ c.loop-i.invariant.0 _ _ c.loop-i.invariant.2 (before (goal.at.loop-i-preserved c).After-widen-b) _ (here (goal.at.loop-i-preserved c).After-widen-b) _ _ c.append_chain-m.ensures,
     )
-
-pub shape_of-out : goal.shape_of-out
-shape_of-out c = c.loop-i.invariant.0
 
 pub returns : goal.returns
 returns c =
     let p = c.requires in
-    expanding_all _ _ _ _ p.1 _ _ _ c.loop-i.invariant.2 (omega (arith, c.loop-i-test.false, length-take-le c.args.k c.args.order.now p.0.2))
+    expanding_all _ _ _ _ p.chains _ _ _ c.loop-i.invariant.2 (omega (arith, c.loop-i-test.false, length-take-le c.args.k c.args.order.now p.n_le_label_limit.2))

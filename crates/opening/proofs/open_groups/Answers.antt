@@ -15,36 +15,34 @@ open_group-requires c =
     let p = c.requires in
     let inv = c.loop-g.invariant in
     let z = c.loop-g-test.true in record {
-  accepted = p.0;
+  accepted = p.accepted;
   n_in_bounds = (
-          (omega (arith, p.1.0.0.0, inv.1), omega (arith, p.1.0.0.1, inv.2), omega (arith, p.1.0.0.2, inv.12)),
-          scratch_as _ _ _ _ _ _ _ _ _ inv.3 inv.4 inv.5 inv.7 p.1.0.1,
+          (omega (arith, p.n_in_bounds.0.0, inv.1), omega (arith, p.n_in_bounds.0.1, inv.2), omega (arith, p.n_in_bounds.0.2, inv.12)),
+          scratch_as _ _ _ _ _ _ _ _ _ inv.3 inv.4 inv.5 inv.7 p.n_in_bounds.1,
         );
-  search_room = searchable_as _ _ _ _ _ _ _ _ _ _ _ inv.6 inv.8 inv.9 inv.10 inv.11 p.1.1.0;
-  n_in_bounds_2 = (omega (arith, p.1.1.1.0, inv.0), inv.13.rows z);
+  search_room = searchable_as _ _ _ _ _ _ _ _ _ _ _ inv.6 inv.8 inv.9 inv.10 inv.11 p.search_room;
+  n_in_bounds_2 = (omega (arith, p.n_in_bounds_2.0, inv.0), inv.13.rows z);
   openable = inv.13.turn z;
 }
 
 pub overflow_add-g : goal.overflow_add-g
 overflow_add-g c =
     let p = c.requires in
-    omega (arith, p.0.0.few, (c.loop-g.invariant.13.turn c.loop-g-test.true).high)
+    omega (arith, p.accepted.0.few, (c.loop-g.invariant.13.turn c.loop-g-test.true).high)
 
 pub order_groups-g-requires : goal.order_groups-g-requires
 order_groups-g-requires c =
     let p = c.requires in
     let inv = c.loop-g.invariant in
-    let op = inv.13.turn c.loop-g-test.true in (
-      p.0.0,
-      (
-        (
-          (omega arith, omega (arith, op.high), omega (arith, p.1.0.0.0, inv.1, c.open_group.auto.next), omega (arith, p.1.0.0.1, inv.2, c.open_group.auto.items)),
-          scratch_as _ _ _ _ _ _ _ _ _ (c.open_group.auto.mask ∙ inv.3) (c.open_group.auto.unmet ∙ inv.4)
-              (c.open_group.auto.ready ∙ inv.5) (c.open_group.auto.order ∙ inv.7) p.1.0.1,
-        ),
-        ((omega (arith, p.1.1.1.0, inv.0, c.open_group.auto.square), c.open_group.ensures.1), c.open_group.ensures.0),
-      ),
-    )
+    let op = inv.13.turn c.loop-g-test.true in record {
+  accepted = p.accepted.0;
+  le_from = (
+    (omega arith, omega (arith, op.high), omega (arith, p.n_in_bounds.0.0, inv.1, c.open_group.auto.next), omega (arith, p.n_in_bounds.0.1, inv.2, c.open_group.auto.items)),
+    scratch_as _ _ _ _ _ _ _ _ _ (c.open_group.auto.mask ∙ inv.3) (c.open_group.auto.unmet ∙ inv.4)
+        (c.open_group.auto.ready ∙ inv.5) (c.open_group.auto.order ∙ inv.7) p.n_in_bounds.1,
+  );
+  n_in_bounds = ((omega (arith, p.n_in_bounds_2.0, inv.0, c.open_group.auto.square), c.open_group.ensures.1), c.open_group.ensures.0);
+}
 
 pub loop-g-smaller : goal.loop-g-smaller
 loop-g-smaller c =
@@ -68,47 +66,8 @@ loop-g-preserved c =
       c.open_group.auto.path ∙ inv.10,
       c.open_group.auto.lead ∙ inv.11,
       c.open_group.auto.links ∙ inv.12,
-      stopped _ _ p.0.0 _ _ _ _ (omega arith) c.open_group.ensures.1 c.order_groups-g.ensures,
+      stopped _ _ p.accepted.0 _ _ _ _ (omega arith) c.open_group.ensures.1 c.order_groups-g.ensures,
     )
-
-pub shape_of-square : goal.shape_of-square
-shape_of-square c = c.loop-g.invariant.0
-
-pub shape_of-next : goal.shape_of-next
-shape_of-next c = c.loop-g.invariant.1
-
-pub shape_of-items : goal.shape_of-items
-shape_of-items c = c.loop-g.invariant.2
-
-pub shape_of-mask : goal.shape_of-mask
-shape_of-mask c = c.loop-g.invariant.3
-
-pub shape_of-unmet : goal.shape_of-unmet
-shape_of-unmet c = c.loop-g.invariant.4
-
-pub shape_of-ready : goal.shape_of-ready
-shape_of-ready c = c.loop-g.invariant.5
-
-pub shape_of-list : goal.shape_of-list
-shape_of-list c = c.loop-g.invariant.6
-
-pub shape_of-order : goal.shape_of-order
-shape_of-order c = c.loop-g.invariant.7
-
-pub shape_of-stacked : goal.shape_of-stacked
-shape_of-stacked c = c.loop-g.invariant.8
-
-pub shape_of-stack : goal.shape_of-stack
-shape_of-stack c = c.loop-g.invariant.9
-
-pub shape_of-path : goal.shape_of-path
-shape_of-path c = c.loop-g.invariant.10
-
-pub shape_of-lead : goal.shape_of-lead
-shape_of-lead c = c.loop-g.invariant.11
-
-pub shape_of-links : goal.shape_of-links
-shape_of-links c = c.loop-g.invariant.12
 
 pub returns : goal.returns
 returns c = c.loop-g.invariant.13.all c.loop-g-test.false

@@ -7,5 +7,11 @@ use Rattle.planning.proofs.list_small.Goals as goal
 pub list_in-requires : goal.list_in-requires
 list_in-requires c =
     let p = c.requires in
-    let h : c.args.n ≤ 127 = p.1.0 in
-    (p.0, (p.1.1.0, (p.1.1.1, zero_lists c.args.n 128 2 (omega arith) (omega arith))))
+    let h : c.args.n ≤ 127 = p.n_bound in
+    let z = zero_lists c.args.n 128 2 (omega arith) (omega arith) in record {
+  accepted = p.accepted;
+  n_in_bounds = p.n_in_bounds;
+  n_in_bounds_2 = p.n_in_bounds_2;
+  n_in_bounds_3 = z.0;
+  n_in_bounds_4 = z.1;
+}

@@ -8,7 +8,7 @@ use Rattle.planning.proofs.plan_in.Goals as goal
 pub find_cycle-v-requires : goal.find_cycle-v-requires
 find_cycle-v-requires c =
     let p = c.requires in
-    (p.0, (inl refl, p.1.1))
+    record { accepted = p.accepted; column = inl refl; n_in_bounds = p.n_in_bounds_2 }
 
 pub returns-then-v-ne0 : goal.returns-then-v-ne0
 returns-then-v-ne0 c = plan_cycle _ _ c.requires.accepted _ _ c.find_cycle-v.ensures.0 c.if-v-ne0.true
@@ -16,7 +16,7 @@ returns-then-v-ne0 c = plan_cycle _ _ c.requires.accepted _ _ c.find_cycle-v.ens
 pub list_plan-requires : goal.list_plan-requires
 list_plan-requires c =
     let p = c.requires in record {
-  accepted = p.0;
-  n_in_bounds = (p.1.0, sym c.find_cycle-v.ensures.0 ∙ c.if-v-ne0.false);
-  n_in_bounds_2 = (omega (arith, p.1.1.0, c.find_cycle-v.auto.square, c.needs_of.auto.square), c.needs_of.ensures);
+  accepted = p.accepted;
+  n_in_bounds = (p.n_in_bounds, sym c.find_cycle-v.ensures.0 ∙ c.if-v-ne0.false);
+  n_in_bounds_2 = (omega (arith, p.n_in_bounds_2.0, c.find_cycle-v.auto.square, c.needs_of.auto.square), c.needs_of.ensures);
 }

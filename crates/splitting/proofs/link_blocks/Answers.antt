@@ -22,10 +22,10 @@ module _ (c : After-widen-x) where
   label = c.requires.1.label c.widen-x.result item
 
 module _ (c : After-widen-b) where
-  lead_label : (1 ≤ c.widen-b.result) × (c.widen-b.result ≤ c.args.n)
-  lead_label =
+  lead_label : c.widen-x.result ∈ c.args.items.now → (1 ≤ c.widen-b.result) × (c.widen-b.result ≤ c.args.n)
+  lead_label m =
       c.requires.1.label c.widen-b.result
-      (subst (λ (b : ℕ). b ∈ c.args.items.now) (sym c.widen-b.ensures) (c.requires.1.item _ (item c.before.before)))
+      (subst (λ (b : ℕ). b ∈ c.args.items.now) (sym c.widen-b.ensures) (c.requires.1.item _ m))
 
 pub clear_cells-requires : goal.clear_cells-requires
 clear_cells-requires c =
@@ -45,28 +45,28 @@ pub bounds-lead-x : goal.bounds-lead-x
 bounds-lead-x c = c.requires.1.leading _ (item (goal.at.bounds-lead-x c).After-widen-x)
 
 pub offset_bounds-links-b : goal.offset_bounds-links-b
-offset_bounds-links-b c = omega (arith, lead_label (goal.at.offset_bounds-links-b c).After-widen-b, label (goal.at.offset_bounds-links-b c).After-widen-x, c.requires.0)
+offset_bounds-links-b c = omega (arith, lead_label (goal.at.offset_bounds-links-b c).After-widen-b (item (goal.at.offset_bounds-links-b c).After-widen-x), label (goal.at.offset_bounds-links-b c).After-widen-x, c.requires.0)
 
 pub bounds-links-b : goal.bounds-links-b
-bounds-links-b c = omega (arith, lead_label (goal.at.bounds-links-b c).After-widen-b, c.requires.1.room, same (goal.at.bounds-links-b c).After-widen-x)
+bounds-links-b c = omega (arith, lead_label (goal.at.bounds-links-b c).After-widen-b (item (goal.at.bounds-links-b c).After-widen-x), c.requires.1.room, same (goal.at.bounds-links-b c).After-widen-x)
 
 pub overflow_add-links : goal.overflow_add-links
-overflow_add-links c = omega (arith, lead_label (goal.at.overflow_add-links c).After-widen-b, label (goal.at.overflow_add-links c).After-widen-x, c.requires.0)
+overflow_add-links c = omega (arith, lead_label (goal.at.overflow_add-links c).After-widen-b (item (goal.at.overflow_add-links c).After-widen-x), label (goal.at.overflow_add-links c).After-widen-x, c.requires.0)
 
 pub offset_bounds-links-n : goal.offset_bounds-links-n
-offset_bounds-links-n c = omega (arith, lead_label (goal.at.offset_bounds-links-n c).After-widen-b, label (goal.at.offset_bounds-links-n c).After-widen-x, c.requires.0)
+offset_bounds-links-n c = omega (arith, lead_label (goal.at.offset_bounds-links-n c).After-widen-b (item (goal.at.offset_bounds-links-n c).After-widen-x), label (goal.at.offset_bounds-links-n c).After-widen-x, c.requires.0)
 
 pub bounds-links-n : goal.bounds-links-n
 bounds-links-n c = omega (arith, label (goal.at.bounds-links-n c).After-widen-x, c.requires.1.room, same (goal.at.bounds-links-n c).After-widen-x)
 
 pub overflow_cast-links : goal.overflow_cast-links
-overflow_cast-links c = omega (arith, lead_label (goal.at.overflow_cast-links c).After-widen-b, label (goal.at.overflow_cast-links c).After-widen-x, c.requires.0)
+overflow_cast-links c = omega (arith, lead_label (goal.at.overflow_cast-links c).After-widen-b (item (goal.at.overflow_cast-links c).After-widen-x), label (goal.at.overflow_cast-links c).After-widen-x, c.requires.0)
 
 pub offset_bounds-links-b-in-loop-i : goal.offset_bounds-links-b-in-loop-i
-offset_bounds-links-b-in-loop-i c = omega (arith, lead_label (goal.at.offset_bounds-links-b-in-loop-i c).After-widen-b, label (goal.at.offset_bounds-links-b-in-loop-i c).After-widen-x, c.requires.0)
+offset_bounds-links-b-in-loop-i c = omega (arith, lead_label (goal.at.offset_bounds-links-b-in-loop-i c).After-widen-b (item (goal.at.offset_bounds-links-b-in-loop-i c).After-widen-x), label (goal.at.offset_bounds-links-b-in-loop-i c).After-widen-x, c.requires.0)
 
 pub bounds-links-b-in-loop-i : goal.bounds-links-b-in-loop-i
-bounds-links-b-in-loop-i c = omega (arith, lead_label (goal.at.bounds-links-b-in-loop-i c).After-widen-b, c.requires.1.room, same (goal.at.bounds-links-b-in-loop-i c).After-widen-x, length-set c.loop-i.links (c.args.n + c.widen-x.result) (get_or c.loop-i.links c.widen-b.result 0))
+bounds-links-b-in-loop-i c = omega (arith, lead_label (goal.at.bounds-links-b-in-loop-i c).After-widen-b (item (goal.at.bounds-links-b-in-loop-i c).After-widen-x), c.requires.1.room, same (goal.at.bounds-links-b-in-loop-i c).After-widen-x, length-set c.loop-i.links (c.args.n + c.widen-x.result) (get_or c.loop-i.links c.widen-b.result 0))
 
 pub loop-i-preserved : goal.loop-i-preserved
 loop-i-preserved c = (

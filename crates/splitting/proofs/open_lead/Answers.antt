@@ -13,11 +13,11 @@ relink-requires c =
     let a = c.args in
     let p = c.requires in
     let e = c.open_block-r.ensures.placed in
-    let v = values_few _ _ p.0.0 a.group a.b in record {
-  n_le_label_limit = (p.0.0.few, p.1.0.0, p.1.0.2, omega (arith, v, e.within, p.1.1.0.orders, c.open_block-r.auto.order));
+    let v = values_few _ _ p.accepted.0 a.group a.b in record {
+  n_le_label_limit = (p.accepted.0.few, p.b_le_n.0, p.b_le_n.2, omega (arith, v, e.within, p.scratch.orders, c.open_block-r.auto.order));
   by_index = (
-        λ x i. plan_label _ _ p.0.0 a.group a.b x (subst (λ (l : List ℕ). x ∈ l) e.cells i),
-        λ x. subst (λ (l : List ℕ). count x l ≤ 1) (sym e.cells) (plan_once _ _ p.0.0 a.group a.b x),
+        λ x i. plan_label _ _ p.accepted.0 a.group a.b x (subst (λ (l : List ℕ). x ∈ l) e.cells i),
+        λ x. subst (λ (l : List ℕ). count x l ≤ 1) (sym e.cells) (plan_once _ _ p.accepted.0 a.group a.b x),
       );
 }
 

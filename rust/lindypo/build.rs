@@ -63,7 +63,7 @@ fn folder() -> Result<PathBuf, String> {
              - {FOLDER} is not set\n\
              - there is no {BUILT}/liblindypo.a, as in the repository\n\
              - {trouble}\n\
-             In the repository, `rt staticlib lindypo` makes one. Elsewhere, `./install PREFIX` \
+             In the repository, `c/library` makes one. Elsewhere, `./install PREFIX` \
              of the repository installs one: set PKG_CONFIG_PATH to PREFIX/lib/pkgconfig, or \
              {FOLDER} to PREFIX/lib"
         )

@@ -1,14 +1,10 @@
-use mathlib.Core.Path.{◌≡◌, refl, ap, ◌∙◌}
+use mathlib.Core.Path.{◌≡◌}
 use mathlib.Core.Bool.{◌&&◌}
 use Prim.Native.Nat.{ℕ, ◌-◌, ◌*◌, ◌≤◌}
-use native.Mathlib.Omega.{arith}
-use native.Mathlib.Nat.{le_antisymm}
-use borrow.Author.Rules.{rules}
 use lib.Dec.{ltb}
 use lib.ListN.{length, take}
 use Rattle.order.specs.LabelLists.{one, count}
 use Rattle.marks.specs.Marks.{mark, Rising}
-use Rattle.marks.proofs.Squares.{listing_none, listing_turn, listing_rising, listing_end}
 use Rattle.marks.proofs.list_marks.Given as goal
 
 abbrev pub invariant-loop-j : goal.invariant-loop-j

@@ -1,7 +1,6 @@
 -- Row 8 on a Group, case by case.
 use mathlib.Core.Path.{sym}
 use Rattle.tree.proofs.Labels.{fits_first, fits_expression, fits_below, fits_above}
-use borrow.Author.Rules.{rules}
 use Rattle.tree.proofs.group_right.Goals as goal
 
 pub returns-then-label-lt2 : goal.returns-then-label-lt2

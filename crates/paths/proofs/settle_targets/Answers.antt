@@ -11,7 +11,8 @@ use Rattle.paths.proofs.settle_targets.Goals as goal
 use Rattle.paths.proofs.settle_targets.Goals.{In-loop-label}
 
 -- what the head in the label's cell leads to is the target
-same : (c : In-loop-label) → let a = c.args in target_by a.text.now c.loop-label.table a.n c.loop-label.label (target c.loop-label.table c.loop-label.label) ≡ target_cell a.text.now a.table.now a.n c.loop-label.label
+same : (c : In-loop-label) → let a = c.args in target_by a.text.now c.loop-label.table a.n c.loop-label.label (target c.loop-label.table c.loop-label.label)
+    ≡ target_cell a.text.now a.table.now a.n c.loop-label.label
 same c =
     let a = c.args in
     let g = c.loop-label.invariant in

@@ -113,7 +113,8 @@ pub loop-x-preserved : goal.loop-x-preserved
 loop-x-preserved c =
     let p = c.requires in
     let f = cell c.args.table.now c.loop-x.x c.args.j in
-    let g = growing_turn _ _ p.accepted _ p.column _ _ _ _ _ (take c.loop-x.height c.loop-x.stack) _ c.loop-x.invariant.5 _ (last (goal.at.loop-x-preserved c).In-loop-x) c.args.state.now c.loop-x.stack c.loop-x.height refl
+    let g = growing_turn _ _ p.accepted _ p.column _ _ _ _ _ (take c.loop-x.height c.loop-x.stack) _ c.loop-x.invariant.5 _ (last (goal.at.loop-x-preserved c).In-loop-x) c.args.state.now
+    c.loop-x.stack c.loop-x.height refl
     (omega (arith, c.loop-x.invariant.4, c.loop-x.invariant.1, p.marks_room.heights)) (way (goal.at.loop-x-preserved c).In-loop-x)
     (rows_kept _ _ p.accepted _ p.column c.args.d c.args.state.now c.args.square.now c.loop-x.square p.d_le_n.1 p.by_index c.loop-x.invariant.5.others f) _ _
     c.meet-height.result c.meet-height.auto.stack _ c.cell_of-f.ensures c.meet-height.ensures in

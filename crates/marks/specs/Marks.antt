@@ -1,6 +1,7 @@
 -- Rows of marks in words of 64 bits. A square of rows has w words a row; row p starts at index p * w, and its mark q is bit q % 64 of its
 -- word q / 64. A row has 64 * w marks, and no mark past them is set.
-use Rattle.std.specs.Prelude.{◌≡◌, ◌⊎◌, List, [], ◌∷◌, Bool, true, false, cond, ◌&&◌, ℕ, zero, suc, ◌+◌, ◌*◌, ◌/◌, ◌%◌, ◌≤◌, ◌<◌, eqb, ltb, length, get_or, take}
+use Rattle.std.specs.Prelude.{◌≡◌, ◌⊎◌, List, [], ◌∷◌, Bool, true, false, cond, ◌&&◌, ℕ, zero}
+use Rattle.std.specs.Prelude.{suc, ◌+◌, ◌*◌, ◌/◌, ◌%◌, ◌≤◌, ◌<◌, eqb, ltb, length, get_or, take}
 use Rattle.order.specs.LabelLists.{one, count, ◌∈◌}
 
 -- bit j of x, from 0

@@ -28,7 +28,8 @@ module _ (p : ℕ → Bool) where
   first_found (suc m) l x e z = found_go l m x (λ f. first_found m (suc l) x f z) (p l) refl e
 
   -- where none is found, none passes
-  none_go : (l m x : ℕ) → 1 ≤ l → l ≤ x → p x ≡ true → (l < x → first_label p (suc l) m ≡ 0 → ⊥) → (b : Bool) → p l ≡ b → cond b l (first_label p (suc l) m) ≡ 0 → ⊥
+  none_go : (l m x : ℕ) → 1 ≤ l → l ≤ x → p x ≡ true → (l < x → first_label p (suc l) m ≡ 0 → ⊥) → (b : Bool) → p l ≡ b
+      → cond b l (first_label p (suc l) m) ≡ 0 → ⊥
   none_go l m x h k e rest true q f = omega arith
   none_go l m x h k e rest false q f = ⊎_elim (λ z. true_false (sym e ∙ ap p (sym z) ∙ q)) (λ z. rest z f) (eq-or-lt_of_le k)
 

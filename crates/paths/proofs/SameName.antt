@@ -86,7 +86,8 @@ same_append (c ∷ v) (d ∷ w) x y h =
     ∙ ap (λ (b : Bool). b && same_name x y) (sym (same_front c d v w))
 
 -- one byte, and eight, as the code compares them
-pub one_same : (s : List ℕ) (i j : ℕ) → i < length s → j < length s → eqb (lowercase_byte (get_or s i 0)) (lowercase_byte (get_or s j 0)) ≡ same_name (slice i (i + 1) s) (slice j (j + 1) s)
+pub one_same : (s : List ℕ) (i j : ℕ) → i < length s → j < length s
+    → eqb (lowercase_byte (get_or s i 0)) (lowercase_byte (get_or s j 0)) ≡ same_name (slice i (i + 1) s) (slice j (j + 1) s)
 one_same s i j h g =
     rw (slice_at s i (i + 1) (omega arith) (omega arith), slice_at s j (j + 1) (omega arith) (omega arith), slice_none s (i + 1) (i + 1) refl, slice_none s (j + 1) (j + 1) refl)
     (sym (same_front (get_or s i 0) (get_or s j 0) [] [] ∙ ap (λ (b : Bool). eqb (lowercase_byte (get_or s i 0)) (lowercase_byte (get_or s j 0)) && b) (same_self []) ∙ and-true _))

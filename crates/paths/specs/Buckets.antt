@@ -1,6 +1,7 @@
 -- How the code finds a member fast: each Group has buckets of its own, and the hash of a member's name says in which of them it stands. A
 -- search of a Group meets members of that Group and no others. Nothing of this is in a public contract.
-use Rattle.std.specs.Prelude.{◌≡◌, Bool, true, cond, not, ◌&&◌, List, [], ◌∷◌, ℕ, zero, suc, ◌+◌, ◌*◌, ◌/◌, ◌%◌, ◌-◌, ◌≤◌, ◌<◌, leb, eqb, ℤ, pos, length, get_or, set, take, drop}
+use Rattle.std.specs.Prelude.{◌≡◌, Bool, true, cond, not, ◌&&◌, List, [], ◌∷◌, ℕ, zero, suc, ◌+◌, ◌*◌}
+use Rattle.std.specs.Prelude.{◌/◌, ◌%◌, ◌-◌, ◌≤◌, ◌<◌, leb, eqb, ℤ, pos, length, get_or, set, take, drop}
 use Rattle.cells.specs.Limits.{label_limit}
 use Rattle.cells.specs.Characters.{dot}
 use Rattle.cells.specs.Cells.{int_at}

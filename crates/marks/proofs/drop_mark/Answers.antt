@@ -1,7 +1,6 @@
 use Prim.Native.Nat.{◌%◌}
 use native.Mathlib.Omega.{arith}
 use Rattle.marks.proofs.Squares.{shift_one, drop_dropped}
-use borrow.Author.Rules.{rules}
 use Rattle.marks.proofs.drop_mark.Goals as goal
 
 pub returns : goal.returns

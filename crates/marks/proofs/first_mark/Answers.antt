@@ -1,11 +1,6 @@
-use mathlib.Core.Path.{◌≡◌}
-use mathlib.Core.Bool.{false}
-use Prim.Native.Nat.{ℕ, ◌-◌, ◌*◌, ◌<◌, ◌≤◌}
 use native.Mathlib.Omega.{arith}
-use borrow.Author.Rules.{rules}
 use lib.Count.{trailing_le}
 use lib.ListN.{get_or}
-use Rattle.marks.specs.Marks.{mark}
 use Rattle.marks.proofs.Squares.{first_turn, first_found}
 use Rattle.marks.proofs.first_mark.Goals as goal
 

@@ -3,7 +3,6 @@ use lib.ListN.{get_or}
 use mathlib.Core.Path.{sym, ◌∙◌}
 use Rattle.marks.proofs.Squares.{inside}
 use Rattle.marks.proofs.Bits.{bit_shift}
-use borrow.Author.Rules.{rules}
 use Rattle.marks.proofs.has_mark.Goals as goal
 
 pub returns : goal.returns

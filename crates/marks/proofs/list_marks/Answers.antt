@@ -1,13 +1,12 @@
 use mathlib.Core.Path.{◌≡◌, refl, ap, ◌∙◌}
 use mathlib.Core.Bool.{◌&&◌}
-use Prim.Native.Nat.{ℕ, ◌-◌, ◌*◌, ◌≤◌}
+use Prim.Native.Nat.{ℕ, ◌*◌}
 use native.Mathlib.Omega.{arith}
 use native.Mathlib.Nat.{le_antisymm}
-use borrow.Author.Rules.{rules}
 use lib.Dec.{ltb}
-use lib.ListN.{length, take}
-use Rattle.order.specs.LabelLists.{one, count}
-use Rattle.marks.specs.Marks.{mark, Rising}
+use lib.ListN.{take}
+use Rattle.order.specs.LabelLists.{one}
+use Rattle.marks.specs.Marks.{mark}
 use Rattle.marks.proofs.Squares.{listing_none, listing_turn, listing_rising, listing_end}
 use Rattle.marks.proofs.list_marks.Goals as goal
 
@@ -16,12 +15,12 @@ loop-j-init c = (refl, omega arith, omega arith, listing_none _ _ _ _, tt)
 
 pub loop-j-preserved : goal.loop-j-preserved
 loop-j-preserved c = (
-      c.list_word-m.auto.list ∙ c.loop-j.invariant.0,
-      omega arith,
-      omega (arith, c.list_word-m.ensures.1, c.loop-j.invariant.2),
-      listing_turn _ _ _ _ _ c.loop-j-test.true (take c.loop-j.m c.loop-j.list) _ c.loop-j.invariant.3 c.list_word-m.ensures.0,
-      listing_rising _ _ _ _ _ c.loop-j-test.true (take c.loop-j.m c.loop-j.list) _ c.loop-j.invariant.3 c.list_word-m.ensures.0 c.loop-j.invariant.4,
-    )
+  c.list_word-m.auto.list ∙ c.loop-j.invariant.0,
+  omega arith,
+  omega (arith, c.list_word-m.ensures.1, c.loop-j.invariant.2),
+  listing_turn _ _ _ _ _ c.loop-j-test.true (take c.loop-j.m c.loop-j.list) _ c.loop-j.invariant.3 c.list_word-m.ensures.0,
+  listing_rising _ _ _ _ _ c.loop-j-test.true (take c.loop-j.m c.loop-j.list) _ c.loop-j.invariant.3 c.list_word-m.ensures.0 c.loop-j.invariant.4,
+)
 
 pub shape_of-list : goal.shape_of-list
 shape_of-list c = c.loop-j.invariant.0

@@ -1,14 +1,8 @@
-use mathlib.Core.Path.{◌≡◌, refl, sym, ap, ◌∙◌}
-use mathlib.Core.List.{List, [], ◌∷◌, ◌++◌, append_assoc, append-nil}
-use Prim.Native.Nat.{ℕ, suc, ◌+◌, ◌-◌, ◌<◌, ◌^◌}
-use native.Mathlib.Omega.{arith}
-use lib.Bits.{bit_and, and_le_l, and_le_r}
-use lib.Count.{count_trailing_zeros, trailing_le}
-use lib.ListN.{length, take, set, length-set}
-use lib.Seq.{take-suc-set}
-use native.Mathlib.Numerals.{add-one}
+use mathlib.Core.Path.{◌≡◌}
+use mathlib.Core.List.{◌++◌}
+use Prim.Native.Nat.{◌+◌, ◌<◌, ◌^◌}
+use lib.ListN.{length, take}
 use Rattle.marks.specs.Marks.{places}
-use Rattle.marks.proofs.Bits.{places_step, places_le, places_none}
 use Rattle.marks.proofs.list_word.Given as goal
 
 abbrev pub invariant-loop-x : goal.invariant-loop-x

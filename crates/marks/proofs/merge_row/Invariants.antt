@@ -1,9 +1,7 @@
-use mathlib.Core.Path.{◌≡◌, refl, ◌∙◌}
+use mathlib.Core.Path.{◌≡◌}
 use Prim.Native.Nat.{◌-◌, ◌≤◌}
-use native.Mathlib.Omega.{arith}
-use borrow.Author.Rules.{rules}
-use lib.ListN.{length, length-set}
-use Rattle.marks.proofs.Squares.{Merging, merging_none, merging_turn, merging_end}
+use lib.ListN.{length}
+use Rattle.marks.proofs.Squares.{Merging}
 use Rattle.marks.proofs.merge_row.Given as goal
 
 abbrev pub invariant-loop-j : goal.invariant-loop-j

@@ -1,6 +1,6 @@
 use mathlib.Core.Path.{refl}
-use Prim.Native.Nat.{◌+◌, ◌-◌, ◌≤◌}
-use Rattle.paths.proofs.Allotting.{Summed, sum_start, sum_next, sum_turn, sum_rises}
+use Prim.Native.Nat.{◌+◌}
+use Rattle.paths.proofs.Allotting.{sum_start, sum_next, sum_turn, sum_rises}
 use native.Mathlib.Omega.{arith}
 use Rattle.paths.proofs.add_up.Goals as goal
 

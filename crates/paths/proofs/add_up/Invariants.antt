@@ -1,7 +1,5 @@
-use mathlib.Core.Path.{refl}
 use Prim.Native.Nat.{◌+◌, ◌-◌, ◌≤◌}
-use Rattle.paths.proofs.Allotting.{Summed, sum_start, sum_next, sum_turn, sum_rises}
-use native.Mathlib.Omega.{arith}
+use Rattle.paths.proofs.Allotting.{Summed}
 use Rattle.paths.proofs.add_up.Given as goal
 
 abbrev pub invariant-loop-group : goal.invariant-loop-group

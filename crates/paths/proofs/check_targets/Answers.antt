@@ -1,7 +1,6 @@
 use mathlib.Core.Path.{◌∙◌, sym}
-use Prim.Native.Nat.{◌+◌, ◌-◌}
 use Rattle.paths.specs.TargetCells.{wrong_target}
-use Rattle.paths.proofs.Passes.{Pass, pass_start, pass_turn, pass_stop, pass_done}
+use Rattle.paths.proofs.Passes.{pass_start, pass_turn, pass_stop, pass_done}
 use native.Mathlib.Omega.{arith}
 use Rattle.paths.proofs.check_targets.Goals as goal
 

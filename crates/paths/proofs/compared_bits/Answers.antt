@@ -1,6 +1,5 @@
 use mathlib.Core.Path.{sym}
 use native.Mathlib.Omega.{arith}
-use borrow.Author.Rules.{rules}
 use Rattle.text.proofs.Lowercase.{low_bits}
 use Rattle.paths.proofs.compared_bits.Goals as goal
 

@@ -1,5 +1,4 @@
-use Prim.Native.Nat.{◌+◌, ◌-◌}
-use Rattle.paths.proofs.Allotting.{Counting, count_room, count_small, counting_start, counting_turn, counting_done}
+use Rattle.paths.proofs.Allotting.{count_room, count_small, counting_start, counting_turn, counting_done}
 use native.Mathlib.Omega.{arith}
 use Rattle.paths.proofs.count_buckets.Goals as goal
 

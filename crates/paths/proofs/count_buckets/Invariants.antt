@@ -1,6 +1,5 @@
 use Prim.Native.Nat.{◌+◌, ◌-◌}
-use Rattle.paths.proofs.Allotting.{Counting, count_room, count_small, counting_start, counting_turn, counting_done}
-use native.Mathlib.Omega.{arith}
+use Rattle.paths.proofs.Allotting.{Counting}
 use Rattle.paths.proofs.count_buckets.Given as goal
 
 abbrev pub invariant-loop-label : goal.invariant-loop-label

@@ -2,7 +2,6 @@ use mathlib.Core.Path.{◌∙◌, sym, ap}
 use Prim.Native.Nat.{◌+◌, ◌≤◌}
 use lib.ListN.{get_or, set}
 use native.Mathlib.Omega.{arith}
-use borrow.Author.Rules.{rules}
 use Rattle.paths.proofs.count_label.Goals as goal
 
 pub overflow_add-starts : goal.overflow_add-starts

@@ -1,16 +1,11 @@
 -- What is left of the path leads where the whole does.
-use mathlib.Core.Path.{◌≡◌, ◌∙◌, sym}
-use Prim.Native.Nat.{◌+◌, ◌-◌, ◌≤◌}
-use lib.ListN.{drop}
+use mathlib.Core.Path.{◌∙◌, sym}
+use Prim.Native.Nat.{◌+◌}
 use lib.Seq.{slice}
-use Rattle.cells.specs.Characters.{dot}
-use Rattle.text.specs.Pieces.{cut}
-use Rattle.paths.specs.Paths.{descended}
 use Rattle.paths.proofs.Hashes.{hash_small}
 use Rattle.paths.proofs.Chains.{linked_walkable, member_is}
-use Rattle.paths.proofs.Resolving.{later, stop_low, stop_high, names_cut, member_high, later_stop, later_on, later_end}
+use Rattle.paths.proofs.Resolving.{stop_low, stop_high, names_cut, member_high, later_stop, later_on, later_end}
 use native.Mathlib.Omega.{arith}
-use borrow.Author.Rules.{rules}
 use Rattle.paths.proofs.descend.Goals as goal
 
 pub loop-at-init : goal.loop-at-init
@@ -39,8 +34,10 @@ member_in-m-requires c =
     let p = c.requires.searchable in
     let low = stop_low a.text.now (c.loop-at.at + 1) a.to (omega arith) (omega arith) in
     let high = stop_high a.text.now (c.loop-at.at + 1) a.to (omega arith) (omega arith) in
-    let stop = c.name_stop-at-in-loop-at.ensures in
-    ((linked_walkable p.0 p.1 _ (omega (arith, c.loop-at.invariant.0)), rw c.hash_name-hash.ensures (hash_small _)), (omega arith, omega arith, p.0.names))
+    let stop = c.name_stop-at-in-loop-at.ensures in record {
+      walkable = (linked_walkable p.0 p.1 _ (omega (arith, c.loop-at.invariant.0)), rw c.hash_name-hash.ensures (hash_small _));
+      from_le_to = (omega arith, omega arith, p.0.names);
+    }
 
 pub loop-at-smaller : goal.loop-at-smaller
 loop-at-smaller c =

@@ -1,7 +1,6 @@
 -- The size, then the bytes.
 use mathlib.Core.Path.{◌∙◌}
 use Rattle.paths.proofs.Members.{name_differs, name_compared}
-use borrow.Author.Rules.{rules}
 use Rattle.paths.proofs.has_name.Goals as goal
 
 pub returns-then-size-to : goal.returns-then-size-to

@@ -1,6 +1,5 @@
 -- By the code in the kind cell.
 use mathlib.Core.Path.{◌∙◌, ap}
-use borrow.Author.Rules.{rules}
 use Rattle.kinds.specs.Kinds.{has_path}
 use Rattle.paths.proofs.has_path.Goals as goal
 

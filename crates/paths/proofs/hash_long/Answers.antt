@@ -1,6 +1,5 @@
 use mathlib.Core.Path.{sym, ap, ◌∙◌}
 use native.Mathlib.Omega.{arith}
-use borrow.Author.Rules.{rules}
 use Rattle.text.proofs.Slices.{take_slice}
 use Rattle.paths.specs.Buckets.{bits_of, add_word}
 use Rattle.paths.proofs.Hashes.{add_small, second_part, long_hash}

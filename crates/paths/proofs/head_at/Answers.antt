@@ -6,7 +6,6 @@ use lib.Seq.{slice}
 use Rattle.cells.specs.Table.{name_start, name_length, owner}
 use Rattle.paths.proofs.Resolving.{stop_low, stop_high, head_high, head_is, owner_small}
 use native.Mathlib.Omega.{arith}
-use borrow.Author.Rules.{rules}
 use Rattle.paths.proofs.head_at.Goals as goal
 use Rattle.paths.proofs.head_at.Goals.{After-cell_at-group, After-label_cell}
 
@@ -35,9 +34,9 @@ search-requires c =
     let to = from + c.label_cell.result in
     let i = inside (goal.at.search-requires c).After-label_cell in
     let stop = c.name_stop-to.ensures in record {
-  searchable = c.requires.searchable;
-  group_le_n = (grouped (goal.at.search-requires c).After-cell_at-group, omega (arith, stop, stop_low s from to (omega arith) i), omega (arith, stop, stop_high s from to (omega arith) i));
-}
+      searchable = c.requires.searchable;
+      group_le_n = (grouped (goal.at.search-requires c).After-cell_at-group, omega (arith, stop, stop_low s from to (omega arith) i), omega (arith, stop, stop_high s from to (omega arith) i));
+    }
 
 pub returns-then-has_path : goal.returns-then-has_path
 returns-then-has_path c =

@@ -1,6 +1,5 @@
 -- By the code in the kind cell.
 use mathlib.Core.Path.{◌∙◌, ap}
-use borrow.Author.Rules.{rules}
 use Rattle.kinds.specs.Kinds.{is_definition}
 use Rattle.paths.proofs.is_definition.Goals as goal
 

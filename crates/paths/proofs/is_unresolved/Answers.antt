@@ -1,5 +1,4 @@
 use mathlib.Core.Path.{◌∙◌, sym}
-use borrow.Author.Rules.{rules}
 use Rattle.paths.proofs.is_unresolved.Goals as goal
 
 pub returns-then-has_path : goal.returns-then-has_path

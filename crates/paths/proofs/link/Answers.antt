@@ -1,7 +1,6 @@
 use mathlib.Core.Path.{◌∙◌, sym}
-use Prim.Native.Nat.{◌+◌, ◌-◌}
 use Rattle.paths.proofs.Passes.{pass_stop, pass_done, not_fine}
-use Rattle.paths.proofs.Linking.{Linking, linking_start, linking_turn, linking_done}
+use Rattle.paths.proofs.Linking.{linking_start, linking_turn, linking_done}
 use native.Mathlib.Omega.{arith}
 use Rattle.paths.proofs.link.Goals as goal
 
@@ -13,8 +12,7 @@ loop-label-init c =
 pub link_label-row-requires : goal.link_label-row-requires
 link_label-row-requires c =
     let p = c.requires in
-    let g = c.loop-label.invariant in
-    ((p.0, g.linked), (g.pass.low, omega arith))
+    let g = c.loop-label.invariant in record { searchable = (p.0, g.linked); le_label = (g.pass.low, omega arith) }
 
 pub shape_of-links-then-row-ne0 : goal.shape_of-links-then-row-ne0
 shape_of-links-then-row-ne0 c = c.link_label-row.auto.links ∙ c.loop-label.invariant.size
@@ -39,6 +37,6 @@ shape_of-links c = c.loop-label.invariant.size
 pub returns : goal.returns
 returns c =
     let g = c.loop-label.invariant in record {
-  value = pass_done g.pass (omega arith);
-  all_linked = λ z. linking_done g (omega arith);
-}
+      value = pass_done g.pass (omega arith);
+      all_linked = λ z. linking_done g (omega arith);
+    }

@@ -1,8 +1,5 @@
-use mathlib.Core.Path.{◌∙◌, sym}
 use Prim.Native.Nat.{◌+◌, ◌-◌}
-use Rattle.paths.proofs.Passes.{pass_stop, pass_done, not_fine}
-use Rattle.paths.proofs.Linking.{Linking, linking_start, linking_turn, linking_done}
-use native.Mathlib.Omega.{arith}
+use Rattle.paths.proofs.Linking.{Linking}
 use Rattle.paths.proofs.link.Given as goal
 
 abbrev pub invariant-loop-label : goal.invariant-loop-label

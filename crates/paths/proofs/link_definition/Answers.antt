@@ -5,9 +5,8 @@ use lib.ListN.{length}
 use Rattle.paths.proofs.Hashes.{hash_small}
 use Rattle.paths.proofs.Chains.{stretch, walkable, Own, own_read, own_group, own_found, own_room, own_linked}
 use native.Mathlib.Omega.{arith}
-use borrow.Author.Rules.{rules}
 use Rattle.paths.proofs.link_definition.Goals as goal
-use Rattle.paths.proofs.link_definition.Goals.{After-hash_name-hash, After-label_cell, After-label_cell-from, After-label_cell-group}
+use Rattle.paths.proofs.link_definition.Goals.{After-label_cell, After-label_cell-group}
 
 inside : (c : After-label_cell) → let a = c.args in c.label_cell-from.result + c.label_cell.result ≤ length a.text.now
 inside c =
@@ -30,32 +29,34 @@ hash_name-hash-requires c = (omega arith, inside (goal.at.hash_name-hash-require
 pub member_in-found-requires : goal.member_in-found-requires
 member_in-found-requires c =
     let p = c.requires in
-    let o = own (goal.at.member_in-found-requires c).After-hash_name-hash in
-    let group = own_group p.0.0 p.0.1 p.1.0 p.1.1 o in
-    let walks = walkable p.0.0 p.0.1 p.1.0 c.label_cell-group.result group in
-    ((walks, rw o.hashed (hash_small _)), (omega arith, inside (goal.at.member_in-found-requires c).After-label_cell-from, p.0.0.names))
+    let o = own (goal.at.member_in-found-requires c).After-label_cell-group in
+    let group = own_group p.searchable.0 p.searchable.1 p.le_label.0 p.le_label.1 o in
+    let walks = walkable p.searchable.0 p.searchable.1 p.le_label.0 c.label_cell-group.result group in record {
+      walkable = (walks, rw o.hashed (hash_small _));
+      from_le_to = (omega arith, inside (goal.at.member_in-found-requires c).After-label_cell, p.searchable.0.names);
+    }
 
 pub bucket-requires : goal.bucket-requires
 bucket-requires c =
     let p = c.requires in
-    let o = own (goal.at.bucket-requires c).After-hash_name-hash in
-    let group = own_group p.0.0 p.0.1 p.1.0 p.1.1 o in
-    (stretch p.0.1.allotted c.label_cell-group.result group p.0.0.few, rw o.hashed (hash_small _))
+    let o = own (goal.at.bucket-requires c).After-label_cell-group in
+    let group = own_group p.searchable.0 p.searchable.1 p.le_label.0 p.le_label.1 o in
+    (stretch p.searchable.1.allotted c.label_cell-group.result group p.searchable.0.few, rw o.hashed (hash_small _))
 
 pub push-requires : goal.push-requires
 push-requires c =
     let p = c.requires in
-    let r = p.0.0 in
-    let h = p.0.1 in
-    let room = own_room r h p.1.0 p.1.1 (own (goal.at.push-requires c).After-hash_name-hash) p.1.2 c.bucket.ensures in
+    let r = p.searchable.0 in
+    let h = p.searchable.1 in
+    let room = own_room r h p.le_label.0 p.le_label.1 (own (goal.at.push-requires c).After-label_cell-group) p.le_label.2 c.bucket.ensures in
     (room.0, room.1, omega (arith, r.few))
 
 pub returns : goal.returns
 returns c =
     let p = c.requires in
-    let r = p.0.0 in
-    let h = p.0.1 in
-    let linked = own_linked r h p.1.0 p.1.1 (own (goal.at.returns c).After-hash_name-hash) p.1.2 c.bucket.ensures c.push.ensures in record {
-  value = own_found r h p.1.0 p.1.1 (own (goal.at.returns c).After-hash_name-hash) c.member_in-found.ensures;
-  linked_below = linked;
-}
+    let r = p.searchable.0 in
+    let h = p.searchable.1 in
+    let linked = own_linked r h p.le_label.0 p.le_label.1 (own (goal.at.returns c).After-label_cell-group) p.le_label.2 c.bucket.ensures c.push.ensures in record {
+      value = own_found r h p.le_label.0 p.le_label.1 (own (goal.at.returns c).After-label_cell-group) c.member_in-found.ensures;
+      linked_below = linked;
+    }

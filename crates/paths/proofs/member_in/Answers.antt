@@ -1,26 +1,25 @@
 use mathlib.Core.Path.{◌∙◌, sym}
 use lib.Seq.{slice}
-use Rattle.paths.specs.Buckets.{start_of, linked_member}
-use Rattle.paths.proofs.Chains.{Walking, walking_start, walking_less, walking_hit, walking_turn, walking_end}
+use Rattle.paths.proofs.Chains.{walking_start, walking_less, walking_hit, walking_turn, walking_end}
 use native.Mathlib.Omega.{arith}
 use Rattle.paths.proofs.member_in.Goals as goal
 
 pub first_in-m-requires : goal.first_in-m-requires
 first_in-m-requires c =
     let p = c.requires in
-    let h = p.0.0 in
-    (h.stretch, p.0.1, h.room)
+    let h = p.walkable.0 in
+    (h.stretch, p.walkable.1, h.room)
 
 pub loop-m-init : goal.loop-m-init
 loop-m-init c =
     let p = c.requires in
     let a = c.args in
-    walking_start a.text.now a.table.now (slice a.from a.to a.text.now) a.hash p.0.0 c.first_in-m.ensures
+    walking_start a.text.now a.table.now (slice a.from a.to a.text.now) a.hash p.walkable.0 c.first_in-m.ensures
 
 pub has_name-requires : goal.has_name-requires
 has_name-requires c =
     let p = c.requires in
-    (p.1.0, p.1.1, p.1.2 c.loop-m.m, omega arith, p.0.0.rows c.loop-m.m c.loop-m.invariant.inside)
+    (p.from_le_to.0, p.from_le_to.1, p.from_le_to.2 c.loop-m.m, omega arith, p.walkable.0.rows c.loop-m.m c.loop-m.invariant.inside)
 
 pub returns-then-has_name : goal.returns-then-has_name
 returns-then-has_name c = walking_hit c.loop-m.invariant c.loop-m-test.true (sym c.has_name.ensures ∙ c.if-has_name.true)

@@ -1,8 +1,6 @@
-use mathlib.Core.Path.{◌∙◌, sym}
 use lib.Seq.{slice}
 use Rattle.paths.specs.Buckets.{start_of, linked_member}
-use Rattle.paths.proofs.Chains.{Walking, walking_start, walking_less, walking_hit, walking_turn, walking_end}
-use native.Mathlib.Omega.{arith}
+use Rattle.paths.proofs.Chains.{Walking}
 use Rattle.paths.proofs.member_in.Given as goal
 
 abbrev pub invariant-loop-m : goal.invariant-loop-m

@@ -3,7 +3,6 @@ use Prim.Native.Nat.{◌+◌}
 use native.Mathlib.Omega.{arith}
 use Rattle.text.proofs.Slices.{slice_none}
 use Rattle.paths.proofs.Hashes.{word_bits}
-use borrow.Author.Rules.{rules}
 use Rattle.paths.proofs.name_bits.Goals as goal
 
 pub returns-then-size-eq0 : goal.returns-then-size-eq0

@@ -1,13 +1,10 @@
 -- The run from `i` on is what is left of that from `from` on.
-use mathlib.Core.Path.{◌≡◌, ◌∙◌, sym, ap}
+use mathlib.Core.Path.{◌∙◌, sym, ap}
 use mathlib.Core.Bool.{not}
-use Prim.Native.Nat.{◌-◌, ◌≤◌}
 use borrow.Author.Tests.{eq-eqb, ne_eqb}
-use Rattle.text.specs.Scans.{run_end}
 use Rattle.text.proofs.Bytes.{run_more, run_stop, run_end_lem}
 use Rattle.paths.specs.Buckets.{not_dot}
 use native.Mathlib.Omega.{arith}
-use borrow.Author.Rules.{rules}
 use Rattle.paths.proofs.name_stop.Goals as goal
 
 pub returns-then-text-i-eq46 : goal.returns-then-text-i-eq46

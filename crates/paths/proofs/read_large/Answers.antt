@@ -1,6 +1,5 @@
 use Rattle.paths.proofs.Chains.{fresh_zeros}
 use native.Mathlib.Omega.{arith}
-use borrow.Author.Rules.{rules}
 use Rattle.paths.proofs.read_large.Goals as goal
 
 pub read_with-requires : goal.read_with-requires

@@ -1,5 +1,4 @@
 use Rattle.paths.proofs.Chains.{fresh_zeros}
-use borrow.Author.Rules.{rules}
 use Rattle.paths.proofs.read_small.Goals as goal
 
 pub read_with-requires : goal.read_with-requires

@@ -17,9 +17,9 @@ pub returns-in-Fine : goal.returns-in-Fine
 unfolding paths_bad
 returns-in-Fine c =
     let r = c.resolve_heads.ensures in record {
-  value = or_next _ _ _ _ c.link.ensures.value c.in-Fine.is r.0;
-  table_after = r.1;
-}
+      value = or_next _ _ _ _ c.link.ensures.value c.in-Fine.is r.value;
+      table_after = r.table_after;
+    }
 
 pub returns-in-Refused : goal.returns-in-Refused
 unfolding paths_bad

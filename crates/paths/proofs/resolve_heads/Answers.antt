@@ -18,9 +18,9 @@ resolve_later-requires c =
     let w = c.settle_heads.ensures.table_after c.in-Fine.is in
     let al = heads_alike s t c.settle_heads.new.table a.n w p.0.room in
     let rows = rows_alike s t c.settle_heads.new.table al a.n (heads_size s t c.settle_heads.new.table a.n w p.0.room) p.0 in record {
-  searchable = (rows, linked_alike s t c.settle_heads.new.table al p.1);
-  by_index = heads_held s t c.settle_heads.new.table a.n w p.0.room;
-}
+      searchable = (rows, linked_alike s t c.settle_heads.new.table al p.1);
+      by_index = heads_held s t c.settle_heads.new.table a.n w p.0.room;
+    }
 
 pub returns-in-Fine : goal.returns-in-Fine
 returns-in-Fine c =
@@ -30,9 +30,9 @@ returns-in-Fine c =
     let w = c.settle_heads.ensures.table_after c.in-Fine.is in
     let r = c.resolve_later.ensures in
     let rows = heads_rows s t c.settle_heads.new.table a.n w c.requires.0.room in record {
-  value = or_next _ _ _ _ c.settle_heads.ensures.value c.in-Fine.is (r.0 ∙ rows);
-  table_after = λ z. r.1 z ∙ heads_targets s t c.settle_heads.new.table a.n w c.requires.0.room;
-}
+      value = or_next _ _ _ _ c.settle_heads.ensures.value c.in-Fine.is (r.value ∙ rows);
+      table_after = λ z. r.table_after z ∙ heads_targets s t c.settle_heads.new.table a.n w c.requires.0.room;
+    }
 
 pub returns-in-Refused : goal.returns-in-Refused
 returns-in-Refused c = record {

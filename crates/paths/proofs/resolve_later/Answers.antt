@@ -13,10 +13,10 @@ returns-in-Fine c =
     let p = c.requires in
     let a = c.args in
     let e = c.settle_targets.ensures.table_after c.in-Fine.is in
-    let checked = targets_checked a.text.now a.table.now c.settle_targets.new.table a.n e p.0.0.room in record {
-  value = or_next _ _ _ _ c.settle_targets.ensures.value c.in-Fine.is (c.check_targets.ensures ∙ checked);
-  table_after = λ _. e;
-}
+    let checked = targets_checked a.text.now a.table.now c.settle_targets.new.table a.n e p.searchable.0.room in record {
+      value = or_next _ _ _ _ c.settle_targets.ensures.value c.in-Fine.is (c.check_targets.ensures ∙ checked);
+      table_after = λ _. e;
+    }
 
 pub returns-in-Refused : goal.returns-in-Refused
 returns-in-Refused c = record {

@@ -1,8 +1,7 @@
 -- Eight bytes are compared as one part; what is left below eight is `same_tail`'s.
 use mathlib.Core.Path.{◌∙◌}
-use Prim.Native.Nat.{◌-◌}
 use native.Mathlib.Omega.{arith}
-use Rattle.paths.proofs.SameName.{Comparing, compare_start, lowered_same, compare_turn, compare_miss, compare_rest}
+use Rattle.paths.proofs.SameName.{compare_start, lowered_same, compare_turn, compare_miss, compare_rest}
 use Rattle.paths.proofs.same_name.Goals as goal
 
 pub loop-i-init : goal.loop-i-init

@@ -1,7 +1,5 @@
-use mathlib.Core.Path.{◌∙◌}
 use Prim.Native.Nat.{◌-◌}
-use native.Mathlib.Omega.{arith}
-use Rattle.paths.proofs.SameName.{Comparing, compare_start, lowered_same, compare_turn, compare_miss, compare_rest}
+use Rattle.paths.proofs.SameName.{Comparing}
 use Rattle.paths.proofs.same_name.Given as goal
 
 abbrev pub invariant-loop-i : goal.invariant-loop-i

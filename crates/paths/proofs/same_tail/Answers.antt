@@ -1,10 +1,9 @@
 use mathlib.Core.Path.{◌≡◌, ◌∙◌}
-use Prim.Native.Nat.{◌+◌, ◌-◌}
+use Prim.Native.Nat.{◌+◌}
 use lib.Seq.{slice}
 use Rattle.paths.specs.Names.{same_name}
-use Rattle.paths.proofs.SameName.{Comparing, compare_start, one_same, compare_turn, compare_miss, compare_done}
+use Rattle.paths.proofs.SameName.{compare_start, one_same, compare_turn, compare_miss, compare_done}
 use native.Mathlib.Omega.{arith}
-use borrow.Author.Rules.{rules}
 use Rattle.paths.proofs.same_tail.Goals as goal
 use Rattle.paths.proofs.same_tail.Goals.{After-same_but_case}
 

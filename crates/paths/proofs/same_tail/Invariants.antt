@@ -1,10 +1,5 @@
-use mathlib.Core.Path.{◌≡◌, ◌∙◌}
-use Prim.Native.Nat.{◌+◌, ◌-◌}
-use lib.Seq.{slice}
-use Rattle.paths.specs.Names.{same_name}
-use Rattle.paths.proofs.SameName.{Comparing, compare_start, one_same, compare_turn, compare_miss, compare_done}
-use native.Mathlib.Omega.{arith}
-use borrow.Author.Rules.{rules}
+use Prim.Native.Nat.{◌-◌}
+use Rattle.paths.proofs.SameName.{Comparing}
 use Rattle.paths.proofs.same_tail.Given as goal
 
 abbrev pub invariant-loop-i : goal.invariant-loop-i

@@ -1,12 +1,8 @@
 -- The outer loop keeps what is still to be searched, the inner one what is left of the chain of the Group's bucket.
-use mathlib.Core.Path.{◌≡◌, refl, ◌∙◌, sym}
-use Prim.Native.Nat.{◌≤◌}
+use mathlib.Core.Path.{refl, ◌∙◌, sym}
 use lib.Seq.{slice}
-use Rattle.paths.specs.Names.{member}
-use Rattle.paths.specs.Buckets.{start_of}
-use Rattle.paths.specs.Paths.{head_from}
 use Rattle.paths.proofs.Hashes.{hash_small}
-use Rattle.paths.proofs.Chains.{Walking, linked_stretch, linked_room, member_walking, walking_less, walking_hit, walking_turn, walking_end}
+use Rattle.paths.proofs.Chains.{linked_stretch, linked_room, member_walking, walking_less, walking_hit, walking_turn, walking_end}
 use Rattle.paths.proofs.Resolving.{head_end, head_found, head_next}
 use native.Mathlib.Omega.{arith}
 use Rattle.paths.proofs.search.Goals as goal
@@ -18,7 +14,7 @@ pub first_in-m-requires : goal.first_in-m-requires
 first_in-m-requires c =
     let p = c.requires in
     let a = c.args in
-    let p = p.0 in
+    let p = p.searchable in
     let small = hash_small (slice a.from a.to a.text.now) in
     (linked_stretch p.0 p.1 _ (omega arith), omega (arith, c.hash_name-hash.ensures), linked_room p.0 p.1 _ (omega arith))
 
@@ -26,15 +22,15 @@ pub loop-m-init : goal.loop-m-init
 loop-m-init c =
     let p = c.requires in
     let a = c.args in
-    let p = p.0 in
+    let p = p.searchable in
     let w = slice a.from a.to a.text.now in
     (c.groups.invariant.1, member_walking p.0 p.1 c.groups.g (omega arith) w c.hash_name-hash.ensures c.first_in-m.ensures)
 
 pub has_name-requires : goal.has_name-requires
 has_name-requires c =
     let p = c.requires in
-    let base = p.0.1.all.allotted.base in
-    (omega arith, omega arith, p.0.0.names c.loop-m.m, omega arith, omega (arith, c.loop-m.invariant.1.inside, p.0.0.room))
+    let base = p.searchable.1.all.allotted.base in
+    (omega arith, omega arith, p.searchable.0.names c.loop-m.m, omega arith, omega (arith, c.loop-m.invariant.1.inside, p.searchable.0.room))
 
 pub offset_bounds-links-m : goal.offset_bounds-links-m
 offset_bounds-links-m c = omega (arith, c.loop-m.invariant.1.inside, c.loop-m.invariant.1.room)
@@ -54,19 +50,19 @@ loop-m-preserved c = (c.loop-m.invariant.0, walking_turn c.loop-m.invariant.1 c.
 pub natural_cell-g-requires : goal.natural_cell-g-requires
 natural_cell-g-requires c =
     let p = c.requires in
-    let r = p.0.0 in
+    let r = p.searchable.0 in
     (omega arith, omega (arith, r.room), omega arith, r.owners c.groups.g (omega arith) (omega arith))
 
 pub groups-smaller : goal.groups-smaller
 groups-smaller c =
     let p = c.requires in
-    omega (arith, c.natural_cell-g.ensures, p.0.0.falls c.groups.g (omega arith) (omega arith))
+    omega (arith, c.natural_cell-g.ensures, p.searchable.0.falls c.groups.g (omega arith) (omega arith))
 
 pub groups-preserved : goal.groups-preserved
 groups-preserved c =
     let p = c.requires in
     let a = c.args in
-    let r = p.0.0 in
+    let r = p.searchable.0 in
     let f = r.falls c.groups.g (omega arith) (omega arith) in
     let w = slice a.from a.to a.text.now in
     let none = sym (walking_end c.loop-m.invariant.1 c.loop-m-test.false) in
@@ -78,7 +74,7 @@ returns-after-groups c =
     let p = c.requires in
     let a = c.args in
     let w = slice a.from a.to a.text.now in
-    c.groups.invariant.1 ∙ sym (head_end a.text.now a.table.now a.n w p.0.0.falls c.groups.g (omega arith)) ∙ c.groups.invariant.2
+    c.groups.invariant.1 ∙ sym (head_end a.text.now a.table.now a.n w p.searchable.0.falls c.groups.g (omega arith)) ∙ c.groups.invariant.2
 
 pub returns-then-has_name : goal.returns-then-has_name
 returns-then-has_name c =
@@ -86,4 +82,4 @@ returns-then-has_name c =
     let a = c.args in
     let w = slice a.from a.to a.text.now in
     let hit = walking_hit c.loop-m.invariant.1 c.loop-m-test.true (sym c.has_name.ensures ∙ c.if-has_name.true) in
-    sym (head_found a.text.now a.table.now a.n w p.0.0.falls c.groups.g c.loop-m.m (omega arith) (sym hit) c.loop-m-test.true) ∙ c.groups.invariant.2
+    sym (head_found a.text.now a.table.now a.n w p.searchable.0.falls c.groups.g c.loop-m.m (omega arith) (sym hit) c.loop-m-test.true) ∙ c.groups.invariant.2

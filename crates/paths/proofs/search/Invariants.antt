@@ -1,13 +1,10 @@
-use mathlib.Core.Path.{◌≡◌, refl, ◌∙◌, sym}
+use mathlib.Core.Path.{◌≡◌}
 use Prim.Native.Nat.{◌≤◌}
 use lib.Seq.{slice}
 use Rattle.paths.specs.Names.{member}
 use Rattle.paths.specs.Buckets.{start_of}
 use Rattle.paths.specs.Paths.{head_from}
-use Rattle.paths.proofs.Hashes.{hash_small}
-use Rattle.paths.proofs.Chains.{Walking, linked_stretch, linked_room, member_walking, walking_less, walking_hit, walking_turn, walking_end}
-use Rattle.paths.proofs.Resolving.{head_end, head_found, head_next}
-use native.Mathlib.Omega.{arith}
+use Rattle.paths.proofs.Chains.{Walking}
 use Rattle.paths.proofs.search.Given as goal
 
 abbrev pub invariant-loop-m : goal.invariant-loop-m

@@ -1,12 +1,7 @@
-use mathlib.Core.Path.{◌≡◌}
 use Prim.Native.Nat.{◌+◌, ◌-◌}
-use Rattle.refusals.specs.Rows.{head_row}
 use Rattle.paths.specs.Paths.{path_head_bad}
 use Rattle.paths.specs.TargetCells.{head_cell}
-use Rattle.paths.proofs.Alike.{head_cell_alike, rows_alike, linked_alike}
-use Rattle.paths.proofs.Passes.{Settling, settle_start, settle_size, settle_alike, settle_all, settle_kept}
-use Rattle.paths.proofs.Passes.{settle_turn, settle_stop, pass_done, head_rule, not_fine}
-use native.Mathlib.Omega.{arith}
+use Rattle.paths.proofs.Passes.{Settling}
 use Rattle.paths.proofs.settle_heads.Given as goal
 
 abbrev pub invariant-loop-label : goal.invariant-loop-label

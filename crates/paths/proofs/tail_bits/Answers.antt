@@ -1,6 +1,5 @@
 use native.Mathlib.Omega.{arith}
-use borrow.Author.Rules.{rules}
-use Rattle.paths.proofs.Hashes.{Gathering, gather_start, gather_small, gather_turn, gather_done}
+use Rattle.paths.proofs.Hashes.{gather_start, gather_small, gather_turn, gather_done}
 use Rattle.paths.proofs.tail_bits.Goals as goal
 
 pub loop-i-init : goal.loop-i-init

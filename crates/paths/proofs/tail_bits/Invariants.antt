@@ -1,6 +1,4 @@
-use native.Mathlib.Omega.{arith}
-use borrow.Author.Rules.{rules}
-use Rattle.paths.proofs.Hashes.{Gathering, gather_start, gather_small, gather_turn, gather_done}
+use Rattle.paths.proofs.Hashes.{Gathering}
 use Rattle.paths.proofs.tail_bits.Given as goal
 
 abbrev pub invariant-loop-i : goal.invariant-loop-i

@@ -5,7 +5,6 @@ use lib.ListN.{length}
 use Rattle.cells.specs.Table.{name_start, name_length}
 use Rattle.paths.proofs.Resolving.{target_is}
 use native.Mathlib.Omega.{arith}
-use borrow.Author.Rules.{rules}
 use Rattle.paths.proofs.target_at.Goals as goal
 use Rattle.paths.proofs.target_at.Goals.{After-label_cell}
 
@@ -19,9 +18,9 @@ overflow_add-from c = omega (arith, inside (goal.at.overflow_add-from c).After-l
 pub descend-requires : goal.descend-requires
 descend-requires c =
     let p = c.requires in record {
-  searchable = p.0;
-  head_le_n = (p.1.2, omega arith, inside (goal.at.descend-requires c).After-label_cell);
-}
+      searchable = p.searchable;
+      head_le_n = (p.le_label.2, omega arith, inside (goal.at.descend-requires c).After-label_cell);
+    }
 
 pub returns-then-has_path : goal.returns-then-has_path
 returns-then-has_path c =

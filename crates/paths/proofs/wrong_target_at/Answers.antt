@@ -3,7 +3,6 @@ use mathlib.Core.Path.{◌∙◌, sym, ap}
 use Rattle.kinds.specs.Kinds.{has_path}
 use Rattle.cells.specs.Table.{kind}
 use Rattle.paths.proofs.Resolving.{target_wrong, target_right, target_none}
-use borrow.Author.Rules.{rules}
 use Rattle.paths.proofs.wrong_target_at.Goals as goal
 
 pub returns-then-cell_at-wanted_by : goal.returns-then-cell_at-wanted_by

@@ -17,7 +17,11 @@ module _ (l : At-loop-top) where
       MarksRoom l.args.n l.args.state.now l.loop-top.square l.loop-top.stack
   room =
       let pre = l.requires.marks_room in
-      record { states = pre.states; rows = omega (arith, pre.rows, l.grow-top.auto.square, l.loop-top.invariant.0); heights = omega (arith, pre.heights, l.grow-top.auto.stack, l.loop-top.invariant.1) }
+      record {
+        states = pre.states;
+        rows = omega (arith, pre.rows, l.grow-top.auto.square, l.loop-top.invariant.0);
+        heights = omega (arith, pre.heights, l.grow-top.auto.stack, l.loop-top.invariant.1);
+      }
 
   same : (a q : ℕ) →
       (a ≡ l.args.d → ⊥) → mark l.loop-top.square (width l.args.n) a q ≡ mark l.args.square.now (width l.args.n) a q
@@ -27,7 +31,15 @@ module _ (l : At-loop-top) where
 pub grow-top-requires : goal.grow-top-requires
 grow-top-requires c =
     let p = c.requires in
-    let b = p.fact.1 in record { accepted = p.accepted; column = p.column; n_in_bounds = p.n_in_bounds; marks_room = p.marks_room; d_le_n = ((body_label _ _ p.accepted c.args.d b).1, p.fact.0, b, inl refl); by_index = p.by_index.0; spread = (spread_none _ _ p.accepted _ p.column _ _ p.by_index.1, omega arith) }
+    let b = p.fact.1 in record {
+      accepted = p.accepted;
+      column = p.column;
+      n_in_bounds = p.n_in_bounds;
+      marks_room = p.marks_room;
+      d_le_n = ((body_label _ _ p.accepted c.args.d b).1, p.fact.0, b, inl refl);
+      by_index = p.by_index.0;
+      spread = (spread_none _ _ p.accepted _ p.column _ _ p.by_index.1, omega arith);
+    }
 
 pub loop-top-init : goal.loop-top-init
 loop-top-init c =
@@ -51,7 +63,15 @@ grow-top-requires-in-loop-top c =
     let p = c.requires in
     -- what is at the top of the stack
     let e = popped _ _ p.accepted _ p.column _ _ c.loop-top.stack c.loop-top.top _ c.widen-e.ensures c.loop-top-test.true
-    (omega (arith, c.loop-top.invariant.2, (room (goal.at.grow-top-requires-in-loop-top c).At-loop-top).heights)) c.loop-top.invariant.3 in record { accepted = p.accepted; column = p.column; n_in_bounds = p.n_in_bounds; marks_room = room (goal.at.grow-top-requires-in-loop-top c).At-loop-top; d_le_n = ((body_label _ _ p.accepted c.args.d p.fact.1).1, p.fact.0, e.1, inr e.2); by_index = rows_kept _ _ p.accepted _ p.column c.args.d c.args.state.now c.args.square.now c.loop-top.square p.fact.0 p.by_index.0 (same (goal.at.grow-top-requires-in-loop-top c).At-loop-top); spread = (e.0, omega (arith, c.loop-top.invariant.2)) }
+    (omega (arith, c.loop-top.invariant.2, (room (goal.at.grow-top-requires-in-loop-top c).At-loop-top).heights)) c.loop-top.invariant.3 in record {
+      accepted = p.accepted;
+      column = p.column;
+      n_in_bounds = p.n_in_bounds;
+      marks_room = room (goal.at.grow-top-requires-in-loop-top c).At-loop-top;
+      d_le_n = ((body_label _ _ p.accepted c.args.d p.fact.1).1, p.fact.0, e.1, inr e.2);
+      by_index = rows_kept _ _ p.accepted _ p.column c.args.d c.args.state.now c.args.square.now c.loop-top.square p.fact.0 p.by_index.0 (same (goal.at.grow-top-requires-in-loop-top c).At-loop-top);
+      spread = (e.0, omega (arith, c.loop-top.invariant.2));
+    }
 
 pub loop-top-smaller : goal.loop-top-smaller
 loop-top-smaller c =

@@ -11,7 +11,8 @@ use Rattle.reach.proofs.fill.Given as goal
 abbrev pub invariant-loop-top : goal.invariant-loop-top
 invariant-loop-top l =
     (length l.square ≡ length l.initial.square) × (length l.stack ≡ length l.initial.stack) × (l.top ≤ l.n) × Spread l.table l.j l.d 0 (mark l.square (width l.n) l.d) (take l.top l.stack)
-    × ((z : ℕ) → Link l.table l.j l.d z → mark l.square (width l.n) l.d z ≡ true) × ((a q : ℕ) → (a ≡ l.d → ⊥) → mark l.square (width l.n) a q ≡ mark l.initial.square (width l.n) a q)
+    × ((z : ℕ) → Link l.table l.j l.d z → mark l.square (width l.n) l.d z ≡ true)
+    × ((a q : ℕ) → (a ≡ l.d → ⊥) → mark l.square (width l.n) a q ≡ mark l.initial.square (width l.n) a q)
 
 abbrev pub decreases-loop-top : goal.decreases-loop-top
 decreases-loop-top l = l.top + (l.n - mark_count l.n (mark l.square (width l.n) l.d))

@@ -77,7 +77,10 @@ loop-x-init c =
 
 pub cell_of-f-requires : goal.cell_of-f-requires
 cell_of-f-requires c =
-    let r = column_range _ c.requires.column in record { accepted = c.requires.accepted; le_label = ((line (goal.at.cell_of-f-requires c).In-loop-x).0, (line (goal.at.cell_of-f-requires c).In-loop-x).1, omega (arith, r), omega (arith, r)) }
+    let r = column_range _ c.requires.column in record {
+      accepted = c.requires.accepted;
+      le_label = ((line (goal.at.cell_of-f-requires c).In-loop-x).0, (line (goal.at.cell_of-f-requires c).In-loop-x).1, omega (arith, r), omega (arith, r));
+    }
 
 pub meet-height-requires : goal.meet-height-requires
 meet-height-requires c =
@@ -85,7 +88,14 @@ meet-height-requires c =
     let f = c.cell_of-f.result in
     let room : MarksRoom c.args.n c.args.state.now c.loop-x.square
     c.loop-x.stack = record { states = p.marks_room.states; rows = omega (arith, p.marks_room.rows, c.loop-x.invariant.0); heights = omega (arith, p.marks_room.heights, c.loop-x.invariant.1) } in
-    let made = rows_kept _ _ p.accepted _ p.column c.args.d c.args.state.now c.args.square.now c.loop-x.square p.d_le_n.1 p.by_index c.loop-x.invariant.5.others f in record { accepted = p.accepted; marks_room = room; d_le_n = (p.d_le_n.0, c.loop-x.invariant.4); has_body = subst (HasBody c.args.table.now) (sym c.cell_of-f.ensures) (end (goal.at.meet-height-requires c).In-loop-x); raised = c.loop-x.invariant.5.spread.raised; raised_2 = λ two. row_above _ _ p.accepted _ p.column f c.loop-x.square (made two) }
+    let made = rows_kept _ _ p.accepted _ p.column c.args.d c.args.state.now c.args.square.now c.loop-x.square p.d_le_n.1 p.by_index c.loop-x.invariant.5.others f in record {
+      accepted = p.accepted;
+      marks_room = room;
+      d_le_n = (p.d_le_n.0, c.loop-x.invariant.4);
+      has_body = subst (HasBody c.args.table.now) (sym c.cell_of-f.ensures) (end (goal.at.meet-height-requires c).In-loop-x);
+      raised = c.loop-x.invariant.5.spread.raised;
+      raised_2 = λ two. row_above _ _ p.accepted _ p.column f c.loop-x.square (made two);
+    }
 
 pub overflow_add-n : goal.overflow_add-n
 overflow_add-n c = omega (arith, c.requires.accepted.few, line (goal.at.overflow_add-n c).In-loop-x)
@@ -103,7 +113,8 @@ pub loop-x-preserved : goal.loop-x-preserved
 loop-x-preserved c =
     let p = c.requires in
     let f = cell c.args.table.now c.loop-x.x c.args.j in
-    let g = growing_turn _ _ p.accepted _ p.column _ _ _ _ _ (take c.loop-x.height c.loop-x.stack) _ c.loop-x.invariant.5 _ (last (goal.at.loop-x-preserved c).In-loop-x) c.args.state.now c.loop-x.stack c.loop-x.height refl
+    let g = growing_turn _ _ p.accepted _ p.column _ _ _ _ _ (take c.loop-x.height c.loop-x.stack) _ c.loop-x.invariant.5 _ (last (goal.at.loop-x-preserved c).In-loop-x) c.args.state.now
+    c.loop-x.stack c.loop-x.height refl
     (omega (arith, c.loop-x.invariant.4, c.loop-x.invariant.1, p.marks_room.heights)) (way (goal.at.loop-x-preserved c).In-loop-x)
     (rows_kept _ _ p.accepted _ p.column c.args.d c.args.state.now c.args.square.now c.loop-x.square p.d_le_n.1 p.by_index c.loop-x.invariant.5.others f) _ _
     c.meet-height.result c.meet-height.auto.stack _ c.cell_of-f.ensures c.meet-height.ensures in

@@ -32,20 +32,50 @@ cell_of-d-requires c =
     let r = column_range _ c.requires.column in record { accepted = c.requires.accepted; le_label = (inv.0, c.loop-l-test.true, omega (arith, r), omega (arith, r)) }
 
 pub offset_bounds-chains-d : goal.offset_bounds-chains-d
-offset_bounds-chains-d c = omega (arith, low _ _ _ c.loop-l.l _ c.requires.accepted c.requires.column (record { path = sym c.has_path.ensures ∙ c.if-has_path.true; from = sym c.cell_of-d.ensures }), c.requires.accepted.few)
+offset_bounds-chains-d c = omega (
+  arith,
+  low _ _ _ c.loop-l.l _ c.requires.accepted c.requires.column (record {
+    path = sym c.has_path.ensures ∙ c.if-has_path.true;
+    from = sym c.cell_of-d.ensures;
+  }),
+  c.requires.accepted.few,
+)
 
 pub bounds-chains-d : goal.bounds-chains-d
 bounds-chains-d c =
     let inv = c.loop-l.invariant in
-    omega (arith, low _ _ _ c.loop-l.l _ c.requires.accepted c.requires.column (record { path = sym c.has_path.ensures ∙ c.if-has_path.true; from = sym c.cell_of-d.ensures }), c.requires.n_in_bounds, inv.2)
+    omega (
+      arith,
+      low _ _ _ c.loop-l.l _ c.requires.accepted c.requires.column (record {
+        path = sym c.has_path.ensures ∙ c.if-has_path.true;
+        from = sym c.cell_of-d.ensures;
+      }),
+      c.requires.n_in_bounds,
+      inv.2,
+    )
 
 pub offset_bounds-chains-d-then-has_path : goal.offset_bounds-chains-d-then-has_path
-offset_bounds-chains-d-then-has_path c = omega (arith, low _ _ _ c.loop-l.l _ c.requires.accepted c.requires.column (record { path = sym c.has_path.ensures ∙ c.if-has_path.true; from = sym c.cell_of-d.ensures }), c.requires.accepted.few)
+offset_bounds-chains-d-then-has_path c = omega (
+  arith,
+  low _ _ _ c.loop-l.l _ c.requires.accepted c.requires.column (record {
+    path = sym c.has_path.ensures ∙ c.if-has_path.true;
+    from = sym c.cell_of-d.ensures;
+  }),
+  c.requires.accepted.few,
+)
 
 pub bounds-chains-d-then-has_path : goal.bounds-chains-d-then-has_path
 bounds-chains-d-then-has_path c =
     let inv = c.loop-l.invariant in
-    simp length-set (omega (arith, low _ _ _ c.loop-l.l _ c.requires.accepted c.requires.column (record { path = sym c.has_path.ensures ∙ c.if-has_path.true; from = sym c.cell_of-d.ensures }), c.requires.n_in_bounds, inv.2))
+    simp length-set (omega (
+      arith,
+      low _ _ _ c.loop-l.l _ c.requires.accepted c.requires.column (record {
+        path = sym c.has_path.ensures ∙ c.if-has_path.true;
+        from = sym c.cell_of-d.ensures;
+      }),
+      c.requires.n_in_bounds,
+      inv.2,
+    ))
 
 pub loop-l-preserved : goal.loop-l-preserved
 loop-l-preserved c =

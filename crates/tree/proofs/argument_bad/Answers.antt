@@ -1,7 +1,6 @@
 -- Row 10 by the owner cell.
 use mathlib.Core.Path.{◌∙◌, sym}
 use Rattle.tree.proofs.Labels.{argument_none}
-use borrow.Author.Rules.{rules}
 use Rattle.tree.proofs.argument_bad.Goals as goal
 
 pub returns-then-place-eq0 : goal.returns-then-place-eq0

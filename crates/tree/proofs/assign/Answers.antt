@@ -4,7 +4,6 @@ use Prim.Native.Nat.{◌+◌, ◌-◌, ◌*◌}
 use lib.ListN.{set}
 use lib.IntN.{pos}
 use Rattle.tree.proofs.Labels.{assigned_none, assigned_some}
-use borrow.Author.Rules.{rules}
 use Rattle.tree.proofs.assign.Goals as goal
 
 pub returns-then-x-ne0 : goal.returns-then-x-ne0

@@ -1,7 +1,6 @@
 -- No label, no store; the first use, and another.
 use mathlib.Core.Path.{◌∙◌, sym}
 use Rattle.tree.proofs.Labels.{claimed_first, claimed_again, claimed_none}
-use borrow.Author.Rules.{rules}
 use Rattle.tree.proofs.claim.Goals as goal
 
 pub returns-then-label_cell-ne0 : goal.returns-then-label_cell-ne0

@@ -1,5 +1,4 @@
 -- Three parts in turn; the second and the third still have their cells.
-use borrow.Author.Rules.{rules}
 use Rattle.tree.proofs.claim_parts.Goals as goal
 
 pub returns : goal.returns

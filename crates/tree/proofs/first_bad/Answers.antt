@@ -1,8 +1,6 @@
 -- The pass of row 8.
-use mathlib.Core.Path.{◌≡◌, ◌∙◌, sym, ap}
-use Prim.Native.Nat.{◌+◌, ◌-◌, ◌≤◌}
+use mathlib.Core.Path.{◌∙◌, sym, ap}
 use native.Mathlib.Omega.{arith}
-use Rattle.refusals.specs.Refusal.{first_bad}
 use Rattle.refusals.specs.declared.Verdict.TheVariants.{Refused}
 use Rattle.refusals.proofs.FirstBad.{first_start, first_fine, first_bad_lem, first_end}
 use Rattle.tree.specs.Tree.{structure_bad}

@@ -1,11 +1,7 @@
-use mathlib.Core.Path.{◌≡◌, ◌∙◌, sym, ap}
+use mathlib.Core.Path.{◌≡◌}
 use Prim.Native.Nat.{◌+◌, ◌-◌, ◌≤◌}
-use native.Mathlib.Omega.{arith}
 use Rattle.refusals.specs.Refusal.{first_bad}
-use Rattle.refusals.specs.declared.Verdict.TheVariants.{Refused}
-use Rattle.refusals.proofs.FirstBad.{first_start, first_fine, first_bad_lem, first_end}
 use Rattle.tree.specs.Tree.{structure_bad}
-use Rattle.tree.proofs.Labels.{readable}
 use Rattle.tree.proofs.first_bad.Given as goal
 
 abbrev pub invariant-loop-label : goal.invariant-loop-label

@@ -1,6 +1,5 @@
 -- The label found, or this one.
 use Rattle.tree.proofs.Told.{or_kept}
-use borrow.Author.Rules.{rules}
 use Rattle.tree.proofs.first_of.Goals as goal
 
 pub returns-then-found-ne0 : goal.returns-then-found-ne0

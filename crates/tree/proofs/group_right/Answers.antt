@@ -1,7 +1,6 @@
 -- Row 8 on a Group, case by case.
 use mathlib.Core.Path.{sym}
 use Rattle.tree.proofs.Labels.{fits_first, fits_expression, fits_below, fits_above}
-use borrow.Author.Rules.{rules}
 use Rattle.tree.proofs.group_right.Goals as goal
 
 pub returns-then-label-lt2 : goal.returns-then-label-lt2
@@ -13,7 +12,8 @@ returns-then-group-label c =
     c.label_cell-group.ensures c.if-group-label.true c.cell_at.ensures)
 
 pub returns-then-definition : goal.returns-then-definition
-returns-then-definition c = sym (fits_above c.args.table.now c.args.label c.args.definition c.if-label-lt2.false c.if-definition.true c.label_cell-group.result c.label_cell-group.ensures c.if-group-label.false)
+returns-then-definition c =
+    sym (fits_above c.args.table.now c.args.label c.args.definition c.if-label-lt2.false c.if-definition.true c.label_cell-group.result c.label_cell-group.ensures c.if-group-label.false)
 
 pub returns : goal.returns
 returns c = sym (fits_expression c.args.table.now c.args.label c.args.definition c.if-label-lt2.false c.if-definition.false)

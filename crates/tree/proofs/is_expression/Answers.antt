@@ -1,7 +1,6 @@
 -- By the code in the kind cell.
 use mathlib.Core.Path.{◌∙◌, ap}
 use Rattle.kinds.specs.Kinds.{is_expression}
-use borrow.Author.Rules.{rules}
 use Rattle.tree.proofs.is_expression.Goals as goal
 
 pub returns : goal.returns

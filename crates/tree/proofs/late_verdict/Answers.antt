@@ -1,6 +1,5 @@
 -- Case by case.
 use Rattle.tree.proofs.Told.{found_some, found_first}
-use borrow.Author.Rules.{rules}
 use Rattle.tree.proofs.late_verdict.Goals as goal
 
 pub returns-then-argument-ne0 : goal.returns-then-argument-ne0

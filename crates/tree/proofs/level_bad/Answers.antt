@@ -2,7 +2,6 @@
 use mathlib.Core.Path.{ap}
 use lib.Dec.{ltb}
 use Rattle.cells.specs.Limits.{level_limit}
-use borrow.Author.Rules.{rules}
 use Rattle.tree.proofs.level_bad.Goals as goal
 
 pub returns : goal.returns

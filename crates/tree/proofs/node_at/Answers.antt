@@ -1,6 +1,5 @@
 -- The forms of the fields are those of the row that the code names.
 use Rattle.tree.proofs.Labels.{node_is}
-use borrow.Author.Rules.{rules}
 use Rattle.tree.proofs.node_at.Goals as goal
 
 pub fields_of-fields-requires : goal.fields_of-fields-requires

@@ -1,7 +1,6 @@
 -- Row 8 on a body or operand, case by case.
 use mathlib.Core.Path.{◌∙◌, sym}
 use Rattle.tree.proofs.Labels.{fits_none, fits_part, fits_low}
-use borrow.Author.Rules.{rules}
 use Rattle.tree.proofs.part_right.Goals as goal
 
 pub returns-then-x-eq0 : goal.returns-then-x-eq0

@@ -2,7 +2,6 @@
 use mathlib.Core.Path.{◌∙◌, sym, refl}
 use Rattle.tree.specs.TreeSteps.{part_fits}
 use Rattle.tree.proofs.Labels.{parts_right}
-use borrow.Author.Rules.{rules}
 use Rattle.tree.proofs.parts_right.Goals as goal
 
 pub returns-then-part_right-2 : goal.returns-then-part_right-2

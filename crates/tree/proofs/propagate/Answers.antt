@@ -9,7 +9,6 @@ use Rattle.tree.specs.declared.Node.{Node}
 use Rattle.tree.specs.TreeSteps.{twice}
 use Rattle.tree.proofs.Labels.{propagated_definition, propagated_expression}
 use Rattle.tree.proofs.Writes.{assigned_length, inside_same}
-use borrow.Author.Rules.{rules}
 use Rattle.tree.proofs.propagate.Goals as goal
 
 pub assign-requires : goal.assign-requires

@@ -1,6 +1,5 @@
 -- Row 8, and what is left to row 9.
 use mathlib.Core.Path.{◌∙◌, sym, refl}
-use borrow.Author.Rules.{rules}
 use Rattle.tree.proofs.settle.Goals as goal
 
 pub propagate-requires : goal.propagate-requires

@@ -1,7 +1,6 @@
 -- The row, by its test.
 use mathlib.Core.Path.{◌∙◌, sym}
 use Rattle.tree.proofs.Labels.{structure_number}
-use borrow.Author.Rules.{rules}
 use Rattle.tree.proofs.structure_bad.Goals as goal
 
 pub returns-then-structure_right : goal.returns-then-structure_right

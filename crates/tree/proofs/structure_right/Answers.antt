@@ -4,7 +4,6 @@ use Rattle.cells.specs.Lists.{all}
 use Rattle.tree.specs.Tree.{part_right, parts}
 use Rattle.tree.specs.declared.Node.{Node}
 use Rattle.tree.proofs.Labels.{node_definition, structure_is}
-use borrow.Author.Rules.{rules}
 use Rattle.tree.proofs.structure_right.Goals as goal
 
 pub returns-then-group_right : goal.returns-then-group_right

@@ -1,7 +1,6 @@
 use Prim.Native.Nat.{◌-◌}
-use native.Mathlib.Omega.{arith}
 use Rattle.redoing.specs.Pairs.{pair_count}
-use Rattle.redoing.proofs.Applied.{steps_standing, Applying, applying_start, next_right, next_row, next_window, applying_next, applying_done}
+use Rattle.redoing.proofs.Applied.{Applying}
 use Rattle.redoing.proofs.apply.Given as goal
 
 abbrev pub invariant-loop-k : goal.invariant-loop-k

@@ -2,7 +2,6 @@ use native.Mathlib.Omega.{arith}
 use Rattle.reach.proofs.Reading.{row_room}
 use Rattle.reach.specs.MarkRows.{width}
 use Rattle.redoing.proofs.Sums.{turns_own, turns_other}
-use borrow.Author.Rules.{rules}
 use Rattle.redoing.proofs.depends.Goals as goal
 
 pub returns-then-v-d : goal.returns-then-v-d

@@ -1,7 +1,6 @@
 use native.Mathlib.Omega.{arith}
 use Rattle.evaluation.proofs.Leaves.{state_is}
 use Rattle.redoing.proofs.Sums.{fails_not, fails_so}
-use borrow.Author.Rules.{rules}
 use Rattle.redoing.proofs.failed.Goals as goal
 
 pub returns-then-nat_of : goal.returns-then-nat_of

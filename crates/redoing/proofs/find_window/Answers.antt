@@ -1,7 +1,6 @@
 use native.Mathlib.Omega.{arith}
 use lib.ListN.{length-set}
 use Rattle.redoing.proofs.Windows.{window_known, window_found}
-use borrow.Author.Rules.{rules}
 use Rattle.redoing.proofs.find_window.Goals as goal
 
 pub returns-then-windows-d-ne0 : goal.returns-then-windows-d-ne0

@@ -1,5 +1,4 @@
 use native.Mathlib.Numerals.{add-one}
-use borrow.Author.Rules.{rules}
 use Rattle.redoing.proofs.label_of.Goals as goal
 
 pub returns : goal.returns

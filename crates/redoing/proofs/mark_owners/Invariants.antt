@@ -1,9 +1,6 @@
-use mathlib.Core.Path.{refl}
-use mathlib.Core.Logic.{inl}
 use Prim.Native.Nat.{◌-◌}
-use native.Mathlib.Omega.{arith}
 use Rattle.redoing.specs.Pairs.{pair_count}
-use Rattle.redoing.proofs.Owners.{Marking, pair_line, pair_owner, marking_start, marking_room, marking_next, marking_done}
+use Rattle.redoing.proofs.Owners.{Marking}
 use Rattle.redoing.proofs.mark_owners.Given as goal
 
 abbrev pub invariant-loop-k : goal.invariant-loop-k

@@ -4,7 +4,6 @@ use Prim.Native.Nat.{◌*◌}
 use lib.Seq.{sets}
 use mir.Syntax.{w64}
 use mir.Facts.{to_z_pos}
-use borrow.Author.Rules.{rules}
 use Rattle.redoing.proofs.put_change.Goals as goal
 
 pub returns : goal.returns

@@ -4,7 +4,6 @@ use lib.ListN.{set}
 use Rattle.cells.proofs.Signed.{whole}
 use Rattle.redoing.specs.Pairs.{pair_number}
 use Rattle.redoing.proofs.Sums.{number_there, put_there}
-use borrow.Author.Rules.{rules}
 use Rattle.redoing.proofs.put_number.Goals as goal
 
 pub returns : goal.returns

@@ -3,7 +3,6 @@ use native.Mathlib.Omega.{arith}
 use Rattle.evaluation.specs.Results.{stored}
 use Rattle.evaluation.proofs.Entries.{value_room}
 use Rattle.redoing.proofs.Sums.{took_few, room_still, failing_moves, steps_move, redone_tally, failing_few, steps_few}
-use borrow.Author.Rules.{rules}
 use Rattle.redoing.proofs.redo.Goals as goal
 
 pub failed-requires : goal.failed-requires
@@ -50,6 +49,6 @@ returns c =
     let tallied = redone_tally c.args.own c.args.table.now c.args.results.now c.args.label c.args.n (value_room c.requires.evaluable.0) c.requires.evaluable.1
     c.args.before c.requires.tallied.0 c.evaluate_into.ensures c.failed.ensures.0 c.steps_of.ensures c.failed-2.ensures.0
     c.steps_of-2.ensures in record {
-  results_after = c.evaluate_into.ensures;
-  redone_value = (refl, tallied);
-}
+      results_after = c.evaluate_into.ensures;
+      redone_value = (refl, tallied);
+    }

@@ -1,10 +1,8 @@
-use Prim.Native.Nat.{◌-◌}
 use native.Mathlib.Omega.{arith}
-use borrow.Author.Rules.{rules}
 use Rattle.cells.proofs.Accepted.{body_label}
 use Rattle.figures.proofs.Working.{value_label}
 use Rattle.redoing.proofs.Redone.{row_redone}
-use Rattle.redoing.proofs.Down.{Going, going_start, turn_value, turn_ready, going_turn, going_done}
+use Rattle.redoing.proofs.Down.{going_start, turn_value, turn_ready, going_turn, going_done}
 use Rattle.redoing.proofs.redo_down.Goals as goal
 
 pub loop-i-init : goal.loop-i-init
@@ -16,10 +14,10 @@ redo_dependent-change-requires c =
     let asked = inv.asked in
     let value = turn_value _ _ _ _ _ _ _ _ _ _ inv c.loop-i-test.true c.nat_at-v.ensures in
     let v = value_label _ _ asked.accepted _ value in
-    let d = body_label _ _ asked.accepted _ asked.body in (
-      (turn_ready _ _ _ _ _ _ _ _ _ _ inv c.loop-i-test.true c.nat_at-v.ensures, v.1, d.1, asked.accepted.few, asked.rows),
-      (inv.tallied, omega (arith, inv.few, c.loop-i-test.true, asked.few, asked.accepted.few)),
-    )
+    let d = body_label _ _ asked.accepted _ asked.body in record {
+      evaluable = (turn_ready _ _ _ _ _ _ _ _ _ _ inv c.loop-i-test.true c.nat_at-v.ensures, v.1, d.1, asked.accepted.few, asked.rows);
+      tallied = (inv.tallied, omega (arith, inv.few, c.loop-i-test.true, asked.few, asked.accepted.few));
+    }
 
 pub overflow_add-i : goal.overflow_add-i
 overflow_add-i c = omega (arith, c.loop-i-test.true)

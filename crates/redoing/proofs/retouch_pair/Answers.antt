@@ -12,13 +12,12 @@ use Rattle.redoing.specs.Pairs.{pair_label, pair_number}
 use Rattle.redoing.proofs.Numbers.{number_label}
 use Rattle.redoing.proofs.Windows.{window_named, redoable_window, redid_window}
 use Rattle.redoing.proofs.Applied.{accepted_still, owner_is, owner_few, pair_redoable, change_fits, pair_applied, kept_tally, redoable_still, redid_still, applied_still}
-use borrow.Author.Rules.{rules}
 use Rattle.redoing.proofs.retouch_pair.Goals as goal
-use Rattle.redoing.proofs.retouch_pair.Goals.{After-cell_of-d, After-shared_slice_known-4-1, After-widen-to}
+use Rattle.redoing.proofs.retouch_pair.Goals.{After-cell_of-d, After-widen-to}
 
 owner_label : (c : After-cell_of-d) → c.cell_of-d.result ≤ c.args.n
 owner_label c =
-    owner_few _ _ _ (c.args.k + 1) c.label_of-label.ensures c.put-number.ensures c.requires.standing.accepted c.requires.k_bound.1 c.cell_of-d.ensures
+    owner_few _ _ _ (c.args.k + 1) c.label_of-label.ensures c.put_number.ensures c.requires.standing.accepted c.requires.k_bound.1 c.cell_of-d.ensures
 
 owner_small : (c : After-cell_of-d) → c.cell_of-d.result ≤ 1024
 owner_small c = omega (arith, owner_label c, c.requires.standing.accepted.few)
@@ -30,7 +29,7 @@ window_at : (c : After-widen-to) →
     Window c.args.square.now c.args.n c.args.plan.now c.args.count c.args.windows.now c.cell_of-d.result
 window_at c =
     window_named
-    (owner_is _ c.args.n _ (c.args.k + 1) c.label_of-label.ensures c.put-number.ensures c.cell_of-d.ensures)
+    (owner_is _ c.args.n _ (c.args.k + 1) c.label_of-label.ensures c.put_number.ensures c.cell_of-d.ensures)
     c.requires.n_in_bounds_2.1
 
 window_end : (c : After-widen-to) → c.widen-to.result - 1 ≡ get_or c.args.windows.now (2 * c.cell_of-d.result + 1) 0 - 1
@@ -38,24 +37,24 @@ window_end c = ap (λ x. x - 1) c.widen-to.ensures
 
 -- going down the whole plan would do
 whole_plan : (c : After-widen-to) →
-    Redoable c.put-number.last.0 c.args.n c.args.results.now c.args.plan.now c.args.count c.args.square.now
+    Redoable c.put_number.new.table c.args.n c.args.results.now c.args.plan.now c.args.count c.args.square.now
     c.cell_of-d.result
 whole_plan c =
     let right = c.requires.k_bound.1 in
     let line = pair_label c.args.pairs.now (c.args.k + 1) in
     let number = pair_number c.args.pairs.now (c.args.k + 1) in
-    redoable_still _ _ _ (c.args.k + 1) c.label_of-label.ensures c.put-number.ensures _ _ _ c.cell_of-d.ensures _
+    redoable_still _ _ _ (c.args.k + 1) c.label_of-label.ensures c.put_number.ensures _ _ _ c.cell_of-d.ensures _
     (pair_redoable _ _ _ _ _ _ c.requires.standing line number right.line right.number _ c.requires.n_in_bounds.0 c.requires.n_in_bounds.1)
 
 -- and what going down the window did is what that would have done
 whole_done : (c : After-widen-to) {c₀ c₁ : Change} {r : List ℤ} →
     let line = pair_label c.args.pairs.now (c.args.k + 1) in
-    Redid c.args.own c.put-number.last.0 c.args.n c.args.results.now
+    Redid c.args.own c.put_number.new.table c.args.n c.args.results.now
     (between c.args.plan.now c.widen-from.result (c.widen-to.result - 1)) c.cell_of-d.result c₀ r c₁
     → Redid c.args.own (with_number line (pair_number c.args.pairs.now (c.args.k + 1)) c.args.table.now) c.args.n c.args.results.now
     (labels_of (take c.args.count c.args.plan.now)) (owner c.args.table.now line) c₀ r c₁
 whole_done c did =
-    redid_still _ _ _ (c.args.k + 1) c.label_of-label.ensures c.put-number.ensures _ c.args.plan.now c.args.count
+    redid_still _ _ _ (c.args.k + 1) c.label_of-label.ensures c.put_number.ensures _ c.args.plan.now c.args.count
     c.cell_of-d.ensures
     (redid_window c.args.windows.now (whole_plan c) (window_at c) c.widen-from.ensures (window_end c) did)
 
@@ -70,7 +69,10 @@ cell_of-d-requires c =
     let right = c.requires.k_bound.1 in
     let named = c.label_of-label.ensures in
     let l = number_label _ _ c.requires.standing.accepted (pair_label c.args.pairs.now (c.args.k + 1)) right.line in
-    (accepted_still _ _ _ (c.args.k + 1) named c.put_number.ensures c.requires.standing.accepted right, (rw named l.0, rw named l.1, omega arith, omega arith))
+    record {
+      accepted = accepted_still _ _ _ (c.args.k + 1) named c.put_number.ensures c.requires.standing.accepted right;
+      le_label = (rw named l.0, rw named l.1, omega arith, omega arith);
+    }
 
 pub overflow_mul-d : goal.overflow_mul-d
 overflow_mul-d c = omega (arith, owner_small (goal.at.overflow_mul-d c).After-cell_of-d)
@@ -97,17 +99,18 @@ pub overflow_sub-to : goal.overflow_sub-to
 overflow_sub-to c = omega (arith, c.widen-to.ensures, (window_at (goal.at.overflow_sub-to c).After-widen-to).begun)
 
 pub redo_down-change-requires : goal.redo_down-change-requires
-redo_down-change-requires c = (
-      redoable_window c.args.windows.now (whole_plan (goal.at.redo_down-change-requires c).After-shared_slice_known-4-1) (window_at (goal.at.redo_down-change-requires c).After-shared_slice_known-4-1) c.widen-from.ensures (window_end (goal.at.redo_down-change-requires c).After-shared_slice_known-4-1),
-      (kept_tally c.requires.tallied, refl),
-    )
+redo_down-change-requires c =
+    let at = (goal.at.redo_down-change-requires c).After-widen-to in record {
+      redoable = redoable_window c.args.windows.now (whole_plan at) (window_at at) c.widen-from.ensures (window_end at);
+      tallied = (kept_tally c.requires.tallied, refl);
+    }
 
 pub put_change-requires : goal.put_change-requires
 put_change-requires c =
     let right = c.requires.k_bound.1 in
     let line = pair_label c.args.pairs.now (c.args.k + 1) in
     let number = pair_number c.args.pairs.now (c.args.k + 1) in
-    let few = change_fits _ _ _ _ _ _ c.requires.standing line number right.line right.number refl (whole_done (goal.at.put_change-requires c).After-shared_slice_known-4-1 c.redo_down-change.ensures) in
+    let few = change_fits _ _ _ _ _ _ c.requires.standing line number right.line right.number refl (whole_done (goal.at.put_change-requires c).After-widen-to c.redo_down-change.ensures) in
     (omega (arith, c.requires.k_bound.0, c.requires.k_bound.2), few.0, few.1, few.2)
 
 pub returns : goal.returns
@@ -118,5 +121,5 @@ returns c =
     let at-index : c.args.k + 1 - 1 ≡ c.args.k = omega arith in
     applied_still _ _ _ (c.args.k + 1) c.label_of-label.ensures c.put_number.ensures _ c.args.plan.now c.args.count
     c.cell_of-d.ensures
-    (pair_applied _ _ _ _ _ _ c.requires.standing line number right.line right.number refl (whole_done (goal.at.returns c).After-shared_slice_known-4-1 c.redo_down-change.ensures) c.args.pairs.now
+    (pair_applied _ _ _ _ _ _ c.requires.standing line number right.line right.number refl (whole_done (goal.at.returns c).After-widen-to c.redo_down-change.ensures) c.args.pairs.now
     (c.args.k + 1) refl refl _ _ (rw at-index c.put_change.ensures))

@@ -1,5 +1,4 @@
 use Rattle.redoing.proofs.Sums.{steps_are}
-use borrow.Author.Rules.{rules}
 use Rattle.redoing.proofs.steps_of.Goals as goal
 
 pub returns : goal.returns

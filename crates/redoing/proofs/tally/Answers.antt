@@ -1,7 +1,7 @@
-use Prim.Native.Nat.{◌+◌, ◌-◌}
+use Prim.Native.Nat.{◌+◌}
 use native.Mathlib.Omega.{arith}
 use Rattle.evaluation.specs.Results.{stored}
-use Rattle.redoing.proofs.Sums.{failing_few, steps_few, Counting, counting_none, counting_next, counted}
+use Rattle.redoing.proofs.Sums.{failing_few, steps_few, counting_none, counting_next, counted}
 use Rattle.redoing.proofs.tally.Goals as goal
 
 pub loop-l-init : goal.loop-l-init

@@ -1,7 +1,5 @@
-use Prim.Native.Nat.{◌+◌, ◌-◌}
-use native.Mathlib.Omega.{arith}
-use Rattle.evaluation.specs.Results.{stored}
-use Rattle.redoing.proofs.Sums.{failing_few, steps_few, Counting, counting_none, counting_next, counted}
+use Prim.Native.Nat.{◌-◌}
+use Rattle.redoing.proofs.Sums.{Counting}
 use Rattle.redoing.proofs.tally.Given as goal
 
 abbrev pub invariant-loop-l : goal.invariant-loop-l

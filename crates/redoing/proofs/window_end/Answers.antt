@@ -1,8 +1,6 @@
-use borrow.Author.Rules.{rules}
 use mathlib.Core.Path.{sym, ◌∙◌}
-use Prim.Native.Nat.{◌-◌, ◌≤◌}
+use Prim.Native.Nat.{◌-◌}
 use native.Mathlib.Omega.{arith}
-use Rattle.redoing.specs.RedoStages.{NoneDepends}
 use Rattle.redoing.proofs.Windows.{none_before}
 use Rattle.redoing.proofs.window_end.Goals as goal
 

@@ -1,9 +1,5 @@
-use borrow.Author.Rules.{rules}
-use mathlib.Core.Path.{sym, ◌∙◌}
-use Prim.Native.Nat.{◌-◌, ◌≤◌}
-use native.Mathlib.Omega.{arith}
+use Prim.Native.Nat.{◌≤◌}
 use Rattle.redoing.specs.RedoStages.{NoneDepends}
-use Rattle.redoing.proofs.Windows.{none_before}
 use Rattle.redoing.proofs.window_end.Given as goal
 
 abbrev pub invariant-loop-i : goal.invariant-loop-i

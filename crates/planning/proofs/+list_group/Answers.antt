@@ -87,13 +87,17 @@ list_group-to-requires t c =
     let k = ap (kind c.args.table.now) (sym c.widen-p.ensures) ∙ sym c.kind_of-k.ensures ∙ c.if-k-eq-GROUP.true in
     (
       omega (arith, b, c.decreases, p.le_group.1, c.widen-p.ensures),
-      record {
-        accepted = p.accepted;
-        n_in_bounds = p.n_in_bounds;
-        le_group = rw c.widen-p.ensures (b.0, b.1, k, group_free _ _ p.accepted _ _ _ _ _ _ _ u c.loop-x-test.true k p.le_group.0 p.le_group.3);
-        group_in_bounds = rw c.widen-p.ensures (group_room _ _ p.accepted _ _ _ _ _ _ _ u c.loop-x-test.true k
-            (kind_g c.args.table.now c.args.group p.le_group.2) _ (omega (arith, p.group_in_bounds, c.loop-x.invariant.0)));
-      },
+      (
+        p.accepted,
+        (
+          p.n_in_bounds,
+          (
+            rw c.widen-p.ensures (b.0, b.1, k, group_free _ _ p.accepted _ _ _ _ _ _ _ u c.loop-x-test.true k p.le_group.0 p.le_group.3),
+            rw c.widen-p.ensures (group_room _ _ p.accepted _ _ _ _ _ _ _ u c.loop-x-test.true k
+                (kind_g c.args.table.now c.args.group p.le_group.2) _ (omega (arith, p.group_in_bounds, c.loop-x.invariant.0))),
+          ),
+        ),
+      ),
     )
 
 pub loop-x-smaller-then-k-eq-GROUP : goal.loop-x-smaller-then-k-eq-GROUP

@@ -18,4 +18,4 @@ pub returns-in-Refused : goal.returns-in-Refused
 returns-in-Refused c =
     let zeroed = c.clear_both.ensures in
     follow_refused c.args.text.now c.args.order.now (length c.args.table.now) (length c.args.results.now) _
-    c.head_follow.ensures _ _ _ _ c.in-Refused.is zeroed.0 zeroed.1
+    c.head_follow.ensures _ _ _ _ c.in-Refused.is zeroed.first_after zeroed.second_after

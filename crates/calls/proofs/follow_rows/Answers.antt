@@ -9,9 +9,6 @@ use Rattle.calls.proofs.Sheets.{sheet_ready}
 use Rattle.calls.proofs.Lists.{list_checked, list_unread}
 use Rattle.calls.proofs.follow_rows.Goals as goal
 
-pub enum_told-1 : goal.enum_told-1
-enum_told-1 c = search rules
-
 pub slice_bounds-check_order-end-in-Fine : goal.slice_bounds-check_order-end-in-Fine
 slice_bounds-check_order-end-in-Fine c = sym (length-take-le (8 * c.args.n) c.read_sheet.new.table (omega (arith, c.requires.1, c.read_sheet.auto.table)))
 

@@ -12,9 +12,6 @@ use Rattle.calls.proofs.follow_sheet.Goals as goal
 pub arithmetic_of-own-requires : goal.arithmetic_of-own-requires
 arithmetic_of-own-requires c = c.requires.0.head
 
-pub enum_told-1 : goal.enum_told-1
-enum_told-1 c = search rules
-
 pub slice_bounds-run_down-end-in-Fine : goal.slice_bounds-run_down-end-in-Fine
 slice_bounds-run_down-end-in-Fine c = sym (length-take-le (8 * c.args.n) c.follow_rows.new.table (omega (arith, c.requires.1, c.follow_rows.auto.table)))
 
@@ -32,4 +29,4 @@ pub returns-in-Refused : goal.returns-in-Refused
 returns-in-Refused c =
     let zeroed = c.clear_both.ensures in
     list_refused _ c.args.order.now (length c.args.table.now) _ c.requires.0 _ _ c.follow_rows.ensures _ _ _ _ _
-    c.in-Refused.is (zeroed.0 ∙ ap zeros c.follow_rows.auto.table) zeroed.1
+    c.in-Refused.is (zeroed.first_after ∙ ap zeros c.follow_rows.auto.table) zeroed.second_after

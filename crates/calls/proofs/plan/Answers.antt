@@ -16,4 +16,4 @@ pub returns-in-Refused : goal.returns-in-Refused
 returns-in-Refused c =
     let zeroed = c.clear_both.ensures in
     plan_refused c.args.text.now (length c.args.table.now) (length c.args.plan.now) _
-    c.head_plan.ensures _ _ _ _ c.in-Refused.is zeroed.0 zeroed.1
+    c.head_plan.ensures _ _ _ _ c.in-Refused.is zeroed.first_after zeroed.second_after

@@ -7,9 +7,6 @@ use Rattle.cells.specs.Cells.{zeros}
 use Rattle.calls.proofs.Sheets.{sheet_ready, sheet_plans, sheet_refused, refused_plans}
 use Rattle.calls.proofs.plan_sheet.Goals as goal
 
-pub enum_told-1 : goal.enum_told-1
-enum_told-1 c = search rules
-
 pub plan_table-requires : goal.plan_table-requires
 plan_table-requires c =
     let ok = sheet_ready _ (length c.args.table.now) _ c.requires.0 _ _ c.read_sheet.ensures c.in-Fine.is in
@@ -24,4 +21,4 @@ pub returns-in-Refused : goal.returns-in-Refused
 returns-in-Refused c =
     let refused = sheet_refused _ (length c.args.table.now) _ c.requires.0 _ _ c.read_sheet.ensures _ _ c.in-Refused.is in
     let zeroed = c.clear_both.ensures in
-    refused_plans _ _ (length c.args.table.now) _ _ _ _ _ refused (zeroed.0 ∙ ap zeros c.read_sheet.auto.table) zeroed.1
+    refused_plans _ _ (length c.args.table.now) _ _ _ _ _ refused (zeroed.first_after ∙ ap zeros c.read_sheet.auto.table) zeroed.second_after

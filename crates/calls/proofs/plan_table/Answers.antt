@@ -19,4 +19,4 @@ returns-in-Mixed c = table_plans _ _ _ _ _ c.requires.0 c.plan_of.ensures (made.
 pub returns-in-Cycle : goal.returns-in-Cycle
 returns-in-Cycle c =
     let zeroed = c.clear_both.ensures in
-    table_plans _ _ _ _ _ c.requires.0 c.plan_of.ensures (made.Cycle _) _ _ c.in-Cycle.is zeroed.0 zeroed.1
+    table_plans _ _ _ _ _ c.requires.0 c.plan_of.ensures (made.Cycle _) _ _ c.in-Cycle.is zeroed.first_after zeroed.second_after

@@ -117,7 +117,7 @@ fn version() {
 fn refusals() {
     assert_eq!(header_of("REFUSAL_"), code("refusals", "u64"));
     let rows = read("crates/refusals/specs/Rows.antt");
-    let numbers = rows.lines().filter_map(|line| line.split_once("Row = "));
+    let numbers = rows.lines().filter_map(|line| line.split_once("row = "));
     let numbers: Vec<i64> = numbers.map(|(_, number)| number.parse().unwrap()).collect();
     assert_eq!(numbers, (1..=21).collect::<Vec<i64>>());
 }
@@ -182,17 +182,17 @@ fn ties() {
 fn limits() {
     let header = header();
     let places = [
-        ("TEXT_MOST", "cells", "sizeLimit"),
-        ("LABELS_MOST", "cells", "labelLimit"),
-        ("NAME_MOST", "cells", "nameLimit"),
-        ("PATH_MOST", "cells", "pathLimit"),
-        ("NUMBER_MOST", "cells", "numberLimit"),
-        ("LEVELS_MOST", "cells", "levelLimit"),
-        ("PAIRS_MOST", "cells", "pairLimit"),
-        ("STEPS_MOST", "evaluation", "stepLimit"),
-        ("DEPTH_MOST", "evaluation", "depthLimit"),
+        ("TEXT_MOST", "cells", "size_limit"),
+        ("LABELS_MOST", "cells", "label_limit"),
+        ("NAME_MOST", "cells", "name_limit"),
+        ("PATH_MOST", "cells", "path_limit"),
+        ("NUMBER_MOST", "cells", "number_limit"),
+        ("LEVELS_MOST", "cells", "level_limit"),
+        ("PAIRS_MOST", "cells", "pair_limit"),
+        ("STEPS_MOST", "evaluation", "step_limit"),
+        ("DEPTH_MOST", "evaluation", "depth_limit"),
         ("TABLE_CELLS", "cells", "cell"),
-        ("RESULT_CELLS", "evaluation", "stateAt"),
+        ("RESULT_CELLS", "evaluation", "state_at"),
     ];
     for (name, of, definition_name) in places {
         let definition = definition(of, definition_name);
@@ -208,8 +208,8 @@ fn limits() {
 #[test]
 fn print() {
     let header = header();
-    let bound = "printBound = 36 + 48 * labelLimit";
-    assert_eq!(definition("printing", "printBound"), bound);
+    let bound = "print_bound = 36 + 48 * label_limit";
+    assert_eq!(definition("printing", "print_bound"), bound);
     assert_eq!(header["PRINT_MOST"], 36 + 48 * header["LABELS_MOST"]);
 }
 

@@ -194,7 +194,7 @@ fn what_is_allowed_twice_is_there_twice() {
     let text = fs::read_to_string(&path).expect("a file");
     fs::write(&path, text.replace("PrintLine", "Printed0")).expect("a file written");
     let found = copy.read().twice();
-    let idle = "`printLine`: allowed, and stands for one thing alone";
+    let idle = "`print_line`: allowed, and stands for one thing alone";
     assert_eq!(found, [idle]);
 }
 
@@ -233,7 +233,7 @@ fn a_theorem_has_a_sentence() {
 fn demand_3_rests_on_what_is_listed_behind_it() {
     let root = Path::new(env!("CARGO_MANIFEST_DIR")).join("../..");
     let graph = Graph::new(files::read(&root).expect("crates"));
-    let behind = graph.reached(graph.named("demand-3"));
+    let behind = graph.reached(graph.named("demand_3"));
     let page = fs::read_to_string(root.join("docs/CONTRACTS.md")).expect("a page");
     let table = page.split("\nThe theorems about orders behind it").nth(1);
     let rows = table.expect("a table").lines().skip(4);
@@ -241,12 +241,12 @@ fn demand_3_rests_on_what_is_listed_behind_it() {
     let names: Vec<&str> = cells
         .flat_map(|cell| cell.split('`').skip(1).step_by(2))
         .collect();
-    assert!(names.contains(&"follow-exactly"), "{names:?}");
+    assert!(names.contains(&"follow_exactly"), "{names:?}");
     for name in names {
         let mut laws = graph.named(name).iter();
         assert!(laws.any(|law| behind.contains(law)), "{name}");
     }
-    let beside = graph.named("same-cells");
+    let beside = graph.named("same_cells");
     assert!(beside.iter().all(|law| !behind.contains(law)));
 }
 

@@ -12,12 +12,13 @@ pub struct Crates {
 }
 
 impl Crates {
-    /// Reads lines `NAME: NAME...`. Libraries that are not in the list, which
-    /// are the toolchain's, are left out.
+    /// Reads lines `NAME: NAME...`, in which the word `staticlib` may follow the first
+    /// name. Libraries that are not in the list, which are the toolchain's, are left out.
     pub fn parse(text: &str) -> Self {
         let lines = text.lines().filter(|line| !line.starts_with('#'));
         let rows: Vec<(&str, &str)> = lines.filter_map(|line| line.split_once(':')).collect();
-        let names: Vec<String> = rows.iter().map(|(name, _)| name.to_string()).collect();
+        let first = |(head, _): &(&str, &str)| head.split_whitespace().next().map(str::to_string);
+        let names: Vec<String> = rows.iter().filter_map(first).collect();
         let number = |name: &str| names.iter().position(|known| known == name);
         let below = |row: &(&str, &str)| row.1.split_whitespace().filter_map(number).collect();
         let rests_on = rows.iter().map(below).collect();
@@ -61,7 +62,7 @@ mod tests {
     use super::Crates;
 
     fn example() -> Crates {
-        Crates::parse("# a list\na:\nb: a\nc: b a libc\nd: a\n")
+        Crates::parse("# a list\na:\nb: a\nc staticlib: b a anyhow\nd: a\n")
     }
 
     #[test]

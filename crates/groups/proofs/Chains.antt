@@ -151,7 +151,8 @@ module _ (t : List ℤ) (n : ℕ) where
               ap (λ (j : ℕ). get_or next j 0) e
               ∙ sym (get_or-set_other (set next (n + l) (get_or next (owner t l) 0)) (owner t l) (n + l) l 0 (λ z. omega arith)
               ∙ get_or-set_same next (n + l) (get_or next (owner t l) 0) 0 (omega arith)) in
-              subst (λ (m : List ℕ). Chain n (set (set next (n + l) (get_or next (owner t l) 0)) (owner t l) l) (get_or (set (set next (n + l) (get_or next (owner t l) 0)) (owner t l) l) g 0) m) lists (
+              subst (λ (m : List ℕ). Chain n (set (set next (n + l) (get_or next (owner t l) 0)) (owner t l) l)
+              (get_or (set (set next (n + l) (get_or next (owner t l) 0)) (owner t l) l) g 0) m) lists (
                 head,
                 lo,
                 subst (λ (q : ℕ). Chain n (set (set next (n + l) (get_or next (owner t l) 0)) (owner t l) l) q (filter (is_member_of t g) (up_from (suc l) (n - l)))) link

@@ -139,7 +139,8 @@ module _ (t : List ℤ) (n : ℕ) (ok : Accepted t n) (g : ℕ) where
   -- ---- each once
 
   -- two blocks have nothing in common
-  pub held_apart : (b c x : ℕ) → b ∈ members t n g → c ∈ members t n g → is_leader R items b ≡ true → is_leader R items c ≡ true → (c ≡ b → ⊥) → Held b x → Held c x → ⊥
+  pub held_apart : (b c x : ℕ) → b ∈ members t n g → c ∈ members t n g → is_leader R items b ≡ true → is_leader R items c ≡ true
+      → (c ≡ b → ⊥) → Held b x → Held c x → ⊥
   held_apart b c x mb mc lb lc d hb hc = go (ℕ_discrete hb.0 hc.0)
     where
       go : Dec (hb.0 ≡ hc.0) → ⊥

@@ -130,7 +130,8 @@ module _ (t : List ℤ) (n : ℕ) (ok : Accepted t n) (block : List ℕ) (s : Si
       at_least (suc k) v h d =
           go (zero_or_in (count v block)) (so_or_not (inside v)) (at_least k (owner t v) (omega (arith, owner_below t n ok v (def_label t n ok v d).0)))
         where
-          go : (count v block ≡ 0) ⊎ (v ∈ block) → (inside v ≡ true) ⊎ (inside v ≡ false) → (is_definition t (owner t v) ≡ true → one (inside (owner t v)) ≤ count (owner t v) all)
+          go : (count v block ≡ 0) ⊎ (v ∈ block) → (inside v ≡ true) ⊎ (inside v ≡ false)
+              → (is_definition t (owner t v) ≡ true → one (inside (owner t v)) ≤ count (owner t v) all)
               → one (inside v) ≤ count v all
           go (inl z) (inr e) up = omega (arith, ap one e)
           go (inr m) _ up = omega (arith, counts v d, one_le (inside v))

@@ -1,5 +1,4 @@
 use native.Mathlib.Omega.{arith}
-use borrow.Author.Rules.{rules}
 use Rattle.blocks.proofs.Rows.{common_led, closed_row}
 use Rattle.blocks.proofs.close_row.Goals as goal
 

@@ -1,8 +1,5 @@
 use Prim.Native.Nat.{ℕ, ◌≤◌, ◌<◌}
-use native.Mathlib.Omega.{arith}
-use borrow.Author.Rules.{rules}
 use lib.ListN.{get_or}
-use Rattle.blocks.proofs.Parts.{gone_more}
 use Rattle.blocks.proofs.cut_starts.Given as goal
 
 abbrev pub invariant-loop-r : goal.invariant-loop-r

@@ -1,5 +1,4 @@
 use mathlib.Core.Path.{refl, sym, ◌∙◌}
-use borrow.Author.Rules.{rules}
 use Rattle.blocks.proofs.drop_own.Goals as goal
 
 pub drop_mark-requires : goal.drop_mark-requires

@@ -1,15 +1,10 @@
-use mathlib.Core.Path.{◌≡◌, refl, sym, ◌∙◌, subst}
+use mathlib.Core.Path.{refl, sym, ◌∙◌, subst}
 use mathlib.Core.List.{List}
-use mathlib.Core.Bool.{false}
-use Prim.Native.Nat.{ℕ, ◌-◌, ◌≤◌}
+use Prim.Native.Nat.{ℕ}
 use native.Mathlib.Omega.{arith}
-use borrow.Author.Rules.{rules}
-use lib.ListN.{length, take}
 use lib.Seq.{take_all}
 use Rattle.order.specs.LabelLists.{◌∈◌}
-use Rattle.marks.specs.Marks.{mark}
 use Rattle.placing.proofs.Lists.{in_at}
-use Rattle.blocks.specs.Search.{Search, Settled}
 use Rattle.blocks.proofs.Parts.{met_more}
 use Rattle.blocks.proofs.Rooms.{Same, room_as}
 use Rattle.blocks.proofs.Steps.{search_start, settled_start, search_end}

@@ -1,5 +1,4 @@
 use native.Mathlib.Omega.{arith}
-use borrow.Author.Rules.{rules}
 use Rattle.blocks.proofs.finish.Goals as goal
 
 pub leave-requires : goal.leave-requires

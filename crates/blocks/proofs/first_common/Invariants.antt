@@ -1,14 +1,7 @@
 use mathlib.Core.Path.{◌≡◌}
 use mathlib.Core.Bool.{true, false}
-use Prim.Native.Nat.{ℕ, ◌+◌, ◌-◌, ◌*◌, ◌<◌, ◌≤◌}
-use native.Mathlib.Omega.{arith}
-use borrow.Author.Rules.{rules}
-use lib.Bits.{bit_and, and_lt}
-use lib.Count.{trailing_le}
-use lib.ListN.{get_or}
+use Prim.Native.Nat.{ℕ, ◌-◌, ◌*◌, ◌<◌, ◌≤◌}
 use Rattle.marks.specs.Marks.{mark}
-use Rattle.marks.proofs.Squares.{mark_in}
-use Rattle.blocks.proofs.Parts.{common_found, common_turn}
 use Rattle.blocks.proofs.first_common.Given as goal
 
 abbrev pub invariant-loop-j : goal.invariant-loop-j

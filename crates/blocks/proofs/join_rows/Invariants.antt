@@ -1,19 +1,13 @@
-use mathlib.Core.Path.{◌≡◌, refl, sym, ◌∙◌, subst}
-use mathlib.Core.Logic.{⊎_elim}
-use mathlib.Core.List.{List}
-use Prim.Native.Nat.{ℕ, ◌-◌, ◌≤◌}
-use native.Mathlib.Omega.{arith}
-use borrow.Author.Rules.{rules}
+use mathlib.Core.Path.{◌≡◌}
+use Prim.Native.Nat.{◌-◌, ◌≤◌}
 use lib.ListN.{length, take}
-use lib.Seq.{take_all}
-use Rattle.order.specs.LabelLists.{◌∈◌}
-use Rattle.placing.proofs.Lists.{in_at}
 use Rattle.blocks.specs.Merged.{Joined}
-use Rattle.blocks.proofs.Rows.{joined_none, joined_skip, joined_turn}
 use Rattle.blocks.proofs.join_rows.Given as goal
 
 abbrev pub invariant-loop-i : goal.invariant-loop-i
-invariant-loop-i l = (length l.square ≡ length l.initial.square) × (length l.followers ≡ length l.initial.followers) × (l.i ≤ length l.items) × Joined (take l.i l.items) l.lead l.initial.square l.square l.followers l.w
+invariant-loop-i l =
+    (length l.square ≡ length l.initial.square) × (length l.followers ≡ length l.initial.followers) × (l.i ≤ length l.items)
+    × Joined (take l.i l.items) l.lead l.initial.square l.square l.followers l.w
 
 abbrev pub decreases-loop-i : goal.decreases-loop-i
 decreases-loop-i l = length l.items - l.i

@@ -1,13 +1,7 @@
-use mathlib.Core.Path.{◌≡◌, refl, sym, ◌∙◌, subst}
-use mathlib.Core.List.{List}
-use Prim.Native.Nat.{ℕ, ◌-◌, ◌≤◌, ◌<◌}
-use native.Mathlib.Omega.{arith}
-use borrow.Author.Rules.{rules}
-use lib.ListN.{length, get_or, take, length-set}
-use lib.Seq.{take_all}
+use mathlib.Core.Path.{◌≡◌}
+use Prim.Native.Nat.{ℕ, ◌-◌, ◌≤◌}
+use lib.ListN.{length, get_or, take}
 use Rattle.order.specs.LabelLists.{◌∈◌}
-use Rattle.placing.proofs.Lists.{in_at}
-use Rattle.blocks.proofs.Parts.{lead_turn}
 use Rattle.blocks.proofs.lead_selves.Given as goal
 
 abbrev pub invariant-loop-i : goal.invariant-loop-i

@@ -1,9 +1,8 @@
 use mathlib.Core.Path.{◌≡◌, refl, sym, ◌∙◌, subst}
 use mathlib.Core.Bool.{true}
-use Prim.Native.Nat.{ℕ, ◌-◌, ◌≤◌, ◌<◌}
+use Prim.Native.Nat.{ℕ, ◌<◌}
 use native.Mathlib.Omega.{arith}
 use native.Mathlib.Nat.{le_antisymm}
-use borrow.Author.Rules.{rules}
 use lib.ListN.{length, get_or, length-set}
 use Rattle.marks.specs.Marks.{mark}
 use Rattle.marks.proofs.Squares.{mark_in}
@@ -47,12 +46,13 @@ bounds-lead-x c = inside (goal.at.bounds-lead-x c).After-widen-x
 
 pub loop-i-preserved : goal.loop-i-preserved
 loop-i-preserved c =
+    let turn = (goal.at.loop-i-preserved c).After-widen-x in
     let taken = c.loop-i-test.true in (
       c.drop_mark.auto.s ∙ c.loop-i.invariant.0,
       length-set c.loop-i.lead _ _ ∙ c.loop-i.invariant.1,
       omega (arith, c.loop-i.invariant.2),
       omega (arith, taken),
-      left_turn _ _ _ _ _ _ _ _ _ _ c.loop-i.invariant.4 c.loop-i.invariant.2 c.widen-x.ensures (once (goal.at.loop-i-preserved c).After-widen-x) _ (inside (goal.at.loop-i-preserved c).After-widen-x) c.drop_mark.ensures,
+      left_turn _ _ _ _ _ _ _ _ _ _ c.loop-i.invariant.4 c.loop-i.invariant.2 c.widen-x.ensures (once turn) _ (inside turn) c.drop_mark.ensures,
     )
 
 pub shape_of-stacked : goal.shape_of-stacked

@@ -1,9 +1,8 @@
 use mathlib.Core.Path.{◌≡◌, refl, sym, subst}
 use mathlib.Core.Logic.{inl}
-use Prim.Native.Nat.{ℕ, ◌+◌, ◌-◌, ◌≤◌}
+use Prim.Native.Nat.{ℕ, ◌+◌, ◌≤◌}
 use native.Mathlib.Omega.{arith}
 use native.Mathlib.Nat.{le_antisymm}
-use borrow.Author.Rules.{rules}
 use lib.ListN.{take}
 use Rattle.order.specs.LabelLists.{◌∈◌}
 use Rattle.placing.proofs.Lists.{in_take, count_take_le}
@@ -40,7 +39,10 @@ bounds-place-x c = c.requires.1 _ (here (goal.at.bounds-place-x c).After-widen-x
 pub loop-i-preserved : goal.loop-i-preserved
 loop-i-preserved c =
     let taken = c.loop-i-test.true in
-    (omega arith, lowest_turn _ _ _ _ _ _ _ _ (omega (arith, taken, c.requires)) c.loop-i.invariant.1 c.widen-x.ensures c.widen-at.ensures c.lower_of-low.ensures (near (goal.at.loop-i-preserved c).After-widen-x))
+    let turn = near (goal.at.loop-i-preserved c).After-widen-x in (
+      omega arith,
+      lowest_turn _ _ _ _ _ _ _ _ (omega (arith, taken, c.requires)) c.loop-i.invariant.1 c.widen-x.ensures c.widen-at.ensures c.lower_of-low.ensures turn,
+    )
 
 pub returns : goal.returns
 returns c =

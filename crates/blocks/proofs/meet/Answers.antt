@@ -2,7 +2,6 @@ use mathlib.Core.Logic.{inl}
 use mathlib.Core.Path.{sym}
 use native.Mathlib.Omega.{arith}
 use Rattle.blocks.proofs.Parts.{listed, met_of}
-use borrow.Author.Rules.{rules}
 use Rattle.blocks.proofs.meet.Goals as goal
 
 pub returns-then-n-eq0 : goal.returns-then-n-eq0

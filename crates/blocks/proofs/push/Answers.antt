@@ -1,5 +1,4 @@
 use native.Mathlib.Omega.{arith}
-use borrow.Author.Rules.{rules}
 use lib.ListN.{length-set}
 use Rattle.blocks.proofs.Parts.{stored}
 use Rattle.blocks.proofs.push.Goals as goal

@@ -1,14 +1,8 @@
-use mathlib.Core.Path.{◌≡◌, refl, sym, ◌∙◌, subst}
-use Prim.Native.Nat.{ℕ, ◌-◌, ◌*◌, ◌≤◌, ◌<◌}
-use native.Mathlib.Omega.{arith}
-use native.Mathlib.Nat.{le_antisymm}
-use borrow.Author.Rules.{rules}
-use lib.ListN.{length, get_or, take}
-use Rattle.order.specs.LabelLists.{◌∈◌}
+use mathlib.Core.Path.{◌≡◌}
+use Prim.Native.Nat.{◌-◌, ◌≤◌}
+use lib.ListN.{length, take}
 use Rattle.marks.specs.Marks.{Added}
-use Rattle.placing.proofs.Lists.{in_take}
 use Rattle.blocks.specs.Merged.{LeadOf}
-use Rattle.blocks.proofs.Rows.{leads_none, leads_turn}
 use Rattle.blocks.proofs.put_leads.Given as goal
 
 abbrev pub invariant-loop-j : goal.invariant-loop-j

@@ -1,14 +1,6 @@
-use mathlib.Core.Path.{◌≡◌, refl, sym, ◌∙◌}
-use mathlib.Core.Logic.{inl}
-use mathlib.Core.Bool.{true}
-use Prim.Native.Nat.{◌+◌, ◌*◌, ◌<◌}
-use native.Mathlib.Omega.{arith}
-use borrow.Author.Rules.{rules}
-use borrow.Author.Tests.{not-true, not-false}
-use Rattle.marks.specs.Marks.{mark}
+use Prim.Native.Nat.{◌+◌, ◌*◌}
 use Rattle.blocks.specs.Search.{fresh_count, Search, Settled, Kept}
-use Rattle.blocks.proofs.Rooms.{Same, room_as, pushable}
-use Rattle.blocks.proofs.Steps.{push_turn, search_empty}
+use Rattle.blocks.proofs.Rooms.{Same}
 use Rattle.blocks.proofs.search.Given as goal
 
 abbrev pub invariant-loop-p : goal.invariant-loop-p

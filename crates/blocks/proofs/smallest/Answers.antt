@@ -1,8 +1,7 @@
 use mathlib.Core.Path.{◌≡◌, subst}
-use Prim.Native.Nat.{ℕ, ◌-◌, ◌≤◌, ◌<◌}
+use Prim.Native.Nat.{ℕ}
 use native.Mathlib.Omega.{arith}
 use native.Mathlib.Nat.{le_antisymm}
-use borrow.Author.Rules.{rules}
 use Rattle.blocks.specs.Search.{Smallest}
 use Rattle.blocks.proofs.Parts.{smallest_one, smallest_turn}
 use Rattle.blocks.proofs.smallest.Goals as goal

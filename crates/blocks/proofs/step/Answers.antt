@@ -2,7 +2,6 @@ use mathlib.Core.Path.{◌≡◌, sym, ◌∙◌}
 use mathlib.Core.Logic.{inr}
 use Prim.Native.Nat.{◌-◌, ◌≤◌, ◌<◌}
 use native.Mathlib.Omega.{arith}
-use borrow.Author.Rules.{rules}
 use lib.ListN.{length, get_or}
 use Rattle.order.specs.LabelLists.{◌∈◌}
 use Rattle.blocks.proofs.Rooms.{bounds, top_item, top_needed, top_quiet, starts_in, pushable, leads_in}

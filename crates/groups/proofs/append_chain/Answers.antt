@@ -1,9 +1,8 @@
-use mathlib.Core.Path.{◌≡◌, refl, ◌∙◌}
-use Prim.Native.Nat.{◌-◌, ◌≤◌, ◌<◌}
+use mathlib.Core.Path.{refl, ◌∙◌}
+use Prim.Native.Nat.{◌≤◌, ◌<◌}
 use native.Mathlib.Omega.{arith}
-use borrow.Author.Rules.{rules}
-use lib.ListN.{length, get_or, take, length-set}
-use Rattle.groups.proofs.Chains.{Walk, walk_start, walk_room, walk_label, walk_step, walk_end}
+use lib.ListN.{length, length-set}
+use Rattle.groups.proofs.Chains.{walk_start, walk_room, walk_label, walk_step, walk_end}
 use Rattle.groups.proofs.append_chain.Goals as goal
 use Rattle.groups.proofs.append_chain.Goals.{In-loop-p}
 

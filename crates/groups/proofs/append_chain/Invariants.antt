@@ -1,9 +1,7 @@
-use mathlib.Core.Path.{◌≡◌, refl, ◌∙◌}
-use Prim.Native.Nat.{◌-◌, ◌≤◌, ◌<◌}
-use native.Mathlib.Omega.{arith}
-use borrow.Author.Rules.{rules}
-use lib.ListN.{length, get_or, take, length-set}
-use Rattle.groups.proofs.Chains.{Walk, walk_start, walk_room, walk_label, walk_step, walk_end}
+use mathlib.Core.Path.{◌≡◌}
+use Prim.Native.Nat.{◌-◌}
+use lib.ListN.{length, get_or, take}
+use Rattle.groups.proofs.Chains.{Walk}
 use Rattle.groups.proofs.append_chain.Given as goal
 
 abbrev pub invariant-loop-p : goal.invariant-loop-p

@@ -1,10 +1,8 @@
-use mathlib.Core.Path.{◌≡◌, refl, sym, ◌∙◌}
-use mathlib.Core.Logic.{⊎_elim}
+use mathlib.Core.Path.{refl, sym, ◌∙◌}
 use Prim.Native.Nat.{◌≤◌}
 use native.Mathlib.Omega.{arith}
-use borrow.Author.Rules.{rules}
-use lib.ListN.{length, set, length-set}
-use Rattle.groups.proofs.Chains.{Linked, linked_none, linked_skip, linked_push, linked_all}
+use lib.ListN.{set, length-set}
+use Rattle.groups.proofs.Chains.{linked_none, linked_skip, linked_push, linked_all}
 use Rattle.groups.proofs.link_members.Goals as goal
 use Rattle.groups.proofs.link_members.Goals.{After-cell_of-o, else-is_definition, then-is_definition}
 
@@ -78,7 +76,11 @@ loop-l-preserved c =
             linked_push _ _ _ some c.loop-l.invariant.1 _ c.loop-l.invariant.2 (sym c.is_definition.ensures ∙ w.if-is_definition.true)
                 (omega (arith, c.requires.n_in_bounds.0, c.loop-l.invariant.0)) (omega (arith, low, w.cell_of-o.ensures)) _ w.cell_of-o.ensures,
           )
-      | else-is_definition w ↦ rw w.next-is (c.loop-l.invariant.0, omega arith, linked_skip _ _ _ some c.loop-l.invariant.1 _ c.loop-l.invariant.2 (sym c.is_definition.ensures ∙ w.if-is_definition.false))
+      | else-is_definition w ↦ rw w.next-is (
+        c.loop-l.invariant.0,
+        omega arith,
+        linked_skip _ _ _ some c.loop-l.invariant.1 _ c.loop-l.invariant.2 (sym c.is_definition.ensures ∙ w.if-is_definition.false),
+      )
     ]
 
 pub shape_of-next : goal.shape_of-next

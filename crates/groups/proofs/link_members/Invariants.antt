@@ -1,10 +1,7 @@
-use mathlib.Core.Path.{◌≡◌, refl, sym, ◌∙◌}
-use mathlib.Core.Logic.{⊎_elim}
+use mathlib.Core.Path.{◌≡◌}
 use Prim.Native.Nat.{◌≤◌}
-use native.Mathlib.Omega.{arith}
-use borrow.Author.Rules.{rules}
-use lib.ListN.{length, set, length-set}
-use Rattle.groups.proofs.Chains.{Linked, linked_none, linked_skip, linked_push, linked_all}
+use lib.ListN.{length}
+use Rattle.groups.proofs.Chains.{Linked}
 use Rattle.groups.proofs.link_members.Given as goal
 
 abbrev pub invariant-loop-l : goal.invariant-loop-l

@@ -1,17 +1,7 @@
-use mathlib.Core.Path.{◌≡◌, refl, sym, ◌∙◌, subst}
-use mathlib.Core.Logic.{⊎_elim}
-use mathlib.Core.List.{List}
-use Prim.Native.Nat.{ℕ, ◌-◌, ◌≤◌}
-use native.Mathlib.Omega.{arith}
-use borrow.Author.Rules.{rules}
+use mathlib.Core.Path.{◌≡◌}
+use Prim.Native.Nat.{◌-◌, ◌≤◌}
 use lib.ListN.{length, take}
-use Rattle.order.specs.LabelLists.{◌∈◌}
-use lib.Seq.{take_all}
-use Rattle.order.proofs.Tests.{both_ways}
-use Rattle.order.proofs.Tables.{def_label}
-use Rattle.placing.proofs.Lists.{in_at}
 use Rattle.groups.specs.Members.{MaskedBy}
-use Rattle.groups.proofs.Orders.{mask_put, mask_skip}
 use Rattle.groups.proofs.mask_items.Given as goal
 
 abbrev pub invariant-loop-i : goal.invariant-loop-i

@@ -1,6 +1,4 @@
 use mathlib.Core.Path.{refl, ◌∙◌}
-use native.Mathlib.Omega.{arith}
-use borrow.Author.Rules.{rules}
 use Rattle.groups.proofs.Orders.{some_items, some_rows, some_placed, scratch_as}
 use Rattle.groups.proofs.Opening.{block_owner}
 use Rattle.groups.proofs.open_block.Goals as goal

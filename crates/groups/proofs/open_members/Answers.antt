@@ -1,13 +1,12 @@
-use mathlib.Core.Path.{◌≡◌, refl, ◌∙◌}
-use Prim.Native.Nat.{◌-◌, ◌≤◌}
+use mathlib.Core.Path.{refl, ◌∙◌}
+use Prim.Native.Nat.{◌≤◌}
 use native.Mathlib.Omega.{arith}
-use borrow.Author.Rules.{rules}
-use lib.ListN.{length, get_or, take, length-set}
+use lib.ListN.{get_or, length-set}
 use Rattle.order.specs.Order.{members}
 use Rattle.order.proofs.Tables.{def_label}
 use Rattle.groups.specs.Members.{Chain}
 use Rattle.groups.proofs.Orders.{member_walk}
-use Rattle.groups.proofs.Opening.{Opening, opening_start, opening_few, opening_inside, opening_room, opening_chain, opening_turn, opening_end}
+use Rattle.groups.proofs.Opening.{opening_start, opening_few, opening_inside, opening_room, opening_chain, opening_turn, opening_end}
 use Rattle.groups.proofs.open_members.Goals as goal
 use Rattle.groups.proofs.open_members.Goals.{After-widen-x, At-loop-i}
 

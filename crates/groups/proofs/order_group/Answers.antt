@@ -8,7 +8,6 @@ use Rattle.groups.specs.Members.{Relinked}
 use Rattle.groups.proofs.Chains.{labels_few}
 use Rattle.groups.proofs.Orders.{member_walk, member_items, member_rows}
 use Rattle.groups.proofs.Turns.{order_short, order_stuck, order_free, order_expanded, order_labels, order_once}
-use borrow.Author.Rules.{rules}
 use Rattle.groups.proofs.order_group.Goals as goal
 
 pub append_chain-m-requires : goal.append_chain-m-requires

@@ -1,13 +1,7 @@
-use mathlib.Core.Path.{◌≡◌, refl, ◌∙◌, subst}
-use mathlib.Core.Logic.{⊎_elim}
-use Prim.Native.Nat.{◌+◌, ◌-◌, ◌≤◌}
-use native.Mathlib.Omega.{arith}
-use borrow.Author.Rules.{rules}
+use mathlib.Core.Path.{◌≡◌}
+use Prim.Native.Nat.{◌+◌, ◌-◌}
 use lib.ListN.{length}
-use Rattle.groups.proofs.Orders.{scratch_as}
-use Rattle.groups.specs.Opened.{GroupOrder}
-use Rattle.groups.proofs.Progress.{progress_chain}
-use Rattle.groups.proofs.Turns.{Going, going_start, going_skip, going_turn, going_stuck, going_end}
+use Rattle.groups.proofs.Turns.{Going}
 use Rattle.groups.proofs.order_groups.Given as goal
 
 abbrev pub invariant-loop-g : goal.invariant-loop-g

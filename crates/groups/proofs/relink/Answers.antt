@@ -1,8 +1,7 @@
-use mathlib.Core.Path.{◌≡◌, refl, sym, ◌∙◌, subst}
+use mathlib.Core.Path.{refl, sym, ◌∙◌, subst}
 use Prim.Native.Nat.{ℕ, ◌+◌, ◌-◌, ◌≤◌, ◌<◌}
 use native.Mathlib.Omega.{arith}
-use borrow.Author.Rules.{rules}
-use lib.ListN.{length, take, set, length-set}
+use lib.ListN.{take, set, length-set}
 use Rattle.order.specs.LabelLists.{◌∈◌}
 use lib.Seq.{length-take-le, get_or-take}
 use Rattle.placing.proofs.Lists.{in_take}
@@ -55,7 +54,8 @@ loop-i-preserved c =
           (c.loop-i.i - 1)) w
           (relinking_turn _ _ _ _ _ _ c.loop-i.invariant.2 c.widen.result c.loop-i-test.true
           (omega (arith, c.loop-i.invariant.1, length-take-le c.args.r c.args.order.now c.requires.n_le_label_limit.3))
-          (w ∙ sym (get_or-take c.args.r c.args.order.now (c.loop-i.i - 1) 0 (before (goal.at.loop-i-preserved c).After-widen))) b.0 (omega (arith, b, c.requires.n_le_label_limit.2, c.loop-i.invariant.0)) (c.requires.by_index.1 c.widen.result)),
+          (w ∙ sym (get_or-take c.args.r c.args.order.now (c.loop-i.i - 1) 0 (before (goal.at.loop-i-preserved c).After-widen))) b.0
+          (omega (arith, b, c.requires.n_le_label_limit.2, c.loop-i.invariant.0)) (c.requires.by_index.1 c.widen.result)),
     )
 
 pub bounds-next-group : goal.bounds-next-group
@@ -65,4 +65,6 @@ pub shape_of-next : goal.shape_of-next
 shape_of-next c = length-set c.loop-i.next _ _ ∙ c.loop-i.invariant.0
 
 pub returns : goal.returns
-returns c = relinked _ _ _ _ _ _ c.loop-i.invariant.2 _ (omega (arith, c.loop-i-test.false)) c.requires.n_le_label_limit.1 (omega (arith, c.requires.n_le_label_limit, c.loop-i.invariant.0)) (λ x m. (c.requires.by_index.0 x m).0)
+returns c =
+    relinked _ _ _ _ _ _ c.loop-i.invariant.2 _ (omega (arith, c.loop-i-test.false)) c.requires.n_le_label_limit.1
+    (omega (arith, c.requires.n_le_label_limit, c.loop-i.invariant.0)) (λ x m. (c.requires.by_index.0 x m).0)

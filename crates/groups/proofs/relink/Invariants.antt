@@ -1,12 +1,7 @@
-use mathlib.Core.Path.{◌≡◌, refl, sym, ◌∙◌, subst}
-use Prim.Native.Nat.{ℕ, ◌+◌, ◌-◌, ◌≤◌, ◌<◌}
-use native.Mathlib.Omega.{arith}
-use borrow.Author.Rules.{rules}
-use lib.ListN.{length, take, set, length-set}
-use Rattle.order.specs.LabelLists.{◌∈◌}
-use lib.Seq.{length-take-le, get_or-take}
-use Rattle.placing.proofs.Lists.{in_take}
-use Rattle.groups.proofs.Chains.{Relinking, relinking_none, relinking_turn, relinked}
+use mathlib.Core.Path.{◌≡◌}
+use Prim.Native.Nat.{◌≤◌}
+use lib.ListN.{length, take}
+use Rattle.groups.proofs.Chains.{Relinking}
 use Rattle.groups.proofs.relink.Given as goal
 
 abbrev pub invariant-loop-i : goal.invariant-loop-i

@@ -1,12 +1,7 @@
-use mathlib.Core.Path.{◌≡◌, refl, sym, ◌∙◌, subst}
-use mathlib.Core.Logic.{⊎_elim}
-use Prim.Native.Nat.{ℕ, ◌+◌, ◌-◌, ◌*◌, ◌/◌, ◌≤◌, ◌<◌}
-use native.Mathlib.Omega.{arith}
-use borrow.Author.Rules.{rules}
+use mathlib.Core.Path.{◌≡◌}
+use Prim.Native.Nat.{◌+◌, ◌-◌, ◌≤◌}
 use lib.ListN.{length}
-use Rattle.reach.proofs.Reading.{row_room}
 use Rattle.needs.specs.Needs.{Cut}
-use Rattle.needs.proofs.Lifts.{cut_none, cut_skip, cut_turn}
 use Rattle.needs.proofs.cut_diagonal.Given as goal
 
 abbrev pub invariant-loop-p : goal.invariant-loop-p

@@ -1,13 +1,7 @@
-use mathlib.Core.Path.{◌≡◌, refl, sym, ◌∙◌, subst}
-use mathlib.Core.Logic.{⊎_elim}
-use Prim.Native.Nat.{ℕ, ◌+◌, ◌*◌, ◌≤◌}
-use native.Mathlib.Omega.{arith}
-use borrow.Author.Rules.{rules}
+use mathlib.Core.Path.{◌≡◌}
+use Prim.Native.Nat.{◌≤◌}
 use lib.ListN.{length}
-use Rattle.reach.proofs.Reading.{row_room}
 use Rattle.needs.specs.Needs.{Lifting}
-use Rattle.reach.specs.MarkRows.{width}
-use Rattle.needs.proofs.Lifts.{lifting_start, lifting_skip, lifting_turn}
 use Rattle.needs.proofs.lift.Given as goal
 
 abbrev pub invariant-loop-k : goal.invariant-loop-k

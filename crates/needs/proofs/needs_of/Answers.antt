@@ -1,4 +1,3 @@
-use borrow.Author.Rules.{rules}
 use Rattle.needs.proofs.Lifts.{rows_need}
 use Rattle.needs.proofs.needs_of.Goals as goal
 

@@ -1,9 +1,7 @@
 use mathlib.Core.Path.{refl, sym, subst}
 use mathlib.Core.Bool.{true}
-use Prim.Native.Nat.{ℕ, ◌-◌, ◌≤◌}
+use Prim.Native.Nat.{ℕ}
 use native.Mathlib.Omega.{arith}
-use borrow.Author.Rules.{rules}
-use lib.ListN.{length, take}
 use lib.Seq.{take_all}
 use Rattle.order.specs.LabelLists.{◌∈◌}
 use Rattle.order.proofs.Tests.{both_ways}

@@ -1,15 +1,6 @@
-use mathlib.Core.Path.{refl, sym, subst}
-use mathlib.Core.Bool.{true}
-use Prim.Native.Nat.{ℕ, ◌-◌, ◌≤◌}
-use native.Mathlib.Omega.{arith}
-use borrow.Author.Rules.{rules}
+use Prim.Native.Nat.{◌-◌, ◌≤◌}
 use lib.ListN.{length, take}
-use lib.Seq.{take_all}
-use Rattle.order.specs.LabelLists.{◌∈◌}
-use Rattle.order.proofs.Tests.{both_ways}
 use Rattle.placing.specs.UnmetCounts.{needed, Ordered}
-use Rattle.placing.proofs.Lists.{in_at}
-use Rattle.placing.proofs.Ordered.{ordered_turn}
 use Rattle.placing.proofs.are_in_order.Given as goal
 
 abbrev pub invariant-loop-i : goal.invariant-loop-i

@@ -1,13 +1,7 @@
-use mathlib.Core.Path.{◌≡◌, refl, sym, ◌∙◌, subst}
-use mathlib.Core.List.{List}
-use Prim.Native.Nat.{ℕ, ◌-◌, ◌≤◌, ◌<◌}
-use native.Mathlib.Omega.{arith}
-use borrow.Author.Rules.{rules}
-use lib.ListN.{length, get_or, take, length-set}
+use mathlib.Core.Path.{◌≡◌}
+use Prim.Native.Nat.{ℕ, ◌-◌, ◌≤◌}
+use lib.ListN.{length, get_or, take}
 use Rattle.order.specs.LabelLists.{◌∈◌}
-use lib.Seq.{take_all}
-use Rattle.placing.proofs.Lists.{in_at}
-use Rattle.placing.proofs.Counts.{clear_turn}
 use Rattle.placing.proofs.clear_cells.Given as goal
 
 abbrev pub invariant-loop-i : goal.invariant-loop-i

@@ -1,15 +1,8 @@
-use mathlib.Core.Path.{◌≡◌, refl, sym, ap, ◌∙◌, subst}
-use mathlib.Core.List.{List}
+use mathlib.Core.Path.{◌≡◌}
 use Prim.Native.Nat.{ℕ, ◌-◌, ◌≤◌}
-use native.Mathlib.Omega.{arith}
-use borrow.Author.Rules.{rules}
 use lib.ListN.{length, get_or, take}
 use Rattle.order.specs.LabelLists.{◌∈◌, filter}
-use Rattle.order.proofs.Tests.{one_in}
 use Rattle.placing.specs.UnmetCounts.{needed}
-use lib.Seq.{take_all}
-use Rattle.placing.proofs.Lists.{in_at}
-use Rattle.placing.proofs.Counts.{need_item, row_of, count_room, count_turn}
 use Rattle.placing.proofs.count_needs.Given as goal
 
 abbrev pub invariant-loop-i : goal.invariant-loop-i

@@ -1,11 +1,11 @@
-use mathlib.Core.Path.{◌≡◌, refl, sym, ◌∙◌}
-use Prim.Native.Nat.{ℕ, ◌+◌, ◌-◌, ◌*◌, ◌≤◌, ◌<◌}
+use mathlib.Core.Path.{refl, sym, ◌∙◌}
+use Prim.Native.Nat.{ℕ, ◌+◌, ◌*◌, ◌<◌}
 use native.Mathlib.Omega.{arith}
 use borrow.Author.Rules.{rules}
 use lib.Bits.{bit_and, and_le_r}
 use lib.Count.{trailing_le}
 use lib.ListN.{get_or}
-use Rattle.placing.proofs.Counts.{below, below_start}
+use Rattle.placing.proofs.Counts.{below_start}
 use Rattle.placing.proofs.Ordered.{below_free, below_turn, below_first}
 use Rattle.placing.proofs.first_needing.Goals as goal
 use Rattle.placing.proofs.first_needing.Goals.{In-loop-j}

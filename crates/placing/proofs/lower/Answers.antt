@@ -1,13 +1,11 @@
 use mathlib.Core.Path.{◌≡◌, refl, sym, ap, ◌∙◌}
 use mathlib.Core.Bool.{true}
-use Prim.Native.Nat.{ℕ, ◌-◌, ◌*◌, ◌≤◌}
+use Prim.Native.Nat.{ℕ, ◌*◌}
 use native.Mathlib.Omega.{arith}
 use native.Mathlib.Nat.{le_antisymm}
 use borrow.Author.Rules.{rules}
-use lib.ListN.{length}
 use Rattle.marks.specs.Marks.{mark}
 use Rattle.marks.proofs.Squares.{mark_in, common_turn}
-use Rattle.placing.specs.UnmetCounts.{LoweredBy}
 use Rattle.placing.proofs.Counts.{below, below_start, below_end, word_le, in_word, needed_none, lowered_none, lowered_on}
 use Rattle.placing.proofs.lower.Goals as goal
 use Rattle.placing.proofs.lower.Goals.{Else-not-has_mark}

@@ -97,23 +97,26 @@ pub loop-x-smaller : goal.loop-x-smaller
 loop-x-smaller c = omega (arith, c.loop-x-test.true, and_le_r c.loop-x.x (c.loop-x.x - 1))
 
 pub loop-x-preserved : goal.loop-x-preserved
-loop-x-preserved c = elim c.if-unmet-p-eq0.branch [
-  | then-unmet-p-eq0 y ↦ rw y.ready-is (
-    length-set c.loop-x.unmet _ _ ∙ c.loop-x.invariant.0,
-    few (goal.at.loop-x-preserved c).In-loop-x,
-    fewer (goal.at.loop-x-preserved c).In-loop-x,
-    y.put_mark.auto.s ∙ c.loop-x.invariant.3,
-    lowered (goal.at.loop-x-preserved c).In-loop-x _ (lowered_one _ _ _ _ _ (inside (goal.at.loop-x-preserved c).In-loop-x) (some (goal.at.loop-x-preserved c).In-loop-x) y.put_mark.ensures.kept (λ _. y.put_mark.ensures.new _ (c.requires.base_bound.2 _ (here (goal.at.loop-x-preserved c).In-loop-x)) refl)
-        (λ x e. ⊎_elim (λ z. inl z) (λ z. inr (z, sym (own (goal.at.loop-x-preserved c).In-loop-x) ∙ y.if-unmet-p-eq0.true)) (y.put_mark.ensures.only x e))),
-  )
-  | else-unmet-p-eq0 y ↦ rw y.ready-is (
-    length-set c.loop-x.unmet _ _ ∙ c.loop-x.invariant.0,
-    few (goal.at.loop-x-preserved c).In-loop-x,
-    fewer (goal.at.loop-x-preserved c).In-loop-x,
-    c.loop-x.invariant.3,
-    lowered (goal.at.loop-x-preserved c).In-loop-x _ (lowered_one _ _ _ _ _ (inside (goal.at.loop-x-preserved c).In-loop-x) (some (goal.at.loop-x-preserved c).In-loop-x) (λ x e. e) (λ z. absurd (y.if-unmet-p-eq0.false (own (goal.at.loop-x-preserved c).In-loop-x ∙ z))) (λ x e. inl e)),
-  )
-]
+loop-x-preserved c =
+    let turn = (goal.at.loop-x-preserved c).In-loop-x in
+    elim c.if-unmet-p-eq0.branch [
+      | then-unmet-p-eq0 y ↦ rw y.ready-is (
+        length-set c.loop-x.unmet _ _ ∙ c.loop-x.invariant.0,
+        few turn,
+        fewer turn,
+        y.put_mark.auto.s ∙ c.loop-x.invariant.3,
+        lowered turn _ (lowered_one _ _ _ _ _ (inside turn) (some turn) y.put_mark.ensures.kept
+            (λ _. y.put_mark.ensures.new _ (c.requires.base_bound.2 _ (here turn)) refl)
+            (λ x e. ⊎_elim (λ z. inl z) (λ z. inr (z, sym (own turn) ∙ y.if-unmet-p-eq0.true)) (y.put_mark.ensures.only x e))),
+      )
+      | else-unmet-p-eq0 y ↦ rw y.ready-is (
+        length-set c.loop-x.unmet _ _ ∙ c.loop-x.invariant.0,
+        few turn,
+        fewer turn,
+        c.loop-x.invariant.3,
+        lowered turn _ (lowered_one _ _ _ _ _ (inside turn) (some turn) (λ x e. e) (λ z. absurd (y.if-unmet-p-eq0.false (own turn ∙ z))) (λ x e. inl e)),
+      )
+    ]
 
 pub shape_of-unmet : goal.shape_of-unmet
 shape_of-unmet c = c.loop-x.invariant.0

@@ -1,11 +1,10 @@
 use mathlib.Core.Path.{◌≡◌, refl, sym, ◌∙◌, subst}
-use mathlib.Core.Logic.{⊎_elim, ◌↔◌}
+use mathlib.Core.Logic.{◌↔◌}
 use mathlib.Core.List.{List}
 use mathlib.Core.Bool.{true}
-use Prim.Native.Nat.{ℕ, ◌-◌, ◌≤◌}
+use Prim.Native.Nat.{ℕ}
 use native.Mathlib.Omega.{arith}
-use borrow.Author.Rules.{rules}
-use lib.ListN.{length, get_or, take}
+use lib.ListN.{get_or}
 use Rattle.order.specs.LabelLists.{◌∈◌}
 use Rattle.marks.specs.Marks.{mark}
 use lib.Seq.{take_all}
@@ -47,7 +46,11 @@ loop-i-preserved c =
         ready_put items unmet c.loop-i.ready c.loop-i.i c.args.w _ c.widen-p.ensures h c.loop-i.invariant.2
             (c.requires.all_below.1 _ (here (goal.at.loop-i-preserved c).After-widen-p)) w.if-unmet-p-eq0.true _ w.put_mark.ensures,
       )
-      | else-unmet-p-eq0 w ↦ rw w.ready-is (c.loop-i.invariant.0, omega arith, ready_skip items unmet c.loop-i.ready c.loop-i.i c.args.w _ c.widen-p.ensures h c.loop-i.invariant.2 w.if-unmet-p-eq0.false)
+      | else-unmet-p-eq0 w ↦ rw w.ready-is (
+        c.loop-i.invariant.0,
+        omega arith,
+        ready_skip items unmet c.loop-i.ready c.loop-i.i c.args.w _ c.widen-p.ensures h c.loop-i.invariant.2 w.if-unmet-p-eq0.false,
+      )
     ]
 
 pub shape_of-ready : goal.shape_of-ready

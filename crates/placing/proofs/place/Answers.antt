@@ -1,5 +1,4 @@
 use mathlib.Core.Path.{sym, ◌∙◌}
-use borrow.Author.Rules.{rules}
 use Rattle.placing.proofs.Ordered.{placed_as_listed}
 use Rattle.placing.proofs.place.Goals as goal
 

@@ -1,11 +1,10 @@
 use mathlib.Core.Path.{◌≡◌, refl, ◌∙◌}
-use Prim.Native.Nat.{◌-◌, ◌*◌, ◌<◌}
+use Prim.Native.Nat.{◌*◌, ◌<◌}
 use native.Mathlib.Omega.{arith}
 use lib.ListN.{length, length-set}
 use Rattle.order.specs.LabelLists.{◌∈◌}
-use Rattle.placing.specs.UnmetCounts.{needed}
 use Rattle.placing.proofs.Counts.{need_item, row_of}
-use Rattle.placing.proofs.Going.{Going, going_start, going_end, going_none, item_is, unmet_of, going_step}
+use Rattle.placing.proofs.Going.{going_start, going_end, going_none, item_is, unmet_of, going_step}
 use Rattle.placing.proofs.place_counted.Goals as goal
 use Rattle.placing.proofs.place_counted.Goals.{At-loop-k, Else-q-w}
 

@@ -1,14 +1,7 @@
-use mathlib.Core.Path.{◌≡◌, refl, sym, ap, ◌∙◌}
-use mathlib.Core.Bool.{true}
+use mathlib.Core.Path.{◌≡◌}
 use Prim.Native.Nat.{ℕ, ◌+◌, ◌-◌, ◌*◌, ◌≤◌}
-use native.Mathlib.Omega.{arith}
-use native.Mathlib.Nat.{le_antisymm}
-use borrow.Author.Rules.{rules}
-use borrow.Author.Tests.{not-true, not-false}
 use lib.ListN.{length, get_or}
-use Rattle.marks.specs.Marks.{mark}
-use Rattle.marks.proofs.Squares.{common_turn}
-use Rattle.placing.proofs.Counts.{below, below_start, below_end, word_le, in_word, needed_none}
+use Rattle.placing.proofs.Counts.{below}
 use Rattle.placing.proofs.raise.Given as goal
 
 abbrev pub invariant-loop-j : goal.invariant-loop-j

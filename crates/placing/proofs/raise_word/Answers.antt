@@ -1,10 +1,10 @@
 use mathlib.Core.Path.{◌≡◌, refl, ap, ◌∙◌}
 use mathlib.Core.List.{[]}
-use Prim.Native.Nat.{ℕ, ◌+◌, ◌-◌, ◌^◌, ◌≤◌, ◌<◌}
+use Prim.Native.Nat.{ℕ, ◌+◌, ◌-◌, ◌<◌}
 use native.Mathlib.Omega.{arith}
 use lib.Bits.{and_le_l, and_le_r}
 use lib.Count.{count_trailing_zeros, trailing_le}
-use lib.ListN.{length, get_or, length-set}
+use lib.ListN.{length, length-set}
 use Rattle.order.specs.LabelLists.{count, ◌∈◌}
 use Rattle.marks.specs.Marks.{places}
 use Rattle.marks.proofs.Bits.{places_none}
@@ -59,12 +59,13 @@ pub loop-x-smaller : goal.loop-x-smaller
 loop-x-smaller c = omega (arith, c.loop-x-test.true, and_le_r c.loop-x.x (c.loop-x.x - 1))
 
 pub loop-x-preserved : goal.loop-x-preserved
-loop-x-preserved c = (
-  length-set c.loop-x.unmet _ _ ∙ c.loop-x.invariant.0,
-  omega (arith, and_le_l c.loop-x.x (c.loop-x.x - 1), c.loop-x.invariant.1),
-  λ p. omega (arith, counted (goal.at.loop-x-preserved c).In-loop-x p, c.loop-x.invariant.2 p),
-  λ p. omega (arith, counted (goal.at.loop-x-preserved c).In-loop-x p, c.loop-x.invariant.3 p, raised_one c.loop-x.unmet (lowest (goal.at.loop-x-preserved c).In-loop-x) (inside (goal.at.loop-x-preserved c).In-loop-x) p),
-)
+loop-x-preserved c =
+    let turn = (goal.at.loop-x-preserved c).In-loop-x in (
+      length-set c.loop-x.unmet _ _ ∙ c.loop-x.invariant.0,
+      omega (arith, and_le_l c.loop-x.x (c.loop-x.x - 1), c.loop-x.invariant.1),
+      λ p. omega (arith, counted turn p, c.loop-x.invariant.2 p),
+      λ p. omega (arith, counted turn p, c.loop-x.invariant.3 p, raised_one c.loop-x.unmet (lowest turn) (inside turn) p),
+    )
 
 pub shape_of-unmet : goal.shape_of-unmet
 shape_of-unmet c = c.loop-x.invariant.0

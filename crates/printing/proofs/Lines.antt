@@ -45,7 +45,9 @@ module _ (s : List ℕ) (t r : List ℤ) (word : List ℕ) where
   lines_behind : (a : List ℕ) (l : ℕ) → value_lines s t r word (a ++ l ∷ []) ≡ value_lines s t r word a ++ value_line s t r word l
   unfolding value_lines
   lines_behind [] l = append-nil (value_line s t r word l)
-  lines_behind (x ∷ a) l = ap (λ (y : List ℕ). value_line s t r word x ++ y) (lines_behind a l) ∙ sym (append_assoc (value_line s t r word x) (value_lines s t r word a) (value_line s t r word l))
+  lines_behind (x ∷ a) l =
+      ap (λ (y : List ℕ). value_line s t r word x ++ y) (lines_behind a l)
+      ∙ sym (append_assoc (value_line s t r word x) (value_lines s t r word a) (value_line s t r word l))
 
   labels_behind : (p : List ℤ) (z : ℤ) → labels_of (p ++ z ∷ []) ≡ labels_of p ++ nat_of z ∷ []
   labels_behind [] z = refl

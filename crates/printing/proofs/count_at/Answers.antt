@@ -1,7 +1,6 @@
 use mathlib.Core.Path.{◌∙◌, ap}
 use Rattle.cells.specs.Cells.{nat_of}
 use Rattle.cells.proofs.Signed.{whole}
-use borrow.Author.Rules.{rules}
 use Rattle.printing.proofs.count_at.Goals as goal
 
 pub returns : goal.returns

@@ -21,4 +21,5 @@ unfolding mixed_word
 returns-in-Mixed c = print_written _ _ _ _ _ _ _ _ c.run.ensures _ c.in-Mixed.is _ _ _ (omega arith) (omega arith) refl refl c.put_answer-in-Mixed.ensures
 
 pub returns-in-Refused : goal.returns-in-Refused
-returns-in-Refused c = print_written _ _ _ _ _ _ _ _ c.run.ensures _ c.in-Refused.is _ _ _ (omega (arith, c.in-Refused.known_told-in-Refused-1-own.given)) (omega (arith, c.in-Refused.known_told-in-Refused-1-own.given)) refl refl c.put_refusal.ensures
+returns-in-Refused c =
+    print_written _ _ _ _ _ _ _ _ c.run.ensures _ c.in-Refused.is _ _ _ (omega arith) (omega arith) refl refl c.put_refusal.ensures

@@ -1,5 +1,4 @@
 use native.Mathlib.Omega.{arith}
-use borrow.Author.Rules.{rules}
 use Rattle.printing.proofs.Writing.{one}
 use Rattle.printing.proofs.put.Goals as goal
 

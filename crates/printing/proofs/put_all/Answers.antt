@@ -1,11 +1,8 @@
 use mathlib.Core.Path.{◌≡◌}
-use Prim.Native.Nat.{◌-◌, ◌≤◌}
 use native.Mathlib.Numerals.{add-one}
 use native.Mathlib.Omega.{arith}
-use borrow.Author.Rules.{rules}
-use lib.ListN.{length, take}
+use lib.ListN.{length}
 use lib.Seq.{take-suc, take-length}
-use Rattle.printing.specs.Writing.{Wrote}
 use Rattle.printing.proofs.Writing.{nothing, same_size, then}
 use Rattle.printing.proofs.put_all.Goals as goal
 

@@ -1,6 +1,5 @@
 use Rattle.printing.specs.Print.{columns_line}
 use Rattle.printing.proofs.Writing.{then}
-use borrow.Author.Rules.{rules}
 use Rattle.printing.proofs.put_answer.Goals as goal
 
 pub returns : goal.returns

@@ -1,5 +1,4 @@
 use Rattle.printing.proofs.Writing.{then}
-use borrow.Author.Rules.{rules}
 use Rattle.printing.proofs.put_count.Goals as goal
 
 pub returns : goal.returns

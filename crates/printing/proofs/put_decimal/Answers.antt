@@ -1,5 +1,4 @@
 use native.Mathlib.Omega.{arith}
-use borrow.Author.Rules.{rules}
 use Rattle.numbers.proofs.Numerals.{decimal_zero, decimal_digits}
 use Rattle.printing.proofs.put_decimal.Goals as goal
 

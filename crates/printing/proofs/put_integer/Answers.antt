@@ -2,7 +2,6 @@ use mir.Syntax.{w64}
 use mathlib.Core.Path.{◌≡◌, ◌∙◌, sym}
 use mathlib.Core.Bool.{true, false}
 use mir.Facts.{to_z-of_z}
-use borrow.Author.Rules.{rules}
 use Rattle.cells.specs.Cells.{is_negative}
 use Rattle.printing.proofs.Sizes.{integer_negative, integer_natural}
 use Rattle.printing.proofs.Writing.{then}
@@ -12,7 +11,7 @@ pub returns-then-is_negative : goal.returns-then-is_negative
 returns-then-is_negative c =
     let f = to_z-of_z {w = w64} c.ranges.x in
     let e : is_negative c.args.x ≡ true = rw f at (sym c.is_negative.ensures ∙ c.if-is_negative.true) in
-    rw (integer_negative c.args.x e, ← (rw f at c.type_size.ensures)) (then _ _ _ _ _ c.put-end.ensures _ _ _ c.put_decimal.ensures)
+    rw (integer_negative c.args.x e, ← (rw f at c.size_of.ensures)) (then _ _ _ _ _ c.put-end.ensures _ _ _ c.put_decimal.ensures)
 
 pub returns : goal.returns
 returns c =

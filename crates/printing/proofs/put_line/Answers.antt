@@ -2,7 +2,6 @@ use Rattle.cells.specs.Characters.{space}
 use Rattle.numbers.specs.Numerals.{decimal}
 use Rattle.printing.specs.Print.{name_field, value_line}
 use Rattle.printing.proofs.Writing.{field_then}
-use borrow.Author.Rules.{rules}
 use Rattle.printing.proofs.put_line.Goals as goal
 
 pub returns : goal.returns

@@ -1,12 +1,6 @@
-use mathlib.Core.Path.{◌≡◌}
-use Prim.Native.Nat.{◌-◌, ◌≤◌, ◌<◌}
-use native.Mathlib.Omega.{arith}
-use borrow.Author.Rules.{rules}
-use lib.ListN.{length}
+use Prim.Native.Nat.{◌-◌, ◌≤◌}
 use Rattle.printing.specs.Print.{plan_lines}
 use Rattle.printing.specs.Writing.{Wrote}
-use Rattle.printing.proofs.Lines.{lines_none, one_line_more}
-use Rattle.printing.proofs.Writing.{nothing, same_size, then}
 use Rattle.printing.proofs.put_lines.Given as goal
 
 abbrev pub invariant-loop-i : goal.invariant-loop-i

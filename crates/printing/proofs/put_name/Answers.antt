@@ -2,11 +2,10 @@ use mathlib.Core.Path.{◌≡◌}
 use Prim.Native.Nat.{◌+◌, ◌-◌}
 use native.Mathlib.Omega.{arith}
 use Rattle.reading.proofs.Named.{drop_take}
-use borrow.Author.Rules.{rules}
 use Rattle.printing.proofs.put_name.Goals as goal
 
 pub overflow_add-end : goal.overflow_add-end
-overflow_add-end c = omega (arith, c.cell_at.ensures, c.cell_at-start.ensures, c.requires c.args.label, c.good)
+overflow_add-end c = omega (arith, c.cell_at.ensures, c.cell_at-start.ensures, c.requires c.args.label, c.well_formed)
 
 pub slice_bounds-put_text-end : goal.slice_bounds-put_text-end
 slice_bounds-put_text-end c = omega (arith, c.cell_at.ensures, c.cell_at-start.ensures, c.requires c.args.label)

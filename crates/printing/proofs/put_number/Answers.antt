@@ -1,7 +1,6 @@
 use mir.Syntax.{w64}
 use Rattle.printing.proofs.Writing.{then}
 use mir.Facts.{to_z-of_z}
-use borrow.Author.Rules.{rules}
 use Rattle.printing.proofs.put_number.Goals as goal
 
 pub returns : goal.returns

@@ -1,10 +1,7 @@
 use mathlib.Core.Path.{◌≡◌}
-use Prim.Native.Nat.{◌-◌, ◌≤◌, max}
+use Prim.Native.Nat.{◌-◌}
 use native.Mathlib.Omega.{arith}
-use borrow.Author.Rules.{rules}
 use lib.ListN.{length}
-use Rattle.printing.specs.Print.{zero_bytes}
-use Rattle.printing.specs.Writing.{Wrote}
 use Rattle.printing.proofs.Writing.{nothing, same_size, next_index, zero_then}
 use Rattle.printing.proofs.put_zeros.Goals as goal
 

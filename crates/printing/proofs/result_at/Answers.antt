@@ -2,7 +2,6 @@ use mathlib.Core.Path.{◌∙◌}
 use native.Mathlib.Omega.{arith}
 use Rattle.printing.proofs.Lines.{result_zero, result_past, result_in}
 use Rattle.cells.proofs.Signed.{whole}
-use borrow.Author.Rules.{rules}
 use Rattle.printing.proofs.result_at.Goals as goal
 
 pub returns-then-label-eq0 : goal.returns-then-label-eq0

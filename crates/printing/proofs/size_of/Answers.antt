@@ -5,7 +5,6 @@ use Prim.Native.Nat.{ℕ, ◌+◌, ◌<◌, ◌^◌}
 use native.Mathlib.Omega.{arith}
 use lib.IntN.{pos, nat_abs, ◌+ℤ◌}
 use mir.Facts.{to_z-of_z}
-use borrow.Author.Rules.{rules}
 use Rattle.cells.specs.Cells.{is_negative}
 use Rattle.cells.proofs.Signed.{fits_below, nat_abs_nat_of}
 use Rattle.printing.proofs.Sizes.{next_size, next_small}
@@ -35,7 +34,9 @@ pub overflow_add-result : goal.overflow_add-result
 overflow_add-result c = omega (arith, size (goal.at.overflow_add-result c).After-magnitude, small (goal.at.overflow_add-result c).Start (negative (goal.at.overflow_add-result c).Then-is_negative))
 
 pub returns-then-is_negative : goal.returns-then-is_negative
-returns-then-is_negative c = ap (λ (n : ℕ). n + 1) (size (goal.at.returns-then-is_negative c).After-magnitude) ∙ next_size c.args.x (negative (goal.at.returns-then-is_negative c).Then-is_negative)
+returns-then-is_negative c =
+    ap (λ (n : ℕ). n + 1) (size (goal.at.returns-then-is_negative c).After-magnitude)
+    ∙ next_size c.args.x (negative (goal.at.returns-then-is_negative c).Then-is_negative)
 
 pub returns : goal.returns
 returns c =

@@ -2,13 +2,9 @@
 use mathlib.Core.Path.{◌∙◌, ap, sym}
 use Prim.Native.Nat.{◌+◌}
 use lib.ListN.{length}
-use borrow.Author.Rules.{rules}
 use Rattle.numbers.specs.declared.Tie.{Tie}
 use Rattle.lines.specs.Lines.{first_line}
 use Rattle.lines.proofs.after_first.Goals as goal
-
-pub enum_told-1 : goal.enum_told-1
-enum_told-1 c = search rules
 
 pub returns-in-Away : goal.returns-in-Away
 unfolding first_line

@@ -1,5 +1,4 @@
 use mathlib.Core.Path.{ap, ◌∙◌}
-use borrow.Author.Rules.{rules}
 use Rattle.numbers.specs.Arithmetic.{rounding_by}
 use Rattle.lines.proofs.arithmetic_of.Goals as goal
 

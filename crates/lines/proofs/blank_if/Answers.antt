@@ -1,4 +1,3 @@
-use borrow.Author.Rules.{rules}
 use Rattle.lines.proofs.blank_if.Goals as goal
 
 pub returns-then-right : goal.returns-then-right

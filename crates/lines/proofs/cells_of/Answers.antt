@@ -2,7 +2,7 @@
 use mathlib.Core.Path.{◌∙◌, sym}
 use mir.Facts.{to_z-of_z}
 use mir.Syntax.{w64}
-use borrow.Author.Rules.{sfits_of, rules}
+use borrow.Author.Rules.{sfits_of}
 use Rattle.kinds.proofs.Laws.{kind_fits}
 use Rattle.lines.proofs.cells_of.Goals as goal
 

@@ -2,7 +2,6 @@
 use mathlib.Core.Path.{◌∙◌, sym, ap}
 use Prim.Native.Nat.{◌-◌}
 use native.Mathlib.Omega.{arith}
-use borrow.Author.Rules.{rules}
 use Rattle.refusals.specs.declared.Reply.TheVariants.{Answered}
 use Rattle.lines.proofs.Heads.{none_counted, some_counted, counted_is, text_lines, head_text, head_first, head_none, head_many, head_right}
 use Rattle.lines.proofs.check_head.Goals as goal

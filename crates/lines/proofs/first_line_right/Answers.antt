@@ -1,7 +1,6 @@
 -- Line one names the first rule, or the answer is whether it names the second.
 use mathlib.Core.Path.{◌∙◌, ap, sym}
 use mathlib.Core.Bool.{Bool, ◌||◌}
-use borrow.Author.Rules.{rules}
 use Rattle.text.specs.Bytes.{same}
 use Rattle.numbers.specs.declared.Tie.TheVariants.{Even}
 use Rattle.lines.specs.Lines.{line, first_line}

@@ -5,7 +5,6 @@ use Prim.Native.Nat.{◌≤◌}
 use native.Mathlib.Omega.{arith}
 use lib.ListN.{length}
 use lib.Seq.{slice, length-slice}
-use borrow.Author.Rules.{rules}
 use Rattle.text.proofs.Bytes.{same_lengths, and-true}
 use Rattle.lines.specs.Fields.{dash}
 use Rattle.lines.proofs.Fields.{one_byte}

@@ -4,7 +4,6 @@ use Prim.Native.Nat.{◌≤◌}
 use native.Mathlib.Omega.{arith}
 use lib.ListN.{length}
 use lib.Seq.{slice, length-slice}
-use borrow.Author.Rules.{rules}
 use Rattle.lines.specs.Fields.{kind_code}
 use Rattle.lines.proofs.Fields.{one_byte, not_one}
 use Rattle.lines.proofs.kind_code.Goals as goal

@@ -5,7 +5,6 @@ use native.Mathlib.Omega.{arith}
 use lib.Seq.{slice}
 use mir.Facts.{to_z_pos}
 use mir.Syntax.{w64}
-use borrow.Author.Rules.{rules}
 use Rattle.lines.specs.declared.Field.TheVariants.{Holds}
 use Rattle.text.proofs.Labels.{label_most}
 use Rattle.lines.proofs.label_field.Goals as goal
@@ -19,9 +18,6 @@ most c =
 
 pub overflow_cast-result : goal.overflow_cast-result
 overflow_cast-result c = omega (arith, most (goal.at.overflow_cast-result c).In-Is)
-
-pub enum_told-1 : goal.enum_told-1
-enum_told-1 c = search rules
 
 pub returns-in-Is : goal.returns-in-Is
 returns-in-Is c = rw (sym c.read_label.ensures ∙ c.in-Is.is) (ap Holds (to_z_pos w64 {n = c.in-Is.v} (omega (arith, most (goal.at.returns-in-Is c).In-Is))))

@@ -3,7 +3,6 @@ use mathlib.Core.Path.{ap, sym}
 use native.Mathlib.Omega.{arith}
 use mir.Facts.{to_z_pos}
 use mir.Syntax.{w64}
-use borrow.Author.Rules.{rules}
 use Rattle.lines.specs.declared.Field.TheVariants.{Holds}
 use Rattle.lines.proofs.label_scan.Goals as goal
 

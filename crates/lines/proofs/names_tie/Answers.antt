@@ -1,15 +1,11 @@
 -- The bytes that the text has to begin with are those of the line and its end.
 use mathlib.Core.Path.{◌∙◌, ap, sym}
-use borrow.Author.Rules.{rules}
 use Rattle.text.specs.Bytes.{same}
 use Rattle.numbers.specs.declared.Tie.{Tie}
 use Rattle.numbers.specs.declared.Tie.TheVariants.{Away, Even}
 use Rattle.lines.specs.Lines.{line, first_line}
 use Rattle.lines.proofs.Heads.{first_line_lem}
 use Rattle.lines.proofs.names_tie.Goals as goal
-
-pub enum_told-1 : goal.enum_told-1
-enum_told-1 c = search rules
 
 pub returns-in-Away : goal.returns-in-Away
 unfolding first_line

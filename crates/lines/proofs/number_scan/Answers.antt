@@ -5,7 +5,7 @@ use native.Mathlib.Omega.{arith}
 use lib.ListN.{length}
 use mir.Facts.{to_z-of_z}
 use mir.Syntax.{w64}
-use borrow.Author.Rules.{sfits_of, rules}
+use borrow.Author.Rules.{sfits_of}
 use borrow.Author.Tests.{ne_eqb}
 use Rattle.numbers.proofs.Decimals.{number_negative, number_plain}
 use Rattle.text.proofs.Scanned.{inside_next}

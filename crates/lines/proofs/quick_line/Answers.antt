@@ -4,7 +4,6 @@ use mathlib.Core.Bool.{true}
 use Prim.Native.Nat.{◌+◌, ◌<◌}
 use native.Mathlib.Omega.{arith}
 use lib.ListN.{length, get_or}
-use borrow.Author.Rules.{rules}
 use Rattle.cells.proofs.Signed.{whole}
 use Rattle.kinds.specs.Kinds.{code_of, is_kind}
 use Rattle.kinds.proofs.Codes.{code_kind}

@@ -7,7 +7,7 @@ use lib.ListN.{length}
 use lib.Seq.{slice}
 use mir.Facts.{to_z-of_z}
 use mir.Syntax.{w64}
-use borrow.Author.Rules.{sfits_of, rules}
+use borrow.Author.Rules.{sfits_of}
 use Rattle.cells.specs.Limits.{size_limit}
 use Rattle.kinds.specs.Kinds.{is_kind}
 use Rattle.lines.proofs.Fields.{kind_known}
@@ -26,9 +26,6 @@ inside c =
 
 pub fields_of-kind-requires : goal.fields_of-kind-requires
 fields_of-kind-requires c = known (goal.at.fields_of-kind-requires c).Start
-
-pub enum_told-1 : goal.enum_told-1
-enum_told-1 c = search rules
 
 pub returns-in_default : goal.returns-in_default
 returns-in_default c =

@@ -1,6 +1,5 @@
 -- Rows 6 and 7 by the code of the kind and the label.
 use mathlib.Core.Path.{◌∙◌, sym}
-use borrow.Author.Rules.{rules}
 use Rattle.lines.proofs.Rows.{line_kind, line_root, line_row}
 use Rattle.lines.proofs.read_five.Goals as goal
 

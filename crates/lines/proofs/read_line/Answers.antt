@@ -1,6 +1,5 @@
 -- The line in one scan, or split.
 use mathlib.Core.Path.{subst}
-use borrow.Author.Rules.{rules}
 use Rattle.lines.specs.Scanned.{QuickOf}
 use Rattle.lines.proofs.read_line.Goals as goal
 

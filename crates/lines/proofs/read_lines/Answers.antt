@@ -1,12 +1,11 @@
 -- What the loop keeps is `Going`; its laws are in Pass.
 use mathlib.Core.Path.{◌≡◌, ◌∙◌, sym, ap}
-use Prim.Native.Nat.{◌+◌, ◌-◌, ◌*◌}
+use Prim.Native.Nat.{◌-◌, ◌*◌}
 use native.Mathlib.Omega.{arith}
 use lib.ListN.{length}
-use borrow.Author.Rules.{rules}
 use Rattle.lines.specs.LineSteps.{lines_written}
 use Rattle.lines.proofs.Heads.{headed}
-use Rattle.lines.proofs.Pass.{Going, Stopped, start, inside, went, stopped, turn, stop, done}
+use Rattle.lines.proofs.Pass.{Stopped, start, inside, went, stopped, turn, stop, done}
 use Rattle.lines.proofs.read_lines.Goals as goal
 use Rattle.lines.proofs.read_lines.Goals.{In-Stop}
 

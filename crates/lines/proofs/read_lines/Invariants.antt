@@ -1,11 +1,5 @@
-use mathlib.Core.Path.{◌≡◌, ◌∙◌, sym, ap}
-use Prim.Native.Nat.{◌+◌, ◌-◌, ◌*◌}
-use native.Mathlib.Omega.{arith}
-use lib.ListN.{length}
-use borrow.Author.Rules.{rules}
-use Rattle.lines.specs.LineSteps.{lines_written}
-use Rattle.lines.proofs.Heads.{headed}
-use Rattle.lines.proofs.Pass.{Going, Stopped, start, inside, went, stopped, turn, stop, done}
+use Prim.Native.Nat.{◌+◌, ◌-◌}
+use Rattle.lines.proofs.Pass.{Going}
 use Rattle.lines.proofs.read_lines.Given as goal
 
 abbrev pub invariant-loop-label : goal.invariant-loop-label

@@ -1,5 +1,4 @@
 use mathlib.Core.Path.{◌∙◌, sym}
-use borrow.Author.Rules.{rules}
 use Rattle.lines.specs.Lines.{root_line}
 use Rattle.lines.proofs.Rows.{root_right, root_wrong}
 use Rattle.lines.proofs.read_root.Goals as goal

@@ -1,11 +1,7 @@
 -- Each answer by the form.
 use mathlib.Core.Path.{refl, ap}
-use borrow.Author.Rules.{rules}
 use Rattle.lines.specs.Fields.{blank_if, field_of}
 use Rattle.lines.proofs.scan_called.Goals as goal
-
-pub enum_told-1 : goal.enum_told-1
-enum_told-1 c = search rules
 
 pub returns-in-Missing : goal.returns-in-Missing
 unfolding field_of

@@ -1,10 +1,6 @@
 -- A number, or what the other fields may be.
-use borrow.Author.Rules.{rules}
 use Rattle.lines.specs.Fields.{field_of}
 use Rattle.lines.proofs.scan_first.Goals as goal
-
-pub enum_told-1 : goal.enum_told-1
-enum_told-1 c = search rules
 
 pub returns-in-Number : goal.returns-in-Number
 unfolding field_of

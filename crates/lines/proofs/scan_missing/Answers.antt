@@ -3,7 +3,6 @@ use mathlib.Core.Path.{refl}
 use Prim.Native.Nat.{◌+◌, ◌<◌}
 use native.Mathlib.Omega.{arith}
 use lib.ListN.{length}
-use borrow.Author.Rules.{rules}
 use Rattle.text.proofs.Scanned.{inside_next}
 use Rattle.lines.proofs.Fields.{one_byte}
 use Rattle.lines.proofs.scan_missing.Goals as goal

@@ -3,7 +3,6 @@ use mathlib.Core.Path.{refl}
 use Prim.Native.Nat.{◌+◌, ◌<◌}
 use native.Mathlib.Omega.{arith}
 use lib.ListN.{length}
-use borrow.Author.Rules.{rules}
 use Rattle.text.proofs.Scanned.{after_space}
 use Rattle.lines.proofs.scan_operands.Goals as goal
 use Rattle.lines.proofs.scan_operands.Goals.{Else-a-eq0, Else-b-eq0}

@@ -1,7 +1,6 @@
 -- What is left to be found after each field; `left_n` stands behind field N.
 use Prim.Native.Nat.{◌+◌}
 use native.Mathlib.Omega.{arith}
-use borrow.Author.Rules.{rules}
 use Rattle.lines.proofs.Splits.{Left, left_all, left_next, left_none, left_last, spaced_at, last_at, five}
 use Rattle.lines.proofs.split_line.Goals as goal
 use Rattle.lines.proofs.split_line.Goals.{Else-a-eq0, Else-b-eq0, Else-c-eq0, Else-kind-eq0, Else-name-eq0}

@@ -1,5 +1,4 @@
 -- A text that is too short begins with no such bytes.
-use borrow.Author.Rules.{rules}
 use Rattle.lines.proofs.Heads.{begins_short}
 use Rattle.lines.proofs.starts_with.Goals as goal
 

@@ -2,7 +2,6 @@
 use mathlib.Core.Path.{◌∙◌, sym, ap}
 use Prim.Native.Nat.{◌-◌, ◌*◌}
 use native.Mathlib.Omega.{arith}
-use borrow.Author.Rules.{rules}
 use Rattle.lines.specs.LineSteps.{step_of, line_written}
 use Rattle.lines.proofs.Pass.{passes_inside}
 use Rattle.lines.proofs.step.Goals as goal

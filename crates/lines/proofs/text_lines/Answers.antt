@@ -1,7 +1,6 @@
 -- Row 1, test by test.
 use mathlib.Core.Path.{◌∙◌, sym}
 use native.Mathlib.Omega.{arith}
-use borrow.Author.Rules.{rules}
 use Rattle.lines.proofs.Heads.{text_empty, text_long, text_open, text_bad_lem, text_right}
 use Rattle.lines.proofs.text_lines.Goals as goal
 

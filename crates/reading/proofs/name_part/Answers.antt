@@ -7,9 +7,6 @@ use borrow.Author.Rules.{rules}
 use Rattle.reading.proofs.Named.{part_answered, part_refused}
 use Rattle.reading.proofs.name_part.Goals as goal
 
-pub enum_told-1 : goal.enum_told-1
-enum_told-1 c = search rules
-
 pub returns-in-Answered : goal.returns-in-Answered
 returns-in-Answered c =
     let leaves = c.read.ensures in

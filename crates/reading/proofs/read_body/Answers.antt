@@ -9,9 +9,6 @@ use Rattle.reading.proofs.read_body.Goals as goal
 pub returns-then-table-n : goal.returns-then-table-n
 returns-then-table-n c = table_short_lem _ _ _ c.requires _ (omega arith) c.clear.ensures
 
-pub enum_told-1 : goal.enum_told-1
-enum_told-1 c = search rules
-
 pub returns-in-Fine : goal.returns-in-Fine
 returns-in-Fine c = sheet_leaves _ _ _ c.requires (omega arith) _ _ c.read_sheet.ensures c.in-Fine.is
 

@@ -3,9 +3,6 @@ use Rattle.reading.proofs.Stage.{lined_left, sheet_resolved, sheet_refused}
 use borrow.Author.Rules.{rules}
 use Rattle.reading.proofs.read_sheet.Goals as goal
 
-pub enum_told-1 : goal.enum_told-1
-enum_told-1 c = search rules
-
 pub resolve-requires : goal.resolve-requires
 resolve-requires c =
     lined_left _ _ c.args.table.now _ _ c.requires.0.count c.requires.1 c.read_lines.ensures.value _

@@ -6,9 +6,6 @@ use Rattle.reading.proofs.resolve.Goals as goal
 pub read_tree-requires : goal.read_tree-requires
 read_tree-requires c = plain _ _ _ c.requires
 
-pub enum_told-1 : goal.enum_told-1
-enum_told-1 c = search rules
-
 pub read_paths-requires : goal.read_paths-requires
 read_paths-requires c = paths_rows _ c.args.table.now _ _ _ c.read_tree.ensures.value c.requires c.in-Fine.is c.read_tree.ensures.written
 

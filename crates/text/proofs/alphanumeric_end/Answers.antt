@@ -1,11 +1,8 @@
 -- The run from `i` on is what is left of that from `from` on.
-use mathlib.Core.Path.{◌∙◌, sym, ◌≡◌}
-use Prim.Native.Nat.{◌-◌, ◌≤◌}
+use mathlib.Core.Path.{◌∙◌, sym}
 use native.Mathlib.Omega.{arith}
-use borrow.Author.Rules.{rules}
 use Rattle.text.proofs.Bytes.{run_more, run_stop, run_end_lem}
 use Rattle.text.specs.Bytes.{is_alphanumeric}
-use Rattle.text.specs.Scans.{run_end}
 use Rattle.text.proofs.alphanumeric_end.Goals as goal
 
 pub loop-i-preserved : goal.loop-i-preserved

@@ -1,8 +1,5 @@
-use mathlib.Core.Path.{◌∙◌, sym, ◌≡◌}
+use mathlib.Core.Path.{◌≡◌}
 use Prim.Native.Nat.{◌-◌, ◌≤◌}
-use native.Mathlib.Omega.{arith}
-use borrow.Author.Rules.{rules}
-use Rattle.text.proofs.Bytes.{run_more, run_stop, run_end_lem}
 use Rattle.text.specs.Bytes.{is_alphanumeric}
 use Rattle.text.specs.Scans.{run_end}
 use Rattle.text.proofs.alphanumeric_end.Given as goal

@@ -3,7 +3,6 @@ use mathlib.Core.List.{List, ◌∷◌}
 use Prim.Native.Nat.{ℕ, ◌+◌, ◌%◌, ◌<◌}
 use native.Mathlib.Omega.{arith}
 use lib.ListN.{get_or}
-use borrow.Author.Rules.{rules}
 use Rattle.text.proofs.Slices.{slice_at, slice_none}
 use Rattle.text.proofs.byte_at.Goals as goal
 

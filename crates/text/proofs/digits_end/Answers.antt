@@ -1,11 +1,8 @@
 -- What is left of the digits.
 use mathlib.Core.Path.{refl}
-use Prim.Native.Nat.{◌-◌}
 use native.Mathlib.Omega.{arith}
-use lib.ListN.{length}
-use borrow.Author.Rules.{rules}
 use Rattle.numbers.proofs.Decimals.{digit_is}
-use Rattle.text.proofs.Scanned.{DigitsLeft, digits_start, digits_turn, digits_done}
+use Rattle.text.proofs.Scanned.{digits_start, digits_turn, digits_done}
 use Rattle.text.proofs.digits_end.Goals as goal
 
 pub loop-from-init : goal.loop-from-init

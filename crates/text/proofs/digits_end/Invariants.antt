@@ -1,10 +1,6 @@
-use mathlib.Core.Path.{refl}
 use Prim.Native.Nat.{◌-◌}
-use native.Mathlib.Omega.{arith}
 use lib.ListN.{length}
-use borrow.Author.Rules.{rules}
-use Rattle.numbers.proofs.Decimals.{digit_is}
-use Rattle.text.proofs.Scanned.{DigitsLeft, digits_start, digits_turn, digits_done}
+use Rattle.text.proofs.Scanned.{DigitsLeft}
 use Rattle.text.proofs.digits_end.Given as goal
 
 abbrev pub invariant-loop-from : goal.invariant-loop-from

@@ -2,7 +2,6 @@
 use mathlib.Core.Path.{◌∙◌, sym, ap}
 use native.Mathlib.Omega.{arith}
 use lib.ListN.{get_or}
-use borrow.Author.Rules.{rules}
 use Rattle.text.proofs.Fields.{end_inside, end_empty, end_found, end_other}
 use Rattle.text.proofs.field_end.Goals as goal
 

@@ -1,13 +1,12 @@
 -- The last byte, a newline, is not graphic: the run of graphic bytes from `i` on is what is left of that from `from` on.
 use mathlib.Core.Path.{◌∙◌, sym, ap, ◌≡◌}
-use Prim.Native.Nat.{ℕ, ◌-◌, ◌≤◌, ◌<◌}
+use Prim.Native.Nat.{ℕ, ◌-◌, ◌<◌}
 use native.Mathlib.Nat.{le_refl}
 use native.Mathlib.Omega.{arith}
 use lib.ListN.{get_or, length}
-use borrow.Author.Rules.{rules}
 use borrow.Author.Tests.{lt-ltb, le-ltb}
 use Rattle.text.proofs.Bytes.{run_more, run_stop}
-use Rattle.text.specs.Scans.{run_end, is_graphic}
+use Rattle.text.specs.Scans.{is_graphic}
 use Rattle.text.proofs.graphic_end.Goals as goal
 
 pub loop-i-preserved : goal.loop-i-preserved

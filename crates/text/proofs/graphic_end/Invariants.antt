@@ -1,11 +1,6 @@
-use mathlib.Core.Path.{◌∙◌, sym, ap, ◌≡◌}
-use Prim.Native.Nat.{ℕ, ◌-◌, ◌≤◌, ◌<◌}
-use native.Mathlib.Nat.{le_refl}
-use native.Mathlib.Omega.{arith}
-use lib.ListN.{get_or, length}
-use borrow.Author.Rules.{rules}
-use borrow.Author.Tests.{lt-ltb, le-ltb}
-use Rattle.text.proofs.Bytes.{run_more, run_stop}
+use mathlib.Core.Path.{◌≡◌}
+use Prim.Native.Nat.{◌-◌, ◌≤◌, ◌<◌}
+use lib.ListN.{length}
 use Rattle.text.specs.Scans.{run_end, is_graphic}
 use Rattle.text.proofs.graphic_end.Given as goal
 

@@ -1,6 +1,5 @@
 -- Each answer by the tests that led to it.
 use mathlib.Core.Path.{◌∙◌, sym}
-use borrow.Author.Rules.{rules}
 use borrow.Author.Tests.{le-leb, lt-leb}
 use Rattle.text.specs.Bytes.{is_alphanumeric}
 use Rattle.text.proofs.is_alphanumeric.Goals as goal

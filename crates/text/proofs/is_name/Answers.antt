@@ -1,7 +1,6 @@
 -- The name is the field exactly if it ends where the field does.
 use mathlib.Core.Path.{◌∙◌, ap}
 use lib.Dec.{eqb}
-use borrow.Author.Rules.{rules}
 use Rattle.text.proofs.Names.{name_whole}
 use Rattle.text.proofs.is_name.Goals as goal
 

@@ -1,15 +1,12 @@
 -- The names from `at` on are what is left of the path's names, and `names` counts those before with the one that begins at `at`.
 use mathlib.Core.Path.{◌∙◌, sym, ap, ◌≡◌}
-use Prim.Native.Nat.{◌+◌, ◌-◌, ◌≤◌}
 use native.Mathlib.Omega.{arith}
 use lib.Dec.{leb}
 use lib.ListN.{get_or, length}
 use lib.Seq.{slice}
-use borrow.Author.Rules.{rules}
 use Rattle.cells.specs.Limits.{path_limit}
 use Rattle.cells.specs.Characters.{dot}
 use Rattle.text.proofs.Slices.{slice_none}
-use Rattle.text.specs.Forms.{all_names}
 use Rattle.text.proofs.Names.{path_fails, path_last, path_last_name, path_inside, path_other, Named, path_step, path_false, path_by, path_empty}
 use Rattle.text.specs.Pieces.{cut}
 use Rattle.text.proofs.is_path.Goals as goal

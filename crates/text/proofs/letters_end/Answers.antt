@@ -1,10 +1,7 @@
 -- What is left of the letters and digits.
 use mathlib.Core.Path.{sym, ◌∙◌}
-use Prim.Native.Nat.{◌-◌}
 use native.Mathlib.Omega.{arith}
-use lib.ListN.{length}
-use borrow.Author.Rules.{rules}
-use Rattle.text.proofs.Scanned.{LettersLeft, letters_start, letters_turn, letters_done}
+use Rattle.text.proofs.Scanned.{letters_start, letters_turn, letters_done}
 use Rattle.text.proofs.letters_end.Goals as goal
 
 pub loop-i-init : goal.loop-i-init

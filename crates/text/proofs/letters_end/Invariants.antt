@@ -1,9 +1,6 @@
-use mathlib.Core.Path.{sym, ◌∙◌}
 use Prim.Native.Nat.{◌-◌}
-use native.Mathlib.Omega.{arith}
 use lib.ListN.{length}
-use borrow.Author.Rules.{rules}
-use Rattle.text.proofs.Scanned.{LettersLeft, letters_start, letters_turn, letters_done}
+use Rattle.text.proofs.Scanned.{LettersLeft}
 use Rattle.text.proofs.letters_end.Given as goal
 
 abbrev pub invariant-loop-i : goal.invariant-loop-i

@@ -1,7 +1,6 @@
 -- Each answer by the tests that led to it.
 use mathlib.Core.Path.{◌∙◌, sym}
 use native.Mathlib.Omega.{arith}
-use borrow.Author.Rules.{rules}
 use borrow.Author.Tests.{le-leb, lt-leb}
 use Rattle.text.specs.Scans.{run_end, name_end}
 use Rattle.text.proofs.name_end.Goals as goal

@@ -1,6 +1,5 @@
 -- Each answer by the tests that led to it.
 use mathlib.Core.Path.{refl, sym, ◌∙◌}
-use borrow.Author.Rules.{rules}
 use Rattle.text.proofs.Scanned.{name_to}
 use Rattle.text.proofs.next_name.Goals as goal
 

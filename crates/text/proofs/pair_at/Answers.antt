@@ -1,5 +1,4 @@
 use native.Mathlib.Omega.{arith}
-use borrow.Author.Rules.{rules}
 use Rattle.text.proofs.Words.{parts_join}
 use Rattle.text.proofs.pair_at.Goals as goal
 

@@ -1,7 +1,6 @@
 -- Each answer by what the decimal is.
 use mathlib.Core.Path.{◌≡◌, refl, ◌∙◌, sym}
 use Prim.Native.Nat.{ℕ, zero, suc}
-use borrow.Author.Rules.{rules}
 use Rattle.numbers.specs.declared.Decimal.TheVariants.{Is}
 use Rattle.text.specs.Forms.{from_one, label_of}
 use Rattle.text.proofs.read_label.Goals as goal
@@ -9,9 +8,6 @@ use Rattle.text.proofs.read_label.Goals as goal
 from_one_lem : (v : ℕ) → (v ≡ 0 → ⊥) → Is v ≡ from_one (Is v)
 from_one_lem zero f = absurd (f refl)
 from_one_lem (suc v) f = refl
-
-pub enum_told-1 : goal.enum_told-1
-enum_told-1 c = search rules
 
 pub returns-in_default : goal.returns-in_default
 unfolding label_of

@@ -1,11 +1,10 @@
 -- What is left of both is the same exactly if the whole is.
 use mathlib.Core.Bool.{true}
 use mathlib.Core.Path.{◌∙◌, sym, ◌≡◌}
-use Prim.Native.Nat.{◌+◌, ◌-◌, ◌≤◌}
+use Prim.Native.Nat.{◌≤◌}
 use native.Mathlib.Omega.{arith}
 use lib.ListN.{length, drop}
 use lib.Seq.{length-slice, slice}
-use borrow.Author.Rules.{rules}
 use Rattle.text.proofs.Slices.{slice_none, past_drop}
 use Rattle.text.proofs.Bytes.{same_hit, same_miss, same_lengths}
 use Rattle.text.specs.Bytes.{same}

@@ -1,12 +1,7 @@
-use mathlib.Core.Bool.{true}
-use mathlib.Core.Path.{◌∙◌, sym, ◌≡◌}
+use mathlib.Core.Path.{◌≡◌}
 use Prim.Native.Nat.{◌+◌, ◌-◌, ◌≤◌}
-use native.Mathlib.Omega.{arith}
 use lib.ListN.{length, drop}
-use lib.Seq.{length-slice, slice}
-use borrow.Author.Rules.{rules}
-use Rattle.text.proofs.Slices.{slice_none, past_drop}
-use Rattle.text.proofs.Bytes.{same_hit, same_miss, same_lengths}
+use lib.Seq.{slice}
 use Rattle.text.specs.Bytes.{same}
 use Rattle.text.proofs.same_bytes.Given as goal
 

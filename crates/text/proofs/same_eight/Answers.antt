@@ -1,5 +1,4 @@
 use mathlib.Core.Path.{◌∙◌, ap₂}
-use borrow.Author.Rules.{rules}
 use Rattle.text.specs.Bytes.{same, lowercase}
 use Rattle.text.proofs.same_eight.Goals as goal
 

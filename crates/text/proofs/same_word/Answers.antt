@@ -1,5 +1,4 @@
 use native.Mathlib.Omega.{arith}
-use borrow.Author.Rules.{rules}
 use Rattle.text.proofs.Words.{words_equal, words_differ, words_same}
 use Rattle.text.proofs.same_word.Goals as goal
 

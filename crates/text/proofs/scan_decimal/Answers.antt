@@ -3,7 +3,6 @@ use mathlib.Core.Path.{refl, sym, ◌∙◌}
 use Prim.Native.Nat.{◌+◌, ◌<◌}
 use native.Mathlib.Omega.{arith}
 use lib.ListN.{length}
-use borrow.Author.Rules.{rules}
 use Rattle.numbers.proofs.Decimals.{decimal_zero, decimal_plain}
 use Rattle.text.proofs.Scanned.{inside_next}
 use Rattle.text.proofs.scan_decimal.Goals as goal

@@ -1,7 +1,6 @@
 -- Each answer by the tests that led to it.
 use mathlib.Core.Path.{refl}
 use native.Mathlib.Omega.{arith}
-use borrow.Author.Rules.{rules}
 use Rattle.text.specs.Scans.{DigitsTo}
 use Rattle.text.proofs.scan_digits.Goals as goal
 use Rattle.text.proofs.scan_digits.Goals.{Else-end-from}

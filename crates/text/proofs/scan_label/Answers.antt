@@ -4,7 +4,6 @@ use Prim.Native.Nat.{◌+◌, ◌≤◌}
 use native.Mathlib.Omega.{arith}
 use lib.ListN.{length, get_or}
 use lib.Seq.{slice}
-use borrow.Author.Rules.{rules}
 use Rattle.numbers.specs.Decimal.{decimal_of}
 use Rattle.numbers.specs.declared.Decimal.TheVariants.{Is}
 use Rattle.numbers.proofs.Decimals.{decimal_plain, decimal_some}

@@ -1,6 +1,5 @@
 -- Each answer by the tests that led to it.
 use mathlib.Core.Path.{refl}
-use borrow.Author.Rules.{rules}
 use Rattle.text.proofs.Scanned.{name_is}
 use Rattle.text.proofs.scan_name.Goals as goal
 

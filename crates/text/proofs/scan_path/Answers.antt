@@ -1,8 +1,7 @@
 -- What is left of the path.
 use mathlib.Core.Path.{refl}
-use Prim.Native.Nat.{◌+◌, ◌-◌}
+use Prim.Native.Nat.{◌+◌}
 use native.Mathlib.Omega.{arith}
-use Rattle.cells.specs.Limits.{path_limit}
 use Rattle.text.specs.Scans.{NameTo}
 use Rattle.text.proofs.Scanned.{NamesLeft, names_start, names_turn, names_done}
 use Rattle.text.proofs.scan_path.Goals as goal

@@ -1,9 +1,6 @@
-use mathlib.Core.Path.{refl}
-use Prim.Native.Nat.{◌+◌, ◌-◌}
-use native.Mathlib.Omega.{arith}
+use Prim.Native.Nat.{◌-◌}
 use Rattle.cells.specs.Limits.{path_limit}
-use Rattle.text.specs.Scans.{NameTo}
-use Rattle.text.proofs.Scanned.{NamesLeft, names_start, names_turn, names_done}
+use Rattle.text.proofs.Scanned.{NamesLeft}
 use Rattle.text.proofs.scan_path.Given as goal
 
 abbrev pub invariant-loop-names : goal.invariant-loop-names

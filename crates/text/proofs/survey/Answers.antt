@@ -1,9 +1,7 @@
 -- What is counted so far, and what is left to count, make the whole count.
-use mathlib.Core.Path.{◌≡◌}
-use Prim.Native.Nat.{◌+◌, ◌-◌, ◌≤◌}
 use native.Mathlib.Omega.{arith}
-use lib.ListN.{length, drop}
-use Rattle.text.specs.Bytes.{count_by, is_newline}
+use lib.ListN.{length}
+use Rattle.text.specs.Bytes.{is_newline}
 use Rattle.text.specs.Scans.{is_bad}
 use Rattle.text.proofs.Bytes.{count_end}
 use Rattle.text.proofs.survey.Goals as goal

@@ -1,10 +1,8 @@
 use mathlib.Core.Path.{◌≡◌}
 use Prim.Native.Nat.{◌+◌, ◌-◌, ◌≤◌}
-use native.Mathlib.Omega.{arith}
 use lib.ListN.{length, drop}
 use Rattle.text.specs.Bytes.{count_by, is_newline}
 use Rattle.text.specs.Scans.{is_bad}
-use Rattle.text.proofs.Bytes.{count_end}
 use Rattle.text.proofs.survey.Given as goal
 
 abbrev pub invariant-loop-i : goal.invariant-loop-i

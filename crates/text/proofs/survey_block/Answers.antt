@@ -1,10 +1,9 @@
 -- The loop's invariant: what is counted so far, and what is left to count, make the whole count.
 use mathlib.Core.Path.{◌≡◌}
-use Prim.Native.Nat.{◌<◌, ◌+◌, ◌-◌, ◌≤◌}
+use Prim.Native.Nat.{◌<◌}
 use native.Mathlib.Omega.{arith}
-use lib.ListN.{get_or, length, drop}
-use borrow.Author.Rules.{rules}
-use Rattle.text.specs.Bytes.{count_by, is_newline}
+use lib.ListN.{get_or, length}
+use Rattle.text.specs.Bytes.{is_newline}
 use Rattle.text.specs.Scans.{is_bad}
 use Rattle.cells.proofs.Tests.{one_le}
 use Rattle.text.proofs.Bytes.{count_step}

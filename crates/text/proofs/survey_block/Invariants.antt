@@ -1,12 +1,8 @@
 use mathlib.Core.Path.{◌≡◌}
-use Prim.Native.Nat.{◌<◌, ◌+◌, ◌-◌, ◌≤◌}
-use native.Mathlib.Omega.{arith}
-use lib.ListN.{get_or, length, drop}
-use borrow.Author.Rules.{rules}
+use Prim.Native.Nat.{◌+◌, ◌-◌, ◌≤◌}
+use lib.ListN.{drop}
 use Rattle.text.specs.Bytes.{count_by, is_newline}
 use Rattle.text.specs.Scans.{is_bad}
-use Rattle.cells.proofs.Tests.{one_le}
-use Rattle.text.proofs.Bytes.{count_step}
 use Rattle.text.proofs.survey_block.Given as goal
 
 abbrev pub invariant-loop-i : goal.invariant-loop-i

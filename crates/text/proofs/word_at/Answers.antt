@@ -1,4 +1,3 @@
-use borrow.Author.Rules.{rules}
 use Rattle.text.proofs.Words.{parts_join}
 use Rattle.text.proofs.word_at.Goals as goal
 

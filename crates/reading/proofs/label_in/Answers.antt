@@ -1,7 +1,6 @@
 -- By the test.
 use mir.Syntax.{w64}
 use mir.Facts.{to_z-of_z}
-use borrow.Author.Rules.{rules}
 use Rattle.reading.proofs.Named.{label_inside, label_outside}
 use Rattle.reading.proofs.label_in.Goals as goal
 

@@ -1,6 +1,5 @@
 -- The part of the text from its start to its end.
 use mir.Syntax.{w64}
-use borrow.Author.Rules.{rules}
 use mir.Facts.{to_z-of_z}
 use lib.ListN.{length}
 use Rattle.reading.proofs.Named.{part_handed}

@@ -3,7 +3,6 @@ use mir.Syntax.{w64}
 use mathlib.Core.Path.{refl}
 use mir.Facts.{to_z-of_z}
 use lib.ListN.{length}
-use borrow.Author.Rules.{rules}
 use Rattle.reading.proofs.Named.{part_answered, part_refused}
 use Rattle.reading.proofs.name_part.Goals as goal
 

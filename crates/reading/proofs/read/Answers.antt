@@ -1,5 +1,4 @@
 -- Rows 1 to 3, then the others.
-use borrow.Author.Rules.{rules}
 use Rattle.reading.proofs.Stage.{head_passed, head_refused}
 use Rattle.reading.proofs.read.Goals as goal
 

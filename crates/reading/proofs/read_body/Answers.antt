@@ -1,7 +1,6 @@
 -- Row 4, then rows 5 to 15.
 use mathlib.Core.Path.{◌∙◌, ap}
 use native.Mathlib.Omega.{arith}
-use borrow.Author.Rules.{rules}
 use Rattle.cells.specs.Cells.{zeros}
 use Rattle.reading.proofs.Stage.{table_short_lem, sheet_leaves, refused_leaves}
 use Rattle.reading.proofs.read_body.Goals as goal

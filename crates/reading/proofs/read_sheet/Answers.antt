@@ -1,6 +1,5 @@
 -- The lines, zeros behind them, and the other rows.
 use Rattle.reading.proofs.Stage.{lined_left, sheet_resolved, sheet_refused}
-use borrow.Author.Rules.{rules}
 use Rattle.reading.proofs.read_sheet.Goals as goal
 
 pub resolve-requires : goal.resolve-requires

@@ -1,6 +1,5 @@
 -- Rows 8 to 11, then rows 12 to 15.
 use Rattle.reading.proofs.Resolved.{plain, paths_rows, resolved_fine, resolved_refused}
-use borrow.Author.Rules.{rules}
 use Rattle.reading.proofs.resolve.Goals as goal
 
 pub read_tree-requires : goal.read_tree-requires

@@ -3,7 +3,6 @@ use Prim.Native.Nat.{ℕ}
 use native.Mathlib.Omega.{arith}
 use lib.ListN.{length-replicate}
 use Rattle.following.proofs.Places.{cycle_stop, cycle_on}
-use borrow.Author.Rules.{rules}
 use Rattle.following.proofs.check_in.Goals as goal
 
 pub find_cycle-v-requires : goal.find_cycle-v-requires

@@ -1,7 +1,6 @@
 use mathlib.Core.Path.{sym, ◌∙◌}
 use native.Mathlib.Omega.{arith}
 use Rattle.following.proofs.Places.{listed_stop, listed_on}
-use borrow.Author.Rules.{rules}
 use Rattle.following.proofs.check_list.Goals as goal
 
 pub returns-then-p-ne0 : goal.returns-then-p-ne0

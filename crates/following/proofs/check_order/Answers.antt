@@ -2,7 +2,6 @@ use Prim.Native.Nat.{◌≤◌}
 use native.Mathlib.Omega.{arith}
 use Rattle.cells.specs.Limits.{label_limit}
 use Rattle.reach.proofs.Scratch.{zero_square}
-use borrow.Author.Rules.{rules}
 use Rattle.following.proofs.check_order.Goals as goal
 
 pub check_in-requires : goal.check_in-requires

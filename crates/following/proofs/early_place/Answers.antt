@@ -1,7 +1,6 @@
 use mathlib.Core.Path.{◌∙◌}
 use native.Mathlib.Omega.{arith}
 use Rattle.following.proofs.Places.{row_fits, none_wrong, place_early}
-use borrow.Author.Rules.{rules}
 use Rattle.following.proofs.early_place.Goals as goal
 
 pub first_early-requires : goal.first_early-requires

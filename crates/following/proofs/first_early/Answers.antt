@@ -1,16 +1,12 @@
 use mathlib.Core.Path.{◌≡◌, refl, sym, ◌∙◌}
-use mathlib.Core.List.{[]}
 use mathlib.Core.Bool.{true}
-use Prim.Native.Nat.{◌-◌, ◌≤◌}
+use Prim.Native.Nat.{◌≤◌}
 use native.Mathlib.Omega.{arith}
-use borrow.Author.Rules.{rules}
 use lib.ListN.{length, take}
-use Rattle.order.specs.Following.{labels_of, first_position}
+use Rattle.order.specs.Following.{labels_of}
 use Rattle.order.proofs.Tests.{both_ways}
 use Rattle.marks.specs.Marks.{mark}
 use Rattle.marks.proofs.Squares.{mark_in}
-use Rattle.following.specs.Left.{Left, lacks, awaits}
-use Rattle.following.proofs.Steps.{onward}
 use Rattle.following.proofs.Taken.{left_all, held_row, left_turn, wrong_turn, label_held, early_here, early_turn, onward_none}
 use Rattle.following.proofs.first_early.Goals as goal
 use Rattle.following.proofs.first_early.Goals.{After-nat_at-v}

@@ -1,13 +1,8 @@
-use mathlib.Core.Path.{◌≡◌, refl, sym, ◌∙◌}
-use mathlib.Core.List.{[]}
-use Prim.Native.Nat.{◌-◌, ◌≤◌}
+use mathlib.Core.Path.{refl, sym, ◌∙◌}
+use Prim.Native.Nat.{◌≤◌}
 use native.Mathlib.Omega.{arith}
-use borrow.Author.Rules.{rules}
-use lib.ListN.{length, take}
-use Rattle.order.specs.Following.{labels_of, first_position}
+use lib.ListN.{length}
 use Rattle.marks.proofs.Squares.{mark_in}
-use Rattle.following.specs.Left.{Left, lacks}
-use Rattle.following.proofs.Steps.{onward}
 use Rattle.following.proofs.Taken.{left_all, left_turn, left_end, wrong_here, wrong_turn, onward_none}
 use Rattle.following.proofs.first_wrong.Goals as goal
 

@@ -1,5 +1,4 @@
 use Rattle.following.proofs.Places.{found_is}
-use borrow.Author.Rules.{rules}
 use Rattle.following.proofs.found_at.Goals as goal
 
 pub returns : goal.returns

@@ -1,7 +1,6 @@
 use mathlib.Core.Path.{sym}
 use native.Mathlib.Omega.{arith}
 use Rattle.marks.proofs.Squares.{outside}
-use borrow.Author.Rules.{rules}
 use Rattle.following.proofs.holds.Goals as goal
 
 pub returns : goal.returns

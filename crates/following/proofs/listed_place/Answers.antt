@@ -1,6 +1,5 @@
 use native.Mathlib.Omega.{arith}
 use Rattle.following.proofs.Places.{place_wrong, place_past, place_full}
-use borrow.Author.Rules.{rules}
 use Rattle.following.proofs.listed_place.Goals as goal
 
 pub returns-then-p-ne0 : goal.returns-then-p-ne0

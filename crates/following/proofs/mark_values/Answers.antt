@@ -1,14 +1,5 @@
-use mathlib.Core.Path.{◌≡◌, refl, sym, ◌∙◌}
-use mathlib.Core.Logic.{⊎_elim}
-use mathlib.Core.Bool.{◌&&◌}
-use Prim.Native.Nat.{ℕ, ◌+◌, ◌-◌, ◌≤◌}
+use mathlib.Core.Path.{refl, sym, ◌∙◌}
 use native.Mathlib.Omega.{arith}
-use borrow.Author.Rules.{rules}
-use lib.Dec.{ltb}
-use lib.ListN.{length}
-use Rattle.order.specs.Order.{is_v}
-use Rattle.marks.specs.Marks.{mark}
-use Rattle.reach.specs.MarkRows.{width}
 use Rattle.following.proofs.Words.{values_start, values_skip, values_put, values_end}
 use Rattle.following.proofs.mark_values.Goals as goal
 use Rattle.following.proofs.mark_values.Goals.{else-kind_of-eq-VALUE, then-kind_of-eq-VALUE}

@@ -1,15 +1,11 @@
-use mathlib.Core.Path.{◌≡◌, refl, sym, ◌∙◌}
-use mathlib.Core.Logic.{⊎_elim}
+use mathlib.Core.Path.{◌≡◌}
 use mathlib.Core.Bool.{◌&&◌}
 use Prim.Native.Nat.{ℕ, ◌+◌, ◌-◌, ◌≤◌}
-use native.Mathlib.Omega.{arith}
-use borrow.Author.Rules.{rules}
 use lib.Dec.{ltb}
 use lib.ListN.{length}
 use Rattle.order.specs.Order.{is_v}
 use Rattle.marks.specs.Marks.{mark}
 use Rattle.reach.specs.MarkRows.{width}
-use Rattle.following.proofs.Words.{values_start, values_skip, values_put, values_end}
 use Rattle.following.proofs.mark_values.Given as goal
 
 abbrev pub invariant-loop-v : goal.invariant-loop-v

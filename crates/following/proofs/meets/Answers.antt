@@ -1,12 +1,10 @@
-use mathlib.Core.Path.{◌≡◌, refl}
-use mathlib.Core.Bool.{true, false}
-use Prim.Native.Nat.{ℕ, ◌+◌, ◌-◌, ◌*◌, ◌≤◌, ◌<◌}
+use mathlib.Core.Path.{refl}
+use mathlib.Core.Bool.{false}
+use Prim.Native.Nat.{◌+◌, ◌*◌}
 use native.Mathlib.Omega.{arith}
-use borrow.Author.Rules.{rules}
 use lib.Bits.{bit_and, and_le_r}
 use lib.ListN.{get_or}
 use Rattle.order.proofs.Tests.{both_ways}
-use Rattle.marks.specs.Marks.{mark}
 use Rattle.following.proofs.Words.{apart_turn, meets_here, meets_none}
 use Rattle.following.proofs.meets.Goals as goal
 

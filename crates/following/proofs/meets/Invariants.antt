@@ -1,13 +1,7 @@
-use mathlib.Core.Path.{◌≡◌, refl}
-use mathlib.Core.Bool.{true, false}
-use Prim.Native.Nat.{ℕ, ◌+◌, ◌-◌, ◌*◌, ◌≤◌, ◌<◌}
-use native.Mathlib.Omega.{arith}
-use borrow.Author.Rules.{rules}
-use lib.Bits.{bit_and, and_le_r}
-use lib.ListN.{get_or}
-use Rattle.order.proofs.Tests.{both_ways}
+use mathlib.Core.Path.{◌≡◌}
+use mathlib.Core.Bool.{true}
+use Prim.Native.Nat.{ℕ, ◌-◌, ◌*◌, ◌≤◌, ◌<◌}
 use Rattle.marks.specs.Marks.{mark}
-use Rattle.following.proofs.Words.{apart_turn, meets_here, meets_none}
 use Rattle.following.proofs.meets.Given as goal
 
 abbrev pub invariant-loop-j : goal.invariant-loop-j

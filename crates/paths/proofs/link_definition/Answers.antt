@@ -1,5 +1,4 @@
 -- What is found is the last with the name among those linked before it; then the definition is linked.
--- the name field lies in the text
 use Prim.Native.Nat.{◌+◌, ◌≤◌}
 use lib.ListN.{length}
 use Rattle.paths.proofs.Hashes.{hash_small}
@@ -8,6 +7,7 @@ use native.Mathlib.Omega.{arith}
 use Rattle.paths.proofs.link_definition.Goals as goal
 use Rattle.paths.proofs.link_definition.Goals.{After-label_cell, After-label_cell-group}
 
+-- the name field lies in the text
 inside : (c : After-label_cell) → let a = c.args in c.label_cell-from.result + c.label_cell.result ≤ length a.text.now
 inside c =
     omega (arith, c.label_cell-from.ensures, c.label_cell.ensures, c.requires.searchable.0.names c.args.label)

@@ -145,6 +145,10 @@ module _ (t : List ℤ) (n : ℕ) (ok : Accepted t n) (j : ℕ) where
         unmade e y (yes z) = absurd (omega (arith, own state₁ d 2 room₁, subst (λ (w : ℕ). get_or (set state₁ d 2) w 0 ≡ 1) z y))
         unmade e y (no z) = sym (other state d 1 room e z) ∙ s.unmade e (sym (other state₁ d 2 room₁ e z) ∙ y)
 
+  -- d was begun already
+  pub stay : (state square : List ℕ) (d : ℕ) → (get_or state d 0 ≡ 0 → ⊥) → MarkRows t n j state square → Visited t n j d state state square
+  stay state square d f r = record { rows = r; here = f; since = since_same state }
+
   -- ---- between visits
 
   pub going_start : (state square stack : List ℕ) → MarkRows t n j state square → Going t n j state square stack state square stack

@@ -182,6 +182,11 @@ impl Scope for Names<'_> {
     fn is_module(&self, name: &str) -> bool {
         name == TOP || matches!(self.brought.get(name), Some(Target::Module(_)))
     }
+
+    fn is_point(&self, name: &str) -> bool {
+        let brought = self.brought.get(name);
+        matches!(brought, Some(Target::Constructor(node)) if self.index.functions.contains(node))
+    }
 }
 
 /// The names of import lines that are not among those used, each with its line; of a

@@ -13,6 +13,9 @@ pub trait Scope {
     fn is_constructor(&self, path: &[String]) -> bool;
     /// Whether it names a module, so that a dot leads on from it.
     fn is_module(&self, name: &str) -> bool;
+    /// Whether it is one of what the checker makes of a function, by which a dot may lead
+    /// to the same point in another way.
+    fn is_point(&self, name: &str) -> bool;
 }
 
 /// What a declaration refers to.
@@ -164,7 +167,7 @@ impl<'a> Walker<'a> {
             let token = &tokens[at];
             at = match token.kind {
                 Kind::Open => self.group(tokens, at),
-                Kind::Dot => at + 2, // a projection and its name
+                Kind::Dot => self.projection(tokens, at),
                 Kind::Name if token.is("λ") => self.lambda(tokens, at),
                 Kind::Name if token.is("let") => self.binding(tokens, at),
                 Kind::Name if !token.is("|") => self.name(tokens, at),
@@ -174,6 +177,14 @@ impl<'a> Walker<'a> {
                 self.bound.truncate(mark);
             }
         }
+    }
+
+    /// A projection and its name, which refers to nothing but where it is a point.
+    fn projection(&mut self, tokens: &[Token], at: usize) -> usize {
+        let name = tokens.get(at + 1).map(|token| &token.text);
+        let point = name.filter(|name| self.scope.is_point(name));
+        self.found.extend(point.map(|name| vec![name.clone()]));
+        at + 2
     }
 
     /// A path, or a name with its projections left out.
@@ -319,6 +330,10 @@ mod tests {
         fn is_module(&self, name: &str) -> bool {
             name == "other"
         }
+
+        fn is_point(&self, name: &str) -> bool {
+            name == "Start"
+        }
     }
 
     fn found(text: &str) -> References {
@@ -359,6 +374,7 @@ mod tests {
         assert_eq!(body("record { x = y; z = λ q. q } x"), "record y x");
         assert_eq!(body("g {x = y} p .x q.y"), "g y p q");
         assert_eq!(body("(x : A) × B x"), "A × B");
+        assert_eq!(body("f (g x).Start (g x).end"), "f g x Start g x");
     }
 
     #[test]

@@ -8,7 +8,7 @@ use Rattle.cells.specs.Accepted.{HasBody}
 use Rattle.reach.specs.Chains.{Hangs, Last}
 use Rattle.reach.specs.MarkRows.{MarksRoom}
 use Rattle.reach.proofs.Links.{body_label, end_body}
-use Rattle.reach.proofs.Visits.{Going, unbegun, begin, fewer, finish, going_start, going_room, going_still, going_more}
+use Rattle.reach.proofs.Visits.{Going, unbegun, begin, fewer, finish, stay, going_start, going_room, going_still, going_more}
 use Rattle.reach.proofs.Spread.{shared}
 use Rattle.reach.proofs.+visit.Goals as goal
 use Rattle.reach.proofs.+visit.Goals.{At-loop-x, In-loop-x, Joined-state-e-eq0, then-state-e-eq0, else-state-e-eq0}
@@ -67,6 +67,9 @@ module _ (t : ℕ) (c : Joined-state-e-eq0 t) where
             rw (w.state-is, w.square-is, w.stack-is) (going_more _ _ c.requires.accepted _ _ _ _ _ _ _ g _ _ _ _ v.ensures v.auto.state v.auto.square v.auto.stack)
         | else-state-e-eq0 w ↦ rw (w.state-is, w.square-is, w.stack-is) g
       ]
+
+pub returns-then-state-d-ne0 : goal.returns-then-state-d-ne0
+returns-then-state-d-ne0 t c = stay _ _ c.requires.accepted _ _ _ _ c.if-state-d-ne0.true c.requires.mark_rows.0
 
 pub loop-x-init : goal.loop-x-init
 loop-x-init t c =

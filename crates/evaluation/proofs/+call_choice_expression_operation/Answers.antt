@@ -34,14 +34,14 @@ call-expression-requires t c = (
   omega (arith, c.decreases, left_less_by _ _ _ _ _ _ _ c.expression-first.ensures),
   body_entry c.requires.entered c.field-target.ensures c.field-body.ensures
       (number_ranged _ _ _ _ _ _ _ c.expression-first.ensures (operand_entry c.requires.entered _ c.field-argument.ensures refl)
-      (whole c.expression-first.result.number c.struct_told-1.given.0.1))
+      (whole c.expression-first.result.number (omega arith)))
       (omega (arith, c.requires.entered.entry.shallow, c.if-depth-eq-DEPTH.false)),
 )
 
 pub call-returns : goal.call-returns
 call-returns t c =
     call_goes _ _ _ _ _ _ _ c.field-argument.ensures c.expression-first.ensures c.if-first-ne-NUMBER.false c.if-depth-eq-DEPTH.false
-    (whole c.expression-first.result.number c.struct_told-1.given.0.1) c.field-target.ensures c.field-body.ensures c.expression.ensures
+    (whole c.expression-first.result.number (omega arith)) c.field-target.ensures c.field-body.ensures c.expression.ensures
 
 pub choice-field-tested-requires : goal.choice-field-tested-requires
 choice-field-tested-requires t c = operand_cell c.requires refl _ (omega arith)
@@ -63,7 +63,7 @@ choice-expression-requires t c = (
 pub choice-returns : goal.choice-returns
 choice-returns t c =
     chooses _ _ _ _ _ _ _ c.field-tested.ensures c.expression-test.ensures c.if-test-ne-NUMBER.false
-    (whole c.expression-test.result.number c.struct_told-1.given.0.1) c.branch_of-branch.ensures c.expression.ensures
+    (whole c.expression-test.result.number (omega arith)) c.branch_of-branch.ensures c.expression.ensures
 
 pub expression-returns-then-left-eq0 : goal.expression-returns-then-left-eq0
 expression-returns-then-left-eq0 t c = no_step _ _ _ _ _ _ _ c.if-left-eq0.true c.failure.ensures
@@ -83,7 +83,7 @@ unfolding entered_by
 expression-returns-in-Argument t c =
     entered _ _ _ _ _ _ _ c.if-left-eq0.false c.step-rest.ensures.0 c.step-rest.ensures.1 c.step-rest.ensures.2
     (is_kind_lem c.field-code.ensures c.clause_of-clause.ensures c.in-Argument.is)
-    (c.success-in-Argument.ensures ∙ ap (λ y. gives y c.step-rest.result.left) (whole c.args.given.first c.struct_told-1.given.0.1))
+    (c.success-in-Argument.ensures ∙ ap (λ y. gives y c.step-rest.result.left) (whole c.args.given.first (omega arith)))
 
 pub expression-returns-in-Read : goal.expression-returns-in-Read
 unfolding entered_by
@@ -140,13 +140,13 @@ operation-returns-then-second-ne-NUMBER t c =
 pub operation-combine-requires : goal.operation-combine-requires
 operation-combine-requires t c = (
   number_ranged _ _ _ _ _ _ _ c.expression-first.ensures (operand_entry c.requires _ c.field-a.ensures refl)
-      (whole c.expression-first.result.number c.struct_told-1.given.0.1),
+      (whole c.expression-first.result.number (omega arith)),
   number_ranged _ _ _ _ _ _ _ c.expression-second.ensures (operand_entry c.requires _ c.field-b.ensures refl)
-      (whole c.expression-second.result.number c.struct_told-2-1.given.0.1),
+      (whole c.expression-second.result.number (omega arith)),
 )
 
 pub operation-returns : goal.operation-returns
 operation-returns t c =
     combines _ _ _ _ _ _ _ c.field-a.ensures c.expression-first.ensures c.if-first-ne-NUMBER.false c.field-b.ensures
-    c.expression-second.ensures _ c.if-second-ne-NUMBER.false (whole c.expression-first.result.number c.struct_told-1.given.0.1)
-    (whole c.expression-second.result.number c.struct_told-2-1.given.0.1) c.combine.ensures
+    c.expression-second.ensures _ c.if-second-ne-NUMBER.false (whole c.expression-first.result.number (omega arith))
+    (whole c.expression-second.result.number (omega arith)) c.combine.ensures

@@ -1,11 +1,10 @@
 use mathlib.Core.Path.{◌≡◌, refl, sym, ◌∙◌}
-use Prim.Native.Nat.{◌-◌, ◌≤◌, ◌<◌}
+use Prim.Native.Nat.{◌<◌}
 use native.Mathlib.Omega.{arith}
-use borrow.Author.Rules.{rules}
 use lib.ListN.{length, get_or, take}
 use lib.Seq.{length-take-le, get_or-take}
 use Rattle.order.specs.LabelLists.{◌∈◌}
-use Rattle.splitting.proofs.Linking.{Expanding, expanding_none, expand_item, expand_walk, expanding_turn, expanding_all}
+use Rattle.splitting.proofs.Linking.{expanding_none, expand_item, expand_walk, expanding_turn, expanding_all}
 use Rattle.opening.proofs.expand.Goals as goal
 use Rattle.opening.proofs.expand.Goals.{After-widen-b}
 

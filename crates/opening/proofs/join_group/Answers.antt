@@ -2,7 +2,6 @@ use mathlib.Core.Path.{sym, subst}
 use mathlib.Core.List.{List}
 use Prim.Native.Nat.{ℕ, ◌≤◌}
 use native.Mathlib.Omega.{arith}
-use borrow.Author.Rules.{rules}
 use lib.ListN.{length}
 use Rattle.order.specs.LabelLists.{count, ◌∈◌}
 use Rattle.groups.specs.Members.{Relinked}

@@ -1,10 +1,8 @@
-use mathlib.Core.Path.{◌≡◌, refl, ◌∙◌}
+use mathlib.Core.Path.{refl, ◌∙◌}
 use native.Mathlib.Omega.{arith}
-use lib.ListN.{length}
 use Rattle.groups.proofs.Orders.{scratch_as}
-use Rattle.groups.specs.Opened.{Stopped}
 use Rattle.groups.proofs.Turns.{stopped}
-use Rattle.opening.proofs.Stuck.{left, left_less, searchable_as}
+use Rattle.opening.proofs.Stuck.{left_less, searchable_as}
 use Rattle.opening.proofs.open_groups.Goals as goal
 
 pub loop-g-init : goal.loop-g-init

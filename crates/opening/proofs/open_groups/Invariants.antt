@@ -1,10 +1,7 @@
-use mathlib.Core.Path.{◌≡◌, refl, ◌∙◌}
-use native.Mathlib.Omega.{arith}
+use mathlib.Core.Path.{◌≡◌}
 use lib.ListN.{length}
-use Rattle.groups.proofs.Orders.{scratch_as}
 use Rattle.groups.specs.Opened.{Stopped}
-use Rattle.groups.proofs.Turns.{stopped}
-use Rattle.opening.proofs.Stuck.{left, left_less, searchable_as}
+use Rattle.opening.proofs.Stuck.{left}
 use Rattle.opening.proofs.open_groups.Given as goal
 
 abbrev pub invariant-loop-g : goal.invariant-loop-g

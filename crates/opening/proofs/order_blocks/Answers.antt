@@ -1,6 +1,5 @@
 use Prim.Native.Nat.{◌+◌, ◌*◌, ◌≤◌, ◌<◌}
 use native.Mathlib.Omega.{arith}
-use borrow.Author.Rules.{rules}
 use lib.ListN.{length}
 use Rattle.reach.specs.MarkRows.{width}
 use Rattle.splitting.proofs.Ordering.{mergeable, leading, few_items, heads_items, heads_few, heads_fit, heads_placed, rows_after}

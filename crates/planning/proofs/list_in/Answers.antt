@@ -1,6 +1,4 @@
-use mathlib.Core.Path.{◌∙◌}
 use native.Mathlib.Omega.{arith}
-use borrow.Author.Rules.{rules}
 use Rattle.groups.proofs.Orders.{scratch_as}
 use Rattle.groups.proofs.Progress.{progress_start, some_tangled, none_tangled}
 use Rattle.groups.proofs.Turns.{stopped}

@@ -1,6 +1,5 @@
 use Prim.Native.Nat.{◌≤◌}
 use native.Mathlib.Omega.{arith}
-use borrow.Author.Rules.{rules}
 use Rattle.planning.proofs.Plans.{zero_lists}
 use Rattle.planning.proofs.list_small.Goals as goal
 

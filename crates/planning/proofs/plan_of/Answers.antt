@@ -2,7 +2,6 @@ use Prim.Native.Nat.{◌≤◌}
 use native.Mathlib.Omega.{arith}
 use Rattle.cells.specs.Limits.{label_limit}
 use Rattle.reach.proofs.Scratch.{zero_square}
-use borrow.Author.Rules.{rules}
 use Rattle.planning.proofs.plan_of.Goals as goal
 
 pub plan_in-requires : goal.plan_in-requires

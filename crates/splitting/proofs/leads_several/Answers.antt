@@ -1,7 +1,6 @@
 use mathlib.Core.Path.{sym, ◌∙◌}
 use lib.ListN.{get_or}
 use borrow.Author.Tests.{eq-eqb, ne_eqb}
-use borrow.Author.Rules.{rules}
 use Rattle.splitting.proofs.leads_several.Goals as goal
 
 pub returns-then-widen-x : goal.returns-then-widen-x

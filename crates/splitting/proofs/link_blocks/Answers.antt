@@ -1,10 +1,9 @@
 use mathlib.Core.Path.{◌≡◌, refl, sym, ◌∙◌, subst}
 use Prim.Native.Nat.{ℕ, ◌+◌, ◌≤◌}
 use native.Mathlib.Omega.{arith}
-use borrow.Author.Rules.{rules}
 use lib.ListN.{length, get_or, set, length-set}
 use Rattle.order.specs.LabelLists.{◌∈◌}
-use Rattle.splitting.proofs.Linking.{Linking, linking_none, link_item, linking_turn, linking_all}
+use Rattle.splitting.proofs.Linking.{linking_none, link_item, linking_turn, linking_all}
 use Rattle.splitting.proofs.link_blocks.Goals as goal
 use Rattle.splitting.proofs.link_blocks.Goals.{After-widen-b, After-widen-x}
 

@@ -1,10 +1,7 @@
-use mathlib.Core.Path.{◌≡◌, refl, sym, ◌∙◌, subst}
-use Prim.Native.Nat.{ℕ, ◌+◌, ◌≤◌}
-use native.Mathlib.Omega.{arith}
-use borrow.Author.Rules.{rules}
-use lib.ListN.{length, get_or, set, length-set}
-use Rattle.order.specs.LabelLists.{◌∈◌}
-use Rattle.splitting.proofs.Linking.{Linking, linking_none, link_item, linking_turn, linking_all}
+use mathlib.Core.Path.{◌≡◌}
+use Prim.Native.Nat.{◌≤◌}
+use lib.ListN.{length}
+use Rattle.splitting.proofs.Linking.{Linking}
 use Rattle.splitting.proofs.link_blocks.Given as goal
 
 abbrev pub invariant-loop-i : goal.invariant-loop-i

@@ -1,14 +1,12 @@
-use mathlib.Core.Path.{◌≡◌, refl, sym, ◌∙◌, subst}
-use mathlib.Core.Logic.{⊎_elim}
+use mathlib.Core.Path.{refl, sym, ◌∙◌, subst}
 use mathlib.Core.List.{List}
-use Prim.Native.Nat.{ℕ, ◌-◌, ◌≤◌}
+use Prim.Native.Nat.{ℕ, ◌≤◌}
 use native.Mathlib.Omega.{arith}
-use borrow.Author.Rules.{rules}
-use lib.ListN.{length, take}
+use lib.ListN.{take}
 use lib.Seq.{take_all}
 use Rattle.order.specs.LabelLists.{◌∈◌}
 use Rattle.groups.proofs.Orders.{scratch_as}
-use Rattle.splitting.proofs.Opening.{Opening, block_chains_of, opening_none, opening_all, here, block_chain, block_chains, test_opens, test_leaves, opening_skip, opening_turn}
+use Rattle.splitting.proofs.Opening.{block_chains_of, opening_none, opening_all, here, block_chain, block_chains, test_opens, test_leaves, opening_skip, opening_turn}
 use Rattle.splitting.proofs.open_blocks.Goals as goal
 use Rattle.splitting.proofs.open_blocks.Goals.{After-widen-x, else-leads_several, then-leads_several}
 

@@ -2,7 +2,6 @@ use mathlib.Core.Path.{refl}
 use native.Mathlib.Omega.{arith}
 use lib.ListN.{length}
 use Rattle.retouching.proofs.Calls.{run_standing, run_retouched, run_refused}
-use borrow.Author.Rules.{rules}
 use Rattle.retouching.proofs.retouch_sheet.Goals as goal
 
 pub arithmetic_of-own-requires : goal.arithmetic_of-own-requires

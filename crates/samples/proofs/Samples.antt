@@ -33,16 +33,16 @@ use Rattle.samples.specs.Sample.{given, said, retouch_given, retouch_said, quoti
 use Rattle.samples.specs.Samples.{samples, retouches, divisions}
 
 pub samples_hold : (map given samples ≡ map said samples) × (map retouch_given retouches ≡ map retouch_said retouches)
-unfolding samples retouches
-    is_text is_allowed line labels first_line tie_of head_bad field_cells kinds kind_at code_of is_kind is_definition is_expression has_body has_path wanted_by takes clause_of field_of label_of number_of
-    decimal_of digits_of digits_value all_digits lines_bad line_bad root_line is_name is_path is_letter is_alphanumeric parts structure_bad definition_of owner_of level_of tree_bad same_name
-    lowercase_byte member paths.duplicate_bad
-    paths.head_from paths.head_of paths.target_of paths.path_head_bad paths.later_bad paths.target_bad paths.paths_bad table_short owned_table resolved_table resolved_bad sheet_cells sheet_bad sheet_table read_bad
-    read_reply read_table
-    name_begin name_size name_part cycle_bad plan_short results_short open_bad planned_bad plan_of plan_bad plan_reply plan_cells run_bad run_reply run_table run_plan run_results digits decimal columns_line refusal_line
-    whole_word mixed_word value_line value_lines print_of order_bad follow_bad follow_reply follow_results after_rounds rounded quotient ranged_of result calculated on_number answer_at outcome_of body_by call_by
-    operation_by choice_by entered_by step_by with_fuel outcome value_outcome failing step_sum changes_short list_bad pair_bad pairs_bad retouch_bad retouched retouch_reply retouch_table retouch_plan retouch_results
-    retouch_changes
+unfolding samples retouches is_text is_allowed line labels first_line tie_of head_bad field_cells kinds kind_at code_of is_kind is_definition
+    is_expression has_body has_path wanted_by takes clause_of field_of label_of number_of decimal_of digits_of digits_value all_digits lines_bad
+    line_bad root_line is_name is_path is_letter is_alphanumeric parts structure_bad definition_of owner_of level_of tree_bad same_name
+    lowercase_byte member paths.duplicate_bad paths.head_from paths.head_of paths.target_of paths.path_head_bad paths.later_bad paths.target_bad
+    paths.paths_bad table_short owned_table resolved_table resolved_bad sheet_cells sheet_bad sheet_table read_bad read_reply read_table name_begin
+    name_size name_part cycle_bad plan_short results_short open_bad planned_bad plan_of plan_bad plan_reply plan_cells run_bad run_reply run_table
+    run_plan run_results digits decimal columns_line refusal_line whole_word mixed_word value_line value_lines print_of order_bad follow_bad
+    follow_reply follow_results after_rounds rounded quotient ranged_of result calculated on_number answer_at outcome_of body_by call_by
+    operation_by choice_by entered_by step_by with_fuel outcome value_outcome failing step_sum changes_short list_bad pair_bad pairs_bad retouch_bad
+    retouched retouch_reply retouch_table retouch_plan retouch_results retouch_changes
 samples_hold = (refl, refl)
 
 -- order 5's quotients, by any tie rule

@@ -1,6 +1,5 @@
 -- Rows 1 to 4, then the others and the results.
 use lib.ListN.{length}
-use borrow.Author.Rules.{rules}
 use Rattle.calls.proofs.Lists.{follow_ready, follow_answered, follow_refused}
 use Rattle.calls.proofs.follow.Goals as goal
 

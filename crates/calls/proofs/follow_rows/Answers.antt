@@ -4,7 +4,6 @@ use Prim.Native.Nat.{◌*◌}
 use native.Mathlib.Omega.{arith}
 use lib.ListN.{length}
 use lib.Seq.{length-take-le}
-use borrow.Author.Rules.{rules}
 use Rattle.calls.proofs.Sheets.{sheet_ready}
 use Rattle.calls.proofs.Lists.{list_checked, list_unread}
 use Rattle.calls.proofs.follow_rows.Goals as goal

@@ -4,7 +4,6 @@ use Prim.Native.Nat.{◌*◌}
 use native.Mathlib.Omega.{arith}
 use lib.ListN.{length}
 use lib.Seq.{length-take-le}
-use borrow.Author.Rules.{rules}
 use Rattle.cells.specs.Cells.{zeros}
 use Rattle.calls.proofs.Lists.{list_ready, list_follows, list_refused}
 use Rattle.calls.proofs.follow_sheet.Goals as goal

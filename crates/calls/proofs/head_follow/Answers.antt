@@ -1,6 +1,5 @@
 -- The table's row 4, then that of the results.
 use native.Mathlib.Omega.{arith}
-use borrow.Author.Rules.{rules}
 use Rattle.calls.proofs.Rooms.{opened, results_next, buffer_stop}
 use Rattle.calls.proofs.head_follow.Goals as goal
 

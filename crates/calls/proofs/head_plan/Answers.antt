@@ -1,5 +1,4 @@
 -- Then row 4 of the plan.
-use borrow.Author.Rules.{rules}
 use Rattle.calls.proofs.Rooms.{plan_next, buffer_stop}
 use Rattle.calls.proofs.head_plan.Goals as goal
 

@@ -1,6 +1,5 @@
 -- Then row 4 of the results.
 use native.Mathlib.Omega.{arith}
-use borrow.Author.Rules.{rules}
 use Rattle.calls.proofs.Rooms.{opened, run_next, run_stop}
 use Rattle.calls.proofs.head_run.Goals as goal
 

@@ -1,6 +1,5 @@
 -- Rows 1 to 3, then row 4 of the table.
 use native.Mathlib.Omega.{arith}
-use borrow.Author.Rules.{rules}
 use Rattle.reading.proofs.Stage.{head_passed}
 use Rattle.calls.proofs.Rooms.{table_next, table_stop}
 use Rattle.calls.proofs.head_table.Goals as goal

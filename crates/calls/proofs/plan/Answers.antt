@@ -1,6 +1,5 @@
 -- Rows 1 to 4, then the others.
 use lib.ListN.{length}
-use borrow.Author.Rules.{rules}
 use Rattle.calls.proofs.Calls.{plan_ready, plan_answered, plan_refused}
 use Rattle.calls.proofs.plan.Goals as goal
 

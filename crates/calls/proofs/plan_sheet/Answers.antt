@@ -2,7 +2,6 @@
 use mathlib.Core.Path.{◌∙◌, ap}
 use native.Mathlib.Omega.{arith}
 use lib.ListN.{length}
-use borrow.Author.Rules.{rules}
 use Rattle.cells.specs.Cells.{zeros}
 use Rattle.calls.proofs.Sheets.{sheet_ready, sheet_plans, sheet_refused, refused_plans}
 use Rattle.calls.proofs.plan_sheet.Goals as goal

@@ -2,7 +2,6 @@
 use mathlib.Core.Path.{refl, sym}
 use Prim.Native.Nat.{◌*◌}
 use lib.Seq.{length-take-le}
-use borrow.Author.Rules.{rules}
 use Rattle.planning.specs.declared.Planned.TheVariants as made
 use Rattle.calls.proofs.Answers.{table_plans}
 use Rattle.calls.proofs.plan_table.Goals as goal

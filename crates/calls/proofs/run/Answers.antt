@@ -1,6 +1,5 @@
 -- Rows 1 to 4, then the others and the results.
 use lib.ListN.{length}
-use borrow.Author.Rules.{rules}
 use Rattle.calls.proofs.Calls.{run_ready, run_answered, run_refused}
 use Rattle.calls.proofs.run.Goals as goal
 

@@ -4,7 +4,6 @@ use Prim.Native.Nat.{◌*◌}
 use native.Mathlib.Omega.{arith}
 use lib.ListN.{length}
 use lib.Seq.{length-take-le}
-use borrow.Author.Rules.{rules}
 use Rattle.calls.proofs.Calls.{run_down_ready, results_evaluated, results_cleared}
 use Rattle.calls.proofs.run_sheet.Goals as goal
 

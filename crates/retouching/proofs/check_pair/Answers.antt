@@ -1,7 +1,6 @@
 use mathlib.Core.Path.{◌∙◌}
 use Rattle.cells.proofs.Signed.{whole}
 use Rattle.retouching.proofs.Rows.{label_bad, number_fine, number_bad}
-use borrow.Author.Rules.{rules}
 use Rattle.retouching.proofs.check_pair.Goals as goal
 
 pub returns-then-cell_at-ne-NUMBER : goal.returns-then-cell_at-ne-NUMBER

@@ -1,9 +1,5 @@
 use Rattle.retouching.proofs.Rows.{pairs_next, pairs_stop}
-use borrow.Author.Rules.{rules}
 use Rattle.retouching.proofs.check_pairs.Goals as goal
-
-pub enum_told-1 : goal.enum_told-1
-enum_told-1 c = search rules
 
 pub returns-in-Fine : goal.returns-in-Fine
 returns-in-Fine c = pairs_next c.args.table.now c.args.pairs.now c.check_list.ensures c.in-Fine.is c.check_each.ensures

@@ -1,5 +1,4 @@
 use Rattle.retouching.proofs.Calls.{changes_next, changes_stop}
-use borrow.Author.Rules.{rules}
 use Rattle.retouching.proofs.head_retouch.Goals as goal
 
 pub returns-in-Answered : goal.returns-in-Answered

@@ -1,6 +1,5 @@
 use lib.ListN.{length}
 use Rattle.retouching.proofs.Calls.{retouch_ready, retouch_answered, retouch_refused}
-use borrow.Author.Rules.{rules}
 use Rattle.retouching.proofs.retouch.Goals as goal
 
 pub retouch_sheet-requires : goal.retouch_sheet-requires
@@ -19,4 +18,4 @@ returns-in-Refused c =
     let zeroed = c.clear_all.ensures in
     retouch_refused c.args.text.now c.args.pairs.now (length c.args.table.now) (length c.args.plan.now) (length c.args.results.now)
     (length c.args.changes.now) _ c.head_retouch.ensures _ _ _ _ _ _ c.in-Refused.is
-    zeroed.0 zeroed.1.0 zeroed.1.1.0 zeroed.1.1.1
+    zeroed.table_after zeroed.plan_after zeroed.results_after zeroed.changes_after

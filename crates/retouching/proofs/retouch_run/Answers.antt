@@ -4,14 +4,10 @@ use native.Mathlib.Omega.{arith}
 use lib.Seq.{length-take-le}
 use Rattle.retouching.proofs.Rows.{pairs_right, pairs_few}
 use Rattle.retouching.proofs.Calls.{run_applied, run_cleared}
-use borrow.Author.Rules.{rules}
 use Rattle.retouching.proofs.retouch_run.Goals as goal
 
 pub slice_bounds-check_pairs-end-2 : goal.slice_bounds-check_pairs-end-2
 slice_bounds-check_pairs-end-2 c = sym (length-take-le (8 * c.args.n) c.args.table.now c.requires.1)
-
-pub enum_told-1 : goal.enum_told-1
-enum_told-1 c = search rules
 
 pub slice_bounds-apply_pairs-end-in-Fine : goal.slice_bounds-apply_pairs-end-in-Fine
 slice_bounds-apply_pairs-end-in-Fine c = sym (length-take-le (8 * c.args.n) c.args.table.now c.requires.1)
@@ -29,4 +25,6 @@ returns-in-Fine c =
 pub returns-in-Refused : goal.returns-in-Refused
 returns-in-Refused c =
     let found = sym c.in-Refused.is ∙ c.check_pairs.ensures in
-    run_cleared _ _ _ _ _ _ _ found c.clear_all.ensures
+    let zeroed = c.clear_all.ensures in
+    run_cleared _ _ _ _ _ _ _ found
+    (zeroed.table_after, (zeroed.plan_after, (zeroed.results_after, zeroed.changes_after)))

@@ -2,7 +2,6 @@ use mathlib.Core.Path.{refl}
 use native.Mathlib.Omega.{arith}
 use lib.ListN.{length}
 use Rattle.retouching.proofs.Calls.{run_standing, run_retouched, run_refused}
-use borrow.Author.Rules.{rules}
 use Rattle.retouching.proofs.retouch_sheet.Goals as goal
 
 pub arithmetic_of-own-requires : goal.arithmetic_of-own-requires
@@ -10,8 +9,7 @@ arithmetic_of-own-requires c = c.requires.0.head
 
 pub retouch_run-found-requires : goal.retouch_run-found-requires
 retouch_run-found-requires c =
-    let own = c.arithmetic_of-own.ensures in
-    (
+    let own = c.arithmetic_of-own.ensures in (
       run_standing c.args.text.now c.args.pairs.now (length c.args.table.now) (length c.args.plan.now) (length c.args.results.now)
           (length c.args.changes.now) c.args.n _ _ _ _ c.requires.0 c.run_sheet.ensures _ c.in-Whole.is refl _ refl own
           c.requires.2 c.requires.3 c.run_sheet.auto.table c.run_sheet.auto.plan c.run_sheet.auto.results,
@@ -21,8 +19,7 @@ retouch_run-found-requires c =
 
 pub retouch_run-found-requires-in-Mixed : goal.retouch_run-found-requires-in-Mixed
 retouch_run-found-requires-in-Mixed c =
-    let own = c.arithmetic_of-own.ensures in
-    (
+    let own = c.arithmetic_of-own.ensures in (
       run_standing c.args.text.now c.args.pairs.now (length c.args.table.now) (length c.args.plan.now) (length c.args.results.now)
           (length c.args.changes.now) c.args.n _ _ _ _ c.requires.0 c.run_sheet.ensures _ c.in-Mixed.is refl _ refl own
           c.requires.2 c.requires.3 c.run_sheet.auto.table c.run_sheet.auto.plan c.run_sheet.auto.results,

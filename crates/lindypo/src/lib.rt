@@ -1,4 +1,4 @@
-// The C interface: include/lindypo.h declares what is exported here.
+// The calls as C has them, but for their export, which the crate `lindypo_c` makes: include/lindypo.h declares them.
 
 #![tactic(auto)]
 
@@ -68,37 +68,28 @@ fn plan_answer(reply: PlanReply) -> CReply
 }
 
 // Read.
-#[unsafe(no_mangle)]
-pub extern "C" fn lindypo_read(text: &[u8], table: &mut [i64]) -> CReply
+pub fn lindypo_read(text: &[u8], table: &mut [i64]) -> CReply
     ensures { ReadExport text.now (length table.old) result table.new }
 {
     answer_of(reading::read(text, table))
 }
 
 // Name: where the part is that `reading::name` hands back.
-#[unsafe(no_mangle)]
-pub extern "C" fn lindypo_name(text: &[u8], table: &mut [i64], label: i64) -> TextPart
+pub fn lindypo_name(text: &[u8], table: &mut [i64], label: i64) -> TextPart
     ensures { PartLeaves text.now (length table.old) label result table.new }
 {
     reading::name_part(text, table, label)
 }
 
 // Plan.
-#[unsafe(no_mangle)]
-pub extern "C" fn lindypo_plan(text: &[u8], table: &mut [i64], plan: &mut [i64]) -> CReply
+pub fn lindypo_plan(text: &[u8], table: &mut [i64], plan: &mut [i64]) -> CReply
     ensures { PlanExport text.now (length table.old) (length plan.old) result table.new plan.new }
 {
     plan_answer(calls::plan(text, table, plan))
 }
 
 // Run.
-#[unsafe(no_mangle)]
-pub extern "C" fn lindypo_run(
-    text: &[u8],
-    table: &mut [i64],
-    plan: &mut [i64],
-    results: &mut [i64],
-) -> CReply
+pub fn lindypo_run(text: &[u8], table: &mut [i64], plan: &mut [i64], results: &mut [i64]) -> CReply
     ensures { RunExport text.now (length table.old) (length plan.old) (length results.old)
         result table.new plan.new results.new }
 {
@@ -106,21 +97,14 @@ pub extern "C" fn lindypo_run(
 }
 
 // Follow.
-#[unsafe(no_mangle)]
-pub extern "C" fn lindypo_follow(
-    text: &[u8],
-    order: &[i64],
-    table: &mut [i64],
-    results: &mut [i64],
-) -> CReply
+pub fn lindypo_follow(text: &[u8], order: &[i64], table: &mut [i64], results: &mut [i64]) -> CReply
     ensures { FollowExport text.now order.now (length table.old) (length results.old) result table.new results.new }
 {
     answer_of(calls::follow(text, order, table, results))
 }
 
 // Retouch, document 02's order 4.
-#[unsafe(no_mangle)]
-pub extern "C" fn lindypo_retouch(
+pub fn lindypo_retouch(
     text: &[u8],
     pairs: &[i64],
     table: &mut [i64],
@@ -135,8 +119,7 @@ pub extern "C" fn lindypo_retouch(
 }
 
 // The program's print: no call of document 01, so a refusal is printed too.
-#[unsafe(no_mangle)]
-pub extern "C" fn lindypo_print(text: &[u8], out: &mut [u8]) -> Printed
+pub fn lindypo_print(text: &[u8], out: &mut [u8]) -> Printed
     ensures { PrintLeaves text.now (length out.old) result out.new }
 {
     printing::print(text, out)

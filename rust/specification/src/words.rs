@@ -68,10 +68,12 @@ impl<'a> Words<'a> {
         nodes.map_or(&[], |nodes| nodes)
     }
 
-    /// The lines that bring in what is not used.
+    /// The lines that bring in what is not used; of the toolchain's library a trait is
+    /// used by its methods, and the checker looks.
     pub fn unused(&self, used: &HashSet<usize>) -> Vec<(usize, String)> {
         let lines = self.uses.iter().enumerate();
-        let lines = lines.filter(|(at, _)| !used.contains(at));
+        let is_ours = |path: &[String]| path.first().is_some_and(|first| first != "std");
+        let lines = lines.filter(|(at, (path, _))| !used.contains(at) && is_ours(path));
         let unused = lines.map(|(_, (path, line))| (*line, path.join("::")));
         unused.collect()
     }

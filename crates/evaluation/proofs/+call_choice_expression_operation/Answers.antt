@@ -5,7 +5,7 @@ use mir.Syntax.{w64}
 use mir.Val.{to_z, of_z}
 use Rattle.cells.proofs.Signed.{whole}
 use Rattle.evaluation.specs.Evaluation.{gives, call_by, operation_by, choice_by, entered_by}
-use Rattle.evaluation.proofs.Entries.{operand_cell, operand_entry, branch_entry, body_entry, body_cell, read_asks, as_kind}
+use Rattle.evaluation.proofs.Entries.{number_cell, operand_cell, operand_entry, branch_entry, body_entry, body_cell, read_asks, as_kind, as_call}
 use Rattle.evaluation.proofs.Entries.{is_kind_lem, number_ranged, left_less_by}
 use Rattle.evaluation.proofs.Answers.{first_fails, call_deep, call_goes, second_fails, combines, chooses, no_step, entered}
 use Rattle.evaluation.proofs.+call_choice_expression_operation.Goals as goal
@@ -34,14 +34,14 @@ call-expression-requires t c = (
   omega (arith, c.decreases, left_less_by _ _ _ _ _ _ _ c.expression-first.ensures),
   body_entry c.requires.entered c.field-target.ensures c.field-body.ensures
       (number_ranged _ _ _ _ _ _ _ c.expression-first.ensures (operand_entry c.requires.entered _ c.field-argument.ensures refl)
-      (whole c.expression-first.result.number (omega arith)))
+      (whole c.expression-first.result.number c.struct_told-1.given.0.1))
       (omega (arith, c.requires.entered.entry.shallow, c.if-depth-eq-DEPTH.false)),
 )
 
 pub call-returns : goal.call-returns
 call-returns t c =
     call_goes _ _ _ _ _ _ _ c.field-argument.ensures c.expression-first.ensures c.if-first-ne-NUMBER.false c.if-depth-eq-DEPTH.false
-    (whole c.expression-first.result.number (omega arith)) c.field-target.ensures c.field-body.ensures c.expression.ensures
+    (whole c.expression-first.result.number c.struct_told-1.given.0.1) c.field-target.ensures c.field-body.ensures c.expression.ensures
 
 pub choice-field-tested-requires : goal.choice-field-tested-requires
 choice-field-tested-requires t c = operand_cell c.requires refl _ (omega arith)
@@ -63,10 +63,19 @@ choice-expression-requires t c = (
 pub choice-returns : goal.choice-returns
 choice-returns t c =
     chooses _ _ _ _ _ _ _ c.field-tested.ensures c.expression-test.ensures c.if-test-ne-NUMBER.false
-    (whole c.expression-test.result.number (omega arith)) c.branch_of-branch.ensures c.expression.ensures
+    (whole c.expression-test.result.number c.struct_told-1.given.0.1) c.branch_of-branch.ensures c.expression.ensures
 
 pub expression-returns-then-left-eq0 : goal.expression-returns-then-left-eq0
 expression-returns-then-left-eq0 t c = no_step _ _ _ _ _ _ _ c.if-left-eq0.true c.failure.ensures
+
+pub expression-number_of-requires : goal.expression-number_of-requires
+expression-number_of-requires t c = number_cell c.requires
+
+pub expression-call-requires : goal.expression-call-requires
+expression-call-requires t c = (
+  omega (arith, c.decreases, c.step-rest.ensures.0, c.if-left-eq0.false),
+  as_call c.requires c.step-rest.ensures.1 c.field-code.ensures c.clause_of-clause.ensures c.in-Call.is,
+)
 
 pub expression-read-requires : goal.expression-read-requires
 expression-read-requires t c = read_asks (as_kind c.requires c.step-rest.ensures.1 c.field-code.ensures c.clause_of-clause.ensures c.in-Read.is)
@@ -83,7 +92,7 @@ unfolding entered_by
 expression-returns-in-Argument t c =
     entered _ _ _ _ _ _ _ c.if-left-eq0.false c.step-rest.ensures.0 c.step-rest.ensures.1 c.step-rest.ensures.2
     (is_kind_lem c.field-code.ensures c.clause_of-clause.ensures c.in-Argument.is)
-    (c.success-in-Argument.ensures ∙ ap (λ y. gives y c.step-rest.result.left) (whole c.args.given.first (omega arith)))
+    (c.success-in-Argument.ensures ∙ ap (λ y. gives y c.step-rest.result.left) (whole c.args.given.first c.struct_told-1.given.0.1))
 
 pub expression-returns-in-Read : goal.expression-returns-in-Read
 unfolding entered_by
@@ -140,13 +149,13 @@ operation-returns-then-second-ne-NUMBER t c =
 pub operation-combine-requires : goal.operation-combine-requires
 operation-combine-requires t c = (
   number_ranged _ _ _ _ _ _ _ c.expression-first.ensures (operand_entry c.requires _ c.field-a.ensures refl)
-      (whole c.expression-first.result.number (omega arith)),
+      (whole c.expression-first.result.number c.struct_told-1.given.0.1),
   number_ranged _ _ _ _ _ _ _ c.expression-second.ensures (operand_entry c.requires _ c.field-b.ensures refl)
-      (whole c.expression-second.result.number (omega arith)),
+      (whole c.expression-second.result.number c.struct_told-2-1.given.0.1),
 )
 
 pub operation-returns : goal.operation-returns
 operation-returns t c =
     combines _ _ _ _ _ _ _ c.field-a.ensures c.expression-first.ensures c.if-first-ne-NUMBER.false c.field-b.ensures
-    c.expression-second.ensures _ c.if-second-ne-NUMBER.false (whole c.expression-first.result.number (omega arith))
-    (whole c.expression-second.result.number (omega arith)) c.combine.ensures
+    c.expression-second.ensures _ c.if-second-ne-NUMBER.false (whole c.expression-first.result.number c.struct_told-1.given.0.1)
+    (whole c.expression-second.result.number c.struct_told-2-1.given.0.1) c.combine.ensures

@@ -3,7 +3,7 @@ use Prim.Native.Nat.{◌+◌}
 use native.Mathlib.Omega.{arith}
 use Rattle.lines.proofs.Splits.{Left, left_all, left_next, left_none, left_last, spaced_at, last_at, five}
 use Rattle.lines.proofs.split_line.Goals as goal
-use Rattle.lines.proofs.split_line.Goals.{Else-a-eq0, Else-b-eq0, Else-c-eq0, Else-kind-eq0, Else-name-eq0}
+use Rattle.lines.proofs.split_line.Goals.{Else-a-eq0, Else-b-eq0, Else-kind-eq0, Else-name-eq0}
 
 left1 : (c : Else-kind-eq0) →
     Left c.args.text.now c.args.from 4 (c.field_end-kind.result + 1)

@@ -1,4 +1,3 @@
-use borrow.Author.Rules.{rules}
 use Rattle.printing.proofs.Writing.{zeros_left}
 use Rattle.printing.proofs.print.Goals as goal
 

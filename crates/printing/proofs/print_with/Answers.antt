@@ -3,7 +3,6 @@ use Rattle.printing.specs.Print.{whole_word, mixed_word}
 use Rattle.printing.proofs.Runs.{names_in_lem, count_in}
 use Rattle.printing.proofs.Bounds.{print_written}
 use native.Mathlib.Omega.{arith}
-use borrow.Author.Rules.{rules}
 use Rattle.printing.proofs.print_with.Goals as goal
 
 pub put_answer-requires : goal.put_answer-requires

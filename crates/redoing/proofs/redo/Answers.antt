@@ -44,9 +44,11 @@ overflow_add-result-3 c =
     c.requires.tallied.0.short c.evaluate_into.ensures c.steps_of-2.ensures in
     omega (arith, took, c.requires.tallied.0.taken, steps_few (stored c.args.results.now) c.args.n c.requires.tallied.0.short, c.requires.evaluable.2)
 
-pub returns-clause-redone_value : goal.returns-clause-redone_value
-returns-clause-redone_value c =
+pub returns : goal.returns
+returns c =
     let tallied = redone_tally c.args.own c.args.table.now c.args.results.now c.args.label c.args.n (value_room c.requires.evaluable.0) c.requires.evaluable.1
     c.args.before c.requires.tallied.0 c.evaluate_into.ensures c.failed.ensures.0 c.steps_of.ensures c.failed-2.ensures.0
-    c.steps_of-2.ensures in
-    (refl, tallied)
+    c.steps_of-2.ensures in record {
+      results_after = c.evaluate_into.ensures;
+      redone_value = (refl, tallied);
+    }

@@ -11,7 +11,7 @@ use Rattle.redoing.specs.declared.Change.{Change}
 use Rattle.redoing.specs.Pairs.{pair_label, pair_number}
 use Rattle.redoing.proofs.Numbers.{number_label}
 use Rattle.redoing.proofs.Windows.{window_named, redoable_window, redid_window}
-use Rattle.redoing.proofs.Applied.{accepted_still, owner_is, owner_few, pair_redoable, change_fits, pair_applied, redoable_still, redid_still, applied_still}
+use Rattle.redoing.proofs.Applied.{accepted_still, owner_is, owner_few, pair_redoable, change_fits, pair_applied, kept_tally, redoable_still, redid_still, applied_still}
 use Rattle.redoing.proofs.retouch_pair.Goals as goal
 use Rattle.redoing.proofs.retouch_pair.Goals.{After-cell_of-d, After-widen-to}
 
@@ -64,6 +64,16 @@ put_number-requires c =
     let named = c.label_of-label.ensures in
     (rw named l.0, omega (arith, named, l.1, c.requires.standing.accepted.room), c.requires.k_bound.0)
 
+pub cell_of-d-requires : goal.cell_of-d-requires
+cell_of-d-requires c =
+    let right = c.requires.k_bound.1 in
+    let named = c.label_of-label.ensures in
+    let l = number_label _ _ c.requires.standing.accepted (pair_label c.args.pairs.now (c.args.k + 1)) right.line in
+    record {
+      accepted = accepted_still _ _ _ (c.args.k + 1) named c.put_number.ensures c.requires.standing.accepted right;
+      le_label = (rw named l.0, rw named l.1, omega arith, omega arith);
+    }
+
 pub overflow_mul-d : goal.overflow_mul-d
 overflow_mul-d c = omega (arith, owner_small (goal.at.overflow_mul-d c).After-cell_of-d)
 
@@ -88,6 +98,13 @@ bounds-windows-d-2 c = owner_room (goal.at.bounds-windows-d-2 c).After-cell_of-d
 pub overflow_sub-to : goal.overflow_sub-to
 overflow_sub-to c = omega (arith, c.widen-to.ensures, (window_at (goal.at.overflow_sub-to c).After-widen-to).begun)
 
+pub redo_down-change-requires : goal.redo_down-change-requires
+redo_down-change-requires c =
+    let at = (goal.at.redo_down-change-requires c).After-widen-to in record {
+      redoable = redoable_window c.args.windows.now (whole_plan at) (window_at at) c.widen-from.ensures (window_end at);
+      tallied = (kept_tally c.requires.tallied, refl);
+    }
+
 pub put_change-requires : goal.put_change-requires
 put_change-requires c =
     let right = c.requires.k_bound.1 in
@@ -106,18 +123,3 @@ returns c =
     c.cell_of-d.ensures
     (pair_applied _ _ _ _ _ _ c.requires.standing line number right.line right.number refl (whole_done (goal.at.returns c).After-widen-to c.redo_down-change.ensures) c.args.pairs.now
     (c.args.k + 1) refl refl _ _ (rw at-index c.put_change.ensures))
-
-pub cell_of-d-requires-clause-accepted : goal.cell_of-d-requires-clause-accepted
-cell_of-d-requires-clause-accepted c =
-    accepted_still _ _ _ (c.args.k + 1) c.label_of-label.ensures c.put_number.ensures c.requires.standing.accepted c.requires.k_bound.1
-
-pub cell_of-d-requires-clause-le_label : goal.cell_of-d-requires-clause-le_label
-cell_of-d-requires-clause-le_label c =
-    let l = number_label _ _ c.requires.standing.accepted (pair_label c.args.pairs.now (c.args.k + 1)) c.requires.k_bound.1.line in
-    let named = c.label_of-label.ensures in
-    (rw named l.0, rw named l.1, omega arith, omega arith)
-
-pub redo_down-change-requires-clause-redoable : goal.redo_down-change-requires-clause-redoable
-redo_down-change-requires-clause-redoable c =
-    let at = (goal.at.redo_down-change-requires-clause-redoable c).After-widen-to in
-    redoable_window c.args.windows.now (whole_plan at) (window_at at) c.widen-from.ensures (window_end at)

@@ -24,22 +24,21 @@ module _ (c : After-widen-b) where
 pub loop-i-init : goal.loop-i-init
 loop-i-init c = (refl, omega arith, expanding_none _ _ _ _ c.requires.chains _)
 
-pub bounds-order-i : goal.bounds-order-i
-bounds-order-i c = omega (arith, c.loop-i-test.true, c.requires.n_le_label_limit.2)
-
 pub append_chain-m-requires : goal.append_chain-m-requires
 append_chain-m-requires c =
-    let p = c.requires in record {
-  n_le_label_limit = (p.n_le_label_limit.0, p.chains.label _ (item (goal.at.append_chain-m-requires c).After-widen-b), p.n_le_label_limit.1, c.loop-i.invariant.2.short);
-  walkable_chain = expand_walk _ _ _ _ p.chains _ c.loop-i.invariant.0 _ _ c.loop-i.invariant.2 (before (goal.at.append_chain-m-requires c).After-widen-b) _ (here (goal.at.append_chain-m-requires c).After-widen-b);
-}
+    let p = c.requires in
+    let k = (goal.at.append_chain-m-requires c).After-widen-b in record {
+      n_le_label_limit = (p.n_le_label_limit.0, p.chains.label _ (item k), p.n_le_label_limit.1, c.loop-i.invariant.2.short);
+      walkable_chain = expand_walk _ _ _ _ p.chains _ c.loop-i.invariant.0 _ _ c.loop-i.invariant.2 (before k) _ (here k);
+    }
 
 pub loop-i-preserved : goal.loop-i-preserved
 loop-i-preserved c =
-    let p = c.requires in (
+    let p = c.requires in
+    let k = (goal.at.loop-i-preserved c).After-widen-b in (
       c.append_chain-m.auto.items ∙ c.loop-i.invariant.0,
       omega (arith, c.loop-i-test.true),
-      expanding_turn _ _ _ _ p.chains _ c.loop-i.invariant.0 _ _ c.loop-i.invariant.2 (before (goal.at.loop-i-preserved c).After-widen-b) _ (here (goal.at.loop-i-preserved c).After-widen-b) _ _ c.append_chain-m.ensures,
+      expanding_turn _ _ _ _ p.chains _ c.loop-i.invariant.0 _ _ c.loop-i.invariant.2 (before k) _ (here k) _ _ c.append_chain-m.ensures,
     )
 
 pub returns : goal.returns

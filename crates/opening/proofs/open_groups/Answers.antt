@@ -13,34 +13,29 @@ open_group-requires c =
     let p = c.requires in
     let inv = c.loop-g.invariant in
     let z = c.loop-g-test.true in record {
-  accepted = p.accepted;
-  n_in_bounds = (
-          (omega (arith, p.n_in_bounds.0.0, inv.1), omega (arith, p.n_in_bounds.0.1, inv.2), omega (arith, p.n_in_bounds.0.2, inv.12)),
-          scratch_as _ _ _ _ _ _ _ _ _ inv.3 inv.4 inv.5 inv.7 p.n_in_bounds.1,
-        );
-  search_room = searchable_as _ _ _ _ _ _ _ _ _ _ _ inv.6 inv.8 inv.9 inv.10 inv.11 p.search_room;
-  n_in_bounds_2 = (omega (arith, p.n_in_bounds_2.0, inv.0), inv.13.rows z);
-  openable = inv.13.turn z;
-}
-
-pub overflow_add-g : goal.overflow_add-g
-overflow_add-g c =
-    let p = c.requires in
-    omega (arith, p.accepted.0.few, (c.loop-g.invariant.13.turn c.loop-g-test.true).high)
+      accepted = p.accepted;
+      n_in_bounds = (
+        (omega (arith, p.n_in_bounds.0.0, inv.1), omega (arith, p.n_in_bounds.0.1, inv.2), omega (arith, p.n_in_bounds.0.2, inv.12)),
+        scratch_as _ _ _ _ _ _ _ _ _ inv.3 inv.4 inv.5 inv.7 p.n_in_bounds.1,
+      );
+      search_room = searchable_as _ _ _ _ _ _ _ _ _ _ _ inv.6 inv.8 inv.9 inv.10 inv.11 p.search_room;
+      n_in_bounds_2 = (omega (arith, p.n_in_bounds_2.0, inv.0), inv.13.rows z);
+      openable = inv.13.turn z;
+    }
 
 pub order_groups-g-requires : goal.order_groups-g-requires
 order_groups-g-requires c =
     let p = c.requires in
     let inv = c.loop-g.invariant in
     let op = inv.13.turn c.loop-g-test.true in record {
-  accepted = p.accepted.0;
-  le_from = (
-    (omega arith, omega (arith, op.high), omega (arith, p.n_in_bounds.0.0, inv.1, c.open_group.auto.next), omega (arith, p.n_in_bounds.0.1, inv.2, c.open_group.auto.items)),
-    scratch_as _ _ _ _ _ _ _ _ _ (c.open_group.auto.mask ∙ inv.3) (c.open_group.auto.unmet ∙ inv.4)
-        (c.open_group.auto.ready ∙ inv.5) (c.open_group.auto.order ∙ inv.7) p.n_in_bounds.1,
-  );
-  n_in_bounds = ((omega (arith, p.n_in_bounds_2.0, inv.0, c.open_group.auto.square), c.open_group.ensures.1), c.open_group.ensures.0);
-}
+      accepted = p.accepted.0;
+      le_from = (
+        (omega arith, omega (arith, op.high), omega (arith, p.n_in_bounds.0.0, inv.1, c.open_group.auto.next), omega (arith, p.n_in_bounds.0.1, inv.2, c.open_group.auto.items)),
+        scratch_as _ _ _ _ _ _ _ _ _ (c.open_group.auto.mask ∙ inv.3) (c.open_group.auto.unmet ∙ inv.4)
+            (c.open_group.auto.ready ∙ inv.5) (c.open_group.auto.order ∙ inv.7) p.n_in_bounds.1,
+      );
+      n_in_bounds = ((omega (arith, p.n_in_bounds_2.0, inv.0, c.open_group.auto.square), c.open_group.ensures.1), c.open_group.ensures.0);
+    }
 
 pub loop-g-smaller : goal.loop-g-smaller
 loop-g-smaller c =

@@ -28,12 +28,6 @@ module _ (t : ℕ) (c : Then-k-eq-VALUE t) where
       value_room _ _ p.accepted _ _ _ _ _ _ _ c.loop-x.invariant.1 c.loop-x-test.true value
       (kind_g c.args.table.now c.args.group p.le_group.2) _ (omega (arith, p.group_in_bounds, c.loop-x.invariant.0))
 
-pub offset_bounds-next-group : goal.offset_bounds-next-group
-offset_bounds-next-group t c = omega (arith, c.requires.accepted.few, c.requires.le_group.1)
-
-pub bounds-next-group : goal.bounds-next-group
-bounds-next-group t c = omega (arith, c.requires.le_group.1, c.requires.n_in_bounds.0)
-
 pub loop-x-init : goal.loop-x-init
 loop-x-init t c =
     let p = c.requires in
@@ -57,14 +51,8 @@ kind_of-k-requires t c =
 pub overflow_cast-plan : goal.overflow_cast-plan
 overflow_cast-plan t c = record { sfits = omega (arith, label t (goal.at.overflow_cast-plan t c).In-loop-x, c.widen-p.ensures, c.requires.accepted.few) }
 
-pub offset_bounds-plan-to : goal.offset_bounds-plan-to
-offset_bounds-plan-to t c = omega (arith, room t (goal.at.offset_bounds-plan-to t c).Then-k-eq-VALUE, c.well_formed)
-
 pub bounds-plan-to : goal.bounds-plan-to
 bounds-plan-to t c = room t (goal.at.bounds-plan-to t c).Then-k-eq-VALUE
-
-pub overflow_add-to : goal.overflow_add-to
-overflow_add-to t c = omega (arith, room t (goal.at.overflow_add-to t c).Then-k-eq-VALUE, c.well_formed)
 
 pub loop-x-smaller-then-k-eq-VALUE : goal.loop-x-smaller-then-k-eq-VALUE
 loop-x-smaller-then-k-eq-VALUE t c =
@@ -84,8 +72,7 @@ list_group-to-requires t c =
     let p = c.requires in
     let b = label t (goal.at.list_group-to-requires t c).In-loop-x in
     let u = c.loop-x.invariant.1 in
-    let k = ap (kind c.args.table.now) (sym c.widen-p.ensures) ∙ sym c.kind_of-k.ensures ∙ c.if-k-eq-GROUP.true in
-    (
+    let k = ap (kind c.args.table.now) (sym c.widen-p.ensures) ∙ sym c.kind_of-k.ensures ∙ c.if-k-eq-GROUP.true in (
       omega (arith, b, c.decreases, p.le_group.1, c.widen-p.ensures),
       (
         p.accepted,

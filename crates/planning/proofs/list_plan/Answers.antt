@@ -9,9 +9,9 @@ list_in-requires c =
     let p = c.requires in
     let h : c.args.n ≤ label_limit = p.accepted.few in
     let z = zero_lists c.args.n 1025 17 (omega arith) (omega arith) in record {
-  accepted = p.accepted;
-  n_in_bounds = p.n_in_bounds;
-  n_in_bounds_2 = p.n_in_bounds_2;
-  n_in_bounds_3 = z.0;
-  n_in_bounds_4 = z.1;
-}
+      accepted = p.accepted;
+      n_in_bounds = p.n_in_bounds;
+      n_in_bounds_2 = p.n_in_bounds_2;
+      n_in_bounds_3 = z.0;
+      n_in_bounds_4 = z.1;
+    }

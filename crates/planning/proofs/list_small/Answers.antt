@@ -8,9 +8,9 @@ list_in-requires c =
     let p = c.requires in
     let h : c.args.n ≤ 127 = p.n_bound in
     let z = zero_lists c.args.n 128 2 (omega arith) (omega arith) in record {
-  accepted = p.accepted;
-  n_in_bounds = p.n_in_bounds;
-  n_in_bounds_2 = p.n_in_bounds_2;
-  n_in_bounds_3 = z.0;
-  n_in_bounds_4 = z.1;
-}
+      accepted = p.accepted;
+      n_in_bounds = p.n_in_bounds;
+      n_in_bounds_2 = p.n_in_bounds_2;
+      n_in_bounds_3 = z.0;
+      n_in_bounds_4 = z.1;
+    }

@@ -4,22 +4,13 @@ use Rattle.cells.specs.Limits.{label_limit}
 use Rattle.planning.proofs.Plans.{zero_search}
 use Rattle.planning.proofs.open_stuck.Goals as goal
 
-pub open_small-requires : goal.open_small-requires
-open_small-requires c =
-    let p = c.requires in record {
-  accepted = p.accepted;
-  n_bound = c.if-n-le127.true;
-  n_in_bounds = p.n_in_bounds;
-  n_in_bounds_2 = p.n_in_bounds_2;
-}
-
 pub open_groups-requires : goal.open_groups-requires
 open_groups-requires c =
     let p = c.requires in
     let h : c.args.n ≤ label_limit = p.accepted.0.few in
     let z = zero_search c.args.n 1025 17 (omega arith) (omega arith) in record {
-  accepted = p.accepted;
-  n_in_bounds = ((p.n_in_bounds.0.0, p.n_in_bounds.0.1, z.0), p.n_in_bounds.1);
-  search_room = z.1;
-  n_in_bounds_2 = p.n_in_bounds_2;
-}
+      accepted = p.accepted;
+      n_in_bounds = ((p.n_in_bounds.0.0, p.n_in_bounds.0.1, z.0), p.n_in_bounds.1);
+      search_room = z.1;
+      n_in_bounds_2 = p.n_in_bounds_2;
+    }

@@ -24,9 +24,9 @@ mask_items-requires c =
     let a = c.args in
     let p = c.requires in
     let g = c.append_chain-m.ensures (members a.table.now a.n a.group) p.chain in record {
-  accepted = p.accepted;
-  by_index = ((member_items _ _ p.accepted _ _ _ g).defs, p.group_le_n.1.masks);
-}
+      accepted = p.accepted;
+      by_index = ((member_items _ _ p.accepted _ _ _ g).defs, p.group_le_n.1.masks);
+    }
 
 pub slice_bounds-find_blocks-end : goal.slice_bounds-find_blocks-end
 slice_bounds-find_blocks-end c = (c.append_chain-m.ensures (members c.args.table.now c.args.n c.args.group) c.requires.chain).within
@@ -37,9 +37,9 @@ find_blocks-requires c =
     let p = c.requires in
     let g = c.append_chain-m.ensures (members a.table.now a.n a.group) p.chain in
     let wide : width a.n ≤ length c.mask_items.new.mask = omega (arith, p.group_le_n.1.masks, c.mask_items.auto.mask) in record {
-  in_rows = find_asks _ _ p.accepted _ _ _ g _ _ p.n_in_bounds.0 wide c.mask_items.ensures;
-  room = find_room _ _ p.accepted _ _ _ g _ _ _ _ _ _ _ _ _ p.group_le_n.1 p.search_room;
-}
+      in_rows = find_asks _ _ p.accepted _ _ _ g _ _ p.n_in_bounds.0 wide c.mask_items.ensures;
+      room = find_room _ _ p.accepted _ _ _ g _ _ _ _ _ _ _ _ _ p.group_le_n.1 p.search_room;
+    }
 
 pub returns : goal.returns
 returns c =

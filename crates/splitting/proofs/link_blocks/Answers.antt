@@ -34,48 +34,37 @@ clear_cells-requires c =
 pub loop-i-init : goal.loop-i-init
 loop-i-init c = (refl, omega arith, linking_none _ _ _ (length c.args.items.now) _ (omega arith) c.clear_cells.ensures)
 
-pub bounds-items-i : goal.bounds-items-i
-bounds-items-i c = omega (arith, c.loop-i.invariant.1, c.loop-i-test.true)
-
-pub offset_bounds-lead-x : goal.offset_bounds-lead-x
-offset_bounds-lead-x c = omega (arith, label (goal.at.offset_bounds-lead-x c).After-widen-x, c.requires.0)
-
 pub bounds-lead-x : goal.bounds-lead-x
 bounds-lead-x c = c.requires.1.leading _ (item (goal.at.bounds-lead-x c).After-widen-x)
 
-pub offset_bounds-links-b : goal.offset_bounds-links-b
-offset_bounds-links-b c = omega (arith, lead_label (goal.at.offset_bounds-links-b c).After-widen-b (item (goal.at.offset_bounds-links-b c).After-widen-x), label (goal.at.offset_bounds-links-b c).After-widen-x, c.requires.0)
-
 pub bounds-links-b : goal.bounds-links-b
-bounds-links-b c = omega (arith, lead_label (goal.at.bounds-links-b c).After-widen-b (item (goal.at.bounds-links-b c).After-widen-x), c.requires.1.room, same (goal.at.bounds-links-b c).After-widen-x)
-
-pub overflow_add-links : goal.overflow_add-links
-overflow_add-links c = omega (arith, lead_label (goal.at.overflow_add-links c).After-widen-b (item (goal.at.overflow_add-links c).After-widen-x), label (goal.at.overflow_add-links c).After-widen-x, c.requires.0)
-
-pub offset_bounds-links-n : goal.offset_bounds-links-n
-offset_bounds-links-n c = omega (arith, lead_label (goal.at.offset_bounds-links-n c).After-widen-b (item (goal.at.offset_bounds-links-n c).After-widen-x), label (goal.at.offset_bounds-links-n c).After-widen-x, c.requires.0)
+bounds-links-b c =
+    let k = goal.at.bounds-links-b c in
+    omega (arith, lead_label k.After-widen-b (item k.After-widen-x), c.requires.1.room, same k.After-widen-x)
 
 pub bounds-links-n : goal.bounds-links-n
-bounds-links-n c = omega (arith, label (goal.at.bounds-links-n c).After-widen-x, c.requires.1.room, same (goal.at.bounds-links-n c).After-widen-x)
-
-pub overflow_cast-links : goal.overflow_cast-links
-overflow_cast-links c = omega (arith, lead_label (goal.at.overflow_cast-links c).After-widen-b (item (goal.at.overflow_cast-links c).After-widen-x), label (goal.at.overflow_cast-links c).After-widen-x, c.requires.0)
-
-pub offset_bounds-links-b-in-loop-i : goal.offset_bounds-links-b-in-loop-i
-offset_bounds-links-b-in-loop-i c = omega (arith, lead_label (goal.at.offset_bounds-links-b-in-loop-i c).After-widen-b (item (goal.at.offset_bounds-links-b-in-loop-i c).After-widen-x), label (goal.at.offset_bounds-links-b-in-loop-i c).After-widen-x, c.requires.0)
+bounds-links-n c =
+    let k = goal.at.bounds-links-n c in
+    omega (arith, label k.After-widen-x, c.requires.1.room, same k.After-widen-x)
 
 pub bounds-links-b-in-loop-i : goal.bounds-links-b-in-loop-i
-bounds-links-b-in-loop-i c = omega (arith, lead_label (goal.at.bounds-links-b-in-loop-i c).After-widen-b (item (goal.at.bounds-links-b-in-loop-i c).After-widen-x), c.requires.1.room, same (goal.at.bounds-links-b-in-loop-i c).After-widen-x, length-set c.loop-i.links (c.args.n + c.widen-x.result) (get_or c.loop-i.links c.widen-b.result 0))
-
-pub loop-i-preserved : goal.loop-i-preserved
-loop-i-preserved c = (
-      length-set (set c.loop-i.links _ _) _ _ ∙ length-set c.loop-i.links _ _ ∙ c.loop-i.invariant.0,
-      omega (arith, c.loop-i.invariant.1),
-      linking_turn _ _ _ _ _ _ c.requires.1 (same (goal.at.loop-i-preserved c).After-widen-x) c.loop-i.invariant.2 c.loop-i-test.true c.loop-i.invariant.1 _ _ c.widen-x.ensures c.widen-b.ensures,
+bounds-links-b-in-loop-i c =
+    let k = goal.at.bounds-links-b-in-loop-i c in
+    omega (
+      arith,
+      lead_label k.After-widen-b (item k.After-widen-x),
+      c.requires.1.room,
+      same k.After-widen-x,
+      length-set c.loop-i.links (c.args.n + c.widen-x.result) (get_or c.loop-i.links c.widen-b.result 0),
     )
 
-pub shape_of-links : goal.shape_of-links
-shape_of-links c = c.loop-i.invariant.0 ∙ c.clear_cells.auto.cells
+pub loop-i-preserved : goal.loop-i-preserved
+loop-i-preserved c =
+    let k = goal.at.loop-i-preserved c in (
+      length-set (set c.loop-i.links _ _) _ _ ∙ length-set c.loop-i.links _ _ ∙ c.loop-i.invariant.0,
+      omega (arith, c.loop-i.invariant.1),
+      linking_turn _ _ _ _ _ _ c.requires.1 (same k.After-widen-x) c.loop-i.invariant.2 c.loop-i-test.true c.loop-i.invariant.1 _ _ c.widen-x.ensures c.widen-b.ensures,
+    )
 
 pub returns : goal.returns
 returns c = linking_all _ _ _ c.loop-i.i _ (omega (arith, c.loop-i-test.false)) c.loop-i.invariant.2

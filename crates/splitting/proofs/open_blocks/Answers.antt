@@ -49,15 +49,15 @@ open_lead-requires c =
     let op = p.block_chains.1 in
     let inv = c.loop-i.invariant in
     let s = test_opens _ _ p.accepted.0 _ _ _ led.led _ led.are _ _ c.loop-i-test.true c.widen-x.ensures _ _ c.loop-i.invariant.7 (sym c.leads_several.ensures ∙ c.if-leads_several.true) in record {
-  accepted = p.accepted;
-  b_le_n = ((label (goal.at.open_lead-requires c).After-widen-x).1, omega (arith, p.n_in_bounds.0.0, inv.0), omega (arith, p.n_in_bounds.0.1, inv.1), omega (arith, p.n_in_bounds.0.2, inv.2));
-  scratch = scratch_as _ _ _ _ _ _ _ _ _ inv.3 inv.4 inv.5 inv.6 p.n_in_bounds.1;
-  n_in_bounds = p.n_in_bounds_2;
-  chain = (
-              block_chain _ _ p.accepted.0 _ _ _ led.led _ led.are _ _ c.loop-i-test.true c.widen-x.ensures _ _ c.loop-i.invariant.7 s.0,
-              block_chains _ _ p.accepted.0 _ _ _ led.led _ led.are _ _ c.loop-i-test.true c.widen-x.ensures _ _ c.loop-i.invariant.7 s.0 s.1 op.low op.free op.progress,
-            );
-}
+      accepted = p.accepted;
+      b_le_n = ((label (goal.at.open_lead-requires c).After-widen-x).1, omega (arith, p.n_in_bounds.0.0, inv.0), omega (arith, p.n_in_bounds.0.1, inv.1), omega (arith, p.n_in_bounds.0.2, inv.2));
+      scratch = scratch_as _ _ _ _ _ _ _ _ _ inv.3 inv.4 inv.5 inv.6 p.n_in_bounds.1;
+      n_in_bounds = p.n_in_bounds_2;
+      chain = (
+        block_chain _ _ p.accepted.0 _ _ _ led.led _ led.are _ _ c.loop-i-test.true c.widen-x.ensures _ _ c.loop-i.invariant.7 s.0,
+        block_chains _ _ p.accepted.0 _ _ _ led.led _ led.are _ _ c.loop-i-test.true c.widen-x.ensures _ _ c.loop-i.invariant.7 s.0 s.1 op.low op.free op.progress,
+      );
+    }
 
 pub loop-i-preserved : goal.loop-i-preserved
 loop-i-preserved c =
@@ -65,28 +65,30 @@ loop-i-preserved c =
     let led = p.led_members.0 in
     let inv = c.loop-i.invariant in
     elim c.if-leads_several.branch [
-      then-leads_several w ↦ let s = test_opens _ _ p.accepted.0 _ _ _ led.led _ led.are _ _ c.loop-i-test.true c.widen-x.ensures _ _ c.loop-i.invariant.7 (sym c.leads_several.ensures ∙ w.if-leads_several.true) in
-    rw (w.next-is, w.links-is, w.pile-is, w.mask-is, w.unmet-is, w.ready-is, w.order-is) (
-      w.open_lead.auto.next ∙ inv.0,
-      w.open_lead.auto.links ∙ inv.1,
-      w.open_lead.auto.pile ∙ inv.2,
-      w.open_lead.auto.mask ∙ inv.3,
-      w.open_lead.auto.unmet ∙ inv.4,
-      w.open_lead.auto.ready ∙ inv.5,
-      w.open_lead.auto.order ∙ inv.6,
-      opening_turn _ _ p.accepted.0 _ _ _ led.led _ led.are _ _ c.loop-i-test.true c.widen-x.ensures _ _ c.loop-i.invariant.7 s.0 s.1 _ _ w.open_lead.ensures.chains_cleared w.open_lead.ensures.relinked,
-    )
-    | else-leads_several w ↦ rw (w.next-is, w.links-is, w.pile-is, w.mask-is, w.unmet-is, w.ready-is, w.order-is) (
-      inv.0,
-      inv.1,
-      inv.2,
-      inv.3,
-      inv.4,
-      inv.5,
-      inv.6,
-      opening_skip _ _ p.accepted.0 _ _ _ led.led _ led.are _ _ c.loop-i-test.true c.widen-x.ensures _ _ c.loop-i.invariant.7
-          (test_leaves _ _ p.accepted.0 _ _ _ led.led _ led.are _ _ c.loop-i-test.true c.widen-x.ensures _ _ c.loop-i.invariant.7 (sym c.leads_several.ensures ∙ w.if-leads_several.false)),
-    )
+      | then-leads_several w ↦
+          let s = test_opens _ _ p.accepted.0 _ _ _ led.led _ led.are _ _ c.loop-i-test.true c.widen-x.ensures _ _ inv.7 (sym c.leads_several.ensures ∙ w.if-leads_several.true) in
+          rw (w.next-is, w.links-is, w.pile-is, w.mask-is, w.unmet-is, w.ready-is, w.order-is) (
+            w.open_lead.auto.next ∙ inv.0,
+            w.open_lead.auto.links ∙ inv.1,
+            w.open_lead.auto.pile ∙ inv.2,
+            w.open_lead.auto.mask ∙ inv.3,
+            w.open_lead.auto.unmet ∙ inv.4,
+            w.open_lead.auto.ready ∙ inv.5,
+            w.open_lead.auto.order ∙ inv.6,
+            opening_turn _ _ p.accepted.0 _ _ _ led.led _ led.are _ _ c.loop-i-test.true c.widen-x.ensures _ _ inv.7 s.0 s.1 _ _
+                w.open_lead.ensures.chains_cleared w.open_lead.ensures.relinked,
+          )
+      | else-leads_several w ↦ rw (w.next-is, w.links-is, w.pile-is, w.mask-is, w.unmet-is, w.ready-is, w.order-is) (
+        inv.0,
+        inv.1,
+        inv.2,
+        inv.3,
+        inv.4,
+        inv.5,
+        inv.6,
+        opening_skip _ _ p.accepted.0 _ _ _ led.led _ led.are _ _ c.loop-i-test.true c.widen-x.ensures _ _ inv.7
+            (test_leaves _ _ p.accepted.0 _ _ _ led.led _ led.are _ _ c.loop-i-test.true c.widen-x.ensures _ _ inv.7 (sym c.leads_several.ensures ∙ w.if-leads_several.false)),
+      )
     ]
 
 pub returns : goal.returns

@@ -30,5 +30,6 @@ table =
 
 failure_passed_on : result_cells HalvesAway table 12 36
     ≡ no (has 3 (pos 0) 3 (no (no (no (no (no (no (no (has 3 (pos 0) 5 (no (no [])))))))))))
-unfolding after_rounds rounded quotient ranged_of result calculated on_number answer_at outcome_of kinds kind_at clause_of body_by call_by operation_by choice_by entered_by step_by with_fuel outcome value_outcome
+unfolding after_rounds rounded quotient ranged_of result calculated on_number answer_at outcome_of kinds kind_at clause_of
+    body_by call_by operation_by choice_by entered_by step_by with_fuel outcome value_outcome
 failure_passed_on = refl

@@ -60,7 +60,8 @@ module _ (f g : ℕ → ℕ) (v : ℕ) (low : 1 ≤ v) (other : (l : ℕ) → (l
 -- ---- cells of results, by their index
 
 -- as the code reads them
-pub steps_are : (r : List ℤ) (l : ℕ) → 1 ≤ l → {x : ℕ} → mag (int_at r (3 * (l - 1) + 2)) < 2 ^ 63 → x ≡ nat_of (to_z w64 (of_z w64 (int_at r (3 * (l - 1) + 2)))) → x ≡ steps_at r l
+pub steps_are :
+    (r : List ℤ) (l : ℕ) → 1 ≤ l → {x : ℕ} → mag (int_at r (3 * (l - 1) + 2)) < 2 ^ 63 → x ≡ nat_of (to_z w64 (of_z w64 (int_at r (3 * (l - 1) + 2)))) → x ≡ steps_at r l
 steps_are r zero h f e = absurd (omega arith)
 steps_are r (suc k) h f e = let q : suc k - 1 ≡ k = omega arith in e ∙ ap nat_of (whole (int_at r (3 * (suc k - 1) + 2)) f) ∙ rw q refl
 

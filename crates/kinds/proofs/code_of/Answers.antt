@@ -14,7 +14,8 @@ pub fields_of-fields-requires : goal.fields_of-fields-requires
 fields_of-fields-requires c = code_within c.loop-code.code (omega arith) (omega arith)
 
 pub returns-then-fields-letter : goal.returns-then-fields-letter
-returns-then-fields-letter c = sym (letter_hit c.loop-code.code c.args.letter (omega arith) (omega arith) (ap (λ f. f.letter) (sym c.fields_of-fields.ensures) ∙ c.if-fields-letter.true)) ∙ c.loop-code.invariant.2
+returns-then-fields-letter c =
+    sym (letter_hit c.loop-code.code c.args.letter (omega arith) (omega arith) (ap (λ f. f.letter) (sym c.fields_of-fields.ensures) ∙ c.if-fields-letter.true)) ∙ c.loop-code.invariant.2
 
 pub loop-code-preserved : goal.loop-code-preserved
 loop-code-preserved c = (

@@ -21,7 +21,7 @@ pub fn anchor(graph: &Graph, node: usize) -> String {
     let letters = of
         .name
         .chars()
-        .map(|c| match c.is_ascii_alphanumeric() || c == '-' {
+        .map(|c| match c.is_ascii_alphanumeric() || "-_".contains(c) {
             true => c.to_string(),
             false => format!("u{:x}", c as u32),
         });

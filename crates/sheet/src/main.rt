@@ -2,12 +2,12 @@
 
 #![tactic(auto)]
 
-use std::alloc::Global;
-use std::env::FillError;
+ghost use Rattle.std.specs.Prelude.{◌≤◌, length, IfOk};
+
+use std::env::{Env, FillError};
 use std::fs::File;
 use std::io;
 use std::io::{ErrorKind, Read, Write};
-use std::rt::Env;
 
 // Prints what running a text gives: at most 49,188 bytes, as `printing::print` promises.
 fn print_text(rt: &impl Print, text: &[u8]) -> io::Result<()> {
@@ -17,31 +17,40 @@ fn print_text(rt: &impl Print, text: &[u8]) -> io::Result<()> {
     io::writer(rt).write_all(&out[..end])
 }
 
-// A sheet has at most 65,536 bytes; one more is read, so that a longer one is refused. A read that fails gives no text: a sheet that is
-// cut short must not be run.
-fn text_of<R: Read + Drop>(alloc: Global, reader: R) -> io::Result<Vec<u8>> {
-    let mut text = Vec::new(alloc);
-    reader.take(65537).read_to_end(&mut text)?;
-    Ok(text)
+// Reads to the end of the input, or until the buffer is full, and says how many bytes. A read that fails gives no text: a sheet that is cut
+// short must not be run.
+fn read_full<R: Read + Drop>(mut reader: R, text: &mut [u8]) -> io::Result<usize>
+    ensures { IfOk result (λ n. n ≤ length text.new) }
+{
+    let mut n = 0;
+    while n < text.len() {
+        let more = reader.read(&mut text[n..])?;
+        if more == 0 {
+            break;
+        }
+        n += more;
+    }
+    Ok(n)
 }
 
-// Prints the sheet, or says on standard error why it cannot be read.
-fn print_sheet(rt: &HostRuntime, name: &str, text: io::Result<Vec<u8>>) -> io::Result<()> {
-    match text {
-        Ok(text) => print_text(rt, &text),
+// Prints what running the sheet gives, or says on standard error why it cannot be read. A sheet has at most 65,536 bytes; one more is read,
+// so that a longer one is refused.
+fn print_sheet<R: Read + Drop>(rt: &HostRuntime, name: &str, reader: R) -> io::Result<()> {
+    let mut text = [0u8; 65537];
+    match read_full(reader, &mut text) {
+        Ok(n) => print_text(rt, &text[..n]),
         Err(error) => eprintln!(rt; "{name}: {error}"),
     }
 }
 
-// The sheet of the file with this name. A path is text.
+// The sheet of the file with this name. The standard library opens names in UTF-8 alone.
 fn print_file(rt: &HostRuntime, name: &[u8]) -> io::Result<()> {
-    match str::from_utf8(name) {
-        Ok(path) => print_sheet(
-            rt,
-            path,
-            File::open(rt, path).and_then(|file| text_of(rt.alloc(), file)),
-        ),
-        Err(_) => refuse_name(rt),
+    let Ok(path) = str::from_utf8(name) else {
+        return refuse_name(rt);
+    };
+    match File::open(rt, path) {
+        Ok(file) => print_sheet(rt, path, file),
+        Err(error) => eprintln!(rt; "{path}: {error}"),
     }
 }
 
@@ -54,7 +63,7 @@ fn refuse_name(rt: &HostRuntime) -> io::Result<()> {
 fn main(rt: HostRuntime) -> io::Result<()> {
     let mut name = [0u8; 4096];
     if matches!(rt.arg(1, &mut name), Err(FillError::NotPresent)) {
-        return print_sheet(&rt, "sheet", text_of(rt.alloc(), rt.stdin()));
+        return print_sheet(&rt, "sheet", rt.stdin());
     }
     for i in 1..usize::MAX {
         match rt.arg(i, &mut name) {

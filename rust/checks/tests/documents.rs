@@ -206,7 +206,7 @@ fn a_wrong_name_is_found() {
     assert!(check_line(&format!("`{file}`: `plan`, `needs`")).is_empty());
     assert_eq!(check_line(&format!("`{file}`: `plan`, `noPlan`")).len(), 1);
     // brought in there, and said elsewhere
-    assert_eq!(check_line(&format!("`{file}`: `isDefinition`")).len(), 1);
+    assert_eq!(check_line(&format!("`{file}`: `is_definition`")).len(), 1);
     assert_eq!(check_line("`crates/order/specs/Orders.antt`").len(), 1);
     assert!(check_edits("`order/groups_by_label`").is_empty());
     assert_eq!(check_edits("`order/groups_by_name`").len(), 1);

@@ -55,6 +55,8 @@ fn copy(from: &Path, to: &Path) -> io::Result<()> {
         let entry = entry?;
         let target = to.join(entry.file_name());
         match entry.file_type()?.is_dir() {
+            // what rt leaves beside the sources
+            true if entry.file_name() == "out" => {}
             true => copy(&entry.path(), &target)?,
             false => fs::copy(entry.path(), target).map(|_| ())?,
         }

@@ -1,25 +1,27 @@
 -- Laws of the parts of a step: rows copied and compared, the lowest of some, and the leads of a block.
-use mathlib.Core.Path.{◌≡◌, refl, sym, ap, ◌∙◌, subst}
+use mathlib.Core.Path.{◌≡◌, sym, ap, ◌∙◌}
 use mathlib.Core.Logic.{◌⊎◌, inl, inr}
-use mathlib.Core.List.{List}
-use mathlib.Core.Bool.{Bool, true, false, ◌&&◌}
-use Prim.Native.Nat.{ℕ, ◌+◌, ◌-◌, ◌*◌, ◌/◌, ◌%◌, ◌^◌, ◌≤◌, ◌<◌}
+use mathlib.Core.List.{List, ◌∷◌}
+use mathlib.Core.Bool.{true, false, ◌&&◌}
+use Prim.Native.Nat.{ℕ, ◌+◌, ◌*◌, ◌/◌, ◌%◌, ◌≤◌, ◌<◌, min}
 use native.Mathlib.Omega.{arith}
 use native.Mathlib.Decide.{ℕ_discrete, dec_lt}
-use lib.Bits.{bit_and}
-use lib.Count.{count_trailing_zeros}
-use lib.ListN.{length, get_or, set, take}
-use lib.Seq.{get_or-set_same, get_or-set_other}
-use Rattle.order.specs.LabelLists.{◌∈◌}
-use Rattle.order.proofs.Tests.{and_left, and_right, and_intro, one_in, one_true}
-use Rattle.marks.specs.Marks.{bit, mark, Dropped, Common}
+use lib.ListN.{length, get_or, set, take, drop}
+use lib.Seq.{get_or-set_same, get_or-set_other, get_or-take}
+use Rattle.std.proofs.lemmas.List.{get_or-drop, length-take}
+use Rattle.order.specs.LabelLists.{one, count, ◌∈◌}
+use Rattle.order.proofs.Lists.{count_there, in_here}
+use Rattle.order.proofs.Tests.{and_left, and_right, one_in}
+use Rattle.marks.specs.Marks.{bit, mark, Dropped}
 use Rattle.marks.proofs.Squares.{inside, outside}
-use Rattle.marks.proofs.Bits.{bit_and_lem, bit_none, lowest_is}
-use Rattle.placing.proofs.Lists.{in_more, count_take_le}
-use Rattle.blocks.specs.Search.{Kept, Stored, CommonMark, Lowest, StandsFrom, Smallest, LowestNeeder, HasLeft}
+use Rattle.placing.proofs.Lists.{in_more}
+use Rattle.blocks.specs.Search.{Kept, StandsFrom, Smallest, HasLeft}
 
-pub stored : (l : List ℕ) (i v : ℕ) → i < length l → Stored l (set l i v) i v
-stored l i v h = record { own = get_or-set_same l i v 0 h; others = λ j d. get_or-set_other l i j v 0 d }
+-- an element of a part of a list
+pub part_at : (l : List ℕ) (s k i : ℕ) → i < length (take k (drop s l)) → (get_or (take k (drop s l)) i 0 ≡ get_or l (s + i) 0) × (i < k)
+part_at l s k i h =
+    let within : i < k = omega (arith, length-take k (drop s l)) in
+    (get_or-take k (drop s l) i 0 within ∙ get_or-drop s l i 0, within)
 
 -- a row copied word by word
 pub marks_copied : (s t : List ℕ) (w : ℕ) → ((i : ℕ) → i < w → get_or s i 0 ≡ get_or t i 0) → (q : ℕ) → mark s w 0 q ≡ mark t w 0 q
@@ -51,82 +53,11 @@ met_more items fresh fresh' w i q h e kept gone old x m = go (in_more x items i 
     go (inl k) = kept x (old x k)
     go (inr k) = ap (mark fresh' w 0) (k ∙ sym e) ∙ gone
 
--- ---- a mark in common
-
-module _ (s mask : List ℕ) (w p j : ℕ) (hj : j < w) where
-  at_row : (i : ℕ) → i < 64 → mark s w p (64 * j + i) ≡ bit (get_or s (p * w + j) 0) i
-  at_row i h =
-      let a : (64 * j + i) / 64 ≡ j = omega arith in
-      let b : (64 * j + i) % 64 ≡ i = omega arith in
-      inside s w p (64 * j + i) (omega arith) ∙ rw (a, b)
-
-  at_mask : (i : ℕ) → i < 64 → mark mask w 0 (64 * j + i) ≡ bit (get_or mask j 0) i
-  at_mask i h =
-      let a : 0 * w + (64 * j + i) / 64 ≡ j = omega arith in
-      let b : (64 * j + i) % 64 ≡ i = omega arith in
-      inside mask w 0 (64 * j + i) (omega arith) ∙ rw (a, b)
-
-  pub common_found : 0 < bit_and (get_or s (p * w + j) 0) (get_or mask j 0) → bit_and (get_or s (p * w + j) 0) (get_or mask j 0) < 2 ^ 64
-      → CommonMark s mask w p (64 * j + count_trailing_zeros 64 (bit_and (get_or s (p * w + j) 0) (get_or mask j 0)))
-  common_found pos fit =
-      let x = bit_and (get_or s (p * w + j) 0) (get_or mask j 0) in
-      let t = lowest_is 64 x pos fit in
-      let i = count_trailing_zeros 64 x in
-      let both = sym (bit_and_lem (get_or s (p * w + j) 0) (get_or mask j 0) i) ∙ t.1 in
-      record {
-        within = omega (arith, t.0);
-        here = λ _. (
-          at_row i t.0 ∙ and_left (bit (get_or s (p * w + j) 0) i) (bit (get_or mask j 0) i) both,
-          at_mask i t.0 ∙ and_right (bit (get_or s (p * w + j) 0) i) (bit (get_or mask j 0) i) both,
-        );
-        none = λ e. absurd (omega (arith, t.0));
-      }
-
-  pub common_turn : bit_and (get_or s (p * w + j) 0) (get_or mask j 0) ≡ 0
-      → ((q : ℕ) → q < 64 * j → mark mask w 0 q ≡ true → mark s w p q ≡ false)
-      → (q : ℕ) → q < 64 * (j + 1) → mark mask w 0 q ≡ true → mark s w p q ≡ false
-  common_turn z old q h m = go (dec_lt q (64 * j))
-    where
-      go : Dec (q < 64 * j) → mark s w p q ≡ false
-      go (yes g) = old q g m
-      go (no g) =
-          let i : ℕ = q - 64 * j in
-          let e : q ≡ 64 * j + i = omega arith in
-          let a = bit (get_or s (p * w + j) 0) i in
-          let both : (a && bit (get_or mask j 0) i) ≡ false =
-          sym (bit_and_lem (get_or s (p * w + j) 0) (get_or mask j 0) i) ∙ ap (λ (x : ℕ). bit x i) z ∙ bit_none i in
-          ap (mark s w p) e ∙ at_row i (omega arith) ∙ other a (bit (get_or mask j 0) i) both (sym (ap (mark mask w 0) e ∙ at_mask i (omega arith)) ∙ m)
-        where
-          other : (a b : Bool) → (a && b) ≡ false → b ≡ true → a ≡ false
-          other true b f g = sym (sym f ∙ g)
-          other false b f g = refl
-
 -- ---- the lowest of some
 
 -- r is the lower of two
-abbrev LowerOf : ℕ → ℕ → ℕ → Type 0
+abbrev pub LowerOf : ℕ → ℕ → ℕ → Type 0
 LowerOf a b r = (r ≤ a) × (r ≤ b) × ((r ≡ a) ⊎ (r ≡ b))
-
-pub lowest_turn : (list place : List ℕ) (i n low x at r : ℕ) → i < length list → Lowest list place i n low → x ≡ get_or list i 0 → at ≡ get_or place x 0
-    → LowerOf low at r → x ∈ take (i + 1) list → Lowest list place (i + 1) n r
-lowest_turn list place i n low x at r h g e f (a, b, c) here = record {
-  least = λ y m. least y (in_more y list i h m);
-  within = omega (arith, g.within);
-  is = is c g.is;
-}
-  where
-    least : (y : ℕ) → (y ∈ take i list) ⊎ (y ≡ get_or list i 0) → r ≤ get_or place y 0
-    least y (inl m) = omega (arith, g.least y m)
-    least y (inr m) = let k : get_or place y 0 ≡ get_or place x 0 = ap (λ (z : ℕ). get_or place z 0) (m ∙ sym e) in omega arith
-
-    is : (r ≡ low) ⊎ (r ≡ at) → (low ≡ n) ⊎ ((y : ℕ) × (y ∈ take i list) × (get_or place y 0 ≡ low))
-        → (r ≡ n) ⊎ ((y : ℕ) × (y ∈ take (i + 1) list) × (get_or place y 0 ≡ r))
-    is (inr d) _ = inr (x, here, omega arith)
-    is (inl d) (inl k) = inl (d ∙ k)
-    is (inl d) (inr (y, m, k)) = inr (y, more y m, omega arith)
-      where
-        more : (y : ℕ) → y ∈ take i list → y ∈ take (i + 1) list
-        more y m = omega (arith, count_take_le y list i (i + 1) (omega arith))
 
 pub smallest_turn : (stack : List ℕ) (s i least v r : ℕ) → s ≤ i → Smallest stack s i least → v ≡ get_or stack i 0 → LowerOf least v r
     → Smallest stack s (i + 1) r
@@ -180,43 +111,35 @@ module _ (stack stacked₀ stacked lead₀ lead : List ℕ) (w s i least x : ℕ
           let o = g.others y (λ (k, l, u, q). f (k, l, omega arith, q)) in
           (d.others 0 y (λ _ q. z q) ∙ o.0, get_or-set_other lead x y least 0 z ∙ o.1)
 
-pub left_none : (stack stacked lead : List ℕ) (w s least : ℕ) → HasLeft stack stacked stacked lead lead w s s least
-left_none stack stacked lead w s least = record { gone = λ x f. absurd (none x f); led = λ x f. absurd (none x f); others = λ x f. (refl, refl) }
-  where
-    none : (x : ℕ) → StandsFrom stack s s x → ⊥
-    none x (k, l, u, e) = omega arith
-
--- one start fewer
-pub gone_more : (starts : List ℕ) (b low r : ℕ) → ((k : ℕ) → r ≤ k → k < b → low < get_or starts k 0) → low < get_or starts (r - 1) 0
-    → (k : ℕ) → r - 1 ≤ k → k < b → low < get_or starts k 0
-gone_more starts b low r old h k l u = go (ℕ_discrete k (r - 1))
-  where
-    go : Dec (k ≡ r - 1) → low < get_or starts k 0
-    go (yes e) = subst (λ (j : ℕ). low < get_or starts j 0) (sym e) h
-    go (no e) = old k (omega arith) u
-
--- of one position
-pub smallest_one : (stack : List ℕ) (s least : ℕ) → least ≡ get_or stack s 0 → Smallest stack s (s + 1) least
-smallest_one stack s least e = record {
-  least_of = λ k l u. let z : k ≡ s = omega arith in omega (arith, ap (λ (j : ℕ). get_or stack j 0) z);
-  is = (s, omega arith, omega arith, sym e);
-}
-
 -- ---- those on the stack that need one
 
-module _ (square stacked list : List ℕ) (w q r : ℕ) (is : Common square stacked w q list r) where
-  pub listed : (x : ℕ) → x ∈ take r list → (mark square w q x ≡ true) × (mark stacked w 0 x ≡ true)
-  listed x m =
-      let both = one_in (mark square w q x && mark stacked w 0 x) (omega (arith, is x)) in
-      (and_left (mark square w q x) (mark stacked w 0 x) both, and_right (mark square w q x) (mark stacked w 0 x) both)
+-- one of those more
+pub meet_turn : (square stacked place l r : List ℕ) (w q n low x low' : ℕ) → l ≡ x ∷ r
+    → ((y : ℕ) → count y l ≤ one (mark square w q y && mark stacked w 0 y))
+    → ((y : ℕ) → mark square w q y ≡ true → mark stacked w 0 y ≡ true → count y l ≡ 0 → low ≤ get_or place y 0)
+    → (low ≡ n) ⊎ ((y : ℕ) × (mark square w q y ≡ true) × (mark stacked w 0 y ≡ true) × (get_or place y 0 ≡ low))
+    → LowerOf low (get_or place x 0) low'
+    → ((y : ℕ) → mark square w q y ≡ true → mark stacked w 0 y ≡ true → count y r ≡ 0 → low' ≤ get_or place y 0)
+    × ((low' ≡ n) ⊎ ((y : ℕ) × (mark square w q y ≡ true) × (mark stacked w 0 y ≡ true) × (get_or place y 0 ≡ low')))
+meet_turn square stacked place l r w q n low x low' e among least is (a, b, c) = (λ y m k z. by y m k z (ℕ_discrete y x), at c is)
+  where
+    by : (y : ℕ) → mark square w q y ≡ true → mark stacked w 0 y ≡ true → count y r ≡ 0 → Dec (y ≡ x) → low' ≤ get_or place y 0
+    by y m k z (yes d) = let p : get_or place y 0 ≡ get_or place x 0 = ap (λ (v : ℕ). get_or place v 0) d in omega arith
+    by y m k z (no d) = omega (arith, least y m k (ap (count y) e ∙ omega (arith, count_there y x r d)))
 
-  pub met_of : (place : List ℕ) (n low : ℕ) → Lowest list place r n low → LowestNeeder square stacked place w q n low
-  met_of place n low g = record {
-    least = λ x a b. g.least x (omega (arith, is x, one_true (mark square w q x && mark stacked w 0 x) (and_intro (mark square w q x) (mark stacked w 0 x) a b)));
-    is = go g.is;
-  }
-    where
-      go : (low ≡ n) ⊎ ((x : ℕ) × (x ∈ take r list) × (get_or place x 0 ≡ low))
-          → (low ≡ n) ⊎ ((x : ℕ) × (mark square w q x ≡ true) × (mark stacked w 0 x ≡ true) × (get_or place x 0 ≡ low))
-      go (inl e) = inl e
-      go (inr (x, m, e)) = let l = listed x m in inr (x, l.0, l.1, e)
+    own : (mark square w q x && mark stacked w 0 x) ≡ true
+    own = one_in (mark square w q x && mark stacked w 0 x) (omega (arith, among x, ap (count x) e, in_here x r))
+
+    at : (low' ≡ low) ⊎ (low' ≡ get_or place x 0) → (low ≡ n) ⊎ ((y : ℕ) × (mark square w q y ≡ true) × (mark stacked w 0 y ≡ true) × (get_or place y 0 ≡ low))
+        → (low' ≡ n) ⊎ ((y : ℕ) × (mark square w q y ≡ true) × (mark stacked w 0 y ≡ true) × (get_or place y 0 ≡ low'))
+    at (inl d) (inl k) = inl (d ∙ k)
+    at (inl d) (inr (y, m, k, z)) = inr (y, m, k, z ∙ sym d)
+    at (inr d) _ = inr (x, and_left (mark square w q x) (mark stacked w 0 x) own, and_right (mark square w q x) (mark stacked w 0 x) own, sym d)
+
+-- the lower of two
+pub min_lower : (a b : ℕ) → LowerOf a b (min a b)
+min_lower a b = (omega arith, omega arith, go (dec_lt a b))
+  where
+    go : Dec (a < b) → (min a b ≡ a) ⊎ (min a b ≡ b)
+    go (yes h) = inl (omega arith)
+    go (no h) = inr (omega arith)

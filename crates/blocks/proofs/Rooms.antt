@@ -16,34 +16,8 @@ use Rattle.blocks.specs.Search.{Search, Pushable}
 use Rattle.blocks.proofs.Reaching.{positions_few}
 use Rattle.blocks.proofs.Steps.{needed_of, needed_row, stack_item, stacked_item, some_start}
 
--- the lists that the search is lent keep their lengths
-pub record Same (fresh₀ stacked₀ list₀ stack₀ place₀ starts₀ path₀ lead₀ fresh stacked list stack place starts path lead : List ℕ) : Type 0 where
-  pub same_fresh : length fresh ≡ length fresh₀
-  pub same_stacked : length stacked ≡ length stacked₀
-  pub same_list : length list ≡ length list₀
-  pub same_stack : length stack ≡ length stack₀
-  pub same_place : length place ≡ length place₀
-  pub same_starts : length starts ≡ length starts₀
-  pub same_path : length path ≡ length path₀
-  pub same_lead : length lead ≡ length lead₀
-
-module _ {fresh₀ stacked₀ list₀ stack₀ place₀ starts₀ path₀ lead₀ fresh stacked list stack place starts path lead : List ℕ}
-    (e : Same fresh₀ stacked₀ list₀ stack₀ place₀ starts₀ path₀ lead₀ fresh stacked list stack place starts path lead) where
-  pub room_as : {items : List ℕ} {w : ℕ} → Room items fresh₀ stacked₀ list₀ stack₀ place₀ starts₀ path₀ lead₀ w → Room items fresh stacked list stack place starts path lead w
-  room_as g = record {
-    few = g.few;
-    fresh_room = omega (arith, g.fresh_room, e.same_fresh);
-    stacked_room = omega (arith, g.stacked_room, e.same_stacked);
-    list_room = omega (arith, g.list_room, e.same_list);
-    stack_room = omega (arith, g.stack_room, e.same_stack);
-    starts_room = omega (arith, g.starts_room, e.same_starts);
-    path_room = omega (arith, g.path_room, e.same_path);
-    placed = λ x m. omega (arith, g.placed x m, e.same_place);
-    leads_room = λ x m. omega (arith, g.leads_room x m, e.same_lead);
-  }
-
-module _ {items square mask fresh stacked list stack place starts path lead : List ℕ} {w n b p : ℕ} (rows : InRows items square mask w)
-    (space : Room items fresh stacked list stack place starts path lead w) (g : Search items square mask fresh stacked stack place starts path w n b p) where
+module _ {items square mask fresh stacked stack place starts path lead : List ℕ} {w n b p : ℕ} (rows : InRows items square mask w)
+    (space : Room items fresh stacked stack place starts path lead w) (g : Search items square mask fresh stacked stack place starts path w n b p) where
   pub bounds : (b ≤ n) × (p ≤ n) × (n ≤ length items) × (n < 65536)
   bounds = (positions_few starts b n g.cuts, positions_few path p n g.steps, omega (arith, g.room), omega (arith, g.room, space.few))
 
@@ -71,7 +45,7 @@ module _ {items square mask fresh stacked list stack place starts path lead : Li
     omega (arith, bounds.0, bounds.2, space.starts_room),
   )
 
-  pub pushable : (q : ℕ) → mark fresh w 0 q ≡ true → Pushable square fresh stacked list stack place starts path w q n b p
+  pub pushable : (q : ℕ) → mark fresh w 0 q ≡ true → Pushable square fresh stacked stack place starts path w q n b p
   pushable q f =
       let item = rows.masked q (g.fresh_in q f) in
       let more = filter_in (mark fresh w 0) items q item f in
@@ -83,7 +57,6 @@ module _ {items square mask fresh stacked list stack place starts path lead : Li
         unmet = f;
         fresh_room = space.fresh_room;
         stacked_room = space.stacked_room;
-        list_room = space.list_room;
         stack_room = omega (arith, space.stack_room);
         place_room = space.placed q item;
         starts_room = omega (arith, space.starts_room, bounds.0);

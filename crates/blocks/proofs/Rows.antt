@@ -1,20 +1,19 @@
 -- The turns of the loops that merge rows: rows added to those of their leads, then the rows of leaders closed.
-use mathlib.Core.Path.{◌≡◌, refl, sym, ap, ◌∙◌, subst}
+use mathlib.Core.Path.{◌≡◌, sym, ap, ◌∙◌, subst}
 use mathlib.Core.Logic.{◌⊎◌, inl, inr, ◌↔◌}
-use mathlib.Core.List.{List, []}
-use mathlib.Core.Bool.{true, false, ◌&&◌}
+use mathlib.Core.List.{List}
+use mathlib.Core.Bool.{true}
 use Prim.Native.Nat.{ℕ, ◌+◌, ◌*◌, ◌≤◌, ◌<◌}
 use native.Mathlib.Omega.{arith}
 use native.Mathlib.Decide.{ℕ_discrete}
 use lib.ListN.{length, get_or, take, drop, take-append-drop}
 use borrow.Author.Tests.{eq-eqb}
 use Rattle.order.specs.LabelLists.{one, count, ◌∈◌}
-use Rattle.order.proofs.Tests.{both_ways, and_left, and_right, and_intro, one_in}
 use Rattle.order.proofs.Lists.{count_append}
-use Rattle.marks.specs.Marks.{mark, Added, Dropped, Common}
+use Rattle.marks.specs.Marks.{mark, Added}
 use Rattle.marks.proofs.Squares.{mark_in}
 use Rattle.placing.proofs.Lists.{in_take, in_more, count_more, count_take_le}
-use Rattle.blocks.specs.Merged.{RowFrom, Joined, Following, LeadOf, Closed, ClosedRow, ClosedRows}
+use Rattle.blocks.specs.Merged.{RowFrom, Joined, LeadOf, Closed, ClosedRow, ClosedRows}
 
 in_later : (x : ℕ) (l : List ℕ) (i : ℕ) → x ∈ take i l → x ∈ take (i + 1) l
 in_later x l i m = omega (arith, count_take_le x l i (i + 1) (omega arith))
@@ -34,16 +33,6 @@ added_kept P s s' w p add a q m = go (ℕ_discrete a p)
     go (no z) = add.others a q z ∙ m
 
 -- ---- rows added to those of their leads
-
-pub joined_none : (lead s followers : List ℕ) (w : ℕ) → ((x : ℕ) → mark followers w 0 x ≡ false) → Joined [] lead s s followers w
-joined_none lead s followers w f = record {
-  follow = λ x. (λ e. both_ways (mark followers w 0 x) e (f x), λ y. absurd (omega (arith, y.0)));
-  row = λ b p. (λ e. inl e, λ y. row b p y);
-}
-  where
-    row : (b p : ℕ) → (mark s w b p ≡ true) ⊎ RowFrom [] lead s w b p → mark s w b p ≡ true
-    row b p (inl e) = e
-    row b p (inr (x, m, _, _)) = absurd (omega arith)
 
 module _ (items lead s₀ s followers : List ℕ) (w i x : ℕ) (hi : i < length items) (z : x ≡ get_or items i 0) where
   module _ (j : Joined (take i items) lead s₀ s followers w) where
@@ -128,14 +117,6 @@ module _ (items lead s₀ s followers : List ℕ) (w i x : ℕ) (hi : i < length
 
 -- ---- the leads of those listed are put into a row
 
-pub leads_none : (lead s : List ℕ) (w x : ℕ) → Added (LeadOf [] lead) s s w x
-leads_none lead s w x = record {
-  others = λ a q d. refl;
-  kept = λ q e. e;
-  new = λ q h k. absurd (omega (arith, k.1));
-  only = λ q e. inl e;
-}
-
 pub leads_turn : (list lead s₀ s s' : List ℕ) (w x j y b : ℕ) → j < length list → y ≡ get_or list j 0 → b ≡ get_or lead y 0
     → Added (LeadOf (take j list) lead) s₀ s w x → Added (λ (q : ℕ). q ≡ b) s s' w x → Added (LeadOf (take (j + 1) list) lead) s₀ s' w x
 leads_turn list lead s₀ s s' w x j y b hj z hb old add = record {
@@ -160,48 +141,7 @@ leads_turn list lead s₀ s s' w x j y b hj z hb old add = record {
         at (inl h) = inl h
         at (inr (v, m, h)) = inr (v, in_later v list j m, h)
 
--- ---- a row is closed
-
-module _ (lead s followers list : List ℕ) (w x m : ℕ) (c : Common s followers w x list m) where
-  common_of : (y : ℕ) → y ∈ take m list → (mark s w x y ≡ true) × (mark followers w 0 y ≡ true)
-  common_of y i =
-      let e = one_in (mark s w x y && mark followers w 0 y) (omega (arith, c y)) in
-      (and_left (mark s w x y) (mark followers w 0 y) e, and_right (mark s w x y) (mark followers w 0 y) e)
-
-  common_in : (y : ℕ) → mark s w x y ≡ true → mark followers w 0 y ≡ true → y ∈ take m list
-  common_in y a b = omega (arith, c y, ap one (and_intro (mark s w x y) (mark followers w 0 y) a b))
-
-  -- those listed have leads
-  pub common_led : Following lead followers w → (y : ℕ) → y ∈ take m list → (y < length lead) × (get_or lead y 0 < 64 * w)
-  common_led f y i = f y (common_of y i).1
-
-  pub closed_row : Following lead followers w → (s' s'' : List ℕ) → Added (LeadOf (take m list) lead) s s' w x → Dropped s' s'' w x x
-      → ClosedRow lead s s'' followers w x
-  closed_row f s' s'' add drop = record {
-    row = λ q. (λ e. there q e (ℕ_discrete q x), back q);
-    others = λ a q d. drop.others a q (λ e _. d e) ∙ add.others a q d;
-  }
-    where
-      there : (q : ℕ) → mark s'' w x q ≡ true → Dec (q ≡ x) → Closed lead s followers w x q
-      there q e (yes z) = both_ways (mark s'' w x q) e (ap (mark s'' w x) z ∙ drop.gone)
-      there q e (no z) = (z, go (add.only q (sym (drop.others x q (λ _ y. z y)) ∙ e)))
-        where
-          go : (mark s w x q ≡ true) ⊎ LeadOf (take m list) lead q
-              → (mark s w x q ≡ true) ⊎ ((y : ℕ) × (mark s w x y ≡ true) × (mark followers w 0 y ≡ true) × (get_or lead y 0 ≡ q))
-          go (inl h) = inl h
-          go (inr (y, i, h)) = let o = common_of y i in inr (y, o.0, o.1, h)
-
-      back : (q : ℕ) → Closed lead s followers w x q → mark s'' w x q ≡ true
-      back q (z, k) = drop.others x q (λ _ y. z y) ∙ go k
-        where
-          go : (mark s w x q ≡ true) ⊎ ((y : ℕ) × (mark s w x y ≡ true) × (mark followers w 0 y ≡ true) × (get_or lead y 0 ≡ q)) → mark s' w x q ≡ true
-          go (inl h) = add.kept q h
-          go (inr (y, a, b, h)) = add.new q (omega (arith, (f y b).1)) (y, common_in y a b, h)
-
 -- ---- the rows of leaders are closed
-
-pub closed_none : (lead s followers : List ℕ) (w : ℕ) → ClosedRows [] lead s s followers w
-closed_none lead s followers w = record { row = λ x q m. absurd (omega arith); others = λ a q d. refl }
 
 closed_as : (lead s t followers : List ℕ) (w x q : ℕ) → ((p : ℕ) → mark s w x p ≡ mark t w x p) → Closed lead s followers w x q → Closed lead t followers w x q
 closed_as lead s t followers w x q e (d, inl h) = (d, inl (sym (e q) ∙ h))

@@ -19,7 +19,7 @@ use Rattle.order.proofs.Finding.{block_found}
 use Rattle.marks.specs.Marks.{mark}
 use Rattle.marks.proofs.Squares.{mark_in}
 use Rattle.placing.specs.UnmetCounts.{needed, InRows}
-use Rattle.blocks.specs.Found.{IsLead, Led}
+use Rattle.blocks.specs.Found.{IsLead}
 use Rattle.blocks.specs.Search.{Positions, Among, OneClass, NeedsOrIs, fresh_count, Search, Settled, Kept, StandsFrom, Smallest, HasLeft, Pushed}
 use Rattle.blocks.proofs.Reaching.{reach_trans, reach_step, reach_tog, positions_top, positions_fewer, positions_cut, positions_push}
 
@@ -113,12 +113,6 @@ module _ {items square mask fresh stacked stack place starts path : List ℕ} {w
       subst (λ (k : ℕ). Search items square mask fresh stacked stack place starts path w 0 0 k) e
       (subst (λ (k : ℕ). Search items square mask fresh stacked stack place starts path w 0 k p) z.1
       (subst (λ (k : ℕ). Search items square mask fresh stacked stack place starts path w k b p) z.0 g))
-
-  -- ---- the end
-
-  pub search_end : (lead : List ℕ) → p ≡ 0 → ((x : ℕ) → x ∈ items → mark fresh w 0 x ≡ false) → Settled items square mask fresh stacked lead w
-      → Led (needed square mask w) items lead
-  search_end lead e f s x m = s x m (f x m) (not_so (mark stacked w 0 x) (λ t. omega (arith, (g.off x t).0, (none_left e).0)))
 
   -- ---- an item is met
 

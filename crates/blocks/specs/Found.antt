@@ -1,15 +1,14 @@
 -- The blocks of items whose needs stand in rows of marks: what the search is lent, and what it finds.
-use Rattle.std.specs.Prelude.{◌≡◌, List, Bool, true, ℕ, ◌*◌, ◌≤◌, ◌<◌, length, get_or}
+use Rattle.std.specs.Prelude.{◌≡◌, List, Bool, true, ℕ, ◌≤◌, ◌<◌, length, get_or}
 use Rattle.order.specs.LabelLists.{◌∈◌}
 use Rattle.order.specs.Blocks.{block_of, is_leader}
 use Rattle.placing.specs.UnmetCounts.{AllBelow}
 
--- what the search is lent: rows of marks, a list of a row's marks, three stacks of the items, and a place and a lead for each
-pub record Room (items fresh stacked list stack place starts path lead : List ℕ) (w : ℕ) : Type 0 where
+-- what the search is lent: rows of marks, three stacks of the items, and a place and a lead for each
+pub record Room (items fresh stacked stack place starts path lead : List ℕ) (w : ℕ) : Type 0 where
   pub few : length items < 65536
   pub fresh_room : w ≤ length fresh
   pub stacked_room : w ≤ length stacked
-  pub list_room : 64 * w ≤ length list
   pub stack_room : length items ≤ length stack
   pub starts_room : length items ≤ length starts
   pub path_room : length items ≤ length path

@@ -1,7 +1,7 @@
 -- The search for blocks, by paths (Gabow): the state between two steps, and what the functions of the search promise each other. Items met
 -- and in no block found yet stand on a stack. It is cut into classes, whose members are known to be in one block; `starts` has the position
 -- at which each class begins. `path` has the positions of those whose row may still have marks of items not met.
-use Rattle.std.specs.Prelude.{◌≡◌, ◌⊎◌, List, Bool, true, false, ℕ, ◌+◌, ◌-◌, ◌*◌, ◌≤◌, ◌<◌, length, get_or, take}
+use Rattle.std.specs.Prelude.{◌≡◌, ◌⊎◌, List, Bool, true, false, ℕ, ◌+◌, ◌-◌, ◌*◌, ◌≤◌, ◌<◌, length, get_or, Option, MatchOption}
 use Rattle.order.specs.LabelLists.{◌∈◌, filter}
 use Rattle.order.specs.Closure.{closure}
 use Rattle.marks.specs.Marks.{mark, Added, Dropped}
@@ -78,17 +78,9 @@ pub record Nearer (items fresh fresh' : List ℕ) (w p p' : ℕ) : Type 0 where
 
 -- ---- the parts of a step
 
--- r is a mark that row p and the first row of a mask have in common, or 64 * w where there is none
-pub record CommonMark (s mask : List ℕ) (w p r : ℕ) : Type 0 where
-  pub within : r ≤ 64 * w
-  pub here : r < 64 * w → (mark s w p r ≡ true) × (mark mask w 0 r ≡ true)
-  pub none : r ≡ 64 * w → (q : ℕ) → mark mask w 0 q ≡ true → mark s w p q ≡ false
-
--- r is the lowest place among the first m of the list, or n where none is lower
-pub record Lowest (list place : List ℕ) (m n r : ℕ) : Type 0 where
-  pub least : (x : ℕ) → x ∈ take m list → r ≤ get_or place x 0
-  pub within : r ≤ n
-  pub is : (r ≡ n) ⊎ ((x : ℕ) × (x ∈ take m list) × (get_or place x 0 ≡ r))
+-- r is a mark that row p and the first row of a mask have in common, if they have one
+abbrev pub CommonMark : List ℕ → List ℕ → ℕ → ℕ → Option ℕ → Type 0
+CommonMark s mask w p r = MatchOption r ((q : ℕ) → mark mask w 0 q ≡ true → mark s w p q ≡ false) (λ q. (mark s w p q ≡ true) × (mark mask w 0 q ≡ true))
 
 -- of b starts the first r are left, those up to `low`
 pub record StartsCut (starts : List ℕ) (b low r : ℕ) : Type 0 where
@@ -111,14 +103,13 @@ pub record LowestNeeder (square stacked place : List ℕ) (w q n low : ℕ) : Ty
   pub is : (low ≡ n) ⊎ ((x : ℕ) × (mark square w q x ≡ true) × (mark stacked w 0 x ≡ true) × (get_or place x 0 ≡ low))
 
 -- what is asked before q goes onto the stack
-pub record Pushable (square fresh stacked list stack place starts path : List ℕ) (w q n b p : ℕ) : Type 0 where
+pub record Pushable (square fresh stacked stack place starts path : List ℕ) (w q n b p : ℕ) : Type 0 where
   pub narrow : w ≤ 1000
   pub low : q < 64 * w
   pub row : q * w + w ≤ length square
   pub unmet : mark fresh w 0 q ≡ true
   pub fresh_room : w ≤ length fresh
   pub stacked_room : w ≤ length stacked
-  pub list_room : 64 * w ≤ length list
   pub stack_room : n < length stack
   pub place_room : q < length place
   pub starts_room : b < length starts

@@ -1,5 +1,6 @@
 -- Row 16 and the plan of an accepted table: reply, table and plan, answer by answer; and what they mean in demand 3's words.
 use mathlib.Core.Path.{◌≡◌, refl, sym, ap, ◌∙◌}
+use Rattle.std.specs.Prelude.{Result, Ok, Err}
 use mathlib.Core.Bool.{Bool, true, false}
 use mathlib.Core.List.{List, [], ◌∷◌, ◌++◌, map}
 use mathlib.Core.Option.{Option, none, some}
@@ -13,22 +14,21 @@ use Rattle.cells.specs.Clearing.{clear_from}
 use Rattle.cells.specs.Accepted.{Accepted}
 use Rattle.cells.proofs.Clearing.{clear_all}
 use Rattle.refusals.specs.Rows.{cycle_row}
-use Rattle.refusals.specs.declared.Verdict.{Verdict}
-use Rattle.refusals.specs.declared.Verdict.TheVariants.{Fine, Refused}
+use Rattle.refusals.specs.Refusal.{Verdict, Fine, Refused}
 use Rattle.order.specs.Order.{Within, first_cycle, sheet_tangled, Answer, cycle, whole, mixed, plan}
 use Rattle.order.specs.PlanMeans as demand
 use Rattle.order.specs.Rows16to18.{cycle_bad}
 use Rattle.order.proofs.Joined.{none_consecutive}
 use Rattle.order.proofs.Following.{labels_cells}
 use Rattle.order.proofs.Planned.{cycle_smallest, planned, order_short}
+use Rattle.planning.specs.PlanLength.{plan_length}
 use Rattle.planning.specs.Plans.{PlanIs}
-use Rattle.planning.specs.declared.Planned.{Planned}
-use Rattle.planning.specs.declared.Planned.TheVariants as made
-use Rattle.calls.specs.Plan.{answer_by, listed_by, plan_refusal, length_of, is_answer}
+use Rattle.planning.specs.declared.Plan.{Plan}
+use Rattle.planning.specs.declared.Cycle.{Cycle}
+use Rattle.calls.specs.Plan.{answer_by, listed_by, plan_refusal, length_of, is_answer, PlanReply}
 use Rattle.calls.specs.Demand.{PlanKept}
 use Rattle.calls.specs.CallStages.{kept_by, cells_to, TablePlans}
-use Rattle.calls.specs.declared.PlanReply.{PlanReply}
-use Rattle.calls.specs.declared.PlanReply.TheVariants as reply
+use Rattle.planning.specs.declared.Plan.TheVariants as reply
 
 -- ---- cells
 
@@ -54,13 +54,13 @@ cycle_of (whole o) = Fine
 cycle_of (mixed o) = Fine
 
 pub answers_number : (r : PlanReply) → is_answer r ≡ true → plan_refusal r ≡ 0
-answers_number (reply.Refused r l) e = let z : ◌≡◌ {A = ℕ} 0 1 = cc in absurd (omega arith)
-answers_number (reply.Whole k) e = refl
-answers_number (reply.Mixed k) e = refl
+answers_number (Err z) e = let z : ◌≡◌ {A = ℕ} 0 1 = cc in absurd (omega arith)
+answers_number (Ok (reply.Whole k)) e = refl
+answers_number (Ok (reply.Mixed k)) e = refl
 
 pub answers_fine : (v : Verdict) (a : Answer) → is_answer (answer_by v a) ≡ true → v ≡ Fine
-answers_fine Fine a e = refl
-answers_fine (Refused r l) a e = let z : ◌≡◌ {A = ℕ} 0 1 = cc in absurd (omega arith)
+answers_fine (Ok _) a e = refl
+answers_fine (Err r) a e = let z : ◌≡◌ {A = ℕ} 0 1 = cc in absurd (omega arith)
 
 -- what an answer means, in demand 3's words
 means : (t : List ℤ) (p : ℕ) (a : Answer) → demand.PlanMeans t a → PlanKept t (answer_by (cycle_of a) a) (listed_by (cycle_of a) a p)
@@ -91,22 +91,28 @@ means t p (mixed o) (q, h, c) = record {
 
 -- ---- what planning made of a plan: the reply, and what is left of a table w and of the plan's cells p'
 
-abbrev pub reply_made : Planned → PlanReply
-reply_made (made.Cycle v) = reply.Refused cycle_row v
-reply_made (made.Whole k) = reply.Whole k
-reply_made (made.Mixed k) = reply.Mixed k
+abbrev pub reply_made : Result Plan Cycle → PlanReply
+reply_made (Ok made) = Ok made
+reply_made (Err v) = Refused cycle_row v.label
 
-abbrev pub table_made : Planned → List ℤ → List ℤ
-table_made (made.Cycle v) w = zeros (length w)
-table_made (made.Whole k) w = w
-table_made (made.Mixed k) w = w
+abbrev pub table_made : Result Plan Cycle → List ℤ → List ℤ
+table_made (Ok made) w = w
+table_made (Err v) w = zeros (length w)
 
-abbrev pub cells_made : Planned → List ℤ → List ℤ
-cells_made (made.Cycle v) p' = zeros (length p')
-cells_made (made.Whole k) p' = clear_from k p'
-cells_made (made.Mixed k) p' = clear_from k p'
+abbrev pub cells_made : Result Plan Cycle → List ℤ → List ℤ
+cells_made (Ok made) p' = clear_from (plan_length made) p'
+cells_made (Err v) p' = zeros (length p')
 
-made_left : (w p p' : List ℤ) (r : Planned) (a : Answer) → PlanIs a p p' r
+-- a plan is an answer, with its length
+pub made_answers : (made : Plan) → is_answer (Ok made) ≡ true
+made_answers (reply.Whole k) = refl
+made_answers (reply.Mixed k) = refl
+
+pub made_length : (made : Plan) → length_of (Ok made) ≡ plan_length made
+made_length (reply.Whole k) = refl
+made_length (reply.Mixed k) = refl
+
+made_left : (w p p' : List ℤ) (r : Result Plan Cycle) (a : Answer) → PlanIs a p p' r
     → (reply_made r ≡ answer_by (cycle_of a) a) × ((table_made r w ≡ kept_by (cycle_of a) w) × (cells_made r p' ≡ listed_by (cycle_of a) a (length p)))
 made_left w p p' r (cycle v) i = rw (i.reply, i.cells) (refl, (refl, refl))
 made_left w p p' r (whole o) i = rw (i.reply, i.cells) (refl, (refl, listed_cells o p))
@@ -145,8 +151,8 @@ module _ (t : List ℤ) (n : ℕ) (ok : Accepted t n) where
       go (mixed o) h = order_short t n ok o h.0
 
 -- where planning made x of a plan p and left p', in a table w
-pub table_plans : (n : ℕ) (w p p' : List ℤ) (r : Planned) → Accepted (cells_to n w) n → PlanIs (plan (cells_to n w) n) p p' r
-    → (x : Planned) (u q : List ℤ) → r ≡ x → u ≡ table_made x w → q ≡ cells_made x p' → TablePlans n w (length p) (reply_made x) u q
+pub table_plans : (n : ℕ) (w p p' : List ℤ) (r : Result Plan Cycle) → Accepted (cells_to n w) n → PlanIs (plan (cells_to n w) n) p p' r
+    → (x : Result Plan Cycle) (u q : List ℤ) → r ≡ x → u ≡ table_made x w → q ≡ cells_made x p' → TablePlans n w (length p) (reply_made x) u q
 table_plans n w p p' r ok is x u q e f g =
     let c = cycle_of_lem (cells_to n w) n ok in
     let k = made_left w p p' r (plan (cells_to n w) n) is in

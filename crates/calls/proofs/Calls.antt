@@ -1,5 +1,7 @@
 -- Plan and Run as wholes: what rows 1 to 4 replied, and what the call then leaves.
 use mathlib.Core.Path.{◌≡◌, refl, sym, ap, ◌∙◌}
+use Rattle.std.specs.Prelude.{Ok, Err}
+use Rattle.refusals.specs.declared.Refusal.{Refusal}
 use mathlib.Core.Bool.{Bool, true, false}
 use mathlib.Core.List.{List}
 use Prim.Native.Nat.{ℕ, ◌*◌, ◌≤◌}
@@ -8,11 +10,7 @@ use lib.IntN.{ℤ}
 use lib.ListN.{take}
 use Rattle.cells.specs.Cells.{zeros}
 use Rattle.cells.specs.Accepted.{Accepted}
-use Rattle.refusals.specs.Refusal.{or_else}
-use Rattle.refusals.specs.declared.Verdict.{Verdict}
-use Rattle.refusals.specs.declared.Verdict.TheVariants.{Fine, Refused}
-use Rattle.refusals.specs.declared.Reply.{Reply}
-use Rattle.refusals.specs.declared.Reply.TheVariants as head
+use Rattle.refusals.specs.Refusal.{or_else, Verdict, Fine, Reply}
 use Rattle.refusals.proofs.OrElse.{both_fine}
 use Rattle.lines.specs.Lines.{labels, arithmetic_of}
 use Rattle.order.specs.Following.{ProperList}
@@ -23,13 +21,11 @@ use Rattle.reading.proofs.Accepted.{reads, read_accepted}
 use Rattle.numbers.specs.declared.Arithmetic.{Arithmetic}
 use Rattle.figures.specs.Figures.{result_cells}
 use Rattle.calls.specs.Buffers.{plan_short, results_short, plan_buffers, run_buffers}
-use Rattle.calls.specs.Plan.{planned_bad, plan_of, answer_by, listed_by, length_of, plan_bad, plan_reply, plan_table, plan_cells, plan_refusal, plan_place, is_answer}
+use Rattle.calls.specs.Plan.{planned_bad, plan_of, answer_by, listed_by, length_of, plan_bad, plan_reply, plan_table, plan_cells, is_answer, PlanReply}
 use Rattle.calls.specs.Run.{run_bad, run_reply, run_table, run_plan, run_results}
 use Rattle.calls.specs.Demand.{PlanKept}
 use Rattle.calls.specs.Leaves.{PlanLeaves, RunLeaves}
 use Rattle.calls.specs.CallStages.{head_reply, sheet_planned, cells_to, PlanBy, RunBy, SheetPlans, SheetRuns}
-use Rattle.calls.specs.declared.PlanReply.{PlanReply}
-use Rattle.calls.specs.declared.PlanReply.TheVariants as reply
 use Rattle.calls.proofs.Rooms.{table_room, plan_room, results_room, opened, shut}
 use Rattle.calls.proofs.Answers.{answers_number, answers_fine, fine_answers, length_few, plan_kept}
 use Rattle.calls.proofs.Sheets.{rows_taken, refused_plans, rows_open, rows_shut, promise}
@@ -37,7 +33,7 @@ use Rattle.calls.proofs.Sheets.{rows_taken, refused_plans, rows_open, rows_shut,
 -- ---- a call that is lent a table of m cells and other buffers, in which row 4 finds w; rows 1 to 4 replied x
 
 module _ (s : List ℕ) (m : ℕ) (w : Verdict) (x : Reply) (e : x ≡ head_reply s (or_else (table_short s m) w)) where
-  pub ready : (k : ℕ) → x ≡ head.Answered k → Passed s k × (8 * k ≤ m) × (w ≡ Fine)
+  pub ready : (k : ℕ) → x ≡ Ok k → Passed s k × (8 * k ≤ m) × (w ≡ Fine)
   ready k f =
       let h = opened s (or_else (table_short s m) w) x e k f in
       let b = both_fine (table_short s m) w h.1 in
@@ -46,11 +42,11 @@ module _ (s : List ℕ) (m : ℕ) (w : Verdict) (x : Reply) (e : x ≡ head_repl
 -- ---- a call in whose buffers row 4 finds b; rows 1 to 4 replied x
 
 module _ (s : List ℕ) (b : Verdict) (x : Reply) (e : x ≡ head_reply s b) where
-  pub rows_sheet : (k : ℕ) → x ≡ head.Answered k → planned_bad s b ≡ sheet_planned s
+  pub rows_sheet : (k : ℕ) → x ≡ Ok k → planned_bad s b ≡ sheet_planned s
   rows_sheet k f = let h = opened s b x e k f in rows_open s b h.0.head h.1
 
-  pub rows_head : (i l : ℕ) → x ≡ head.Refused i l → planned_bad s b ≡ Refused i l
-  rows_head i l f = rows_shut s b i l (shut s b x e i l f)
+  pub rows_head : (i : Refusal) → x ≡ Err i → planned_bad s b ≡ Err i
+  rows_head i f = rows_shut s b i (shut s b x e i f)
 
 -- ---- Plan
 
@@ -65,17 +61,17 @@ module _ (s : List ℕ) (m p : ℕ) where
   }
 
   module _ (x : Reply) (e : x ≡ head_reply s (plan_buffers s m p)) where
-    pub plan_ready : (k : ℕ) → x ≡ head.Answered k → Passed s k × (8 * k ≤ m) × (k ≤ p)
+    pub plan_ready : (k : ℕ) → x ≡ Ok k → Passed s k × (8 * k ≤ m) × (k ≤ p)
     plan_ready k f =
         let h = ready s m (plan_short s p) x e k f in
         (h.0, h.1, rw h.0.count (plan_room s p h.2))
 
-    pub plan_answered : (k : ℕ) (r : PlanReply) (t o : List ℤ) → x ≡ head.Answered k → SheetPlans s m p r t o → PlanLeaves s m p r t o
+    pub plan_answered : (k : ℕ) (r : PlanReply) (t o : List ℤ) → x ≡ Ok k → SheetPlans s m p r t o → PlanLeaves s m p r t o
     plan_answered k r t o f = plan_leaves (sheet_planned s) r t o (rows_sheet s (plan_buffers s m p) x e k f)
 
-    pub plan_refused : (i l : ℕ) (t o : List ℤ) → x ≡ head.Refused i l → t ≡ zeros m → o ≡ zeros p → PlanLeaves s m p (reply.Refused i l) t o
-    plan_refused i l t o f a b =
-        plan_leaves (Refused i l) (reply.Refused i l) t o (rows_head s (plan_buffers s m p) x e i l f) (refused_plans (Refused i l) s m p i l t o refl a b)
+    pub plan_refused : (i : Refusal) (t o : List ℤ) → x ≡ Err i → t ≡ zeros m → o ≡ zeros p → PlanLeaves s m p (Err i) t o
+    plan_refused i t o f a b =
+        plan_leaves (Err i) (Err i) t o (rows_head s (plan_buffers s m p) x e i f) (refused_plans (Err i) s m p i t o refl a b)
 
 -- ---- Run
 
@@ -115,22 +111,22 @@ module _ (s : List ℕ) (m p n : ℕ) (r : PlanReply) (t o : List ℤ) (h : Pass
     }
 
   -- a refusal is that of rows 5 to 16
-  pub sheet_shut : (i l : ℕ) → r ≡ reply.Refused i l → sheet_planned s ≡ Refused i l
+  pub sheet_shut : (i : Refusal) → r ≡ Err i → sheet_planned s ≡ Err i
   unfolding plan_of
-  sheet_shut i l e = go (sheet_planned s) refl
+  sheet_shut i e = go (sheet_planned s) refl
     where
-      go : (v : Verdict) → sheet_planned s ≡ v → sheet_planned s ≡ Refused i l
-      go (Refused y z) g = let q = sym (rw g at st.reply) ∙ e in g ∙ (λ j. Refused (plan_refusal (q j)) (plan_place (q j)))
-      go Fine g =
+      go : (v : Verdict) → sheet_planned s ≡ v → sheet_planned s ≡ Err i
+      go (Err z) g = let w : ◌≡◌ {A = PlanReply} (Err z) (Err i) = sym (rw g at st.reply) ∙ e in let q : z ≡ i = cc in g ∙ ap Err q
+      go (Ok _) g =
           let c = sheet_fine g in
           let w : is_answer r ≡ true = rw (st.reply, g, ← c.1) (fine_answers (sheet_table s) (labels s) (read_accepted s c.0) c.1) in
           let z : ◌≡◌ {A = Bool} true false = sym w ∙ ap is_answer e in
           let y : ◌≡◌ {A = ℕ} 0 1 = cc in absurd (omega arith)
 
-  pub results_cleared : (i l q : ℕ) (u : List ℤ) → r ≡ reply.Refused i l → u ≡ zeros q → SheetRuns s m p q (reply.Refused i l) t o u
-  results_cleared i l q u e f = record {
+  pub results_cleared : (i : Refusal) (q : ℕ) (u : List ℤ) → r ≡ Err i → u ≡ zeros q → SheetRuns s m p q (Err i) t o u
+  results_cleared i q u e f = record {
     planned = record { reply = sym e ∙ st.reply; table = st.table; plan = st.plan };
-    results = rw (sheet_shut i l e) f;
+    results = rw (sheet_shut i e) f;
   }
 
 module _ (s : List ℕ) (m p q : ℕ) where
@@ -145,16 +141,16 @@ module _ (s : List ℕ) (m p q : ℕ) where
   }
 
   module _ (x : Reply) (e : x ≡ head_reply s (run_buffers s m p q)) where
-    pub run_ready : (k : ℕ) → x ≡ head.Answered k → Passed s k × (8 * k ≤ m) × (k ≤ p) × (3 * k ≤ q)
+    pub run_ready : (k : ℕ) → x ≡ Ok k → Passed s k × (8 * k ≤ m) × (k ≤ p) × (3 * k ≤ q)
     run_ready k f =
         let h = ready s m (or_else (plan_short s p) (results_short s q)) x e k f in
         let b = both_fine (plan_short s p) (results_short s q) h.2 in
         (h.0, h.1, rw h.0.count (plan_room s p b.0), rw h.0.count (results_room s q b.1))
 
-    pub run_answered : (k : ℕ) (r : PlanReply) (t o u : List ℤ) → x ≡ head.Answered k → SheetRuns s m p q r t o u → RunLeaves s m p q r t o u
+    pub run_answered : (k : ℕ) (r : PlanReply) (t o u : List ℤ) → x ≡ Ok k → SheetRuns s m p q r t o u → RunLeaves s m p q r t o u
     run_answered k r t o u f = run_leaves (sheet_planned s) r t o u (rows_sheet s (run_buffers s m p q) x e k f)
 
-    pub run_refused : (i l : ℕ) (t o u : List ℤ) → x ≡ head.Refused i l → t ≡ zeros m → o ≡ zeros p → u ≡ zeros q → RunLeaves s m p q (reply.Refused i l) t o u
-    run_refused i l t o u f a b c =
-        run_leaves (Refused i l) (reply.Refused i l) t o u (rows_head s (run_buffers s m p q) x e i l f)
-        (record { planned = refused_plans (Refused i l) s m p i l t o refl a b; results = c })
+    pub run_refused : (i : Refusal) (t o u : List ℤ) → x ≡ Err i → t ≡ zeros m → o ≡ zeros p → u ≡ zeros q → RunLeaves s m p q (Err i) t o u
+    run_refused i t o u f a b c =
+        run_leaves (Err i) (Err i) t o u (rows_head s (run_buffers s m p q) x e i f)
+        (record { planned = refused_plans (Err i) s m p i t o refl a b; results = c })

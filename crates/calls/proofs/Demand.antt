@@ -11,8 +11,7 @@ use Rattle.kinds.specs.Kinds.{value_code}
 use Rattle.cells.specs.Cells.{zeros}
 use Rattle.cells.specs.Table.{kind}
 use Rattle.cells.specs.Accepted.{Accepted}
-use Rattle.refusals.specs.Refusal.{refusal_of}
-use Rattle.refusals.specs.declared.Verdict.TheVariants.{Fine}
+use Rattle.refusals.specs.Refusal.{refusal_of, Fine}
 use Rattle.refusals.proofs.OrElse.{both_fine}
 use Rattle.lines.specs.Lines.{labels, arithmetic_of}
 use Rattle.order.specs.Order.{NoCycle}

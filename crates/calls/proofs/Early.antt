@@ -1,13 +1,12 @@
 -- Run works down the plan, and Follow down the list it accepts, and no value is read before it has been evaluated.
 use mathlib.Core.Path.{◌≡◌, refl, sym, ◌∙◌}
+use Rattle.std.specs.Prelude.{Ok, Err}
 use mathlib.Core.List.{List}
 use Prim.Native.Nat.{ℕ, ◌*◌, ◌≤◌}
 use native.Mathlib.Omega.{arith}
 use lib.IntN.{ℤ}
 use Rattle.cells.specs.Accepted.{Accepted}
-use Rattle.refusals.specs.declared.Verdict.{Verdict}
-use Rattle.refusals.specs.declared.Verdict.TheVariants.{Fine, Refused}
-use Rattle.refusals.specs.declared.Reply.TheVariants as head
+use Rattle.refusals.specs.Refusal.{Verdict, Fine}
 use Rattle.refusals.proofs.OrElse.{both_fine}
 use Rattle.lines.specs.Lines.{labels, arithmetic_of}
 use Rattle.order.specs.Order.{Proper, Answer, order_of}
@@ -32,8 +31,8 @@ use Rattle.calls.proofs.Followed.{planned_proper, order_proper}
 
 -- only where nothing is found there is an order
 ordered_fine : (v : Verdict) (a : Answer) → 1 ≤ whole_or_mixed (answer_by v a) → v ≡ Fine
-ordered_fine Fine a h = refl
-ordered_fine (Refused r l) a h = absurd (omega arith)
+ordered_fine (Ok _) a h = refl
+ordered_fine (Err e) a h = absurd (omega arith)
 
 evaluated_down : (α : Arithmetic) (t : List ℤ) (n : ℕ) → Accepted t n → (o : List ℕ) → Proper t o → (q : ℕ) → 3 * n ≤ q → (u : List ℤ) → u ≡ result_cells α t n q
     → EvaluatedDown α t o q u
@@ -50,7 +49,7 @@ module _ (s : List ℕ) (m : ℕ) where
       let room = results_room s q (run_rooms s m p q r.1).2 in
       evaluated_down (arithmetic_of s) (sheet_table s) (labels s) ok (order_of (plan_of s)) proper q room (results_by (planned_bad s (run_buffers s m p q)) s q) (rw f)
 
-  pub follow_never_early : (o : List ℤ) (q k : ℕ) → follow_reply s o m q ≡ head.Answered k → EvaluatedDown (arithmetic_of s) (sheet_table s) (labels_of o) q (follow_results s o m q)
+  pub follow_never_early : (o : List ℤ) (q k : ℕ) → follow_reply s o m q ≡ Ok k → EvaluatedDown (arithmetic_of s) (sheet_table s) (labels_of o) q (follow_results s o m q)
   unfolding follow_reply follow_results follow_bad
   follow_never_early o q k h =
       let f = (answered (follow_bad s o m q) _ k h).0 in

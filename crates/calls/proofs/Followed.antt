@@ -6,9 +6,9 @@ use Prim.Native.Nat.{ℕ, zero, suc}
 use native.Mathlib.Omega.{arith}
 use lib.IntN.{ℤ}
 use Rattle.cells.specs.Accepted.{Accepted}
+use Rattle.refusals.specs.declared.Row.{Row}
 use Rattle.refusals.specs.Rows.{cycle_row, listed_row, early_row}
-use Rattle.refusals.specs.Refusal.{or_else, reply_of, found_at, refusal_of}
-use Rattle.refusals.specs.declared.Verdict.TheVariants.{Fine}
+use Rattle.refusals.specs.Refusal.{or_else, reply_of, found_at, refusal_of, Fine}
 use Rattle.refusals.proofs.OrElse.{both_fine}
 use Rattle.order.specs.Order.{NoCycle, Proper, plan, order_of, place16}
 use Rattle.order.specs.Following.{ProperList, place17, place18}
@@ -19,11 +19,11 @@ use Rattle.order.proofs.Following.{follow_exactly}
 
 -- ---- a row told by its place
 
-none_at : (r k : ℕ) → found_at r k ≡ Fine → k ≡ 0
+none_at : (r : Row) (k : ℕ) → found_at r k ≡ Fine → k ≡ 0
 none_at r zero e = refl
 none_at r (suc k) e = let z : ◌≡◌ {A = ℕ} 0 1 = cc in absurd (omega arith)
 
-at_none : (r k : ℕ) → k ≡ 0 → found_at r k ≡ Fine
+at_none : (r : Row) (k : ℕ) → k ≡ 0 → found_at r k ≡ Fine
 at_none r k e = rw e
 
 -- a reply of number 0 is to rows that find nothing

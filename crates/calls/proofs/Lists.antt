@@ -1,17 +1,14 @@
 -- Rows 5 to 18 of an order list o, and Follow as a whole.
 use mathlib.Core.Path.{◌≡◌, refl, sym, ap, ◌∙◌}
+use Rattle.std.specs.Prelude.{Ok, Err}
+use Rattle.refusals.specs.declared.Refusal.{Refusal}
 use mathlib.Core.List.{List}
 use Prim.Native.Nat.{ℕ, ◌*◌, ◌≤◌}
 use lib.IntN.{ℤ}
-use lib.ListN.{length, take}
-use lib.Seq.{take-length}
+use lib.ListN.{length}
 use Rattle.cells.specs.Cells.{zeros}
 use Rattle.cells.specs.Accepted.{Accepted}
-use Rattle.refusals.specs.Refusal.{or_else, reply_of}
-use Rattle.refusals.specs.declared.Verdict.{Verdict}
-use Rattle.refusals.specs.declared.Verdict.TheVariants.{Fine, Refused}
-use Rattle.refusals.specs.declared.Reply.{Reply}
-use Rattle.refusals.specs.declared.Reply.TheVariants as reply
+use Rattle.refusals.specs.Refusal.{or_else, reply_of, Verdict, Fine, Reply}
 use Rattle.refusals.proofs.OrElse.{both_fine}
 use Rattle.lines.specs.Lines.{labels, head_bad, arithmetic_of}
 use Rattle.order.specs.Following.{ProperList}
@@ -43,9 +40,9 @@ module _ (s : List ℕ) (o : List ℤ) (m n : ℕ) (h : Passed s n) where
       left = λ _. b.left f;
     }
 
-    pub list_unread : (r l : ℕ) (u : List ℤ) → v ≡ Refused r l → RowsFollow s o m (Refused r l) u
+    pub list_unread : (r : Refusal) (u : List ℤ) → v ≡ Err r → RowsFollow s o m (Err r) u
     unfolding sheet_followed
-    list_unread r l u f = refused_judged _ _ r l u (rw (sym b.found ∙ f))
+    list_unread r u f = refused_judged _ _ r u (rw (sym b.found ∙ f))
 
   -- ---- rows 5 to 18 found v and left t
 
@@ -62,20 +59,20 @@ module _ (s : List ℕ) (o : List ℤ) (m n : ℕ) (h : Passed s n) where
     list_rows : v ≡ Fine → cells_to n t ≡ sheet_table s
     list_rows f = rows_taken s m n t (list_reads f) h.count (b.left f)
 
-    pub list_ready : v ≡ Fine → Accepted (cells_to n t) n × ProperList (cells_to n t) (take (length o) o)
+    pub list_ready : v ≡ Fine → Accepted (cells_to n t) n × ProperList (cells_to n t) o
     list_ready f =
         let ok = read_accepted s (list_reads f) in
         let proper = order_proper (sheet_table s) (labels s) ok o (parts (sym b.found ∙ f)).1 in
-        (rw (list_rows f, h.count) ok, rw (list_rows f, take-length o) proper)
+        (rw (list_rows f, h.count) ok, rw (list_rows f) proper)
 
     pub list_follows : {α : Arithmetic} → α ≡ arithmetic_of s → (j : ℕ) (u : List ℤ) → v ≡ Fine → u ≡ result_cells α (cells_to n t) n j
-        → SheetFollows s o m j (reply.Answered (length o)) t u
+        → SheetFollows s o m j (Ok (length o)) t u
     list_follows own j u f e =
         let g = sym b.found ∙ f in
         record { reply = rw g; table = rw g (b.left f); results = rw g (e ∙ rw (own, list_rows f, h.count)) }
 
-    pub list_refused : (j r l : ℕ) (x u : List ℤ) → v ≡ Refused r l → x ≡ zeros m → u ≡ zeros j → SheetFollows s o m j (reply.Refused r l) x u
-    list_refused j r l x u f a c =
+    pub list_refused : (j : ℕ) (r : Refusal) (x u : List ℤ) → v ≡ Err r → x ≡ zeros m → u ≡ zeros j → SheetFollows s o m j (Err r) x u
+    list_refused j r x u f a c =
         let g = sym b.found ∙ f in
         record { reply = rw g; table = rw g a; results = rw g c }
 
@@ -103,17 +100,17 @@ module _ (s : List ℕ) (o : List ℤ) (m q : ℕ) where
 
   -- rows 1 to 4 replied x
   module _ (x : Reply) (e : x ≡ head_reply s (follow_buffers s m q)) where
-    pub follow_ready : (k : ℕ) → x ≡ reply.Answered k → Passed s k × (8 * k ≤ m) × (3 * k ≤ q)
+    pub follow_ready : (k : ℕ) → x ≡ Ok k → Passed s k × (8 * k ≤ m) × (3 * k ≤ q)
     follow_ready k f =
         let h = ready s m (results_short s q) x e k f in
         (h.0, h.1, rw h.0.count (results_room s q h.2))
 
-    pub follow_answered : (k : ℕ) (r : Reply) (t u : List ℤ) → x ≡ reply.Answered k → SheetFollows s o m q r t u → FollowLeaves s o m q r t u
+    pub follow_answered : (k : ℕ) (r : Reply) (t u : List ℤ) → x ≡ Ok k → SheetFollows s o m q r t u → FollowLeaves s o m q r t u
     follow_answered k r t u f =
         let h = opened s (follow_buffers s m q) x e k f in
         follow_leaves (sheet_followed s o) r t u (follow_rows ∙ rw (h.0.head, h.1))
 
-    pub follow_refused : (i l : ℕ) (t u : List ℤ) → x ≡ reply.Refused i l → t ≡ zeros m → u ≡ zeros q → FollowLeaves s o m q (reply.Refused i l) t u
-    follow_refused i l t u f a b =
-        follow_leaves (Refused i l) (reply.Refused i l) t u (follow_rows ∙ rw (shut s (follow_buffers s m q) x e i l f))
+    pub follow_refused : (i : Refusal) (t u : List ℤ) → x ≡ Err i → t ≡ zeros m → u ≡ zeros q → FollowLeaves s o m q (Err i) t u
+    follow_refused i t u f a b =
+        follow_leaves (Err i) (Err i) t u (follow_rows ∙ rw (shut s (follow_buffers s m q) x e i f))
         (record { reply = refl; table = a; results = b })

@@ -1,5 +1,7 @@
 -- Rows 1 to 16 of a text s and a table lent with m cells: what each stage leaves, and what Plan and Run then answer and write.
 use mathlib.Core.Path.{◌≡◌, refl, sym, ap, ◌∙◌}
+use Rattle.std.specs.Prelude.{Ok, Err}
+use Rattle.refusals.specs.declared.Refusal.{Refusal}
 use mathlib.Core.List.{List}
 use Prim.Native.Nat.{ℕ, ◌-◌, ◌*◌}
 use lib.IntN.{ℤ}
@@ -7,32 +9,28 @@ use lib.ListN.{length}
 use lib.Seq.{take_at}
 use Rattle.cells.specs.Cells.{zeros}
 use Rattle.cells.specs.Accepted.{Accepted}
-use Rattle.refusals.specs.Refusal.{or_else}
-use Rattle.refusals.specs.declared.Verdict.{Verdict}
-use Rattle.refusals.specs.declared.Verdict.TheVariants.{Fine, Refused}
+use Rattle.refusals.specs.Refusal.{or_else, Verdict, Fine}
 use Rattle.refusals.proofs.OrElse.{both_fine}
 use Rattle.lines.specs.Lines.{labels, head_bad}
 use Rattle.order.specs.Rows16to18.{cycle_bad}
 use Rattle.reading.specs.Read.{sheet_bad, sheet_table, Reads, table_of}
 use Rattle.reading.specs.ReadStages.{Passed, SheetReads}
 use Rattle.reading.proofs.Accepted.{reads, read_accepted, read_length}
-use Rattle.calls.specs.Plan.{open_bad, planned_bad, plan_of, answer_by, listed_by}
+use Rattle.calls.specs.Plan.{open_bad, planned_bad, plan_of, answer_by, listed_by, PlanReply}
 use Rattle.calls.specs.Demand.{PlanKept}
 use Rattle.calls.specs.CallStages.{sheet_planned, kept_by, cells_to, PlanBy, TablePlans, SheetPlans}
-use Rattle.calls.specs.declared.PlanReply.{PlanReply}
-use Rattle.calls.specs.declared.PlanReply.TheVariants as reply
 use Rattle.calls.proofs.Answers.{plan_kept}
 
 -- the rows of a call, taken apart where its sheet's begin
 or_apart : (h b x c : Verdict) → or_else (or_else h (or_else b x)) c ≡ or_else (or_else h b) (or_else x c)
-or_apart (Refused r p) b x c = refl
-or_apart Fine (Refused r p) x c = refl
-or_apart Fine Fine x c = refl
+or_apart (Err e) b x c = refl
+or_apart (Ok _) (Err e) x c = refl
+or_apart (Ok _) (Ok _) x c = refl
 
 -- a table that is the sheet's, or cleared
 table_left : (v : Verdict) (s : List ℕ) (m : ℕ) (t : List ℤ) → t ≡ table_of Fine s m → length t ≡ m → kept_by v t ≡ table_of v s m
-table_left Fine s m t e l = e
-table_left (Refused r p) s m t e l = ap zeros l
+table_left (Ok _) s m t e l = e
+table_left (Err z) s m t e l = ap zeros l
 
 -- the rows of n labels in a table t that holds those of a sheet that reads
 pub rows_taken : (s : List ℕ) (m n : ℕ) (t : List ℤ) → Reads s → n ≡ labels s → t ≡ table_of Fine s m → cells_to n t ≡ sheet_table s
@@ -40,8 +38,8 @@ rows_taken s m n t e is f = rw (is, f) (take_at (sheet_table s) (zeros (m - 8 * 
 
 -- ---- rows 5 to 16
 
-pub refused_plans : (v : Verdict) (s : List ℕ) (m p r l : ℕ) (t q : List ℤ) → v ≡ Refused r l → t ≡ zeros m → q ≡ zeros p → PlanBy v s m p (reply.Refused r l) t q
-refused_plans v s m p r l t q e f g = record { reply = rw e; table = rw e f; plan = rw e g }
+pub refused_plans : (v : Verdict) (s : List ℕ) (m p : ℕ) (r : Refusal) (t q : List ℤ) → v ≡ Err r → t ≡ zeros m → q ≡ zeros p → PlanBy v s m p (Err r) t q
+refused_plans v s m p r t q e f g = record { reply = rw e; table = rw e f; plan = rw e g }
 
 -- rows 5 to 15 found v and left t
 module _ (s : List ℕ) (m n : ℕ) (h : Passed s n) (v : Verdict) (t : List ℤ) (b : SheetReads s m v t) where
@@ -65,9 +63,9 @@ module _ (s : List ℕ) (m n : ℕ) (h : Passed s n) (v : Verdict) (t : List ℤ
         plan = rw (e, ← sheet_rows f, ← h.count) k.plan;
       }
 
-  pub sheet_refused : (r l : ℕ) → v ≡ Refused r l → sheet_planned s ≡ Refused r l
+  pub sheet_refused : (r : Refusal) → v ≡ Err r → sheet_planned s ≡ Err r
   unfolding sheet_planned
-  sheet_refused r l f = rw (sym b.found ∙ f)
+  sheet_refused r f = rw (sym b.found ∙ f)
 
 -- ---- rows 1 to 16, where row 4 finds b
 
@@ -79,8 +77,8 @@ module _ (s : List ℕ) (b : Verdict) where
   pub rows_open : head_bad s ≡ Fine → b ≡ Fine → planned_bad s b ≡ sheet_planned s
   rows_open h e = rw (all_rows, h, e)
 
-  pub rows_shut : (r l : ℕ) → or_else (head_bad s) b ≡ Refused r l → planned_bad s b ≡ Refused r l
-  rows_shut r l e = rw (all_rows, e)
+  pub rows_shut : (r : Refusal) → or_else (head_bad s) b ≡ Err r → planned_bad s b ≡ Err r
+  rows_shut r e = rw (all_rows, e)
 
   -- where rows 1 to 15 find nothing, the sheet reads and the buffers are long enough
   pub open_reads : open_bad s b ≡ Fine → Reads s × (b ≡ Fine)

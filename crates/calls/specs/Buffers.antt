@@ -2,9 +2,7 @@
 -- lent". The text is s; a table is lent with m cells, a plan with p and results with q.
 use Rattle.std.specs.Prelude.{cond, List, ℕ, ◌*◌, leb}
 use Rattle.refusals.specs.Rows.{buffers_row}
-use Rattle.refusals.specs.Refusal.{or_else}
-use Rattle.refusals.specs.declared.Verdict.{Verdict}
-use Rattle.refusals.specs.declared.Verdict.TheVariants.{Fine, Refused}
+use Rattle.refusals.specs.Refusal.{or_else, Verdict, Fine, Refused}
 use Rattle.lines.specs.Lines.{labels}
 use Rattle.reading.specs.Read.{table_short}
 

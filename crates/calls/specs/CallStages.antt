@@ -1,19 +1,15 @@
 -- What the functions between the rows and the calls promise. The text is s; a table is lent with m cells, a plan with p and results with q.
-use Rattle.std.specs.Prelude.{◌≡◌, cond, List, ℕ, ◌*◌, leb, ℤ, length, take}
+use Rattle.std.specs.Prelude.{◌≡◌, cond, List, ℕ, ◌*◌, leb, ℤ, length, take, Ok, Err}
 use Rattle.cells.specs.Cells.{zeros}
 use Rattle.refusals.specs.Rows.{buffers_row}
-use Rattle.refusals.specs.Refusal.{or_else, reply_of}
-use Rattle.refusals.specs.declared.Verdict.{Verdict}
-use Rattle.refusals.specs.declared.Verdict.TheVariants.{Fine, Refused}
-use Rattle.refusals.specs.declared.Reply.{Reply}
+use Rattle.refusals.specs.Refusal.{or_else, reply_of, Verdict, Fine, Refused, Reply}
 use Rattle.lines.specs.Lines.{labels, head_bad}
 use Rattle.order.specs.Order as order
 use Rattle.order.specs.Rows16to18.{cycle_bad, order_bad}
 use Rattle.reading.specs.Read.{sheet_bad, sheet_table, table_of}
 use Rattle.reading.specs.ReadStages.{Judged}
-use Rattle.calls.specs.Plan.{plan_of, answer_by, listed_by}
+use Rattle.calls.specs.Plan.{plan_of, answer_by, listed_by, PlanReply}
 use Rattle.calls.specs.Run.{results_by}
-use Rattle.calls.specs.declared.PlanReply.{PlanReply}
 
 -- ---- rows 1 to 4
 
@@ -45,8 +41,8 @@ pub record FollowBy (v : Verdict) (s : List ℕ) (l : List ℤ) (m q : ℕ) (r :
 
 -- a buffer that a refusal clears
 abbrev pub kept_by : Verdict → List ℤ → List ℤ
-kept_by Fine t = t
-kept_by (Refused r l) t = zeros (length t)
+kept_by (Ok _) t = t
+kept_by (Err e) t = zeros (length t)
 
 -- the cells of n labels in a table
 abbrev pub cells_to : ℕ → List ℤ → List ℤ

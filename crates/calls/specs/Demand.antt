@@ -5,7 +5,7 @@ use Rattle.kinds.specs.Kinds.{value_code}
 use Rattle.cells.specs.Cells.{zeros}
 use Rattle.cells.specs.Table.{kind}
 use Rattle.numbers.specs.declared.Arithmetic.{Arithmetic}
-use Rattle.refusals.specs.Rows.{cycle_row}
+use Rattle.refusals.specs.Rows.{cycle_row, row_number}
 use Rattle.refusals.specs.Refusal as refusal
 use Rattle.order.specs.Order.{Proper, Whole}
 use Rattle.order.specs.Tangles.{ClearSideBySide}
@@ -15,15 +15,14 @@ use Rattle.lines.specs.Lines.{arithmetic_of}
 use Rattle.reading.specs.Read.{sheet_table}
 use Rattle.figures.specs.Figures.{Evaluated, evaluate_into}
 use Rattle.figures.specs.Entered.{NeverEarly}
-use Rattle.calls.specs.Plan.{plan_reply, plan_cells, plan_refusal, length_of, whole_or_mixed}
+use Rattle.calls.specs.Plan.{plan_reply, plan_cells, plan_refusal, length_of, whole_or_mixed, PlanReply}
 use Rattle.calls.specs.Run.{run_results}
 use Rattle.calls.specs.Follow.{follow_reply, follow_results}
-use Rattle.calls.specs.declared.PlanReply.{PlanReply}
 
 -- the reply r, and the cells of the plan as Plan or Run leaves them
 pub record PlanKept (t : List ℤ) (r : PlanReply) (cells : List ℤ) : Type 0 where
   -- "Plan refuses with 16 exactly when there is no proper order"
-  pub refuses : (plan_refusal r ≡ cycle_row) ↔ ((o : List ℕ) → Proper t o → ⊥)
+  pub refuses : (plan_refusal r ≡ row_number cycle_row) ↔ ((o : List ℕ) → Proper t o → ⊥)
   -- "Otherwise it gives a proper one"
   pub answers : (o : List ℕ) → Proper t o → plan_refusal r ≡ 0
   pub proper : plan_refusal r ≡ 0 → ProperList t (take (length_of r) cells)

@@ -1,8 +1,6 @@
 -- Document 01's Follow: the text s, an order list o of any integers, a table lent with m cells and results with q.
 use Rattle.std.specs.Prelude.{List, ℕ, ℤ, length}
-use Rattle.refusals.specs.Refusal.{or_else, reply_of}
-use Rattle.refusals.specs.declared.Verdict.{Verdict}
-use Rattle.refusals.specs.declared.Reply.{Reply}
+use Rattle.refusals.specs.Refusal.{or_else, reply_of, Verdict, Reply}
 use Rattle.lines.specs.Lines.{labels}
 use Rattle.reading.specs.Read.{sheet_table, table_of}
 use Rattle.order.specs.Rows16to18.{order_bad}

@@ -1,17 +1,14 @@
 -- All that a call leaves: its reply r, every cell of every buffer that it is lent, and demand 3's promise. The text is s; the table t is
 -- lent with m cells, a plan with p and the results u with q.
 use Rattle.std.specs.Prelude.{◌≡◌, ◌↔◌, List, ℕ, ℤ}
-use Rattle.refusals.specs.Refusal.{refusal_of}
-use Rattle.refusals.specs.declared.Verdict.TheVariants.{Fine}
-use Rattle.refusals.specs.declared.Reply.{Reply}
+use Rattle.refusals.specs.Refusal.{refusal_of, Fine, Reply}
 use Rattle.order.specs.Following.{ProperList}
 use Rattle.reading.specs.Read.{sheet_table, Reads}
 use Rattle.calls.specs.Buffers.{plan_buffers, run_buffers, follow_buffers}
-use Rattle.calls.specs.Plan.{plan_reply, plan_table, plan_cells}
+use Rattle.calls.specs.Plan.{plan_reply, plan_table, plan_cells, PlanReply}
 use Rattle.calls.specs.Run.{run_reply, run_table, run_plan, run_results}
 use Rattle.calls.specs.Follow.{follow_reply, follow_table, follow_results}
 use Rattle.calls.specs.Demand.{PlanKept}
-use Rattle.calls.specs.declared.PlanReply.{PlanReply}
 
 -- "Plan also writes the plan and answers its length and whole or mixed"
 pub record PlanLeaves (s : List ℕ) (m p : ℕ) (r : PlanReply) (t o : List ℤ) : Type 0 where

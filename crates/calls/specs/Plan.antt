@@ -1,17 +1,16 @@
 -- Document 01's Plan: the text s, a table lent with m cells and a plan lent with p.
-use Rattle.std.specs.Prelude.{Bool, true, false, List, ◌++◌, map, ℕ, ◌-◌, ℤ, pos, length}
+use Rattle.std.specs.Prelude.{Bool, true, false, List, ◌++◌, map, ℕ, ◌-◌, ℤ, pos, length, Result, Ok, Err}
 use Rattle.cells.specs.Cells.{zeros}
-use Rattle.refusals.specs.Rows.{cycle_row}
-use Rattle.refusals.specs.Refusal.{or_else}
-use Rattle.refusals.specs.declared.Verdict.{Verdict}
-use Rattle.refusals.specs.declared.Verdict.TheVariants.{Fine, Refused}
+use Rattle.refusals.specs.Rows.{cycle_row, row_number}
+use Rattle.refusals.specs.Refusal.{or_else, Verdict, Refused}
 use Rattle.lines.specs.Lines.{labels, head_bad}
 use Rattle.order.specs.Order.{Answer, cycle, whole, mixed, plan, order_of}
 use Rattle.order.specs.Rows16to18.{cycle_bad}
 use Rattle.reading.specs.Read.{sheet_bad, sheet_table, table_of}
 use Rattle.calls.specs.Buffers.{plan_buffers}
-use Rattle.calls.specs.declared.PlanReply.{PlanReply}
-use Rattle.calls.specs.declared.PlanReply.TheVariants as reply
+use Rattle.refusals.specs.declared.Refusal.{Refusal}
+use Rattle.planning.specs.declared.Plan.{Plan}
+use Rattle.planning.specs.declared.Plan.TheVariants as reply
 
 -- rows 1 to 15, and 1 to 16, of a call in whose buffers row 4 finds b, in the order of the paper's table
 unfoldable pub open_bad : List ℕ → Verdict → Verdict
@@ -24,18 +23,22 @@ planned_bad s b = or_else (open_bad s b) (cycle_bad (sheet_table s) (labels s))
 unfoldable pub plan_of : List ℕ → Answer
 plan_of s = plan (sheet_table s) (labels s)
 
--- what Plan and Run answer where their rows find v: the plan's length, and whole or mixed. Where row 16 finds nothing the plan is no
+-- what Plan and Run answer: a plan's length, and whole or mixed; or a refusal
+abbrev pub PlanReply : Type 0
+PlanReply = Result Plan Refusal
+
+-- the reply where the rows find v: the plan's length, and whole or mixed. Where row 16 finds nothing the plan is no
 -- cycle, so the last line is never asked.
 abbrev pub answer_by : Verdict → Answer → PlanReply
-answer_by (Refused r l) a = reply.Refused r l
-answer_by Fine (whole o) = reply.Whole (length o)
-answer_by Fine (mixed o) = reply.Mixed (length o)
-answer_by Fine (cycle v) = reply.Refused cycle_row v
+answer_by (Err e) a = Err e
+answer_by (Ok _) (whole o) = Ok (reply.Whole (length o))
+answer_by (Ok _) (mixed o) = Ok (reply.Mixed (length o))
+answer_by (Ok _) (cycle v) = Refused cycle_row v
 
 -- the plan's labels in p cells, of which the unused ones are zero; nothing but zeros where the call refuses
 abbrev pub listed_by : Verdict → Answer → ℕ → List ℤ
-listed_by Fine a p = map pos (order_of a) ++ zeros (p - length (order_of a))
-listed_by (Refused r l) a p = zeros p
+listed_by (Ok _) a p = map pos (order_of a) ++ zeros (p - length (order_of a))
+listed_by (Err e) a p = zeros p
 
 unfoldable pub plan_bad : List ℕ → ℕ → ℕ → Verdict
 plan_bad s m p = planned_bad s (plan_buffers s m p)
@@ -52,29 +55,29 @@ plan_cells s m p = listed_by (plan_bad s m p) (plan_of s) p
 -- ---- document 01's number, place and values of a reply
 
 abbrev pub plan_refusal : PlanReply → ℕ
-plan_refusal (reply.Refused r l) = r
-plan_refusal (reply.Whole k) = 0
-plan_refusal (reply.Mixed k) = 0
+plan_refusal (Err e) = row_number e.row
+plan_refusal (Ok (reply.Whole k)) = 0
+plan_refusal (Ok (reply.Mixed k)) = 0
 
 abbrev pub plan_place : PlanReply → ℕ
-plan_place (reply.Refused r l) = l
-plan_place (reply.Whole k) = 0
-plan_place (reply.Mixed k) = 0
+plan_place (Err e) = e.place
+plan_place (Ok (reply.Whole k)) = 0
+plan_place (Ok (reply.Mixed k)) = 0
 
 -- the plan's length; 0 of a refusal
 abbrev pub length_of : PlanReply → ℕ
-length_of (reply.Refused r l) = 0
-length_of (reply.Whole k) = k
-length_of (reply.Mixed k) = k
+length_of (Err e) = 0
+length_of (Ok (reply.Whole k)) = k
+length_of (Ok (reply.Mixed k)) = k
 
 -- whole 1, mixed 2; 0 of a refusal
 abbrev pub whole_or_mixed : PlanReply → ℕ
-whole_or_mixed (reply.Refused r l) = 0
-whole_or_mixed (reply.Whole k) = 1
-whole_or_mixed (reply.Mixed k) = 2
+whole_or_mixed (Err e) = 0
+whole_or_mixed (Ok (reply.Whole k)) = 1
+whole_or_mixed (Ok (reply.Mixed k)) = 2
 
 -- a reply that is an answer
 abbrev pub is_answer : PlanReply → Bool
-is_answer (reply.Refused r l) = false
-is_answer (reply.Whole k) = true
-is_answer (reply.Mixed k) = true
+is_answer (Err e) = false
+is_answer (Ok (reply.Whole k)) = true
+is_answer (Ok (reply.Mixed k)) = true

@@ -12,16 +12,12 @@ ghost use Rattle.calls.specs.Buffers.{plan_buffers, run_buffers, follow_buffers}
 ghost use Rattle.calls.specs.Leaves.{PlanLeaves, RunLeaves, FollowLeaves};
 ghost use Rattle.calls.specs.CallStages.{short_by, head_reply, cells_to, TablePlans, SheetPlans, SheetRuns, RowsFollow, SheetFollows};
 
-use planning::Planned;
-use refusals::{Reply, Verdict};
+use cells::ReadTable;
+use planning::Plan;
+use refusals::{Refusal, Reply, Row, Verdict};
 
 // What Plan and Run answer: the length of a whole or a mixed plan, or a refusal.
-#[derive(Clone, Copy)]
-pub enum PlanReply {
-    Whole(u64),
-    Mixed(u64),
-    Refused(u64, u64),
-}
+pub type PlanReply = Result<Plan, Refusal>;
 
 // ---- rows 1 to 4: the number of labels where they find nothing. A call looks at the buffers that it is lent, lowest place first.
 
@@ -30,49 +26,41 @@ pub fn with_room(n: u64, cells: usize, least: usize, place: u64) -> Reply
     ensures { result ≡ reply_of (short_by least cells place) n }
 {
     if cells < least {
-        return Reply::Refused(refusals::BUFFERS, place);
+        return Err(Row::Buffers.at(place));
     }
-    Reply::Answered(n)
+    Ok(n)
 }
 
 // Rows 1 to 4 of a call that is lent a table of so many cells.
 fn head_table(text: &[u8], table: usize) -> Reply
     ensures { result ≡ head_reply text.now (table_short text.now table) }
 {
-    match lines::check_head(text) {
-        Reply::Answered(n) => with_room(n, table, 8 * n as usize, 1),
-        Reply::Refused(row, place) => Reply::Refused(row, place),
-    }
+    let n = lines::check_head(text)?;
+    with_room(n, table, 8 * n as usize, 1)
 }
 
 // Rows 1 to 4 of Plan: a table and a plan.
 fn head_plan(text: &[u8], table: usize, plan: usize) -> Reply
     ensures { result ≡ head_reply text.now (plan_buffers text.now table plan) }
 {
-    match head_table(text, table) {
-        Reply::Answered(n) => with_room(n, plan, n as usize, 2),
-        Reply::Refused(row, place) => Reply::Refused(row, place),
-    }
+    let n = head_table(text, table)?;
+    with_room(n, plan, n as usize, 2)
 }
 
 // Rows 1 to 4 of Run: a table, a plan and results.
 pub fn head_run(text: &[u8], table: usize, plan: usize, results: usize) -> Reply
     ensures { result ≡ head_reply text.now (run_buffers text.now table plan results) }
 {
-    match head_plan(text, table, plan) {
-        Reply::Answered(n) => with_room(n, results, 3 * n as usize, 3),
-        Reply::Refused(row, place) => Reply::Refused(row, place),
-    }
+    let n = head_plan(text, table, plan)?;
+    with_room(n, results, 3 * n as usize, 3)
 }
 
 // Rows 1 to 4 of Follow: a table and results, and no plan.
 fn head_follow(text: &[u8], table: usize, results: usize) -> Reply
     ensures { result ≡ head_reply text.now (follow_buffers text.now table results) }
 {
-    match head_table(text, table) {
-        Reply::Answered(n) => with_room(n, results, 3 * n as usize, 3),
-        Reply::Refused(row, place) => Reply::Refused(row, place),
-    }
+    let n = head_table(text, table)?;
+    with_room(n, results, 3 * n as usize, 3)
 }
 
 // ---- a refusal leaves zeros
@@ -94,18 +82,18 @@ fn plan_table(n: usize, table: &mut [i64], plan: &mut [i64]) -> PlanReply
     requires { Accepted (cells_to n table.old) n × (8 * n ≤ length table.old) × (n ≤ length plan.old) }
     ensures { TablePlans n table.old (length plan.old) result table.new plan.new }
 {
-    match planning::plan_of(&table[..8 * n], n, plan) {
-        Planned::Whole(whole) => {
-            cells::clear_from(plan, whole as usize);
-            PlanReply::Whole(whole)
+    let sheet = ReadTable {
+        cells: &table[..8 * n],
+        n,
+    };
+    match planning::plan_of(sheet, plan) {
+        Ok(made) => {
+            cells::clear_from(plan, made.count() as usize);
+            Ok(made)
         }
-        Planned::Mixed(mixed) => {
-            cells::clear_from(plan, mixed as usize);
-            PlanReply::Mixed(mixed)
-        }
-        Planned::Cycle(label) => {
+        Err(cycle) => {
             clear_both(table, plan);
-            PlanReply::Refused(refusals::CYCLE, label)
+            Err(Row::Cycle.at(cycle.label))
         }
     }
 }
@@ -116,10 +104,10 @@ fn plan_sheet(text: &[u8], n: usize, table: &mut [i64], plan: &mut [i64]) -> Pla
     ensures { SheetPlans text.now (length table.old) (length plan.old) result table.new plan.new }
 {
     match reading::read_sheet(text, n, table) {
-        Verdict::Fine => plan_table(n, table, plan),
-        Verdict::Refused(row, label) => {
+        Ok(()) => plan_table(n, table, plan),
+        Err(refusal) => {
             clear_both(table, plan);
-            PlanReply::Refused(row, label)
+            Err(refusal)
         }
     }
 }
@@ -130,10 +118,10 @@ pub fn plan(text: &[u8], table: &mut [i64], plan: &mut [i64]) -> PlanReply
     ensures { PlanLeaves text.now (length table.old) (length plan.old) result table.new plan.new }
 {
     match head_plan(text, table.len(), plan.len()) {
-        Reply::Answered(n) => plan_sheet(text, n as usize, table, plan),
-        Reply::Refused(row, place) => {
+        Ok(n) => plan_sheet(text, n as usize, table, plan),
+        Err(refusal) => {
             clear_both(table, plan);
-            PlanReply::Refused(row, place)
+            Err(refusal)
         }
     }
 }
@@ -154,17 +142,17 @@ pub fn run_sheet(
 {
     let own = lines::arithmetic_of(text);
     match plan_sheet(text, n, table, plan) {
-        PlanReply::Whole(count) => {
-            figures::run_down(own, &table[..8 * n], n, plan, count as usize, results);
-            PlanReply::Whole(count)
+        Ok(made) => {
+            let sheet = ReadTable {
+                cells: &table[..8 * n],
+                n,
+            };
+            figures::run_down(own, sheet, &plan[..made.count() as usize], results);
+            Ok(made)
         }
-        PlanReply::Mixed(count) => {
-            figures::run_down(own, &table[..8 * n], n, plan, count as usize, results);
-            PlanReply::Mixed(count)
-        }
-        PlanReply::Refused(row, label) => {
+        Err(refusal) => {
             cells::clear(results);
-            PlanReply::Refused(row, label)
+            Err(refusal)
         }
     }
 }
@@ -175,11 +163,11 @@ pub fn run(text: &[u8], table: &mut [i64], plan: &mut [i64], results: &mut [i64]
         result table.new plan.new results.new }
 {
     match head_run(text, table.len(), plan.len(), results.len()) {
-        Reply::Answered(n) => run_sheet(text, n as usize, table, plan, results),
-        Reply::Refused(row, place) => {
+        Ok(n) => run_sheet(text, n as usize, table, plan, results),
+        Err(refusal) => {
             clear_both(table, plan);
             cells::clear(results);
-            PlanReply::Refused(row, place)
+            Err(refusal)
         }
     }
 }
@@ -191,10 +179,12 @@ fn follow_rows(text: &[u8], n: usize, order: &[i64], table: &mut [i64]) -> Verdi
     requires { Passed text.now n × (8 * n ≤ length table.old) }
     ensures { RowsFollow text.now order.now (length table.old) result table.new }
 {
-    match reading::read_sheet(text, n, table) {
-        Verdict::Fine => following::check_order(&table[..8 * n], n, order),
-        Verdict::Refused(row, label) => Verdict::Refused(row, label),
-    }
+    reading::read_sheet(text, n, table)?;
+    let sheet = ReadTable {
+        cells: &table[..8 * n],
+        n,
+    };
+    following::check_order(sheet, order)
 }
 
 // The results down an order list that those rows let pass, by the sheet's own arithmetic.
@@ -210,13 +200,17 @@ fn follow_sheet(
 {
     let own = lines::arithmetic_of(text);
     match follow_rows(text, n, order, table) {
-        Verdict::Fine => {
-            figures::run_down(own, &table[..8 * n], n, order, order.len(), results);
-            Reply::Answered(order.len() as u64)
+        Ok(()) => {
+            let sheet = ReadTable {
+                cells: &table[..8 * n],
+                n,
+            };
+            figures::run_down(own, sheet, order, results);
+            Ok(order.len() as u64)
         }
-        Verdict::Refused(row, place) => {
+        Err(refusal) => {
             clear_both(table, results);
-            Reply::Refused(row, place)
+            Err(refusal)
         }
     }
 }
@@ -226,10 +220,10 @@ pub fn follow(text: &[u8], order: &[i64], table: &mut [i64], results: &mut [i64]
     ensures { FollowLeaves text.now order.now (length table.old) (length results.old) result table.new results.new }
 {
     match head_follow(text, table.len(), results.len()) {
-        Reply::Answered(n) => follow_sheet(text, n as usize, order, table, results),
-        Reply::Refused(row, place) => {
+        Ok(n) => follow_sheet(text, n as usize, order, table, results),
+        Err(refusal) => {
             clear_both(table, results);
-            Reply::Refused(row, place)
+            Err(refusal)
         }
     }
 }

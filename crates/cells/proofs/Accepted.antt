@@ -1,12 +1,12 @@
 -- The labels of an accepted table, which alone have a kind, a body or a path; and reaching is transitive.
-use mathlib.Core.Path.{◌≡◌, refl, ap}
+use mathlib.Core.Path.{◌≡◌, refl, ap, ◌∙◌}
 use mathlib.Core.List.{List}
-use Prim.Native.Nat.{ℕ, zero, suc, ◌+◌, ◌*◌, ◌≤◌, ◌<◌}
+use Prim.Native.Nat.{ℕ, zero, suc, ◌+◌, ◌-◌, ◌*◌, ◌≤◌, ◌<◌}
 use native.Mathlib.Omega.{arith}
 use native.Mathlib.Decide.{dec_le}
-use lib.IntN.{ℤ}
+use lib.IntN.{ℤ, pos}
 use Rattle.kinds.proofs.Laws.{kind_low, definition_kind, expression_kind, body_definition, path_expression}
-use Rattle.cells.specs.Cells.{nat_of}
+use Rattle.cells.specs.Cells.{nat_of, int_at}
 use Rattle.cells.specs.Table.{cell, kind}
 use Rattle.cells.specs.Accepted.{Accepted, HasBody}
 use Rattle.cells.specs.Reaches.{HasPath, Reaches, once, then}
@@ -33,3 +33,9 @@ module _ (t : List ℤ) (n : ℕ) (ok : Accepted t n) where
 
   pub path_label : (l : ℕ) → HasPath t l → (1 ≤ l) × (l ≤ n)
   path_label l p = kind_label l (kind_low (kind t l) (expression_kind (kind t l) (path_expression (kind t l) p)))
+
+-- the kind cell of a label holds a natural number
+pub kind_cell : (t : List ℤ) (n : ℕ) → Accepted t n → (l : ℕ) → 1 ≤ l → l ≤ n → int_at t (8 * (l - 1)) ≡ pos (kind t l)
+kind_cell t n ok l low high =
+    let e : 8 * (l - 1) ≡ 8 * (l - 1) + 0 = omega arith in
+    ap (int_at t) e ∙ ok.natural l 0 low high (omega arith) (λ k i. omega arith)

@@ -5,7 +5,7 @@ use mathlib.Core.Bool.{Bool, true, false}
 use Prim.Native.Nat.{ℕ, suc, zero, ◌≤◌, ◌<◌, ◌^◌}
 use native.Mathlib.Omega.{arith}
 use borrow.Author.Rules.{sfits_of}
-use borrow.Author.Tests.{eq-eqb, ne_eqb, eqb-false}
+use borrow.Author.Tests.{eq-eqb, ne_eqb}
 use lib.Dec.{T, ltb, leb-suc-zero, ltb→lt}
 use lib.IntN.{ℤ, pos, negsuc, neg_ℤ, nat_abs}
 use lib.Signed.{lt_z, non_neg, mag}
@@ -33,10 +33,6 @@ nat_abs_nat_of (negsuc n) e = clash e
 pub non_neg_is : (x : ℤ) → is_negative x ≡ false → T (non_neg x)
 non_neg_is (pos n) e = tt
 non_neg_is (negsuc n) e = clash e
-
-pub non_neg_neg : (x : ℤ) → is_negative x ≡ true → T (non_neg (neg_ℤ x))
-non_neg_neg (pos n) e = clash (sym e)
-non_neg_neg (negsuc n) e = tt
 
 -- ---- sizes
 
@@ -95,15 +91,6 @@ equal z k h l e = rw (nat_of_bits z k h l e) (eq-eqb k k refl)
 pub unequal : (z : ℤ) (k : ℕ) → (of_z w64 z ≡ k → ⊥) → equals k z ≡ false
 unequal (pos n) k f = ne_eqb n k f
 unequal (negsuc n) k f = refl
-
--- a number that is not 0 has a size, and bits that are not 0, as a division asks of its divisor
-pub nonzero_size : (b : ℤ) → equals 0 b ≡ false → 0 < nat_abs b
-nonzero_size (pos n) e = omega (arith, eqb-false n 0 e)
-nonzero_size (negsuc n) e = omega arith
-
-pub bits_pos : (b : ℤ) → SFits w64 b → 0 < nat_abs b → 0 < of_z w64 b
-bits_pos (pos n) f h = h
-bits_pos (negsuc n) f h = let g : n < 2 ^ 63 = f.sfits in omega arith
 
 -- a cell that is read as it stands, where it is known to be a natural number
 module _ (z : ℤ) (m : ℕ) (e : z ≡ pos m) (h : mag z < 2 ^ 63) where

@@ -7,8 +7,8 @@ use native.Mathlib.Omega.{arith}
 use native.Mathlib.Nat.{not-suc-le-zero}
 use lib.IntN.{ℤ, pos}
 use lib.ListN.{length, set, get_or-eq_default}
-use Rattle.cells.specs.Cells.{nat_of, int_at, nat_at}
-use Rattle.cells.specs.Table.{cell, line_number}
+use Rattle.cells.specs.Cells.{nat_of, nat_at}
+use Rattle.cells.specs.Table.{cell}
 use Rattle.cells.proofs.Stores.{int_at_put, int_at_other}
 
 -- ---- a cell by its index. A label from 1 on is the `suc` of the label before
@@ -16,10 +16,6 @@ use Rattle.cells.proofs.Stores.{int_at_put, int_at_other}
 pub cell_at : (t : List ℤ) (l j : ℕ) → 1 ≤ l → cell t l j ≡ nat_at t (8 * (l - 1) + j)
 cell_at t zero j h = absurd (not-suc-le-zero h)
 cell_at t (suc k) j h = let e : suc k - 1 ≡ k = omega arith in rw e
-
-pub number_at_lem : (t : List ℤ) (l : ℕ) → 1 ≤ l → line_number t l ≡ int_at t (8 * (l - 1) + 3)
-number_at_lem t zero h = absurd (not-suc-le-zero h)
-number_at_lem t (suc k) h = let e : suc k - 1 ≡ k = omega arith in rw e
 
 pub cell_past : (t : List ℤ) (l j : ℕ) → length t ≤ 8 * (l - 1) + j → cell t l j ≡ 0
 cell_past t zero j h = refl

@@ -3,12 +3,19 @@
 
 #![tactic(auto)]
 
-ghost use Rattle.std.specs.Prelude.{◌≡◌, [], ◌∷◌, ◌+◌, ◌-◌, ◌*◌, ◌^◌, ◌≤◌, ◌<◌, length, set, pos, nat_abs};
+ghost use Rattle.std.specs.Prelude.{◌≡◌, true, [], ◌∷◌, ◌+◌, ◌-◌, ◌*◌, ◌^◌, ◌≤◌, ◌<◌, length, set, pos};
 ghost use Rattle.std.proofs.lemmas.List.Edits.{sets};
 ghost use Rattle.cells.specs.Limits.{size_limit};
-ghost use Rattle.cells.specs.Cells.{is_negative, nat_of, with_sign, int_at, nat_at, zeros};
+ghost use Rattle.cells.specs.Cells.{nat_of, with_sign, int_at, nat_at, zeros};
 ghost use Rattle.cells.specs.Clearing.{clear_from};
-ghost use Rattle.cells.specs.Table.{cell};
+ghost use Rattle.kinds.specs.Kinds.{is_kind};
+ghost use Rattle.kinds.specs.Coded.{own_code, kind_with};
+ghost use Rattle.cells.specs.Table.{cell, kind};
+
+mod checked;
+
+pub use checked::ReadTable;
+use kinds::Kind;
 
 // ---- names for what cells hold
 
@@ -48,26 +55,11 @@ pub const PAIR_LIMIT: usize = 1024;
 
 // ---- the sign and the size of a cell
 
-// Whether x is below 0.
-pub fn is_negative(x: i64) -> bool
-    ensures { result ≡ is_negative x }
-{
-    x < 0
-}
-
 // x, or 0 where x is negative.
 pub fn nat_of(x: i64) -> usize
     ensures { result ≡ nat_of x }
 {
     if x < 0 { 0 } else { x as usize }
-}
-
-// The size of x, which is not the least number of its type.
-pub fn magnitude(x: i64) -> u64
-    requires { nat_abs x < 2 ^ 63 }
-    ensures { result ≡ nat_abs x }
-{
-    if x < 0 { (-x) as u64 } else { x as u64 }
 }
 
 // The number of size m with the given sign.
@@ -117,10 +109,8 @@ pub fn put_three(t: &mut [i64], i: usize, x: i64, y: i64, z: i64)
 pub fn clear_from(t: &mut [i64], start: usize)
     ensures { t.new ≡ clear_from start t.old }
 {
-    let mut i = start;
-    while i < t.len() {
+    for i in start..t.len() {
         t[i] = 0;
-        i += 1;
     }
 }
 
@@ -148,6 +138,13 @@ pub fn cell_at(t: &[i64], label: usize, j: usize) -> usize
     nat_at(t, 8 * (label - 1) + j)
 }
 
+// The kind of the label; none of what is no label.
+pub fn kind_at(t: &[i64], label: usize) -> Option<Kind>
+    ensures { result ≡ kind_with (kind t.now label) }
+{
+    Kind::of_code(cell_at(t, label, KIND))
+}
+
 // The same of a label that the table is known to have: where it stands is not tested.
 pub fn label_cell(t: &[i64], label: usize, j: usize) -> usize
     requires { (1 ≤ label) × (8 * label ≤ length t.now) × (j < 8) }
@@ -162,6 +159,14 @@ pub fn natural_cell(t: &[i64], label: usize, j: usize) -> usize
     ensures { result ≡ cell t.now label j }
 {
     t[8 * (label - 1) + j] as usize
+}
+
+// The kind of a label whose cell is known to hold one.
+pub fn label_kind(t: &[i64], label: usize) -> Kind
+    requires { (1 ≤ label) × (8 * label ≤ length t.now) × (is_kind (kind t.now label) ≡ true) }
+    ensures { own_code result ≡ kind t.now label }
+{
+    Kind::of_code(label_cell(t, label, KIND)).unwrap()
 }
 
 // Cell j of the label becomes v.

@@ -4,13 +4,17 @@ use mathlib.Core.Path.{◌≡◌, refl, sym, ap, ◌∙◌, subst}
 use mathlib.Core.Bool.{Bool, true, false, cond}
 use mathlib.Core.List.{List}
 use mathlib.Core.Logic.{inl}
-use Prim.Native.Nat.{ℕ, ◌*◌, ◌≤◌, ◌<◌}
+use Prim.Native.Nat.{ℕ, ◌≤◌, ◌<◌}
 use native.Mathlib.Omega.{arith}
 use lib.IntN.{ℤ, nat_abs}
 use lib.Dec.{eqb}
-use lib.ListN.{length}
 use borrow.Author.Tests.{eqb-true}
-use Rattle.kinds.specs.Kinds.{value_code, operand_a, clause_of}
+use mir.Syntax.{w64}
+use mir.Val.{to_z, of_z}
+use mir.Facts.{to_z-of_z}
+use Rattle.cells.proofs.Signed.{fits_by}
+use Rattle.kinds.proofs.Laws.{expression_kind}
+use Rattle.kinds.specs.Kinds.{value_code, is_kind, operand_a, clause_of}
 use Rattle.kinds.proofs.Tests.{clash}
 use Rattle.kinds.proofs.Codes.{value_body}
 use Rattle.kinds.proofs.Clauses.{Uses, uses_of, a_uses, b_uses, c_uses}
@@ -19,13 +23,15 @@ use Rattle.cells.specs.Table.{cell, kind, field_b, owner, target}
 use Rattle.cells.specs.Reaches.{Reaches}
 use Rattle.cells.specs.Limits.{number_limit}
 use Rattle.numbers.specs.declared.Arithmetic.{Arithmetic}
-use Rattle.evaluation.specs.Evaluation.{branch_of, depth_limit, one_argument, outcome, nothing}
-use Rattle.evaluation.specs.Ready.{Ready, ReachedEvaluated, ExpressionAt, Entry, Entered, EnteredCall, Cell, ResultsRoom, Evaluable}
+use Rattle.evaluation.specs.Evaluation.{Outcome, gives, branch_of, depth_limit, one_argument, outcome, nothing}
+use Rattle.evaluation.specs.Shown.{state_of, shown}
+use Rattle.evaluation.specs.declared.Evaluation.{Evaluation}
+use Rattle.evaluation.specs.declared.State.TheVariants.{Number}
+use Rattle.evaluation.specs.Ready.{Ready, ReachedEvaluated, ExpressionAt, Entry, Entered, Cell, ResultsRoom, Evaluable}
 use Rattle.evaluation.specs.Results.{Recorded}
 use Rattle.evaluation.specs.declared.Arguments.{Arguments}
 use Rattle.kinds.specs.declared.Clause.{Clause}
 use Rattle.kinds.specs.declared.Clause.TheVariants as clause
-use Rattle.evaluation.specs.declared.Outcome.{Outcome}
 use Rattle.cells.proofs.Accepted.{body_label}
 use Rattle.evaluation.proofs.Closure.{Within, From, from_closed, from_reaches, Leads, leads, first, second, third, body_within, cell_ok}
 use Rattle.evaluation.proofs.Range.{in_range_lem}
@@ -39,10 +45,6 @@ Composite k = (uses_of k).a ≡ true
 abbrev uses_in : Uses → ℕ → Bool
 uses_in u j = cond (eqb j 3) u.a (cond (eqb j 4) u.b (cond (eqb j 5) u.c false))
 
--- the clause that the code found
-pub is_kind_lem : {c n : ℕ} {k k' : Clause} → c ≡ n → k ≡ clause_of c → k ≡ k' → k' ≡ clause_of n
-is_kind_lem p q e = sym e ∙ q ∙ ap clause_of p
-
 -- where what v reaches has been evaluated, so has what a function that v reaches does
 handed_on : (t r : List ℤ) (v d : ℕ) → From t v d → ReachedEvaluated t r v → ReachedEvaluated t r d
 handed_on t r v d f h w k p = h w k (from_reaches t v d w f p)
@@ -52,22 +54,19 @@ pub reached_recorded : {t r : List ℤ} {d : ℕ} → Ready t r → ReachedEvalu
 reached_recorded q h w k p = let s = q.recorded w in record { least = h w k p; most = s.most; ranged = s.ranged }
 
 module _ {t r : List ℤ} {l : ℕ} {g : Arguments} {d : ℕ} where
-  pub as_kind : Entry t r l g d → {d' c : ℕ} {k k' : Clause} → d' ≡ d → c ≡ kind t l → k ≡ clause_of c → k ≡ k' → Entered k' t r l g d'
-  as_kind e h p q x = record {
+  pub as_kind : Entry t r l g d → {d' : ℕ} {k k' : Clause} → d' ≡ d → k ≡ clause_of (kind t l) → k ≡ k' → Entered k' t r l g d'
+  as_kind e h q x = record {
     entry = record { ready = e.ready; line = e.line; given = e.given; shallow = rw h e.shallow; reached = e.reached };
-    of = sym (is_kind_lem p q x);
+    of = sym q ∙ x;
   }
-
-  pub as_call : Entry t r l g d → {d' c n : ℕ} {k : Clause} → d' ≡ d → c ≡ kind t l → k ≡ clause_of c → k ≡ clause.Call n → EnteredCall t r l g d'
-  as_call e {n = n} h p q x = record { count = n; entered = as_kind e h p q x }
 
   -- a cell other than field a, of any line
   pub line_cell : Entry t r l g d → (j : ℕ) → j < 8 → (j ≡ 3 → ⊥) → Cell t l j
   line_cell e j h f =
       cell_ok t e.ready.count e.ready.accepted l j e.line.low e.line.high h (λ _ x. f x)
 
-  pub number_cell : Entry t r l g d → (1 ≤ l) × (8 * l ≤ length t)
-  number_cell e = let c = line_cell e 0 (omega arith) (λ x. omega arith) in (c.low, c.room)
+  pub kind_cell : Entry t r l g d → Cell t l 0 × (is_kind (kind t l) ≡ true)
+  kind_cell e = (line_cell e 0 (omega arith) (λ x. omega arith), expression_kind (kind t l) e.line.expression)
 
   enter : (e : Entry t r l g d) {x y : ℕ} → y ≡ x → Within t e.ready.count (From t (owner t l)) x → Entry t r y g d
   enter e {x} {y} p h = record {
@@ -120,6 +119,11 @@ module _ {t r : List ℤ} {l : ℕ} {g : Arguments} {d : ℕ} where
             into (third t e.entry.ready.count e.entry.ready.accepted Own Reached (from_closed t (owner t l)) l here used) (eqb-true j 5 i)
         go false false false q o i = clash (sym (rw (q, o, i) at u))
 
+  -- only an expression is entered
+  pub none_entered : Entered clause.None t r l g d → ⊥
+  unfolding Leads
+  none_entered e = has e
+
   pub branch_entry : Entered clause.Choice t r l g d → (y : ℤ) {x : ℕ} → x ≡ branch_of t l y → Entry t r x g d
   unfolding Leads
   branch_entry e y p = enter e.entry p ((has e).1 y)
@@ -153,13 +157,26 @@ module _ {t r : List ℤ} {l : ℕ} {g : Arguments} {d : ℕ} where
 
 -- ---- after an operand
 
-module _ (α : Arithmetic) (t r : List ℤ) (x : ℕ) (g : Arguments) (s d : ℕ) {o : Outcome} (p : o ≡ outcome α t r x g s d) where
-  pub number_ranged : Entry t r x g d → {y : ℤ} → y ≡ o.number → nat_abs y ≤ number_limit
+-- a number as the code hands it on
+pub ranged_whole : {y : ℤ} → nat_abs y ≤ number_limit → to_z w64 (of_z w64 y) ≡ y
+ranged_whole {y} h = to_z-of_z {w = w64} (fits_by y number_limit h tt)
+
+-- a number is given, or a failure
+pub given : (o : Evaluation) → o.state ≡ Number → shown o ≡ gives o.number o.left
+given o q = ap (λ s. record { number = o.number; state = state_of s; left = o.left }) q
+
+module _ (α : Arithmetic) (t r : List ℤ) (x : ℕ) (g : Arguments) (s d : ℕ) (o : Evaluation) (p : shown o ≡ outcome α t r x g s d) where
+  pub number_ranged : Entry t r x g d → o.state ≡ Number → nat_abs o.number ≤ number_limit
   number_ranged e q =
-      rw (q, p) (in_range_lem α t r e.ready x g s d e.line e.given).ranged
+      let is : outcome α t r x g s d ≡ gives o.number o.left = sym p ∙ given o q in
+      subst (λ (u : Outcome). nat_abs u.number ≤ number_limit) is (in_range_lem α t r e.ready x g s d e.line e.given).ranged
+
+  pub number_whole : Entry t r x g d → o.state ≡ Number → to_z w64 (of_z w64 o.number) ≡ o.number
+  number_whole e q = ranged_whole (number_ranged e q)
 
   pub left_less_by : o.left ≤ s
-  left_less_by = rw p (left_less α t r x g s d)
+  left_less_by =
+      subst (λ (n : ℕ). n ≤ s) (ap (λ (u : Outcome). u.left) (sym p)) (left_less α t r x g s d)
 
 -- ---- a value
 

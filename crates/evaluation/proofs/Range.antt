@@ -17,19 +17,19 @@ use Rattle.cells.specs.Reaches.{Reaches}
 use Rattle.cells.specs.Limits.{number_limit}
 use Rattle.numbers.specs.Arithmetic.{calculated}
 use Rattle.kinds.specs.declared.Operation.{Operation}
-use Rattle.numbers.specs.declared.Calculated.{Calculated}
-use Rattle.numbers.specs.declared.Calculated.TheVariants as calculation
+use Rattle.std.specs.Prelude.{Result, Ok, Err}
+use Rattle.numbers.specs.declared.Failure.{Failure}
+use Rattle.numbers.specs.declared.Failure.TheVariants as calculation
 use Rattle.numbers.proofs.Operations.{calculated_size}
 use Rattle.numbers.specs.declared.Arithmetic.{Arithmetic}
 use Rattle.evaluation.specs.States.{has_number, out_of_range, zero_divisor, out_of_steps, too_deep, last_state}
 use Rattle.evaluation.specs.Results.{state_at, number_at, Recorded}
-use Rattle.evaluation.specs.Evaluation.{Way, gives, fails, on_number, unless_failed, answer_at, outcome_of, depth_limit, body_by, call_by, operation_by, choice_by, entered_by}
+use Rattle.evaluation.specs.Evaluation.{Outcome, Way, gives, fails, on_number, unless_failed, answer_at, outcome_of, depth_limit, body_by, call_by, operation_by, choice_by, entered_by}
 use Rattle.evaluation.specs.Evaluation.{step_by, with_fuel, outcome, nothing, step_limit, value_outcome}
 use Rattle.evaluation.specs.Ready.{Ready, ExpressionAt}
 use Rattle.evaluation.specs.declared.Arguments.{Arguments}
 use Rattle.kinds.specs.declared.Clause.{Clause}
 use Rattle.kinds.specs.declared.Clause.TheVariants as clause
-use Rattle.evaluation.specs.declared.Outcome.{Outcome}
 use Rattle.evaluation.proofs.Closure.{Within, Closed, All, all_closed, From, from_closed, Leads, leads, body_within}
 
 pub record Good (low : ℕ) (o : Outcome) : Type 0 where
@@ -65,10 +65,10 @@ module _ (α : Arithmetic) (low : ℕ) (small : low ≤ has_number) where
   unfolding outcome_of
   calculated_good op a b s = by (calculated α op a b) refl
     where
-      by : (c : Calculated) → calculated α op a b ≡ c → Good low (outcome_of c s)
-      by (calculation.Number z) e = gives_good z s (calculated_size α op a b z e)
-      by calculation.OutOfRange e = fails_good out_of_range s (omega arith) (omega arith)
-      by calculation.ZeroDivisor e = fails_good zero_divisor s (omega arith) (omega arith)
+      by : (c : Result ℤ Failure) → calculated α op a b ≡ c → Good low (outcome_of c s)
+      by (Ok z) e = gives_good z s (calculated_size α op a b z e)
+      by (Err calculation.OutOfRange) e = fails_good out_of_range s (omega arith) (omega arith)
+      by (Err calculation.ZeroDivisor) e = fails_good zero_divisor s (omega arith) (omega arith)
 
   module _ (t r : List ℤ) (n : ℕ) (w : Accepted t n) (D E : ℕ → Type 0) (c : Closed t D E) (recorded : (x : ℕ) → kind t x ≡ value_code → E x → Recorded low r x) where
     entered_good : (rec : Way) → ((l : ℕ) (g : Arguments) (s d : ℕ) → Within t n D l → nat_abs g.first ≤ number_limit → Good low (rec l g s d))

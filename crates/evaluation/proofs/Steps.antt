@@ -11,17 +11,17 @@ use lib.IntN.{ℤ}
 use Rattle.kinds.specs.Kinds.{clause_of}
 use Rattle.cells.specs.Table.{kind, field_a, field_b, target, line_number}
 use Rattle.numbers.specs.Arithmetic.{calculated}
-use Rattle.numbers.specs.declared.Calculated.{Calculated}
-use Rattle.numbers.specs.declared.Calculated.TheVariants as calculation
+use Rattle.std.specs.Prelude.{Result, Ok, Err}
+use Rattle.numbers.specs.declared.Failure.{Failure}
+use Rattle.numbers.specs.declared.Failure.TheVariants as calculation
 use Rattle.numbers.specs.declared.Arithmetic.{Arithmetic}
 use Rattle.evaluation.specs.States.{has_number, out_of_steps}
 use Rattle.evaluation.specs.Results.{state_at, number_at}
-use Rattle.evaluation.specs.Evaluation.{Way, gives, fails, on_number, unless_failed, answer_at, outcome_of, step_limit, depth_limit, body_by, call_by, operation_by, branch_of}
+use Rattle.evaluation.specs.Evaluation.{Outcome, Way, gives, fails, on_number, unless_failed, answer_at, outcome_of, step_limit, depth_limit, body_by, call_by, operation_by, branch_of}
 use Rattle.evaluation.specs.Evaluation.{choice_by, entered_by, step_by, with_fuel, outcome, value_outcome, evaluated}
 use Rattle.evaluation.specs.declared.Arguments.{Arguments}
 use Rattle.kinds.specs.declared.Clause.{Clause}
 use Rattle.kinds.specs.declared.Clause.TheVariants as clause
-use Rattle.evaluation.specs.declared.Outcome.{Outcome}
 
 -- ---- two outcomes that are one, with at most s steps left
 
@@ -51,11 +51,11 @@ answer_left r l s = by (eqb (state_at r l) has_number)
     by true = refl
     by false = refl
 
-calculated_left : (c : Calculated) (s : ℕ) → (outcome_of c s).left ≡ s
+calculated_left : (c : Result ℤ Failure) (s : ℕ) → (outcome_of c s).left ≡ s
 unfolding outcome_of
-calculated_left (calculation.Number z) s = refl
-calculated_left calculation.OutOfRange s = refl
-calculated_left calculation.ZeroDivisor s = refl
+calculated_left (Ok z) s = refl
+calculated_left (Err calculation.OutOfRange) s = refl
+calculated_left (Err calculation.ZeroDivisor) s = refl
 
 -- ---- a rule
 

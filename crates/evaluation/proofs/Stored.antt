@@ -3,40 +3,30 @@ use mathlib.Core.Path.{◌≡◌, refl, sym, ap, ◌∙◌, subst}
 use mathlib.Core.Bool.{Bool, true, false}
 use mathlib.Core.List.{List, [], ◌∷◌}
 use mathlib.Core.Logic.{◌≢◌}
-use Prim.Native.Nat.{ℕ, zero, suc, ◌+◌, ◌-◌, ◌*◌, ◌≤◌, ◌<◌}
+use Prim.Native.Nat.{ℕ, zero, suc, ◌+◌, ◌*◌, ◌≤◌, ◌<◌}
 use native.Mathlib.Omega.{arith}
 use native.Mathlib.Nat.{add-zero}
 use borrow.Author.Tests.{eqb-true, eqb-false, ltb-true, ltb-false}
 use lib.Dec.{eqb, ltb}
 use lib.IntN.{ℤ, pos, nat_abs}
 use lib.ListN.{length, length-replicate}
-use lib.Seq.{sets, length-sets}
+use lib.Seq.{length-sets}
 use Rattle.cells.specs.Cells.{nat_of, int_at, zeros}
 use Rattle.cells.specs.Accepted.{Accepted}
 use Rattle.cells.proofs.Stores.{int_at_zeros, sets_before, sets_past, sets_in}
 use Rattle.cells.specs.Limits.{number_limit}
 use Rattle.numbers.specs.declared.Arithmetic.{Arithmetic}
 use Rattle.evaluation.specs.States.{has_number, last_state}
-use Rattle.evaluation.specs.Results.{state_at, number_at, stored, store, Recorded}
-use Rattle.evaluation.specs.Evaluation.{value_outcome, value_of, evaluated}
-use Rattle.evaluation.specs.Ready.{Ready, ResultsRoom, Evaluable}
-use Rattle.evaluation.specs.declared.Outcome.{Outcome}
 use Rattle.evaluation.specs.declared.Value.{Value}
+use Rattle.evaluation.specs.Results.{state_at, number_at, stored, store, Recorded}
+use Rattle.evaluation.specs.Evaluation.{Outcome, value_outcome, value_of, evaluated}
+use Rattle.evaluation.specs.Ready.{Ready, ResultsRoom, Evaluable}
 use Rattle.evaluation.proofs.Range.{Good, value_recorded}
 use Rattle.evaluation.proofs.Entries.{reached_recorded, value_room}
 
 pub store_length : (r : List ℤ) (l : ℕ) (v : Value) → length (store r l v) ≡ length r
 store_length r zero v = refl
 store_length r (suc k) v = length-sets r (3 * k) (pos v.state ∷ v.number ∷ pos v.steps ∷ [])
-
--- where the code stores them
-store_at : (r : List ℤ) (l : ℕ) (v : Value) → 1 ≤ l → store r l v ≡ sets r (3 * (l - 1)) (pos v.state ∷ v.number ∷ pos v.steps ∷ [])
-store_at r zero v h = absurd (omega arith)
-store_at r (suc k) v h = let e : k ≡ suc k - 1 = omega arith in ap (λ (j : ℕ). sets r (3 * j) (pos v.state ∷ v.number ∷ pos v.steps ∷ [])) e
-
-pub three_stored : (r : List ℤ) (l : ℕ) (v : Value) → 1 ≤ l → {a b c : ℤ} {r' : List ℤ} → a ≡ pos v.state → b ≡ v.number → c ≡ pos v.steps
-    → r' ≡ sets r (3 * (l - 1)) (a ∷ b ∷ c ∷ []) → r' ≡ store r l v
-three_stored r l v h p q e s = s ∙ (λ i. sets r (3 * (l - 1)) (p i ∷ q i ∷ e i ∷ [])) ∙ sym (store_at r l v h)
 
 module _ (r : List ℤ) (k : ℕ) (v : Value) where
   cell_other : (m j : ℕ) → suc m ≢ suc k → j < 3 → int_at (store r (suc k) v) (3 * m + j) ≡ int_at r (3 * m + j)

@@ -1,6 +1,6 @@
 -- Document 01, "Working out", by open recursion: each rule is told how the expressions inside are evaluated, and `with_fuel` alone
 -- counts entries, so that the recursion ends. The rules are the same for any arithmetic α: what two operands give is its own to say.
-use Rattle.std.specs.Prelude.{Bool, true, false, cond, List, ℕ, zero, suc, ◌+◌, ◌-◌, eqb, ℤ, pos}
+use Rattle.std.specs.Prelude.{Bool, true, false, cond, Result, Ok, Err, List, ℕ, zero, suc, ◌+◌, ◌-◌, eqb, ℤ, pos}
 use Rattle.kinds.specs.Kinds.{clause_of}
 use Rattle.kinds.specs.declared.Operation.{Operation}
 use Rattle.kinds.specs.declared.Clause.{Clause}
@@ -9,15 +9,20 @@ use Rattle.cells.specs.Cells.{equals}
 use Rattle.cells.specs.Table.{kind, field_a, field_b, field_c, target, line_number}
 use Rattle.numbers.specs.Arithmetic.{calculated}
 use Rattle.numbers.specs.declared.Arithmetic.{Arithmetic}
-use Rattle.numbers.specs.declared.Calculated.{Calculated}
-use Rattle.numbers.specs.declared.Calculated.TheVariants as calculation
+use Rattle.numbers.specs.declared.Failure.{Failure}
+use Rattle.numbers.specs.declared.Failure.TheVariants as calculation
 use Rattle.evaluation.specs.declared.Arguments.{Arguments}
-use Rattle.evaluation.specs.declared.Outcome.{Outcome}
-use Rattle.evaluation.specs.declared.Value.{Value}
 use Rattle.evaluation.specs.States.{has_number, out_of_range, zero_divisor, out_of_steps, too_deep}
+use Rattle.evaluation.specs.declared.Value.{Value}
 use Rattle.evaluation.specs.Results.{state_at, number_at}
 
 -- ---- outcomes
+
+-- a number and its state, and the steps left; with any other state the number is 0
+pub record Outcome : Type 0 where
+  pub number : ℤ
+  pub state : ℕ
+  pub left : ℕ
 
 -- a number, or the state of a failure; with either the steps left
 abbrev pub gives : ℤ → ℕ → Outcome
@@ -39,10 +44,10 @@ unfoldable pub answer_at : List ℤ → ℕ → ℕ → Outcome
 answer_at r l s = cond (eqb (state_at r l) has_number) (gives (number_at r l) s) (fails (state_at r l) s)
 
 -- "a zero b is state 3. A result outside the number range is state 2."
-unfoldable pub outcome_of : Calculated → ℕ → Outcome
-outcome_of (calculation.Number z) s = gives z s
-outcome_of calculation.OutOfRange s = fails out_of_range s
-outcome_of calculation.ZeroDivisor s = fails zero_divisor s
+unfoldable pub outcome_of : Result ℤ Failure → ℕ → Outcome
+outcome_of (Ok z) s = gives z s
+outcome_of (Err calculation.OutOfRange) s = fails out_of_range s
+outcome_of (Err calculation.ZeroDivisor) s = fails zero_divisor s
 
 -- ---- the rules
 

@@ -1,4 +1,5 @@
 pub mod States
 pub mod Results
 pub mod Evaluation
+pub mod Shown
 pub mod Ready

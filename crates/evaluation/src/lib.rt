@@ -3,46 +3,113 @@
 
 #![tactic(auto)]
 
-ghost use Rattle.std.specs.Prelude.{◌≡◌, ◌-◌, ◌*◌, ◌≤◌, ◌<◌, length, nat_abs};
-ghost use Rattle.cells.specs.Table.{cell, line_number, target};
+ghost use Rattle.std.specs.Prelude.{◌≡◌, true, ◌+◌, ◌-◌, ◌*◌, ◌≤◌, ◌<◌, length, pos, nat_abs};
+ghost use Rattle.kinds.specs.Kinds.{is_kind, clause_of};
+ghost use Rattle.cells.specs.Table.{cell, kind, line_number, target};
 ghost use Rattle.cells.specs.Limits.{number_limit};
 ghost use Rattle.evaluation.specs.Results.{store, Recorded};
-ghost use Rattle.evaluation.specs.Evaluation.{gives, fails, answer_at, outcome_of, step_limit, branch_of, call_by, operation_by, choice_by, outcome, evaluated};
+ghost use Rattle.evaluation.specs.Evaluation.{gives, fails, answer_at, outcome_of, step_limit, depth_limit, branch_of, call_by, operation_by, choice_by, outcome, evaluated};
+ghost use Rattle.evaluation.specs.Shown.{state_of, failure_state, IsFailureState, shown};
 ghost use Rattle.numbers.specs.Arithmetic.{calculated};
 ghost use Rattle.evaluation.specs.Ready.{Entry, Entered, EnteredCall, Cell, ResultsRoom, Evaluable};
 
-use cells::nat_of;
-use kinds::{Clause, Operation};
-use numbers::{Arithmetic, Calculated};
+use kinds::{Clause, Kind, Operation};
+use numbers::{Arithmetic, Failure};
 
 // ---- what evaluation carries
 
-// Document 01's states of a result.
-pub const NUMBER: u32 = 1;
+// Document 01's states of a result, as the results' cells have them.
+pub const NUMBER: i64 = 1;
 
-pub const OUT_OF_RANGE: u32 = 2;
+const OUT_OF_RANGE: i64 = 2;
 
-pub const ZERO_DIVISOR: u32 = 3;
+const ZERO_DIVISOR: i64 = 3;
 
-pub const OUT_OF_STEPS: u32 = 4;
+const OUT_OF_STEPS: i64 = 4;
 
-pub const TOO_DEEP: u32 = 5;
+const TOO_DEEP: i64 = 5;
 
-// What an expression comes to, and the steps left. A failure has number 0. The fields leave no gap, which keeps a copy
-// cheap: one is made at every return.
+// Whether an expression has a number, or why it has none.
 #[derive(Clone, Copy)]
-pub struct Outcome {
+pub enum State {
+    Number,
+    OutOfRange,
+    ZeroDivisor,
+    OutOfSteps,
+    TooDeep,
+}
+
+impl State {
+    // As the results' cells have it.
+    fn cell(self) -> i64
+        ensures { result ≡ pos (state_of self) }
+    {
+        match self {
+            State::Number => NUMBER,
+            State::OutOfRange => OUT_OF_RANGE,
+            State::ZeroDivisor => ZERO_DIVISOR,
+            State::OutOfSteps => OUT_OF_STEPS,
+            State::TooDeep => TOO_DEEP,
+        }
+    }
+
+    // The failure that a cell has.
+    fn of_cell(cell: i64) -> Self
+        requires { IsFailureState cell }
+        ensures { pos (state_of result) ≡ cell }
+    {
+        match cell {
+            OUT_OF_RANGE => State::OutOfRange,
+            ZERO_DIVISOR => State::ZeroDivisor,
+            OUT_OF_STEPS => State::OutOfSteps,
+            _ => State::TooDeep,
+        }
+    }
+}
+
+impl From<Failure> for State {
+    ghost from_gives = { λ f s. s ≡ failure_state f };
+
+    fn from(failure: Failure) -> State {
+        match failure {
+            Failure::OutOfRange => State::OutOfRange,
+            Failure::ZeroDivisor => State::ZeroDivisor,
+        }
+    }
+}
+
+// What an expression comes to, and the steps left; on a failure the number is 0. It comes back in memory at each entry, so its size counts: a
+// Result whose error is an enum, or an enum that holds the number, makes it 24 bytes in place of 16, and the deepest calls took 1.14 and 1.03
+// times as long.
+#[derive(Clone, Copy)]
+pub struct Evaluation {
     pub number: i64,
-    pub state: u32,
+    pub state: State,
     pub left: u32,
 }
 
-// What a value comes to, and the steps taken.
-#[derive(Clone, Copy)]
-pub struct Value {
-    pub number: i64,
-    pub state: u32,
-    pub steps: u32,
+impl Evaluation {
+    // A number.
+    fn gives(number: i64, left: u32) -> Self
+        ensures { shown result ≡ gives number left }
+    {
+        Evaluation {
+            number,
+            state: State::Number,
+            left,
+        }
+    }
+
+    // No number.
+    fn fails(state: State, left: u32) -> Self
+        ensures { shown result ≡ fails (state_of state) left }
+    {
+        Evaluation {
+            number: 0,
+            state,
+            left,
+        }
+    }
 }
 
 // What a call hands to the body of its target.
@@ -51,8 +118,8 @@ pub struct Arguments {
     pub first: i64,
 }
 
-// What a value may still use: steps left, and how deep its calls have gone. The arithmetic that it is evaluated by goes with
-// them: eight bytes are passed in one register, and a parameter more would not be.
+// What a value may still use: steps left, and how deep its calls have gone; and the arithmetic by which it is evaluated, which rides here since
+// one parameter more would not fit into registers.
 #[derive(Clone, Copy)]
 pub struct Allowance {
     pub left: u32,
@@ -74,7 +141,7 @@ impl Allowance {
         Allowance {
             left: Allowance::STEPS,
             depth: 0,
-            arithmetic: arithmetic,
+            arithmetic,
         }
     }
 
@@ -83,34 +150,26 @@ impl Allowance {
         requires { 0 < self.left }
         ensures { (result.left ≡ self.left - 1) × (result.depth ≡ self.depth) × (result.arithmetic ≡ self.arithmetic) }
     {
-        let arithmetic = self.arithmetic;
+        self.with_left(self.left - 1)
+    }
+
+    // The same, with these steps left.
+    fn with_left(self, left: u32) -> Self
+        ensures { (result.left ≡ left) × (result.depth ≡ self.depth) × (result.arithmetic ≡ self.arithmetic) }
+    {
+        Allowance { left, ..self }
+    }
+
+    // One call deeper, with these steps left.
+    fn deeper(self, left: u32) -> Self
+        requires { self.depth < depth_limit }
+        ensures { (result.left ≡ left) × (result.depth ≡ self.depth + 1) × (result.arithmetic ≡ self.arithmetic) }
+    {
         Allowance {
-            left: self.left - 1,
-            depth: self.depth,
-            arithmetic: arithmetic,
+            left,
+            depth: self.depth + 1,
+            ..self
         }
-    }
-}
-
-// A number, with these steps left.
-fn success(number: i64, left: u32) -> Outcome
-    ensures { result ≡ gives number left }
-{
-    Outcome {
-        number: number,
-        state: NUMBER,
-        left: left,
-    }
-}
-
-// A state other than NUMBER, whose number is 0, with these steps left.
-fn failure(state: u32, left: u32) -> Outcome
-    ensures { result ≡ fails state left }
-{
-    Outcome {
-        number: 0,
-        state: state,
-        left: left,
     }
 }
 
@@ -122,6 +181,16 @@ fn field(table: &[i64], label: usize, j: usize) -> usize
     ensures { result ≡ cell table.now label j }
 {
     table[8 * (label - 1) + j] as usize
+}
+
+// The clause that evaluates a line of any kind.
+fn clause(table: &[i64], label: usize) -> Clause
+    requires { Cell table.now label 0 × (is_kind (kind table.now label) ≡ true) }
+    ensures { result ≡ clause_of (kind table.now label) }
+{
+    Kind::of_code(field(table, label, cells::KIND))
+        .unwrap()
+        .clause()
 }
 
 // The number of an N line.
@@ -144,48 +213,38 @@ fn branch_of(table: &[i64], label: usize, test: i64) -> usize
 }
 
 // The stored answer of a label that has been evaluated.
-fn answer_at(results: &[i64], label: usize, left: u32) -> Outcome
+fn answer_at(results: &[i64], label: usize, left: u32) -> Evaluation
     requires { ResultsRoom results.now label × Recorded 1 results.now label }
-    ensures { result ≡ answer_at results.now label left }
+    ensures { shown result ≡ answer_at results.now label left }
 {
     let at = 3 * (label - 1);
-    let state = nat_of(results[at]) as u32;
-    if state == NUMBER {
-        return success(results[at + 1], left);
+    let state = results[at];
+    // a comparison by order keeps the tests of the failures off the way of a number
+    if NUMBER < state {
+        return Evaluation::fails(State::of_cell(state), left);
     }
-    failure(state, left)
+    Evaluation::gives(results[at + 1], left)
 }
 
 // "R the target's stored answer, failures too." The target has been evaluated.
-fn read(table: &[i64], results: &[i64], label: usize, left: u32) -> Outcome
-    requires { Cell table.now label 7 × ResultsRoom results.now (target table.now label) × Recorded 1 results.now (target table.now label) }
-    ensures { result ≡ answer_at results.now (target table.now label) left }
+fn read(table: &[i64], results: &[i64], label: usize, left: u32) -> Evaluation
+    requires { Cell table.now label 7 × ResultsRoom results.now (target table.now label)
+        × Recorded 1 results.now (target table.now label) }
+    ensures { shown result ≡ answer_at results.now (target table.now label) left }
 {
     answer_at(results, field(table, label, cells::TARGET), left)
 }
 
-// ---- arithmetic
-
-// What an operation gives, as a state and a number.
-fn outcome_of(c: Calculated, left: u32) -> Outcome
-    ensures { result ≡ outcome_of c left }
+// Two operands under A, S, M or D.
+fn combine(arithmetic: Arithmetic, op: Operation, a: i64, b: i64, left: u32) -> Evaluation
+    requires { (nat_abs a ≤ number_limit) × (nat_abs b ≤ number_limit) }
+    ensures { shown result ≡ outcome_of (calculated arithmetic op a b) left }
 {
-    match c {
-        Calculated::Number(z) => success(z, left),
-        Calculated::OutOfRange => failure(OUT_OF_RANGE, left),
-        Calculated::ZeroDivisor => failure(ZERO_DIVISOR, left),
+    match numbers::calculate(arithmetic, op, a, b) {
+        Ok(number) => Evaluation::gives(number, left),
+        Err(failure) => Evaluation::fails(State::from(failure), left),
     }
 }
-
-// Two operands under A, S, M or D.
-fn combine(arithmetic: Arithmetic, op: Operation, a: i64, b: i64, left: u32) -> Outcome
-    requires { (nat_abs a ≤ number_limit) × (nat_abs b ≤ number_limit) }
-    ensures { result ≡ outcome_of (calculated arithmetic op a b) left }
-{
-    outcome_of(numbers::calculate(arithmetic, op, a, b), left)
-}
-
-// ---- the cycle
 
 // An expression: takes a step and goes by the clause of its kind.
 #[cycle(call_choice_expression_operation)]
@@ -195,55 +254,54 @@ fn expression(
     label: usize,
     given: Arguments,
     allowance: Allowance,
-) -> Outcome
+) -> Evaluation
     requires { Entry table.now results.now label given allowance.depth }
-    ensures { result ≡ outcome allowance.arithmetic table.now results.now label given allowance.left allowance.depth }
+    ensures { shown result ≡ outcome allowance.arithmetic table.now results.now
+        label given allowance.left allowance.depth }
 {
-    let left = allowance.left;
-    if left == 0 {
-        return failure(OUT_OF_STEPS, 0);
+    if allowance.left == 0 {
+        return Evaluation::fails(State::OutOfSteps, 0);
     }
     let rest = allowance.step();
-    let code = field(table, label, cells::KIND);
-    let clause = kinds::clause_of(code);
-    match clause {
-        Clause::Number => success(number_of(table, label), rest.left),
-        Clause::Argument(_) => success(given.first, rest.left),
-        Clause::Read => read(table, results, label, rest.left),
+    let left = rest.left;
+    match clause(table, label) {
+        Clause::Number => Evaluation::gives(number_of(table, label), left),
+        Clause::Argument(_) => Evaluation::gives(given.first, left),
+        Clause::Read => read(table, results, label, left),
         Clause::Call(_) => call(table, results, label, given, rest),
         Clause::Operation(op) => operation(table, results, op, label, given, rest),
         Clause::Choice => choice(table, results, label, given, rest),
-        Clause::None => failure(0, rest.left),
+        Clause::None => unreachable!(),
     }
 }
 
 // A call: its argument, then the body of its target one deeper.
 #[cycle(call_choice_expression_operation)]
-fn call(table: &[i64], results: &[i64], label: usize, given: Arguments, rest: Allowance) -> Outcome
+fn call(
+    table: &[i64],
+    results: &[i64],
+    label: usize,
+    given: Arguments,
+    rest: Allowance,
+) -> Evaluation
     requires { EnteredCall table.now results.now label given rest.depth }
-    ensures { result ≡ call_by (outcome rest.arithmetic table.now results.now) table.now label given rest.left rest.depth }
+    ensures { shown result ≡ call_by (outcome rest.arithmetic table.now results.now)
+        table.now label given rest.left rest.depth }
 {
     let argument = field(table, label, cells::A);
-    let first = expression(table, results, argument, given, rest);
-    if first.state != NUMBER {
-        return failure(first.state, first.left);
-    }
-    let depth = rest.depth;
-    if depth == Allowance::DEPTH {
-        return failure(TOO_DEEP, first.left);
+    let evaluated = expression(table, results, argument, given, rest);
+    let State::Number = evaluated.state else {
+        return Evaluation::fails(evaluated.state, evaluated.left);
+    };
+    if rest.depth == Allowance::DEPTH {
+        return Evaluation::fails(State::TooDeep, evaluated.left);
     }
     let target = field(table, label, cells::TARGET);
     let body = field(table, target, cells::B);
     let passed = Arguments {
-        first: first.number,
+        first: evaluated.number,
     };
-    let arithmetic = rest.arithmetic;
-    let deeper = Allowance {
-        left: first.left,
-        depth: depth + 1,
-        arithmetic: arithmetic,
-    };
-    expression(table, results, body, passed, deeper)
+    expression(table, results, body, passed, rest.deeper(evaluated.left))
 }
 
 // A sum, difference, product or quotient: a, then b.
@@ -255,28 +313,28 @@ fn operation(
     label: usize,
     given: Arguments,
     rest: Allowance,
-) -> Outcome
+) -> Evaluation
     requires { Entered (Clause.Operation op) table.now results.now label given rest.depth }
-    ensures { result ≡ operation_by rest.arithmetic (outcome rest.arithmetic table.now results.now)
+    ensures { shown result ≡ operation_by rest.arithmetic (outcome rest.arithmetic table.now results.now)
         table.now op label given rest.left rest.depth }
 {
     let a = field(table, label, cells::A);
     let first = expression(table, results, a, given, rest);
-    if first.state != NUMBER {
-        return failure(first.state, first.left);
-    }
-    let b = field(table, label, cells::B);
-    let arithmetic = rest.arithmetic;
-    let next = Allowance {
-        left: first.left,
-        depth: rest.depth,
-        arithmetic: arithmetic,
+    let State::Number = first.state else {
+        return Evaluation::fails(first.state, first.left);
     };
-    let second = expression(table, results, b, given, next);
-    if second.state != NUMBER {
-        return failure(second.state, second.left);
-    }
-    combine(arithmetic, op, first.number, second.number, second.left)
+    let b = field(table, label, cells::B);
+    let second = expression(table, results, b, given, rest.with_left(first.left));
+    let State::Number = second.state else {
+        return Evaluation::fails(second.state, second.left);
+    };
+    combine(
+        rest.arithmetic,
+        op,
+        first.number,
+        second.number,
+        second.left,
+    )
 }
 
 // A choice: its test, then one branch only.
@@ -287,39 +345,53 @@ fn choice(
     label: usize,
     given: Arguments,
     rest: Allowance,
-) -> Outcome
+) -> Evaluation
     requires { Entered Clause.Choice table.now results.now label given rest.depth }
-    ensures { result ≡ choice_by (outcome rest.arithmetic table.now results.now) table.now label given rest.left rest.depth }
+    ensures { shown result ≡ choice_by (outcome rest.arithmetic table.now results.now)
+        table.now label given rest.left rest.depth }
 {
     let tested = field(table, label, cells::A);
-    let test = expression(table, results, tested, given, rest);
-    if test.state != NUMBER {
-        return failure(test.state, test.left);
-    }
-    let branch = branch_of(table, label, test.number);
-    let arithmetic = rest.arithmetic;
-    let next = Allowance {
-        left: test.left,
-        depth: rest.depth,
-        arithmetic: arithmetic,
+    let evaluated = expression(table, results, tested, given, rest);
+    let State::Number = evaluated.state else {
+        return Evaluation::fails(evaluated.state, evaluated.left);
     };
-    expression(table, results, branch, given, next)
+    let branch = branch_of(table, label, evaluated.number);
+    expression(
+        table,
+        results,
+        branch,
+        given,
+        rest.with_left(evaluated.left),
+    )
 }
 
 // ---- a value
 
-// Evaluates a value from the results stored so far. Every value that it reaches has been evaluated.
+// What stands in the three cells of a value's results.
+#[derive(Clone, Copy)]
+pub struct Value {
+    pub number: i64,
+    pub state: u32,
+    pub steps: u32,
+}
+
+// A value, from the results stored so far. Every value that it reaches has been evaluated.
 pub fn evaluate(arithmetic: Arithmetic, table: &[i64], results: &[i64], label: usize) -> Value
     requires { Evaluable table.now results.now label }
     ensures { result ≡ evaluated arithmetic table.now results.now label }
 {
     let body = field(table, label, cells::B);
-    let none = Arguments { first: 0 };
-    let o = expression(table, results, body, none, Allowance::fresh(arithmetic));
+    let outcome = expression(
+        table,
+        results,
+        body,
+        Arguments { first: 0 },
+        Allowance::fresh(arithmetic),
+    );
     Value {
-        number: o.number,
-        state: o.state,
-        steps: Allowance::STEPS - o.left,
+        number: outcome.number,
+        state: outcome.state.cell() as u32,
+        steps: Allowance::STEPS - outcome.left,
     }
 }
 
@@ -328,10 +400,14 @@ pub fn put_value(results: &mut [i64], label: usize, v: Value)
     requires { ResultsRoom results.old label }
     ensures { results.new ≡ store results.old label v }
 {
-    let state = v.state as i64;
-    let number = v.number;
-    let steps = v.steps as i64;
-    cells::put_three(results, 3 * (label - 1), state, number, steps);
+    let state = i64::from(v.state);
+    cells::put_three(
+        results,
+        3 * (label - 1),
+        state,
+        v.number,
+        i64::from(v.steps),
+    );
 }
 
 // Evaluates a value and stores its results.
@@ -339,6 +415,6 @@ pub fn evaluate_into(arithmetic: Arithmetic, table: &[i64], results: &mut [i64],
     requires { Evaluable table.now results.old label }
     ensures { results.new ≡ store results.old label (evaluated arithmetic table.now results.old label) }
 {
-    let v = evaluate(arithmetic, table, results, label);
-    put_value(results, label, v);
+    let value = evaluate(arithmetic, table, results, label);
+    put_value(results, label, value);
 }

@@ -16,7 +16,7 @@ use Rattle.evaluation.specs.Evaluation.{answer_at, on_number, unless_failed, dep
 use Rattle.evaluation.specs.declared.Arguments.{Arguments}
 use Rattle.kinds.specs.declared.Clause.{Clause}
 use Rattle.kinds.specs.declared.Clause.TheVariants as clause
-use Rattle.evaluation.specs.declared.Outcome.{Outcome}
+use Rattle.evaluation.specs.Evaluation.{Outcome}
 use Rattle.evaluation.proofs.Steps.{unrolled, left_less}
 use Rattle.figures.specs.Entered.{GoesBy, first_outcome, FirstNumber, Enters, itself, argument, body, first, second, test, branch, EntersRead}
 

@@ -5,11 +5,9 @@ use Prim.Native.Nat.{ℕ, suc, ◌+◌, ◌*◌, ◌≤◌, ◌<◌}
 use native.Mathlib.Omega.{arith}
 use native.Mathlib.Numerals.{add-one}
 use lib.IntN.{ℤ, pos}
-use lib.ListN.{length, take, drop, take-append-drop, drop_of_length-le}
+use lib.ListN.{length, take, drop, take-append-drop}
 use lib.Seq.{take-suc, take-take, drop-cons, get_or-take, length-take-le}
-use Rattle.kinds.specs.Kinds.{value_code}
 use Rattle.cells.specs.Cells.{nat_of, nat_at, zeros}
-use Rattle.cells.specs.Table.{kind}
 use Rattle.cells.specs.Accepted.{Accepted}
 use Rattle.order.specs.LabelLists.{◌∈◌}
 use Rattle.order.specs.Order.{Proper}
@@ -53,70 +51,64 @@ module _ (order : List ℤ) (k i : ℕ) (h : k ≤ length order) (j : i < k) whe
   one_more_lem : labels_of (take (i + 1) order) ≡ labels_of (take i order) ++ nat_at order i ∷ []
   one_more_lem = rw (add-one, take-suc order i (pos 0) (omega arith)) (labels_append (take i order) _)
 
-  parts : labels_of (take k order) ≡ labels_of (take i order) ++ nat_at order i ∷ left order k (i + 1)
-  parts = labels_cut order k i (omega arith) ∙ ap (λ (l : List ℕ). labels_of (take i order) ++ l) next
+-- the same of a whole list
+module _ (order : List ℤ) (i : ℕ) (j : i < length order) where
+  next_whole : labels_of (drop i order) ≡ nat_at order i ∷ labels_of (drop (i + 1) order)
+  next_whole = rw (add-one, drop-cons order i (pos 0) j) refl
 
--- what stands before index i stands before any index above it
+  parts : labels_of order ≡ labels_of (take i order) ++ nat_at order i ∷ labels_of (drop (i + 1) order)
+  parts =
+      ap labels_of (sym (take-append-drop i order)) ∙ labels_append (take i order) (drop i order)
+      ∙ ap (λ (l : List ℕ). labels_of (take i order) ++ l) next_whole
+
+-- what stands before index j stands before any index above it
 still_before : (order : List ℤ) {i j : ℕ} → j ≤ i → (x : ℕ) → x ∈ labels_of (take j order) → x ∈ labels_of (take i order)
 still_before order {i} {j} h x m = rw (labels_cut order i j h) (in_left x (labels_of (take j order)) (left order i j) m)
 
 -- ---- the loop
 
 -- at index i, from results r₀ at index 0: those before it have been evaluated
-pub record Going (α : Arithmetic) (t order : List ℤ) (k : ℕ) (r₀ r : List ℤ) (i : ℕ) : Type 0 where
-  pub asked : Listed t r₀ order k
-  pub upto : i ≤ k
+pub record Going (α : Arithmetic) (t order : List ℤ) (r₀ r : List ℤ) (i : ℕ) : Type 0 where
+  pub asked : Listed t r₀ order
   pub long : length r ≡ length r₀
   pub ready : Ready t r
   pub sofar : (x : ℕ) → x ∈ labels_of (take i order) → Recorded 1 r x
-  pub rest : down (evaluate_into α t) (labels_of (drop i (take k order))) r ≡ down (evaluate_into α t) (labels_of (take k order)) r₀
+  pub rest : down (evaluate_into α t) (labels_of (drop i order)) r ≡ down (evaluate_into α t) (labels_of order) r₀
 
-module _ (α : Arithmetic) (t order : List ℤ) (k : ℕ) (r₀ : List ℤ) where
-  pub start : Listed t r₀ order k → Going α t order k r₀ r₀ 0
-  start w = record { asked = w; upto = omega arith; long = refl; ready = w.ready; sofar = λ x m. absurd (omega arith); rest = refl }
-
-  module _ {r : List ℤ} {i : ℕ} (g : Going α t order k r₀ r i) where
-    -- every cell names a value,
-    pub names_value : {v j : ℕ} → v ≡ nat_at order j → j < k → kind t v ≡ value_code
-    names_value {v} {j} e h = rw e (g.asked.values j h)
-
-    -- and what one that stands no later than index i reaches has been evaluated
-    pub reached_before : {v j : ℕ} → v ≡ nat_at order j → j < k → j ≤ i → ReachedEvaluated t r v
+module _ (α : Arithmetic) (t order : List ℤ) (r₀ : List ℤ) where
+  module _ {r : List ℤ} {i : ℕ} (g : Going α t order r₀ r i) where
+    -- what a value that stands no later than index i reaches has been evaluated
+    pub reached_before : {v j : ℕ} → v ≡ nat_at order j → j < length order → j ≤ i → ReachedEvaluated t r v
     reached_before {v} {j} e h u w q p = (g.sofar w (still_before order u w (g.asked.after j h w q (rw e at p)))).least
 
-    pub turn : i < k → {v : ℕ} {r' : List ℤ} → v ≡ nat_at order i → r' ≡ evaluate_into α t r v → Going α t order k r₀ r' (i + 1)
-    turn j {v} {r'} e q =
-        let w : Evaluable t r v = record { ready = g.ready; value = names_value e j; reached = reached_before e j (omega arith) } in
-        record {
-          asked = g.asked;
-          upto = omega arith;
-          long = ap length q ∙ store_length r v (evaluated α t r v) ∙ g.long;
-          ready = rw q (ready_stored α t r v w);
-          sofar = λ x m. rw q (recorded_next α t r v w (labels_of (take i order)) g.sofar x (rw e (rw (one_more_lem order k i g.asked.room j) at m)));
-          rest =
-              ap (down (evaluate_into α t) (left order k (i + 1))) (q ∙ ap (evaluate_into α t r) e) ∙ sym (ap (λ (l : List ℕ). down (evaluate_into α t) l r) (next order k i g.asked.room j))
-              ∙ g.rest;
-        }
+    -- so the value that the cell names can be evaluated
+    pub turn_ready : i < length order → {v : ℕ} → v ≡ nat_at order i → Evaluable t r v
+    turn_ready j {v} e = record { ready = g.ready; value = rw e (g.asked.values i j); reached = reached_before e j (omega arith) }
 
-    pub done : k ≤ i → r ≡ down (evaluate_into α t) (labels_of (take k order)) r₀
-    done h =
-        let none : drop i (take k order) ≡ [] = drop_of_length-le (take k order) {i = i} (omega (arith, length-take-le k order g.asked.room)) in
-        sym (ap (λ (l : List ℤ). down (evaluate_into α t) (labels_of l) r) none) ∙ g.rest
+    pub turn : i < length order → {v : ℕ} {r' : List ℤ} → v ≡ nat_at order i → r' ≡ evaluate_into α t r v → Going α t order r₀ r' (i + 1)
+    turn j {v} {r'} e q = let w : Evaluable t r v = turn_ready j e in record {
+      asked = g.asked;
+      long = ap length q ∙ store_length r v (evaluated α t r v) ∙ g.long;
+      ready = rw q (ready_stored α t r v w);
+      sofar = λ x m. rw q (recorded_next α t r v w (labels_of (take i order)) g.sofar x (rw e (rw (one_more_lem order (length order) i (omega arith) j) at m)));
+      rest =
+          ap (down (evaluate_into α t) (labels_of (drop (i + 1) order))) (q ∙ ap (evaluate_into α t r) e)
+          ∙ sym (ap (λ (l : List ℕ). down (evaluate_into α t) l r) (next_whole order i j)) ∙ g.rest;
+    }
 
 -- a proper order and cleared results are what the loop asks for, and it comes to the figures
-module _ (t order : List ℤ) (n k m : ℕ) {r : List ℤ} (ok : Accepted t n) (room : k ≤ length order) (fit : 3 * n ≤ m) (p : ProperList t (take k order)) (cleared : r ≡ zeros m) where
-  proper : Proper t (labels_of (take k order))
-  proper = (proper_list t (take k order)).0 p
+module _ (t order : List ℤ) (n m : ℕ) {r : List ℤ} (ok : Accepted t n) (fit : 3 * n ≤ m) (p : ProperList t order) (cleared : r ≡ zeros m) where
+  proper : Proper t (labels_of order)
+  proper = (proper_list t order).0 p
 
-  pub listed : Listed t r order k
+  pub listed : Listed t r order
   listed = record {
-    room = room;
     ready = rw cleared (ready_zeros t n m ok fit);
     values =
-        λ i j. listed_value proper (nat_at order i) (rw (parts order k i room j)
-        (in_right (nat_at order i) (labels_of (take i order)) (nat_at order i ∷ left order k (i + 1)) (in_here (nat_at order i) (left order k (i + 1)))));
-    after = λ i j. proper.after (labels_of (take i order)) (nat_at order i) (left order k (i + 1)) (parts order k i room j);
+        λ i j. listed_value proper (nat_at order i) (rw (parts order i j)
+        (in_right (nat_at order i) (labels_of (take i order)) _ (in_here (nat_at order i) (labels_of (drop (i + 1) order)))));
+    after = λ i j. proper.after (labels_of (take i order)) (nat_at order i) (labels_of (drop (i + 1) order)) (parts order i j);
   }
 
-  pub settles : (α : Arithmetic) {r' : List ℤ} → r' ≡ down (evaluate_into α t) (labels_of (take k order)) r → r' ≡ result_cells α t n m
-  settles α e = e ∙ ap (down (evaluate_into α t) (labels_of (take k order))) cleared ∙ down_figures α t n ok m fit (labels_of (take k order)) proper
+  pub settles : (α : Arithmetic) {r' : List ℤ} → r' ≡ down (evaluate_into α t) (labels_of order) r → r' ≡ result_cells α t n m
+  settles α e = e ∙ ap (down (evaluate_into α t) (labels_of order)) cleared ∙ down_figures α t n ok m fit (labels_of order) proper

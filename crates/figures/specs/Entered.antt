@@ -11,7 +11,7 @@ use Rattle.evaluation.specs.Results.{Recorded}
 use Rattle.evaluation.specs.declared.Arguments.{Arguments}
 use Rattle.kinds.specs.declared.Clause.{Clause}
 use Rattle.kinds.specs.declared.Clause.TheVariants as clause
-use Rattle.evaluation.specs.declared.Outcome.{Outcome}
+use Rattle.evaluation.specs.Evaluation.{Outcome}
 use Rattle.figures.specs.Figures.{evaluate_into}
 
 -- line l is evaluated by clause k

@@ -2,48 +2,32 @@
 
 #![tactic(auto)]
 
-ghost use Rattle.std.specs.Prelude.{◌≡◌, ◌*◌, ◌≤◌, length, take};
-ghost use Rattle.cells.specs.Accepted.{Accepted};
+ghost use Rattle.std.specs.Prelude.{◌≡◌, ◌*◌, ◌≤◌, length};
 ghost use Rattle.order.specs.Following.{ProperList, labels_of};
 ghost use Rattle.order.specs.Evaluating.{down};
 ghost use Rattle.figures.specs.Figures.{evaluate_into, result_cells};
 ghost use Rattle.figures.specs.Down.{Listed};
 
-use cells::{clear, nat_at};
+use cells::{ReadTable, clear, nat_at};
 use evaluation::evaluate_into;
 use numbers::Arithmetic;
 
-// Evaluates the values that the first `count` cells of the order list name, in turn, each after every value that it reaches.
-fn evaluate_down(
-    arithmetic: Arithmetic,
-    table: &[i64],
-    order: &[i64],
-    count: usize,
-    results: &mut [i64],
-)
-    requires { Listed table.now results.old order.now count }
-    ensures { results.new ≡ down (evaluate_into arithmetic table.now) (labels_of (take count order.now)) results.old }
+// Evaluates the values that an order list names, in turn, each after every value that it reaches.
+fn evaluate_down(arithmetic: Arithmetic, table: &[i64], order: &[i64], results: &mut [i64])
+    requires { Listed table.now results.old order.now }
+    ensures { results.new ≡ down (evaluate_into arithmetic table.now) (labels_of order.now) results.old }
 {
-    let mut i = 0;
-    while i < count {
+    for i in 0..order.len() {
         let label = nat_at(order, i);
         evaluate_into(arithmetic, table, results, label);
-        i += 1;
     }
 }
 
-// The results of a table of n labels, by way of the proper order that the first `count` cells of the list are.
-pub fn run_down(
-    arithmetic: Arithmetic,
-    table: &[i64],
-    n: usize,
-    order: &[i64],
-    count: usize,
-    results: &mut [i64],
-)
-    requires { Accepted table.now n × (count ≤ length order.now) × (3 * n ≤ length results.old) × ProperList table.now (take count order.now) }
-    ensures { results.new ≡ result_cells arithmetic table.now n (length results.old) }
+// The results of a sheet, by way of a list that is a proper order.
+pub fn run_down(arithmetic: Arithmetic, sheet: ReadTable, order: &[i64], results: &mut [i64])
+    requires { (3 * sheet.n ≤ length results.old) × ProperList sheet.cells.now order.now }
+    ensures { results.new ≡ result_cells arithmetic sheet.entry.cells.now sheet.entry.n (length results.old) }
 {
     clear(results);
-    evaluate_down(arithmetic, table, order, count, results);
+    evaluate_down(arithmetic, sheet.cells, order, results);
 }

@@ -3,7 +3,7 @@ use mathlib.Core.Path.{◌≡◌, refl, sym, ap, ◌∙◌}
 use mathlib.Core.Logic.{inl, inr}
 use mathlib.Core.List.{List, []}
 use mathlib.Core.Bool.{Bool, true, false, not, ◌&&◌}
-use Prim.Native.Nat.{ℕ, zero, suc, ◌+◌, ◌*◌, ◌≤◌, ◌<◌}
+use Prim.Native.Nat.{ℕ, zero, suc, ◌+◌, ◌*◌, ◌≤◌}
 use native.Mathlib.Omega.{arith}
 use native.Mathlib.Decide.{ℕ_discrete}
 use native.Mathlib.Numerals.{add-one}
@@ -13,8 +13,7 @@ use Rattle.kinds.proofs.Codes.{value_body}
 use Rattle.kinds.specs.Kinds.{value_code}
 use Rattle.cells.specs.Table.{kind}
 use Rattle.cells.specs.Accepted.{Accepted}
-use Rattle.refusals.specs.declared.Verdict.{Verdict}
-use Rattle.refusals.specs.declared.Verdict.TheVariants.{Refused}
+use Rattle.refusals.specs.declared.Row.{Row}
 use Rattle.refusals.specs.Refusal.{or_else, found_at}
 use Rattle.refusals.specs.Rows.{cycle_row, listed_row, early_row}
 use Rattle.order.specs.LabelLists.{◌∈◌, mem, up_from, any}
@@ -33,11 +32,18 @@ use Rattle.reach.specs.MarkRows.{width, AllMarkRows}
 use Rattle.reach.proofs.Links.{touch_body, touch_around, forth_exact}
 use Rattle.reach.proofs.Reading.{row_room}
 use Rattle.following.specs.Left.{Values, Left, lacks, awaits}
+use Rattle.reach.specs.FoundPlace.{found_place}
+use Rattle.following.specs.Told.{told_at}
+use Rattle.std.specs.Prelude.{Option, Some, None}
 use Rattle.following.proofs.Steps.{same_position}
 
-place_first : (a b : ℕ) → (a ≡ 0 → ⊥) → or_if_zero a b ≡ a
-place_first zero b h = absurd (h refl)
-place_first (suc a) b h = refl
+place_first : (a b p : ℕ) → found_place a ≡ Some p → found_place (or_if_zero a b) ≡ Some p
+place_first zero b p e = absurd cc
+place_first (suc a) b p e = e
+
+place_zero : (a : ℕ) → found_place a ≡ None → a ≡ 0
+place_zero zero e = refl
+place_zero (suc a) e = absurd cc
 
 place_none : (a b : ℕ) → or_if_zero a b ≡ 0 → a ≡ 0
 place_none zero b e = refl
@@ -55,28 +61,31 @@ module _ (t : List ℤ) (n : ℕ) (ok : Accepted t n) (row : List ℕ) (is : Val
 
   -- ---- row 17
 
-  module _ (p : ℕ) (e : p ≡ first_position (lacks row (width n)) [] 1 (labels_of cells)) where
-    pub place_wrong : (p ≡ 0 → ⊥) → p ≡ place17 t n cells
-    place_wrong h = sym (rw (sym (e ∙ wrong_is)) (place_first p _ h))
+  module _ (o : Option ℕ) (e : o ≡ found_place (first_position (lacks row (width n)) [] 1 (labels_of cells))) where
+    found_is : o ≡ found_place (first_position (not_new t) [] 1 (labels_of cells))
+    found_is = e ∙ ap found_place wrong_is
 
-    module _ (z : p ≡ 0) (left : List ℕ) (rest : Left row (width n) (labels_of cells) left) (r : ℕ) (f : First left (width n) r) where
-      pub place_past : r < 64 * width n → length cells + 1 ≡ place17 t n cells
-      place_past h =
-          let m : (is_v t r && not (mem r (labels_of cells))) ≡ true = ap (λ (b : Bool). b && not (mem r (labels_of cells))) (sym (is r)) ∙ sym (rest r) ∙ f.here h in
+    pub place_wrong : (p : ℕ) → o ≡ Some p → Some p ≡ found_place (place17 t n cells)
+    place_wrong p z = sym (place_first (first_position (not_new t) [] 1 (labels_of cells)) _ p (sym found_is ∙ z))
+
+    module _ (z : o ≡ None) (left : List ℕ) (rest : Left row (width n) (labels_of cells) left) where
+      pub place_past : (r : ℕ) → First left (width n) r → Some (length cells + 1) ≡ found_place (place17 t n cells)
+      place_past r f =
+          let m : (is_v t r && not (mem r (labels_of cells))) ≡ true = ap (λ (b : Bool). b && not (mem r (labels_of cells))) (sym (is r)) ∙ sym (rest r) ∙ f.here in
           let x : missing t n (labels_of cells) ≡ true =
           any_intro (λ v. not (mem v (labels_of cells))) (values t n) r (in_values t n ok r (and_left (is_v t r) (not (mem r (labels_of cells))) m))
           (and_right (is_v t r) (not (mem r (labels_of cells))) m) in
-          sym (rw (sym (e ∙ wrong_is) ∙ z, x, add-one))
+          sym (rw (place_zero _ (sym found_is ∙ z), x, add-one))
 
-      pub place_full : 64 * width n ≤ r → 0 ≡ place17 t n cells
+      pub place_full : ((q : ℕ) → mark left (width n) 0 q ≡ false) → None ≡ found_place (place17 t n cells)
       place_full h =
           let x : missing t n (labels_of cells) ≡ false = any_refute (λ v. not (mem v (labels_of cells))) (values t n) none in
-          sym (rw (sym (e ∙ wrong_is) ∙ z, x))
+          sym (rw (place_zero _ (sym found_is ∙ z), x))
         where
           none : (v : ℕ) → v ∈ values t n → not (mem v (labels_of cells)) ≡ false
           none v i = not_so (not (mem v (labels_of cells))) (λ m.
               let a : mark left (width n) 0 v ≡ true = rest v ∙ and_intro (mark row (width n) 0 v) (not (mem v (labels_of cells))) (is v ∙ value_of t n ok v i) m in
-              both_ways (mark left (width n) 0 v) a (f.before v (omega (arith, mark_in left (width n) 0 v a))))
+              both_ways (mark left (width n) 0 v) a (h v))
 
   -- ---- row 18
 
@@ -129,35 +138,15 @@ module _ (t : List ℤ) (n : ℕ) (ok : Accepted t n) (row : List ℕ) (is : Val
 
 -- ---- the rows in turn
 
-pub found_is : (r p : ℕ) → (p ≡ 0 → ⊥) → Refused r p ≡ found_at r p
-found_is r zero h = absurd (h refl)
-found_is r (suc p) h = refl
+told_is : (r : Row) (p : ℕ) → told_at r (found_place p) ≡ found_at r p
+told_is r zero = refl
+told_is r (suc p) = refl
 
--- a row that finds something, and one that finds nothing
-module _ (r p q : ℕ) (e : p ≡ q) (v w : Verdict) where
-  found_stop : (p ≡ 0 → ⊥) → v ≡ found_at r p → v ≡ or_else (found_at r q) w
-  found_stop h f = f ∙ rw (sym e) (go p h)
-    where
-      go : (p : ℕ) → (p ≡ 0 → ⊥) → found_at r p ≡ or_else (found_at r p) w
-      go zero h = absurd (h refl)
-      go (suc p) h = refl
-
-  found_on : p ≡ 0 → v ≡ w → v ≡ or_else (found_at r q) w
-  found_on z f = rw (sym e ∙ z) f
-
-module _ (t : List ℤ) (n : ℕ) (cells : List ℤ) (p : ℕ) (v : Verdict) where
-  pub cycle_stop : p ≡ place16 t n → (p ≡ 0 → ⊥) → v ≡ found_at cycle_row p → v ≡ or_else (cycle_bad t n) (order_bad t n cells)
+module _ (t : List ℤ) (n : ℕ) where
+  pub cycle_told : cycle_bad t n ≡ told_at cycle_row (found_place (place16 t n))
   unfolding cycle_bad
-  cycle_stop e h f = found_stop cycle_row p (place16 t n) e v (order_bad t n cells) h f
+  cycle_told = sym (told_is cycle_row (place16 t n))
 
-  pub cycle_on : p ≡ place16 t n → p ≡ 0 → v ≡ order_bad t n cells → v ≡ or_else (cycle_bad t n) (order_bad t n cells)
-  unfolding cycle_bad
-  cycle_on e z f = found_on cycle_row p (place16 t n) e v (order_bad t n cells) z f
-
-  pub listed_stop : p ≡ place17 t n cells → (p ≡ 0 → ⊥) → v ≡ found_at listed_row p → v ≡ order_bad t n cells
+  pub order_told : (cells : List ℤ) → order_bad t n cells ≡ or_else (told_at listed_row (found_place (place17 t n cells))) (told_at early_row (found_place (place18 t n cells)))
   unfolding order_bad
-  listed_stop e h f = found_stop listed_row p (place17 t n cells) e v (found_at early_row (place18 t n cells)) h f
-
-  pub listed_on : p ≡ place17 t n cells → p ≡ 0 → (q : ℕ) → q ≡ place18 t n cells → v ≡ found_at early_row q → v ≡ order_bad t n cells
-  unfolding order_bad
-  listed_on e z q d f = found_on listed_row p (place17 t n cells) e v (found_at early_row (place18 t n cells)) z (f ∙ ap (found_at early_row) d)
+  order_told cells = rw (told_is listed_row (place17 t n cells), told_is early_row (place18 t n cells))

@@ -2,15 +2,17 @@
 use mathlib.Core.Path.{◌≡◌, refl}
 use mathlib.Core.List.{List, [], ◌∷◌, ◌++◌}
 use mathlib.Core.Bool.{Bool, true, false}
-use Prim.Native.Nat.{ℕ, suc, ◌+◌, ◌≤◌, ◌<◌}
+use Prim.Native.Nat.{ℕ, suc, ◌+◌, ◌<◌}
 use native.Mathlib.Omega.{arith}
 use native.Mathlib.Numerals.{add-one}
 use lib.IntN.{ℤ, pos}
-use lib.ListN.{length, get_or, take, drop, drop_of_length-le, length-map, get_or-map}
+use lib.ListN.{length, get_or, take, drop, length-map, get_or-map}
 use lib.Seq.{take-suc, drop-cons}
 use Rattle.cells.specs.Cells.{nat_of, nat_at}
+use Rattle.std.specs.Prelude.{Some}
 use Rattle.order.specs.LabelLists.{◌∈◌}
 use Rattle.order.specs.Following.{labels_of, first_position}
+use Rattle.reach.specs.FoundPlace.{found_place}
 use Rattle.order.proofs.Tests.{not_so}
 use Rattle.order.proofs.Lists.{in_here, in_there}
 
@@ -25,12 +27,13 @@ module _ (bad : List ℕ → ℕ → Bool) (l : List ℕ) (i : ℕ) where
   pub onward_turn : i < length l → bad (take i l) (get_or l i 0) ≡ false → onward bad l (i + 1) ≡ onward bad l i
   onward_turn h e = rw (add-one i, add-one (suc i), drop-cons l i 0 h, e, take-suc l i 0 h)
 
-  pub onward_end : length l ≤ i → onward bad l i ≡ 0
-  onward_end h = rw (drop_of_length-le l h)
-
   -- where nothing is found, this label is not bad
   pub onward_fine : i < length l → onward bad l i ≡ 0 → bad (take i l) (get_or l i 0) ≡ false
   onward_fine h z = not_so (bad (take i l) (get_or l i 0)) (λ e. omega (arith, onward_here h e))
+
+-- an index as a position
+pub place_at : (i : ℕ) → Some (i + 1) ≡ found_place (i + 1)
+place_at i = rw (add-one i)
 
 -- tests that agree on the list's labels find the same
 pub same_position : (f g : List ℕ → ℕ → Bool) (l seen : List ℕ) (k : ℕ) → ((a : List ℕ) (v : ℕ) → v ∈ l → f a v ≡ g a v)

@@ -1,15 +1,15 @@
 -- What is left of a row of marks after the labels of a list are taken from it.
 use mathlib.Core.Path.{◌≡◌, refl, sym, ap, ◌∙◌, subst}
 use mathlib.Core.List.{List, [], ◌∷◌, ◌++◌}
-use mathlib.Core.Bool.{Bool, true, false, not, ◌&&◌, ◌||◌, and-true, and-false}
-use Prim.Native.Nat.{ℕ, ◌+◌, ◌*◌, ◌≤◌, ◌<◌}
+use mathlib.Core.Bool.{Bool, true, false, not, ◌&&◌, ◌||◌, and-false}
+use Prim.Native.Nat.{ℕ, ◌+◌, ◌*◌, ◌<◌}
 use native.Mathlib.Omega.{arith}
 use native.Mathlib.Decide.{ℕ_discrete}
 use native.Mathlib.Numerals.{add-one}
 use lib.Dec.{ltb}
 use lib.IntN.{ℤ}
 use lib.ListN.{length, get_or, take}
-use lib.Seq.{take-suc, take_all}
+use lib.Seq.{take-suc}
 use Rattle.cells.specs.Cells.{nat_at}
 use Rattle.order.specs.LabelLists.{count, ◌∈◌, mem, up_from, any}
 use Rattle.order.specs.Following.{labels_of}
@@ -18,15 +18,12 @@ use Rattle.order.proofs.Lists.{count_append, count_there, count_up_from, any_tru
 use Rattle.marks.specs.Marks.{mark, Dropped}
 use Rattle.marks.proofs.Squares.{mark_in}
 use Rattle.following.specs.Left.{Left, lacks, awaits, Meets}
-use Rattle.following.proofs.Steps.{onward, onward_here, onward_turn, onward_end, onward_fine, label_at, labels_long}
+use Rattle.following.proofs.Steps.{onward, onward_here, onward_turn, onward_fine, label_at, labels_long}
 
 not_or : (a b : Bool) → (not a || b) ≡ not (a && not b)
 not_or true true = refl
 not_or true false = refl
 not_or false b = refl
-
-pub left_all : (row : List ℕ) (w : ℕ) → Left row w [] row
-left_all row w q = sym (and-true (mark row w 0 q))
 
 module _ (row : List ℕ) (w : ℕ) (seen left : List ℕ) (is : Left row w seen left) where
   -- one label more
@@ -106,9 +103,3 @@ module _ (cells : List ℤ) (row : List ℕ) (w i : ℕ) (left : List ℕ) (is :
 
     pub early_turn : (Meets square left w v → ⊥) → onward (awaits square row w) (labels_of cells) (i + 1) ≡ onward (awaits square row w) (labels_of cells) i
     early_turn h = onward_turn (awaits square row w) (labels_of cells) i short (rw label (awaits_none row w (take i (labels_of cells)) left is square v h))
-
-pub left_end : (cells : List ℤ) (row : List ℕ) (w i : ℕ) (left : List ℕ) → length cells ≤ i → Left row w (take i (labels_of cells)) left → Left row w (labels_of cells) left
-left_end cells row w i left h is = subst (λ (x : List ℕ). Left row w x left) (take_all i (labels_of cells) (omega (arith, labels_long cells))) is
-
-pub onward_none : (bad : List ℕ → ℕ → Bool) (cells : List ℤ) (i : ℕ) → length cells ≤ i → onward bad (labels_of cells) i ≡ 0
-onward_none bad cells i h = onward_end bad (labels_of cells) i (omega (arith, labels_long cells))

@@ -3,7 +3,7 @@ use mathlib.Core.Path.{◌≡◌, sym, ap, ◌∙◌}
 use mathlib.Core.Logic.{◌⊎◌, inl, inr}
 use mathlib.Core.List.{List}
 use mathlib.Core.Bool.{true, false, ◌&&◌}
-use Prim.Native.Nat.{ℕ, ◌+◌, ◌*◌, ◌/◌, ◌%◌, ◌^◌, ◌≤◌, ◌<◌}
+use Prim.Native.Nat.{ℕ, ◌+◌, ◌*◌, ◌/◌, ◌%◌, ◌^◌, ◌<◌}
 use native.Mathlib.Omega.{arith}
 use native.Mathlib.Decide.{ℕ_discrete, dec_lt}
 use lib.Bits.{bit_and}
@@ -59,7 +59,7 @@ module _ (square left : List ℕ) (w v : ℕ) where
   pub meets_none : ((q : ℕ) → q < 64 * w → mark square w v q ≡ true → mark left w 0 q ≡ true → ⊥) → Meets square left w v → ⊥
   meets_none h m = h m.at (mark_in left w 0 m.at m.there) m.here m.there
 
--- ---- the marks of values, label by label
+-- ---- the marks of values
 
 below_same : (q v : ℕ) → (q ≡ v → ⊥) → ltb q (v + 1) ≡ ltb q v
 below_same q v z = go (dec_lt q v)
@@ -68,14 +68,8 @@ below_same q v z = go (dec_lt q v)
     go (yes h) = lt-ltb q (v + 1) (omega arith) ∙ sym (lt-ltb q v h)
     go (no h) = le-ltb q (v + 1) (omega arith) ∙ sym (le-ltb q v (omega arith))
 
--- the values below v are marked
+-- where those below v are marked, and v is past the last label, all are
 module _ (t : List ℤ) (n : ℕ) (ok : Accepted t n) (row : List ℕ) where
-  pub values_start : ((q : ℕ) → mark row (width n) 0 q ≡ false) → (q : ℕ) → mark row (width n) 0 q ≡ (ltb q 1 && is_v t q)
-  values_start none q = none q ∙ sym (not_so (ltb q 1 && is_v t q) (λ e. both_ways (ltb q 1) (and_left (ltb q 1) (is_v t q) e) (le-ltb q 1 (low (and_right (ltb q 1) (is_v t q) e)))))
-    where
-      low : is_v t q ≡ true → 1 ≤ q
-      low e = (kind_label t n ok q (omega (arith, v_kind t q e))).0
-
   pub values_end : (v : ℕ) → n < v → ((q : ℕ) → mark row (width n) 0 q ≡ (ltb q v && is_v t q)) → Values t n row
   values_end v h old q = old q ∙ go (so_or_not (is_v t q))
     where

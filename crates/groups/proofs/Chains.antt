@@ -9,8 +9,9 @@ use native.Mathlib.Numerals.{add-one}
 use native.Mathlib.Decide.{ℕ_discrete, dec_lt}
 use lib.Dec.{eqb}
 use lib.IntN.{ℤ}
-use lib.ListN.{length, get_or, set, take, drop, length-set, drop_of_length-le, take-append-drop}
-use lib.Seq.{get_or-set_same, get_or-set_other, take-suc-set, drop-cons}
+use Rattle.std.specs.List.{push}
+use lib.ListN.{length, get_or, set, take, length-set}
+use lib.Seq.{get_or-set_same, get_or-set_other, take-suc-set}
 use borrow.Author.Tests.{eq-eqb, ne_eqb}
 use Rattle.cells.specs.Table.{owner, is_definition}
 use Rattle.order.specs.LabelLists.{one, count, ◌∈◌, up_from, filter}
@@ -18,8 +19,7 @@ use Rattle.order.specs.Order.{all_labels, is_member_of}
 use Rattle.order.proofs.Tests.{so_or_not}
 use Rattle.order.proofs.Lists.{in_here, in_there, in_cons, in_filter, count_below, count_here, count_append, filter_le, length_up_from}
 use Rattle.placing.specs.UnmetCounts.{Rising}
-use Rattle.reach.specs.Chains.{Empty}
-use Rattle.groups.specs.Members.{Chain, Chained, WalkableChain, Gathered, Relinked}
+use Rattle.groups.specs.Members.{Chain, WalkableChain, Gathered, Relinked}
 
 -- ---- labels that pass a test, upward
 
@@ -112,11 +112,6 @@ abbrev pub Linked : List ℤ → ℕ → ℕ → List ℕ → Type 0
 Linked t n l next = (g : ℕ) → g ≤ n → Chain n next (get_or next g 0) (filter (is_member_of t g) (up_from (suc l) (n - l)))
 
 module _ (t : List ℤ) (n : ℕ) where
-  pub linked_none : (next : List ℕ) → Empty n next → Linked t n n next
-  linked_none next e g h =
-      let z : 0 ≡ n - n = omega arith in
-      subst (λ (k : ℕ). Chain n next (get_or next g 0) (filter (is_member_of t g) (up_from (suc n) k))) z (e g h)
-
   module _ (l : ℕ) (lo : 1 ≤ l) (hi : l ≤ n) (next : List ℕ) (k : Linked t n l next) where
     same : (g : ℕ) → is_member_of t g l ≡ false → filter (is_member_of t g) (up_from (suc l) (n - l)) ≡ filter (is_member_of t g) (up_from (suc (l - 1)) (n - (l - 1)))
     same g e = sym (above_step (is_member_of t g) n l lo hi ∙ rw e)
@@ -135,8 +130,8 @@ module _ (t : List ℤ) (n : ℕ) where
       kept g p c = chain_same n next (set (set next (n + l) (get_or next (owner t l) 0)) (owner t l) l) p (filter (is_member_of t g) (up_from (suc l) (n - l)))
           (λ x m. far x (above (is_member_of t g) (suc l) (n - l) x m)) c
 
-      push : Linked t n (l - 1) (set (set next (n + l) (get_or next (owner t l) 0)) (owner t l) l)
-      push g h = go (ℕ_discrete g (owner t l))
+      linked_more : Linked t n (l - 1) (set (set next (n + l) (get_or next (owner t l) 0)) (owner t l) l)
+      linked_more g h = go (ℕ_discrete g (owner t l))
         where
           go : Dec (g ≡ owner t l) → Chain n (set (set next (n + l) (get_or next (owner t l) 0)) (owner t l) l) (get_or (set (set next (n + l) (get_or next (owner t l) 0)) (owner t l) l) g 0)
               (filter (is_member_of t g) (up_from (suc (l - 1)) (n - (l - 1))))
@@ -166,14 +161,7 @@ module _ (t : List ℤ) (n : ℕ) where
               (subst (λ (m : List ℕ). Chain n (set (set next (n + l) (get_or next (owner t l) 0)) (owner t l) l) (get_or next g 0) m) (same g test) (kept g (get_or next g 0) (k g h)))
 
       pub linked_push : (o : ℕ) → o ≡ owner t l → Linked t n (l - 1) (set (set next (n + l) (get_or next o 0)) o l)
-      linked_push o e = subst (λ (x : ℕ). Linked t n (l - 1) (set (set next (n + l) (get_or next x 0)) x l)) (sym e) push
-
-  pub linked_all : (l : ℕ) (next : List ℕ) → l ≤ 0 → Linked t n l next → Chained t n next
-  linked_all l next h k g m =
-      let a : l ≡ 0 = omega arith in
-      let b : n - 0 ≡ n = omega arith in
-      subst (λ (j : ℕ). Chain n next (get_or next g 0) (filter (is_member_of t g) (up_from 1 j))) b
-      (subst (λ (j : ℕ). Chain n next (get_or next g 0) (filter (is_member_of t g) (up_from (suc j) (n - j)))) a (k g m))
+      linked_push o e = subst (λ (x : ℕ). Linked t n (l - 1) (set (set next (n + l) (get_or next x 0)) x l)) (sym e) linked_more
 
 -- ---- walking a chain
 
@@ -199,13 +187,6 @@ module _ (n : ℕ) (next items : List ℕ) (from : ℕ) where
   }
 
   module _ (front : List ℕ) (p m : ℕ) (w : Walk n next front items from p m) where
-    pub walk_room : (p ≡ 0 → ⊥) → m < length items
-    walk_room z = go w.rest w.chain w.fits
-      where
-        go : (rest : List ℕ) → Chain n next p rest → m + length rest ≤ length items → m < length items
-        go [] c f = absurd (z c)
-        go (x ∷ l) c f = omega arith
-
     pub walk_label : (p ≡ 0 → ⊥) → (1 ≤ p) × (p ≤ n)
     walk_label z = go w.rest w.chain w.below
       where
@@ -238,46 +219,52 @@ module _ (n : ℕ) (next items : List ℕ) (from : ℕ) where
 
 -- ---- a chain put in order, from its end
 
--- the labels of L from i on are linked, and nothing else changed
-pub record Relinking (n : ℕ) (next₀ L next : List ℕ) (head i : ℕ) : Type 0 where
-  pub chain : Chain n next head (drop i L)
-  pub others : (y : ℕ) → ((x : ℕ) → x ∈ drop i L → y ≡ n + x → ⊥) → get_or next y 0 ≡ get_or next₀ y 0
+-- the labels of L behind the rest are linked, and nothing else changed
+pub record Relinking (n : ℕ) (next₀ L rest next : List ℕ) (head : ℕ) : Type 0 where
+  pub done : List ℕ
+  pub parts : L ≡ rest ++ done
+  pub chain : Chain n next head done
+  pub others : (y : ℕ) → ((x : ℕ) → x ∈ done → y ≡ n + x → ⊥) → get_or next y 0 ≡ get_or next₀ y 0
 
 module _ (n : ℕ) (next₀ L : List ℕ) where
-  pub relinking_none : (i : ℕ) → length L ≤ i → Relinking n next₀ L next₀ 0 i
-  relinking_none i h =
-      let z : drop i L ≡ [] = drop_of_length-le L h in
-      record { chain = subst (Chain n next₀ 0) (sym z) refl; others = λ y f. refl }
+  module _ (rest next : List ℕ) (head : ℕ) (r : Relinking n next₀ L rest next head) where
+    module _ (rest' : List ℕ) (x : ℕ) (is : rest ≡ push rest' x) where
+      parts : L ≡ rest' ++ x ∷ r.done
+      parts = r.parts ∙ ap (λ (l : List ℕ). l ++ r.done) is ∙ append_assoc rest' (x ∷ []) r.done
 
-  module _ (next : List ℕ) (head i : ℕ) (r : Relinking n next₀ L next head i) where
-    pub relinking_turn : (x : ℕ) → 0 < i → i ≤ length L → x ≡ get_or L (i - 1) 0 → 1 ≤ x → n + x < length next → count x L ≤ 1
-        → Relinking n next₀ L (set next (n + x) head) x (i - 1)
-    relinking_turn x some low is one room once = record {
-      chain = subst (Chain n (set next (n + x) head) x) (sym parts) (refl, one, subst (λ (q : ℕ). Chain n (set next (n + x) head) q (drop i L)) (sym own) kept);
-      others = λ y f. get_or-set_other next (n + x) y head 0 (λ z. f x (subst (λ (l : List ℕ). x ∈ l) (sym parts) (in_here x (drop i L))) z)
-          ∙ r.others y (λ v m. f v (subst (λ (l : List ℕ). v ∈ l) (sym parts) (in_there v x (drop i L) m)));
-    }
-      where
-        parts : drop (i - 1) L ≡ x ∷ drop i L
-        parts =
-            let k : suc (i - 1) ≡ i = omega arith in
-            drop-cons L (i - 1) 0 (omega arith) ∙ ap (λ (v : ℕ). v ∷ drop (suc (i - 1)) L) (sym is) ∙ ap (λ (j : ℕ). x ∷ drop j L) k
+      pub relinking_item : x ∈ L
+      relinking_item = omega (arith, ap (count x) parts, count_append x rest' (x ∷ r.done), count_here x r.done)
 
-        own : get_or (set next (n + x) head) (n + x) 0 ≡ head
-        own = get_or-set_same next (n + x) head 0 room
+      pub relinking_turn : 1 ≤ x → n + x < length next → count x L ≤ 1 → Relinking n next₀ L rest' (set next (n + x) head) x
+      relinking_turn one room once = record {
+        done = x ∷ r.done;
+        parts = parts;
+        chain = (refl, one, subst (λ (q : ℕ). Chain n (set next (n + x) head) q r.done) (sym (get_or-set_same next (n + x) head 0 room)) kept);
+        others = λ y f. get_or-set_other next (n + x) y head 0 (λ z. f x (in_here x r.done) z) ∙ r.others y (λ v m. f v (in_there v x r.done m));
+      }
+        where
+          -- x stands once, so not after its place
+          fresh : (v : ℕ) → v ∈ r.done → v ≡ x → ⊥
+          fresh v m e =
+              let again : x ∈ r.done = subst (λ (w : ℕ). w ∈ r.done) e m in
+              omega (arith, ap (count x) parts, count_append x rest' (x ∷ r.done), count_here x r.done)
 
-        -- x stands once, so not after its place
-        fresh : (v : ℕ) → v ∈ drop i L → v ≡ x → ⊥
-        fresh v m e =
-            let m₁ : x ∈ drop i L = subst (λ (w : ℕ). w ∈ drop i L) e m in
-            omega (arith, count_append x (take (i - 1) L) (drop (i - 1) L), ap (count x) (take-append-drop (i - 1) L), ap (count x) parts, count_here x (drop i L))
+          kept : Chain n (set next (n + x) head) head r.done
+          kept = chain_same n next (set next (n + x) head) head r.done (λ v m. get_or-set_other next (n + x) (n + v) head 0 (λ z. fresh v m (omega arith))) r.chain
 
-        kept : Chain n (set next (n + x) head) head (drop i L)
-        kept = chain_same n next (set next (n + x) head) head (drop i L) (λ v m. get_or-set_other next (n + x) (n + v) head 0 (λ z. fresh v m (omega arith))) r.chain
-
-    pub relinked : (g : ℕ) → i ≡ 0 → g ≤ n → g < length next → ((x : ℕ) → x ∈ L → 1 ≤ x) → Relinked n g L next₀ (set next g head)
+    pub relinked : (g : ℕ) → length rest ≡ 0 → g ≤ n → g < length next → ((x : ℕ) → x ∈ L → 1 ≤ x) → Relinked n g L next₀ (set next g head)
     relinked g z low room some = record {
       chain = subst (λ (q : ℕ). Chain n (set next g head) q L) (sym (get_or-set_same next g head 0 room))
-          (chain_same n next (set next g head) head L (λ x m. get_or-set_other next g (n + x) head 0 (λ y. omega (arith, some x m))) (subst (λ (j : ℕ). Chain n next head (drop j L)) z r.chain));
-      others = λ y d f. get_or-set_other next g y head 0 d ∙ r.others y (λ x m. f x (subst (λ (j : ℕ). x ∈ drop j L) z m));
+          (subst (Chain n (set next g head) head) (sym all) (chain_same n next (set next g head) head r.done (λ x m. get_or-set_other next g (n + x) head 0 (λ y. omega (arith, one x m))) r.chain));
+      others = λ y d f. get_or-set_other next g y head 0 d ∙ r.others y (λ x m. f x (subst (λ (l : List ℕ). x ∈ l) (sym all) m));
     }
+      where
+        all : L ≡ r.done
+        all = r.parts ∙ ap (λ (l : List ℕ). l ++ r.done) (none rest z)
+          where
+            none : (l : List ℕ) → length l ≡ 0 → l ≡ []
+            none [] e = refl
+            none (x ∷ l) e = absurd (omega arith)
+
+        one : (x : ℕ) → x ∈ r.done → 1 ≤ x
+        one x m = some x (subst (λ (l : List ℕ). x ∈ l) (sym all) m)

@@ -149,16 +149,6 @@ module _ (t : List ℤ) (n : ℕ) (ok : Accepted t n) (block : List ℕ) (s : Si
       go (inl e) = count_member t n ok x v d (eqb-true (owner t v) x e) ∙ sym (ap one e)
       go (inr e) = count_filter_fail (is_member_of t x) v (all_labels n) (rw (d, e)) ∙ sym (ap one e)
 
-  pub opening_start : (next items : List ℕ) (m : ℕ) → m ≤ length items → take m items ≡ block → Opening t block next next items m 0
-  opening_start next items m h e = record {
-    counts = λ v d. omega (arith, ap (count v) e);
-    defs = λ v i. s.defs v (subst (λ (l : List ℕ). v ∈ l) e i);
-    before = omega arith;
-    within = h;
-    gone = λ v i. absurd (omega arith);
-    others = λ y f. refl;
-  }
-
   module _ (next₀ next items : List ℕ) (k i : ℕ) (o : Opening t block next₀ next items k i) where
     sub_count : (v : ℕ) → count v (take i items) ≤ count v (take k items)
     sub_count v = count_take_le v items i k o.before
@@ -255,19 +245,16 @@ module _ (t : List ℤ) (n : ℕ) (ok : Accepted t n) (block : List ℕ) (s : Si
 
   -- ---- the values inside, listed upward
 
-  module _ (items mask list : List ℕ) (k r : ℕ) (g : AllInside t block items k) (masked : MaskedBy t n false (take (k - 0) items) mask)
+  module _ (items mask list : List ℕ) (k r : ℕ) (g : AllInside t block items k) (masked : MaskedBy t n false (take k items) mask)
       (marks : Common mask mask (width n) 0 list r) (rising : Rising (take r list)) where
     counts_same : (q : ℕ) → count q (take r list) ≡ count q (filter inside (values t n))
     counts_same q = marks q ∙ go (so_or_not (is_v t q)) (so_or_not (inside q))
       where
-        whole : k - 0 ≡ k
-        whole = omega arith
-
         in_mask : is_v t q ≡ true → inside q ≡ true → mark mask (width n) 0 q ≡ true
-        in_mask v e = (masked q).1 (subst (λ (j : ℕ). q ∈ take j items) (sym whole) (omega (arith, g.counts q (v_def t q v), ap one e)), v)
+        in_mask v e = (masked q).1 (omega (arith, g.counts q (v_def t q v), ap one e), v)
 
         out_mask : (is_v t q ≡ true → inside q ≡ true → ⊥) → mark mask (width n) 0 q ≡ false
-        out_mask f = not_so (mark mask (width n) 0 q) (λ e. let w = (masked q).0 e in f w.1 (found (subst (λ (j : ℕ). q ∈ take j items) whole w.0)))
+        out_mask f = not_so (mark mask (width n) 0 q) (λ e. let w = (masked q).0 e in f w.1 (found w.0))
           where
             found : q ∈ take k items → inside q ≡ true
             found m = one_in (inside q) (omega (arith, g.counts q (g.defs q m)))

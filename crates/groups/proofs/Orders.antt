@@ -3,7 +3,7 @@ use mathlib.Core.Path.{◌≡◌, refl, sym, ap, ◌∙◌, subst}
 use mathlib.Core.Logic.{◌⊎◌, inl, inr}
 use mathlib.Core.List.{List}
 use mathlib.Core.Bool.{Bool, true, false, and-true, and-false}
-use Prim.Native.Nat.{ℕ, ◌+◌, ◌-◌, ◌*◌, ◌≤◌, ◌<◌}
+use Prim.Native.Nat.{ℕ, ◌+◌, ◌*◌, ◌≤◌, ◌<◌}
 use native.Mathlib.Omega.{arith}
 use lib.IntN.{ℤ}
 use lib.ListN.{length, get_or, take}
@@ -29,15 +29,10 @@ use Rattle.placing.proofs.Lists.{count_more, in_more, rising_once}
 use Rattle.reach.specs.MarkRows.{width}
 use Rattle.reach.proofs.Reading.{row_room}
 use Rattle.needs.specs.Needs.{Holder}
-use Rattle.groups.specs.Members.{Chain, WalkableChain, Gathered, Items, NeedRowsFrom, NeedRowsOf, Scratch, is_masked, MaskedBy}
+use Rattle.groups.specs.Members.{Chain, WalkableChain, Gathered, Items, NeedRowsFrom, NeedRowsOf, is_masked, MaskedBy}
 use Rattle.groups.proofs.Chains.{rising_part, rising_filter}
 
 -- ---- the part of a buffer that holds the items
-
-pub items_of : (l items : List ℕ) (m : ℕ) → Gathered l items m → take (m - 0) items ≡ l
-items_of l items m h =
-    let z : m - 0 ≡ m = omega arith in
-    ap (λ (j : ℕ). take j items) z ∙ h.cells
 
 pub items_many : (l items : List ℕ) (m : ℕ) → Gathered l items m → m ≡ length l
 items_many l items m h = sym (length-take-le m items h.within) ∙ ap length h.cells
@@ -118,13 +113,13 @@ module _ (t : List ℤ) (n : ℕ) (ok : Accepted t n) where
   member_walk g next p room c h = walkable (members t n g) next p room c (λ x m. (member_of t n ok g x m).0) h
 
   module _ (g : ℕ) (items : List ℕ) (m : ℕ) (ga : Gathered (members t n g) items m) where
-    is : take (m - 0) items ≡ members t n g
-    is = items_of (members t n g) items m ga
+    is : take m items ≡ members t n g
+    is = ga.cells
 
-    pub member_items : Items t (take (m - 0) items)
+    pub member_items : Items t (take m items)
     member_items = subst (Items t) (sym is) (record { rising = rising_filter (is_member_of t g) 1 n; defs = λ p i. (member_of t n ok g p i).0 })
 
-    pub member_rows : (square : List ℕ) → NeedRowsFrom t n g square → NeedRowsOf t n (take (m - 0) items) square
+    pub member_rows : (square : List ℕ) → NeedRowsFrom t n g square → NeedRowsOf t n (take m items) square
     member_rows square rows p q i j hp hq = rows p q hp hq (omega (arith, (member_of t n ok g q (subst (λ (l : List ℕ). q ∈ l) is j)).1))
 
   -- ---- the values, where none reaches itself
@@ -155,35 +150,24 @@ module _ (t : List ℤ) (n : ℕ) (ok : Accepted t n) where
 
   -- some values, upward
   module _ (f : ℕ → Bool) (items : List ℕ) (m : ℕ) (ga : Gathered (filter f (values t n)) items m) where
-    some_is : take (m - 0) items ≡ filter f (values t n)
-    some_is = items_of (filter f (values t n)) items m ga
+    some_is : take m items ≡ filter f (values t n)
+    some_is = ga.cells
 
     some_value : (p : ℕ) → p ∈ filter f (values t n) → is_v t p ≡ true
     some_value p i = value_of t n ok p (in_filter f p (values t n) i).0
 
-    pub some_items : Items t (take (m - 0) items)
+    pub some_items : Items t (take m items)
     some_items = subst (Items t) (sym some_is) (record { rising = rising_part f (values t n) (rising_filter (is_v t) 1 n); defs = λ p i. v_def t p (some_value p i) })
 
-    pub some_rows : (g : ℕ) (square : List ℕ) → ((p : ℕ) → f p ≡ true → g ≤ owner t p) → NeedRowsFrom t n g square → NeedRowsOf t n (take (m - 0) items) square
+    pub some_rows : (g : ℕ) (square : List ℕ) → ((p : ℕ) → f p ≡ true → g ≤ owner t p) → NeedRowsFrom t n g square → NeedRowsOf t n (take m items) square
     some_rows g square h rows p q i j hp hq = rows p q hp hq (h q (in_filter f q (values t n) (subst (λ (l : List ℕ). q ∈ l) some_is j)).1)
 
-    pub some_placed : place16 t n ≡ 0 → (order : List ℕ) (r : ℕ) → Placed (needs t n) (take (m - 0) items) order r → Placed (reaches t n) (filter f (values t n)) order r
+    pub some_placed : place16 t n ≡ 0 → (order : List ℕ) (r : ℕ) → Placed (needs t n) (take m items) order r → Placed (reaches t n) (filter f (values t n)) order r
     some_placed z order r pl = record {
       cells = pl.cells ∙ ap (placed (needs t n)) some_is
           ∙ placed_same (needs t n) (reaches t n) (filter f (values t n)) (λ p q i j. needs_reaches ((place16_exactly t n ok 0).0 z) p q (some_value p i) (some_value q j));
       within = omega (arith, pl.within, ap length some_is);
     }
-
--- ---- scratch of the same lengths
-
-pub scratch_as : (n : ℕ) (a b c d a' b' c' d' : List ℕ) → length a' ≡ length a → length b' ≡ length b → length c' ≡ length c → length d' ≡ length d
-    → Scratch n a b c d → Scratch n a' b' c' d'
-scratch_as n a b c d a' b' c' d' p q r s h = record {
-  masks = omega (arith, h.masks);
-  counts = omega (arith, h.counts);
-  readies = omega (arith, h.readies);
-  orders = omega (arith, h.orders);
-}
 
 -- ---- the mask, item by item
 

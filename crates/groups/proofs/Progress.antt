@@ -18,7 +18,7 @@ use Rattle.order.proofs.Lists.{in_filter, in_filter_of, any_true, any_intro, cou
 use Rattle.order.proofs.Tables.{g_def, in_labels, def_label, pos_of, member_of, owner_group, owner_below}
 use Rattle.order.proofs.Tree.{up_le, meet, within_sound, within_complete, within_trans, within_up}
 use Rattle.order.proofs.Untangled.{one_each}
-use Rattle.groups.specs.Members.{Chain, Chained, Relinked}
+use Rattle.groups.specs.Members.{Chain, Relinked}
 use Rattle.groups.specs.Opening.{InOrUnder, ChainsCleared}
 use Rattle.groups.specs.Opened.{expanded_block, expanded, tangled_members, Opened, Progress}
 use Rattle.groups.proofs.Chains.{chain_same, chain_empty}
@@ -167,23 +167,11 @@ module _ (t : List ℤ) (n : ℕ) (ok : Accepted t n) where
           let u = subst (λ (z : ℕ). Within t b.member z) w.1 (within_up t n ok b.member x b.inside other) in
           free (opened_by g k lo (group_def k x (omega arith) ik, (b.member, b.of, e.0, u)))
 
-  -- ---- the start
-
-  pub progress_start : (next : List ℕ) → Chained t n next → Progress t n 1 next
-  progress_start next c = record {
-    closed = λ h b o. absurd (omega (arith, o.some, o.early));
-    done = λ h a b l. absurd (omega arith);
-    rest = λ h b l f. c h b;
-  }
-
   module _ (g : ℕ) (next : List ℕ) (p : Progress t n g next) (low : 1 ≤ g) (high : g ≤ n) where
     -- ---- a Group that has a chain
 
     pub progress_open : (get_or next g 0 ≡ 0 → ⊥) → Opened t n g g → ⊥
     progress_open z o = z (p.closed g high o)
-
-    pub progress_chain : (get_or next g 0 ≡ 0 → ⊥) → Chain n next (get_or next g 0) (members t n g)
-    progress_chain z = p.rest g high (omega arith) (progress_open z)
 
     -- ---- a Group that has none: it has no members, or it is opened
 

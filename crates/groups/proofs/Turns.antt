@@ -1,8 +1,9 @@
 -- One Group put in order, and the turns of `order_groups`.
-use mathlib.Core.Path.{◌≡◌, refl, sym, ap, ◌∙◌, subst}
+use mathlib.Core.Path.{◌≡◌, sym, ap, ◌∙◌, subst}
 use mathlib.Core.List.{List}
 use mathlib.Core.Bool.{true, false, not}
-use Prim.Native.Nat.{ℕ, ◌+◌, ◌-◌, ◌≤◌, ◌<◌}
+use Rattle.std.specs.Prelude.{Option}
+use Prim.Native.Nat.{ℕ, ◌+◌, ◌≤◌, ◌<◌}
 use native.Mathlib.Omega.{arith}
 use native.Mathlib.Decide.{ℕ_discrete}
 use lib.IntN.{ℤ}
@@ -16,24 +17,26 @@ use Rattle.order.specs.Order.{members, needs, group_tangled}
 use Rattle.order.proofs.Untangled.{stuck_tangled, blocks_ordered}
 use Rattle.placing.specs.UnmetCounts.{Placed}
 use Rattle.groups.specs.Members.{Gathered, NeedRowsFrom}
-use Rattle.groups.proofs.Orders.{items_of, items_many, items_few, member_items}
+use Rattle.groups.proofs.Orders.{items_many, items_few, member_items}
 use Rattle.groups.specs.Opened.{expanded, Opened, Progress, Stopped, GroupOrder, GroupOrders}
 use Rattle.groups.proofs.Expanded.{expanded_plain, expanded_label, expanded_once}
 use Rattle.groups.proofs.Progress.{progress_open, skip_plain, progress_skip, progress_turn, plain_cleared}
+
+-- ---- which Group it is
 
 -- ---- the members of a Group
 
 module _ (t : List ℤ) (n : ℕ) (ok : Accepted t n) (g : ℕ) where
   module _ (items : List ℕ) (m : ℕ) (ga : Gathered (members t n g) items m) where
-    is : take (m - 0) items ≡ members t n g
-    is = items_of (members t n g) items m ga
+    is : take m items ≡ members t n g
+    is = ga.cells
 
-    module _ (order : List ℕ) (room : n < length order) (r : ℕ) (pl : Placed (needs t n) (take (m - 0) items) order r) where
+    module _ (order : List ℕ) (room : n < length order) (r : ℕ) (pl : Placed (needs t n) (take m items) order r) where
       order_is : take r order ≡ placed (needs t n) (members t n g)
       order_is = pl.cells ∙ ap (placed (needs t n)) is
 
       pub order_short : r ≤ n
-      order_short = omega (arith, pl.within, items_few t n ok (take (m - 0) items) (member_items t n ok g items m ga))
+      order_short = omega (arith, pl.within, items_few t n ok (take m items) (member_items t n ok g items m ga))
 
       many : r ≡ length (placed (needs t n) (members t n g))
       many = sym (length-take-le r order (omega (arith, order_short))) ∙ ap length order_is
@@ -68,9 +71,6 @@ pub record Going (t : List ℤ) (n from g : ℕ) (next : List ℕ) : Type 0 wher
   pub free : (h : ℕ) → from ≤ h → h < g → (Opened t n h h → ⊥) → group_tangled t n h ≡ false
 
 module _ (t : List ℤ) (n : ℕ) (ok : Accepted t n) (from : ℕ) (some : 1 ≤ from) where
-  pub going_start : (next : List ℕ) → from ≤ n + 1 → Progress t n from next → Going t n from from next
-  going_start next h p = record { low = omega arith; high = h; progress = p; free = λ h a b. absurd (omega arith) }
-
   module _ (g : ℕ) (next : List ℕ) (k : Going t n from g next) (l : g ≤ n) where
     more : ((Opened t n g g → ⊥) → group_tangled t n g ≡ false) → (h : ℕ) → from ≤ h → h < g + 1 → (Opened t n h h → ⊥) → group_tangled t n h ≡ false
     more f h a b = go (ℕ_discrete g h)
@@ -97,27 +97,15 @@ module _ (t : List ℤ) (n : ℕ) (ok : Accepted t n) (from : ℕ) (some : 1 ≤
         free = more (λ f. o.1);
       }
 
-      pub going_stuck : GroupOrder t n g next next' true → GroupOrders t n from next' g
-      going_stuck o = record {
-        all = λ e. absurd (omega (arith, k.low));
-        free = λ e. absurd (omega (arith, k.low));
-        stuck = λ d. (k.low, l, subst (Progress t n g) (sym o.1) k.progress, λ e. z (sym (ap (λ (s : List ℕ). get_or s g 0) o.1) ∙ e), o.0);
-      }
-
-  pub going_end : (g : ℕ) (next : List ℕ) → Going t n from g next → n < g → GroupOrders t n from next 0
-  going_end g next k l =
-      let e : g ≡ n + 1 = omega (arith, k.high) in
-      record { all = λ z. subst (λ (j : ℕ). Progress t n j next) e k.progress; free = λ z h a b. k.free h a (omega arith); stuck = λ d. absurd (d refl) }
-
 -- ---- what it answers
 
 -- what `order_groups` answers, with rows from `from` on
-pub stopped : (t : List ℤ) (n : ℕ) → Accepted t n → (from r : ℕ) (next square : List ℕ) → 1 ≤ from → NeedRowsFrom t n from square → GroupOrders t n from next r
+pub stopped : (t : List ℤ) (n : ℕ) → Accepted t n → (from : ℕ) (r : Option ℕ) (next square : List ℕ) → 1 ≤ from → NeedRowsFrom t n from square → GroupOrders t n from next r
     → Stopped t n r next square
 stopped t n ok from r next square lo rows o = record {
   all = o.all;
-  turn = λ d.
-      let s = o.stuck d in
-      record { low = omega (arith, s.0); high = s.1; progress = s.2; free = progress_open t n ok r next s.2 (omega (arith, s.0)) s.1 s.3 };
-  rows = λ d p q hp hq l. rows p q hp hq (omega (arith, (o.stuck d).0));
+  turn = λ g e.
+      let s = o.stuck g e in
+      record { low = omega (arith, s.0); high = s.1; progress = s.2; free = progress_open t n ok g next s.2 (omega (arith, s.0)) s.1 s.3 };
+  rows = λ g e p q hp hq l. rows p q hp hq (omega (arith, (o.stuck g e).0));
 }

@@ -1,6 +1,6 @@
 -- The chain of a Group in order, with the blocks of several opened: in place of such a block stand the values under it, in their order. What
 -- lies in or under such a block is opened: no Group of it is listed by itself.
-use Rattle.std.specs.Prelude.{◌≡◌, List, [], ◌∷◌, Bool, true, false, cond, ℕ, ◌+◌, ◌≤◌, ◌<◌, ℤ, get_or}
+use Rattle.std.specs.Prelude.{◌≡◌, List, [], ◌∷◌, Bool, true, false, cond, ℕ, ◌+◌, ◌≤◌, ◌<◌, ℤ, get_or, Option, None, Some}
 use Rattle.cells.specs.Table.{is_definition, owner}
 use Rattle.order.specs.LabelLists.{filter, joined}
 use Rattle.order.specs.Blocks.{several}
@@ -36,11 +36,11 @@ pub record Openable (t : List ℤ) (n g : ℕ) (next : List ℕ) : Type 0 where
   pub progress : Progress t n g next
   pub free : Opened t n g g → ⊥
 
--- Group g is stuck, and its turn has come; or g is 0, and all are in order
-pub record Stopped (t : List ℤ) (n g : ℕ) (next square : List ℕ) : Type 0 where
-  pub all : g ≡ 0 → Progress t n (n + 1) next
-  pub turn : (g ≡ 0 → ⊥) → Openable t n g next
-  pub rows : (g ≡ 0 → ⊥) → NeedRowsFrom t n g square
+-- the Group that is stuck, whose turn has come; or there is none, and all are in order
+pub record Stopped (t : List ℤ) (n : ℕ) (stuck : Option ℕ) (next square : List ℕ) : Type 0 where
+  pub all : stuck ≡ None → Progress t n (n + 1) next
+  pub turn : (g : ℕ) → stuck ≡ Some g → Openable t n g next
+  pub rows : (g : ℕ) → stuck ≡ Some g → NeedRowsFrom t n g square
 
 -- the members of g that are in blocks of several
 abbrev pub tangled_members : List ℤ → ℕ → ℕ → List ℕ
@@ -51,8 +51,8 @@ abbrev pub GroupOrder : List ℤ → ℕ → ℕ → List ℕ → List ℕ → B
 GroupOrder t n g next next' true = (group_tangled t n g ≡ true) × (next' ≡ next)
 GroupOrder t n g next next' false = Relinked n g (expanded t n g) next next' × (group_tangled t n g ≡ false)
 
--- r is the first Group from `from` on that is not opened and has a block of several; or 0, and all are in order
-pub record GroupOrders (t : List ℤ) (n from : ℕ) (next' : List ℕ) (r : ℕ) : Type 0 where
-  pub all : r ≡ 0 → Progress t n (n + 1) next'
-  pub free : r ≡ 0 → (h : ℕ) → from ≤ h → h ≤ n → (Opened t n h h → ⊥) → group_tangled t n h ≡ false
-  pub stuck : (r ≡ 0 → ⊥) → (from ≤ r) × (r ≤ n) × Progress t n r next' × (get_or next' r 0 ≡ 0 → ⊥) × (group_tangled t n r ≡ true)
+-- r is the first Group from `from` on that is not opened and has a block of several; or there is none, and all are in order
+pub record GroupOrders (t : List ℤ) (n from : ℕ) (next' : List ℕ) (r : Option ℕ) : Type 0 where
+  pub all : r ≡ None → Progress t n (n + 1) next'
+  pub free : r ≡ None → (h : ℕ) → from ≤ h → h ≤ n → (Opened t n h h → ⊥) → group_tangled t n h ≡ false
+  pub stuck : (g : ℕ) → r ≡ Some g → (from ≤ g) × (g ≤ n) × Progress t n g next' × (get_or next' g 0 ≡ 0 → ⊥) × (group_tangled t n g ≡ true)

@@ -1,16 +1,12 @@
 -- The clauses of evaluation: what each goes by, and what the table says of a kind by its clause.
 use mathlib.Core.Path.{◌≡◌, refl, subst, ◌∙◌}
 use mathlib.Core.Bool.{Bool, true, false, ◌&&◌}
-use mathlib.Core.List.{[], ◌∷◌}
 use Prim.Native.Nat.{ℕ, ◌≤◌}
-use types.Run.{OneOf, miss}
-use denote.Enum.Declared.{tag_of}
 use borrow.Author.Tests.{eqb-true, leb-true}
 use lib.Dec.{leb, eqb}
 use Rattle.kinds.specs.declared.Clause.{Clause}
 use Rattle.kinds.specs.declared.Clause.TheVariants as clause
-use Rattle.kinds.specs.Kinds.{Kind, kinds, kind_at, is_operand_form, is_expression, has_path, operand_a, operand_b, operand_c, wanted_by, clause_of, place_in, takes, value_code, number_code}
-use Rattle.kinds.specs.contracts.Clause as tags
+use Rattle.kinds.specs.Kinds.{KindColumns, kinds, kind_at, is_operand_form, is_expression, has_path, operand_a, operand_b, operand_c, wanted_by, clause_of, takes, value_code, number_code}
 use Rattle.kinds.proofs.Tests.{and_left, and_right}
 use Rattle.kinds.proofs.Rows.{each, by_rows}
 use Rattle.kinds.proofs.Laws.{expresses, leads, expression_row}
@@ -58,7 +54,7 @@ module _ (c : ℕ) where
 
 -- ---- what else a row holds by its clause: an N has its code, an R leads to a V, a call to what takes as many arguments as it hands on
 
-abbrev told : ℕ → Kind → Clause → Bool
+abbrev told : ℕ → KindColumns → Clause → Bool
 told c k clause.None = true
 told c k clause.Number = eqb c number_code
 told c k (clause.Argument i) = true
@@ -89,13 +85,3 @@ module _ (c : ℕ) where
 
     pub call_takes : takes (wanted_by c) ≡ n
     call_takes = eqb-true (takes (wanted_by c)) n (and_right (leb 1 n) (eqb (takes (wanted_by c)) n) told_call)
-
--- what an arm `_` leaves: all clauses but an argument's, by their tags
-pub no_place : (x : Clause) → OneOf (0 ∷ 1 ∷ 3 ∷ 4 ∷ 5 ∷ 6 ∷ []) (tag_of tags.the_type x) → place_in x ≡ 0
-no_place clause.None h = refl
-no_place clause.Number h = refl
-no_place (clause.Argument i) h = absurd (miss (0 ∷ 1 ∷ 3 ∷ 4 ∷ 5 ∷ 6 ∷ []) 2 tt h)
-no_place clause.Read h = refl
-no_place (clause.Call n) h = refl
-no_place (clause.Operation op) h = refl
-no_place clause.Choice h = refl

@@ -5,7 +5,6 @@ use mathlib.Core.List.{List, [], ◌∷◌, map}
 use Prim.Native.Nat.{ℕ, zero, suc, ◌+◌, ◌-◌, ◌≤◌, ◌<◌}
 use native.Mathlib.Numerals.{add-one}
 use native.Mathlib.Omega.{arith}
-use native.Mathlib.Decide.{ℕ_discrete}
 use borrow.Author.Tests.{le-leb, eq-eqb, ne_eqb}
 use lib.Dec.{leb, eqb}
 use lib.ListN.{length, get_or, drop, drop_of_length-le, get_or-map}
@@ -14,11 +13,11 @@ use Rattle.kinds.specs.declared.Clause.{Clause}
 use Rattle.kinds.specs.declared.Clause.TheVariants as clause
 use Rattle.kinds.specs.declared.Form.{Form}
 use Rattle.kinds.specs.declared.Form.TheVariants.{Missing, Name, Path, Group, Operand, Number}
-use Rattle.kinds.specs.Kinds.{Kind, kinds, no_kind, kind_at, code_in, code_of, fields_at, is_kind, is_operand_form, is_definition, is_expression, has_body, clause_of, place_in}
-use Rattle.kinds.specs.Kinds.{argument_place, wanted_by, takes, group_code, value_code, number_code}
+use Rattle.kinds.specs.Kinds.{KindColumns, kinds, no_kind, kind_at, code_in, code_of, fields_at, is_kind, is_operand_form, is_definition, is_expression, has_body, clause_of, place_in}
+use Rattle.kinds.specs.Kinds.{argument_place, takes, group_code, value_code, number_code}
 use Rattle.kinds.proofs.Tests.{clash}
 use Rattle.kinds.proofs.Rows.{every, implies, by_rule, by_rows}
-use Rattle.kinds.proofs.Laws.{defines, kinds_length, kind_low, kind_high, body_definition}
+use Rattle.kinds.proofs.Laws.{kinds_length, body_definition}
 use Rattle.kinds.proofs.Clauses.{uses_of, expression_uses}
 
 -- ---- the row of a code
@@ -29,7 +28,7 @@ kind_from zero h = absurd (omega arith)
 kind_from (suc k) h = let z : suc k - 1 ≡ k = omega arith in rw z
 
 pub fields_from_lem : (c : ℕ) → 1 ≤ c → get_or (map (λ k. k.fields) kinds) (c - 1) no_kind.fields ≡ fields_at c
-fields_from_lem c h = get_or-map (λ k. k.fields) kinds (c - 1) no_kind ∙ sym (ap (λ (k : Kind). k.fields) (kind_from c h))
+fields_from_lem c h = get_or-map (λ k. k.fields) kinds (c - 1) no_kind ∙ sym (ap (λ (k : KindColumns). k.fields) (kind_from c h))
 
 -- ---- the code of a letter
 
@@ -37,28 +36,26 @@ pub code_within : (c : ℕ) → 1 ≤ c → c ≤ 12 → is_kind c ≡ true
 unfolding is_kind
 code_within c h g = rw (le-leb 1 c h, le-leb c (length kinds) (omega (arith, kinds_length)))
 
--- the rows from code c on
-module _ (c letter : ℕ) (low : 1 ≤ c) (high : c ≤ 12) where
-  rows_from : drop (c - 1) kinds ≡ kind_at c ∷ drop c kinds
-  rows_from =
-      let q : suc (c - 1) ≡ c = omega arith in
-      drop-cons kinds (c - 1) no_kind (omega (arith, kinds_length))
-      ∙ ap (λ (n : ℕ). get_or kinds (c - 1) no_kind ∷ drop n kinds) q
-      ∙ ap (λ (k : Kind). k ∷ drop c kinds) (sym (kind_from c low))
+-- the rows from place i on, the first of which has code i + 1
+module _ (i letter : ℕ) (high : i < 12) where
+  rows_from : drop i kinds ≡ get_or kinds i no_kind ∷ drop (suc i) kinds
+  rows_from = drop-cons kinds i no_kind (omega (arith, kinds_length))
 
-  pub letter_hit : (fields_at c).letter ≡ letter → code_in (drop (c - 1) kinds) c letter ≡ c
-  letter_hit e = rw (rows_from, eq-eqb (fields_at c).letter letter e)
+  letter_at : (get_or (map (λ k. k.fields) kinds) i no_kind.fields).letter ≡ (get_or kinds i no_kind).fields.letter
+  letter_at = ap (λ f. f.letter) (get_or-map (λ k. k.fields) kinds i no_kind)
 
-  pub letter_miss : ((fields_at c).letter ≡ letter → ⊥) → code_in (drop (c - 1) kinds) c letter ≡ code_in (drop (c + 1 - 1) kinds) (c + 1) letter
-  letter_miss e =
-      let q : c + 1 - 1 ≡ c = omega arith in
-      rw (rows_from, ne_eqb (fields_at c).letter letter e, q, add-one c)
+  pub letter_hit : (get_or (map (λ k. k.fields) kinds) i no_kind.fields).letter ≡ letter → code_in (drop i kinds) (i + 1) letter ≡ i + 1
+  letter_hit e = rw (rows_from, eq-eqb (get_or kinds i no_kind).fields.letter letter (sym letter_at ∙ e))
 
-pub letter_none : (c letter : ℕ) → 12 < c → code_in (drop (c - 1) kinds) c letter ≡ 0
-letter_none c letter h = let g : length kinds ≤ c - 1 = omega (arith, kinds_length) in rw (drop_of_length-le kinds g)
+  pub letter_miss : ((get_or (map (λ k. k.fields) kinds) i no_kind.fields).letter ≡ letter → ⊥)
+      → code_in (drop i kinds) (i + 1) letter ≡ code_in (drop (i + 1) kinds) (i + 1 + 1) letter
+  letter_miss e = rw (rows_from, ne_eqb (get_or kinds i no_kind).fields.letter letter (λ q. e (letter_at ∙ q)), add-one i, add-one (suc i))
+
+pub letter_none : (i letter : ℕ) → 12 ≤ i → code_in (drop i kinds) (i + 1) letter ≡ 0
+letter_none i letter h = let g : length kinds ≤ i = omega (arith, kinds_length) in rw (drop_of_length-le kinds g)
 
 -- it is the code of a kind, or 0
-code_bound : (ks : List Kind) (c letter : ℕ) → 0 < c → code_in ks c letter < c + length ks
+code_bound : (ks : List KindColumns) (c letter : ℕ) → 0 < c → code_in ks c letter < c + length ks
 code_bound [] c letter h = omega arith
 code_bound (k ∷ ks) c letter h = go (eqb k.fields.letter letter) (code_bound ks (suc c) letter (omega arith))
   where
@@ -84,23 +81,8 @@ not_among : (xs : List ℕ) (c : ℕ) → Other xs c → among xs c ≡ false
 not_among [] c h = refl
 not_among (x ∷ xs) c h = rw (ne_eqb c x h.1) (not_among xs c h.0)
 
--- the arms before it go from m down to 1
-abbrev downward : ℕ → List ℕ
-downward zero = []
-downward (suc m) = suc m ∷ downward m
-
-last_of : (m c : ℕ) → 1 ≤ c → c ≤ m + 1 → Other (downward m) c → c ≡ m + 1
-last_of zero c h g o = omega arith
-last_of (suc m) c h g o = go (ℕ_discrete c (suc m + 1)) (λ below. last_of m c h below o.0)
-  where
-    go : Dec (c ≡ suc m + 1) → (c ≤ m + 1 → c ≡ m + 1) → c ≡ suc m + 1
-    go (yes e) f = e
-    go (no e) f =
-        let below : c ≤ m + 1 = omega arith in
-        absurd (o.1 (f below ∙ add-one m))
-
 -- the rows that pass p have codes of those arms, so that its row does not
-module _ (p : Kind → Bool) (codes : List ℕ) (none : p no_kind ≡ false) (rows : every (λ i k. implies (p k) (among codes i)) 1 kinds ≡ true) (c : ℕ) where
+module _ (p : KindColumns → Bool) (codes : List ℕ) (none : p no_kind ≡ false) (rows : every (λ i k. implies (p k) (among codes i)) 1 kinds ≡ true) (c : ℕ) where
   pub other : Other codes c → p (kind_at c) ≡ false
   other h = go (p (kind_at c)) refl
     where
@@ -126,21 +108,6 @@ pub other_place : (c : ℕ) → is_expression c ≡ false → argument_place c �
 other_place c e = ap place_in (no_clause (clause_of c) (sym (expression_uses c) ∙ e))
 
 module _ (c : ℕ) where
-  pub other_definition : Other (3 ∷ 2 ∷ 1 ∷ []) c → is_definition c ≡ false
-  unfolding is_definition kinds
-  other_definition h = other defines (3 ∷ 2 ∷ 1 ∷ []) refl refl c h
-
-  pub other_clause : Other (12 ∷ 11 ∷ 10 ∷ 9 ∷ 8 ∷ 7 ∷ 6 ∷ 5 ∷ 4 ∷ []) c → clause_of c ≡ clause.None
-  unfolding clause_of kinds
-  other_clause h = no_clause (clause_of c) (other (λ k. (uses_of k.clause).some) (12 ∷ 11 ∷ 10 ∷ 9 ∷ 8 ∷ 7 ∷ 6 ∷ 5 ∷ 4 ∷ []) refl refl c h)
-
-  pub other_last : is_kind c ≡ true → Other (11 ∷ 10 ∷ 9 ∷ 8 ∷ 7 ∷ 6 ∷ 5 ∷ 4 ∷ 3 ∷ 2 ∷ 1 ∷ []) c → c ≡ 12
-  other_last e h = last_of 11 c (kind_low c e) (omega (arith, kind_high c e, kinds_length)) h
-
-  pub other_wanted : Other (7 ∷ 6 ∷ []) c → wanted_by c ≡ 0
-  unfolding wanted_by kinds
-  other_wanted h = none_left (wanted_by c) (other (λ k. leb 1 k.wanted) (7 ∷ 6 ∷ []) refl refl c h)
-
   pub other_takes : Other (3 ∷ []) c → takes c ≡ 0
   unfolding takes kinds
   other_takes h = none_left (takes c) (other (λ k. leb 1 k.takes) (3 ∷ []) refl refl c h)

@@ -1,41 +1,41 @@
 -- What the table says of each kind.
 use mathlib.Core.Path.{◌≡◌, refl, sym, ◌∙◌}
 use mathlib.Core.Logic.{◌⊎◌, inl, inr}
-use mathlib.Core.Bool.{Bool, true, false, not, ◌&&◌, and-true, and-false}
+use mathlib.Core.Bool.{Bool, true, false, not, ◌&&◌, and-false}
 use mathlib.Core.List.{List, [], ◌∷◌}
 use Prim.Native.Nat.{ℕ, zero, suc, ◌≤◌}
 use native.Mathlib.Omega.{arith}
 use borrow.Author.Tests.{leb-true, leb-false, le-leb, not-true}
-use lib.Dec.{leb, eqb, leb-suc-zero, leb-suc-suc}
+use lib.Dec.{leb, leb-suc-zero, leb-suc-suc}
 use lib.ListN.{length, get_or, get_or-eq_default}
-use Rattle.kinds.specs.Kinds.{Kind, kinds, no_kind, kind_at, fields_at, is_kind, is_group_form, is_operand_form, is_path_form, is_definition, is_expression, has_body, has_path, wanted_by}
+use Rattle.kinds.specs.Kinds.{KindColumns, kinds, no_kind, kind_at, fields_at, is_kind, is_group_form, is_operand_form, is_path_form, is_definition, is_expression, has_body, has_path, wanted_by}
 use Rattle.kinds.proofs.Tests.{clash, and_left, and_right}
-use Rattle.kinds.proofs.Rows.{by_rule, by_rows}
+use Rattle.kinds.proofs.Rows.{by_rule}
 
 -- ---- tests of a row
 
-abbrev pub named : Kind → Bool
+abbrev pub named : KindColumns → Bool
 named k = leb 1 k.fields.letter
 
-abbrev pub defines : Kind → Bool
+abbrev pub defines : KindColumns → Bool
 defines k = is_group_form k.fields.a
 
-abbrev pub expresses : Kind → Bool
+abbrev pub expresses : KindColumns → Bool
 expresses k = named k && not (defines k)
 
-abbrev bodied : Kind → Bool
+abbrev bodied : KindColumns → Bool
 bodied k = defines k && is_operand_form k.fields.b
 
-abbrev pub leads : Kind → Bool
+abbrev pub leads : KindColumns → Bool
 leads k = is_path_form k.fields.name
 
 -- ---- codes
 
-all_named : List Kind → Bool
+all_named : List KindColumns → Bool
 all_named [] = true
 all_named (k ∷ ks) = named k && all_named ks
 
-named_rows : (ks : List Kind) (i : ℕ) → all_named ks ≡ true → leb (suc i) (length ks) ≡ named (get_or ks i no_kind)
+named_rows : (ks : List KindColumns) (i : ℕ) → all_named ks ≡ true → leb (suc i) (length ks) ≡ named (get_or ks i no_kind)
 unfolding all_named
 named_rows [] i e = leb-suc-zero i
 named_rows (k ∷ ks) zero e = le-leb 1 (suc (length ks)) (omega arith) ∙ sym (and_left (named k) (all_named ks) e)
@@ -70,10 +70,6 @@ module _ (c : ℕ) where
   -- the row of a code that is one has a letter
   pub kind_named : is_kind c ≡ true → named (kind_at c) ≡ true
   kind_named e = sym (is_kind_lem c) ∙ e
-
-  -- a code fits a cell
-  pub kind_fits : is_kind c ≡ true → c ≤ 65536
-  kind_fits e = omega (arith, kind_high e, kinds_length)
 
   -- ---- definitions and expressions
 
@@ -112,11 +108,6 @@ module _ (c : ℕ) where
       go true = inl refl
       go false = inr refl
 
-  -- of the codes that are no definition's, those of the table are expressions
-  pub rest_expression : (c ≡ 0 → ⊥) → is_definition c ≡ false → leb c 12 ≡ is_expression c
-  unfolding is_expression is_kind
-  rest_expression h e = rw (le-leb 1 c (omega arith), e, kinds_length) (sym (and-true (leb c 12)))
-
   -- ---- bodies and paths
 
   pub body_definition : has_body c ≡ true → is_definition c ≡ true
@@ -139,8 +130,3 @@ module _ (c : ℕ) where
   pub path_body : has_path c ≡ true → has_body (wanted_by c) ≡ true
   unfolding has_path has_body is_definition wanted_by kinds kind_at
   path_body e = by_rule leads (λ i k. bodied (kind_at k.wanted)) refl refl c e
-
-  -- a path must end at some kind
-  pub path_wanted : not (eqb (wanted_by c) 0) ≡ has_path c
-  unfolding has_path wanted_by kinds
-  path_wanted = by_rows (λ k. not (eqb k.wanted 0)) leads refl refl c

@@ -4,3 +4,4 @@ pub mod Laws
 pub mod Clauses
 pub mod Codes
 pub mod Plans
+pub mod Enumerated

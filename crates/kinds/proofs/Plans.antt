@@ -2,17 +2,15 @@
 use mathlib.Core.Path.{◌≡◌, refl}
 use mathlib.Core.Logic.{◌⊎◌, inl, inr}
 use mathlib.Core.Bool.{Bool, true, false, ◌&&◌, ◌||◌}
-use mathlib.Core.List.{[], ◌∷◌}
 use Prim.Native.Nat.{ℕ}
 use borrow.Author.Tests.{eqb-true}
 use lib.Dec.{eqb}
-use Rattle.kinds.specs.Kinds.{group_code, value_code, number_code, Kind, kinds, kind_at, is_definition, operand_a, takes, clause_of}
+use Rattle.kinds.specs.Kinds.{group_code, value_code, number_code, KindColumns, kinds, kind_at, is_definition, operand_a, takes, clause_of}
 use Rattle.kinds.specs.GivesValues.{gives_values}
 use Rattle.kinds.proofs.Tests.{and_left, or_cases}
 use Rattle.kinds.proofs.Rows.{by_rule}
 use Rattle.kinds.proofs.Laws.{defines}
 use Rattle.kinds.proofs.Clauses.{a_uses}
-use Rattle.kinds.proofs.Codes.{Other, other}
 
 pub group_gives : gives_values group_code ≡ true
 unfolding gives_values takes is_definition kind_at kinds
@@ -23,7 +21,7 @@ unfolding gives_values takes is_definition kind_at kinds
 value_gives = refl
 
 -- a definition that takes no argument
-abbrev gives : Kind → Bool
+abbrev gives : KindColumns → Bool
 gives k = defines k && eqb k.takes 0
 
 -- only a Group or a value does
@@ -34,10 +32,6 @@ gives_cases c e = go (or_cases (eqb c group_code) (eqb c value_code) (by_rule gi
     go : (eqb c group_code ≡ true) ⊎ (eqb c value_code ≡ true) → (c ≡ group_code) ⊎ (c ≡ value_code)
     go (inl h) = inl (eqb-true c group_code h)
     go (inr h) = inr (eqb-true c value_code h)
-
-pub other_gives : (c : ℕ) → Other (value_code ∷ group_code ∷ []) c → gives_values c ≡ false
-unfolding gives_values takes is_definition kinds
-other_gives c h = other gives (value_code ∷ group_code ∷ []) refl refl c h
 
 pub gives_definition : (c : ℕ) → gives_values c ≡ true → is_definition c ≡ true
 unfolding gives_values

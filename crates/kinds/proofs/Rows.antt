@@ -6,17 +6,17 @@ use Prim.Native.Nat.{ℕ, zero, suc, ◌+◌}
 use native.Mathlib.Omega.{arith}
 use borrow.Author.Tests.{not-true}
 use lib.ListN.{get_or}
-use Rattle.kinds.specs.Kinds.{Kind, kinds, no_kind, kind_at}
+use Rattle.kinds.specs.Kinds.{KindColumns, kinds, no_kind, kind_at}
 use Rattle.kinds.proofs.Tests.{clash, and_left, and_right}
 
 -- each of the rows passes a test of its code and itself; the first has code c
-abbrev pub every : (ℕ → Kind → Bool) → ℕ → List Kind → Bool
+abbrev pub every : (ℕ → KindColumns → Bool) → ℕ → List KindColumns → Bool
 every test c [] = true
 every test c (k ∷ ks) = test c k && every test (suc c) ks
 
 -- so does what no code has, whatever the code: then the row of every code does
-module _ (test : ℕ → Kind → Bool) (none : (c : ℕ) → test c no_kind ≡ true) where
-  in_rows : (ks : List Kind) (c i : ℕ) → every test c ks ≡ true → test (c + i) (get_or ks i no_kind) ≡ true
+module _ (test : ℕ → KindColumns → Bool) (none : (c : ℕ) → test c no_kind ≡ true) where
+  in_rows : (ks : List KindColumns) (c i : ℕ) → every test c ks ≡ true → test (c + i) (get_or ks i no_kind) ≡ true
   in_rows [] c i e = none (c + i)
   in_rows (k ∷ ks) c zero e =
       let z : c + 0 ≡ c = omega arith in
@@ -40,7 +40,7 @@ pub implied : (a b : Bool) → implies a b ≡ true → a ≡ true → b ≡ tru
 implied true b e h = e
 implied false b e h = clash (sym h)
 
-pub by_rule : (p : Kind → Bool) (q : ℕ → Kind → Bool) → p no_kind ≡ false → every (λ c k. implies (p k) (q c k)) 1 kinds ≡ true
+pub by_rule : (p : KindColumns → Bool) (q : ℕ → KindColumns → Bool) → p no_kind ≡ false → every (λ c k. implies (p k) (q c k)) 1 kinds ≡ true
     → (c : ℕ) → p (kind_at c) ≡ true → q c (kind_at c) ≡ true
 by_rule p q none e c h = implied (p (kind_at c)) (q c (kind_at c)) (each (λ i k. implies (p k) (q i k)) (λ i. rw none) e c) h
 
@@ -54,6 +54,6 @@ agreed : (a b : Bool) → same a b ≡ true → a ≡ b
 agreed true b e = sym e
 agreed false b e = sym (not-true b e)
 
-pub by_rows : (p q : Kind → Bool) → same (p no_kind) (q no_kind) ≡ true → every (λ c k. same (p k) (q k)) 1 kinds ≡ true
+pub by_rows : (p q : KindColumns → Bool) → same (p no_kind) (q no_kind) ≡ true → every (λ c k. same (p k) (q k)) 1 kinds ≡ true
     → (c : ℕ) → p (kind_at c) ≡ q (kind_at c)
 by_rows p q none e c = agreed (p (kind_at c)) (q (kind_at c)) (each (λ i k. same (p k) (q k)) (λ i. none) e c)

@@ -11,7 +11,7 @@ use Rattle.kinds.specs.declared.Clause.TheVariants as clause
 
 -- ---- a row
 
-pub record Kind : Type 0 where
+pub record KindColumns : Type 0 where
   -- the letter, and what the fields name, a, b and c hold; a field that the paper does not list is `-`
   pub fields : Fields
   -- the code of the kind that its path must end at; 0 of a kind without a path
@@ -22,17 +22,17 @@ pub record Kind : Type 0 where
   pub clause : Clause
 
 -- a definition: what it has in its field b, and how many arguments its body is given
-abbrev definition : ℕ → Form → ℕ → Kind
+abbrev definition : ℕ → Form → ℕ → KindColumns
 definition letter b n =
     record { fields = record { letter = letter; name = Name; a = Group; b = b; c = Missing }; wanted = 0; takes = n; clause = clause.None }
 
 -- an expression with a path: what it has in a and b, and what its path must end at
-abbrev path : ℕ → Form → Form → ℕ → Clause → Kind
+abbrev path : ℕ → Form → Form → ℕ → Clause → KindColumns
 path letter a b end by =
     record { fields = record { letter = letter; name = Path; a = a; b = b; c = Missing }; wanted = end; takes = 0; clause = by }
 
 -- any other expression: what it has in a, b and c
-abbrev expression : ℕ → Form → Form → Form → Clause → Kind
+abbrev expression : ℕ → Form → Form → Form → Clause → KindColumns
 expression letter a b c by =
     record { fields = record { letter = letter; name = Missing; a = a; b = b; c = c }; wanted = 0; takes = 0; clause = by }
 
@@ -52,7 +52,7 @@ abbrev pub number_code : ℕ
 number_code = 4
 
 -- in the paper's order
-unfoldable pub kinds : List Kind
+unfoldable pub kinds : List KindColumns
 kinds =
     definition (code "G") Missing 0
     ∷ definition (code "V") Operand 0
@@ -69,16 +69,16 @@ kinds =
     ∷ []
 
 -- what no code has
-abbrev pub no_kind : Kind
+abbrev pub no_kind : KindColumns
 no_kind = expression 0 Missing Missing Missing clause.None
 
 -- the kind of a code, which is the place of its row from 1: code 0 has none
-unfoldable pub kind_at : ℕ → Kind
+unfoldable pub kind_at : ℕ → KindColumns
 kind_at zero = no_kind
 kind_at (suc k) = get_or kinds k no_kind
 
 -- the code of the first row, from code k on, that has this letter; 0 where none has
-abbrev pub code_in : List Kind → ℕ → ℕ → ℕ
+abbrev pub code_in : List KindColumns → ℕ → ℕ → ℕ
 code_in [] k letter = 0
 code_in (r ∷ rs) k letter = cond (eqb r.fields.letter letter) k (code_in rs (suc k) letter)
 

@@ -1,10 +1,11 @@
 // Document 01's table of kinds, and what a kind is: the other crates ask here. The constant table holds the fields; the other columns of a
-// row are matches on its code.
+// row are methods of its kind.
 
 #![tactic(auto)]
 
-ghost use Rattle.std.specs.Prelude.{◌≡◌, true};
-ghost use Rattle.kinds.specs.Kinds.{fields_at, code_of, is_kind, is_definition, is_expression, has_path, clause_of, wanted_by, takes, argument_place};
+ghost use Rattle.std.specs.Prelude.{◌≡◌};
+ghost use Rattle.kinds.specs.Kinds.{fields_at, code_of, is_definition, is_expression, has_path, clause_of, wanted_by, takes, argument_place};
+ghost use Rattle.kinds.specs.Coded.{own_code, kind_with};
 ghost use Rattle.kinds.specs.GivesValues.{gives_values};
 
 // ---- what a row holds
@@ -52,22 +53,27 @@ pub enum Clause {
     Choice,
 }
 
+// A kind of line. In a table's cell it stands by its code, the place of its row, from 1.
+#[derive(Clone, Copy, PartialEq, Eq)]
+pub enum Kind {
+    Group,
+    Value,
+    Function,
+    Number,
+    Argument,
+    Read,
+    Call,
+    Sum,
+    Difference,
+    Product,
+    Quotient,
+    Choice,
+}
+
 // ---- the table
 
-// Kinds that have a name in the code: a Group, a value, a function.
-pub const GROUP: usize = 1;
-
-pub const VALUE: usize = 2;
-
-pub const FUNCTION: usize = 3;
-
-pub const NUMBER: usize = 4;
-
-// How many kinds there are.
-const COUNT: usize = 12;
-
 // Document 01's one fixed table of twelve rows. A kind's code is the place of its row, from 1.
-const KINDS: [Fields; COUNT] = [
+static KINDS: [Fields; 12] = [
     Fields {
         letter: b'G',
         name: Form::Name,
@@ -154,140 +160,135 @@ const KINDS: [Fields; COUNT] = [
     },
 ];
 
-// The row of the table with this code.
-fn row_at(code: usize) -> Fields
-    requires { is_kind code ≡ true }
-    ensures { result ≡ fields_at code }
-{
-    KINDS[code - 1]
-}
-
-// The fields of the kind with this code. In each arm the place is known when it is compiled, so that the table is not laid out at each lookup.
-pub fn fields_of(code: usize) -> Fields
-    requires { is_kind code ≡ true }
-    ensures { result ≡ fields_at code }
-{
-    match code {
-        1 => row_at(1),
-        2 => row_at(2),
-        3 => row_at(3),
-        4 => row_at(4),
-        5 => row_at(5),
-        6 => row_at(6),
-        7 => row_at(7),
-        8 => row_at(8),
-        9 => row_at(9),
-        10 => row_at(10),
-        11 => row_at(11),
-        _ => row_at(12),
+impl Kind {
+    // The place of its row, from 1.
+    pub fn code(self) -> usize
+        ensures { result ≡ own_code self }
+    {
+        self as usize + 1
     }
-}
 
-// The code of the kind with this letter, or 0.
-pub fn code_of(letter: u8) -> usize
-    ensures { result ≡ code_of letter }
-{
-    let mut code: usize = 1;
-    while code <= COUNT {
-        let fields = fields_of(code);
-        if fields.letter == letter {
-            return code;
+    // The kind that has this code.
+    #[tactic(auto, unfolding(crate::specs::Coded::kind_with, crate::specs::Coded::every_kind))]
+    pub fn of_code(code: usize) -> Option<Kind>
+        ensures { result ≡ kind_with code }
+    {
+        match code {
+            1 => Some(Kind::Group),
+            2 => Some(Kind::Value),
+            3 => Some(Kind::Function),
+            4 => Some(Kind::Number),
+            5 => Some(Kind::Argument),
+            6 => Some(Kind::Read),
+            7 => Some(Kind::Call),
+            8 => Some(Kind::Sum),
+            9 => Some(Kind::Difference),
+            10 => Some(Kind::Product),
+            11 => Some(Kind::Quotient),
+            12 => Some(Kind::Choice),
+            _ => None,
         }
-        code += 1;
     }
-    0
-}
 
-// ---- the other columns of a row, by its code
-
-// Whether lines of this kind are definitions.
-pub fn is_definition(code: usize) -> bool
-    ensures { result ≡ is_definition code }
-{
-    match code {
-        GROUP => true,
-        VALUE => true,
-        FUNCTION => true,
-        _ => false,
+    // The kind that has this letter.
+    pub fn of_letter(letter: u8) -> Option<Kind>
+        ensures { result ≡ kind_with (code_of letter) }
+    {
+        for (i, row) in KINDS.iter().enumerate() {
+            if row.letter == letter {
+                return Kind::of_code(i + 1);
+            }
+        }
+        None
     }
-}
 
-// Whether they are expressions: the rest of the kinds.
-pub fn is_expression(code: usize) -> bool
-    ensures { result ≡ is_expression code }
-{
-    if is_definition(code) {
-        return false;
+    // ---- its row
+
+    // Its fields.
+    pub fn fields(self) -> Fields
+        ensures { result ≡ fields_at (own_code self) }
+    {
+        KINDS[self.code() - 1]
     }
-    if code == 0 {
-        return false;
+
+    // Whether its lines are definitions.
+    #[tactic(auto, unfolding(crate::specs::Kinds::is_definition, crate::specs::Kinds::kind_at, crate::specs::Kinds::kinds))]
+    pub fn is_definition(self) -> bool
+        ensures { result ≡ is_definition (own_code self) }
+    {
+        matches!(self, Kind::Group | Kind::Value | Kind::Function)
     }
-    code <= COUNT
-}
 
-// The code of the kind that their path must end at; 0 where they have no path.
-pub fn wanted_by(code: usize) -> usize
-    ensures { result ≡ wanted_by code }
-{
-    match code {
-        6 => VALUE,
-        7 => FUNCTION,
-        _ => 0,
+    // Whether they are expressions: the rest of the kinds.
+    pub fn is_expression(self) -> bool
+        ensures { result ≡ is_expression (own_code self) }
+    {
+        !self.is_definition()
     }
-}
 
-// Whether they have a path: it must end at some kind.
-pub fn has_path(code: usize) -> bool
-    ensures { result ≡ has_path code }
-{
-    wanted_by(code) != 0
-}
-
-// How many arguments their body is given.
-pub fn takes(code: usize) -> usize
-    ensures { result ≡ takes code }
-{
-    match code {
-        FUNCTION => 1,
-        _ => 0,
+    // The kind that their path must end at, where they have one.
+    #[tactic(auto, unfolding(crate::specs::Kinds::wanted_by, crate::specs::Kinds::kind_at, crate::specs::Kinds::kinds, crate::specs::Coded::kind_with, crate::specs::Coded::every_kind))]
+    pub fn wants(self) -> Option<Kind>
+        ensures { result ≡ kind_with (wanted_by (own_code self)) }
+    {
+        match self {
+            Kind::Read => Some(Kind::Value),
+            Kind::Call => Some(Kind::Function),
+            _ => None,
+        }
     }
-}
 
-// The clause that evaluates them.
-pub fn clause_of(code: usize) -> Clause
-    ensures { result ≡ clause_of code }
-{
-    match code {
-        4 => Clause::Number,
-        5 => Clause::Argument(1),
-        6 => Clause::Read,
-        7 => Clause::Call(1),
-        8 => Clause::Operation(Operation::Sum),
-        9 => Clause::Operation(Operation::Difference),
-        10 => Clause::Operation(Operation::Product),
-        11 => Clause::Operation(Operation::Quotient),
-        12 => Clause::Choice,
-        _ => Clause::None,
+    // Whether they have a path: it must end at some kind.
+    pub fn has_path(self) -> bool
+        ensures { result ≡ has_path (own_code self) }
+    {
+        self.wants().is_some()
     }
-}
 
-// The place of the argument that they stand for; 0 where they stand for none.
-pub fn argument_place(code: usize) -> usize
-    ensures { result ≡ argument_place code }
-{
-    match clause_of(code) {
-        Clause::Argument(place) => place,
-        _ => 0,
+    // How many arguments their body is given.
+    #[tactic(auto, unfolding(crate::specs::Kinds::takes, crate::specs::Kinds::kind_at, crate::specs::Kinds::kinds))]
+    pub fn takes(self) -> usize
+        ensures { result ≡ takes (own_code self) }
+    {
+        match self {
+            Kind::Function => 1,
+            _ => 0,
+        }
     }
-}
 
-// Whether they have values in a plan: Groups and values.
-pub fn gives_values(code: usize) -> bool
-    ensures { result ≡ gives_values code }
-{
-    match code {
-        GROUP => true,
-        VALUE => true,
-        _ => false,
+    // The clause that evaluates them.
+    #[tactic(auto, unfolding(crate::specs::Kinds::clause_of, crate::specs::Kinds::kind_at, crate::specs::Kinds::kinds))]
+    pub fn clause(self) -> Clause
+        ensures { result ≡ clause_of (own_code self) }
+    {
+        match self {
+            Kind::Number => Clause::Number,
+            Kind::Argument => Clause::Argument(1),
+            Kind::Read => Clause::Read,
+            Kind::Call => Clause::Call(1),
+            Kind::Sum => Clause::Operation(Operation::Sum),
+            Kind::Difference => Clause::Operation(Operation::Difference),
+            Kind::Product => Clause::Operation(Operation::Product),
+            Kind::Quotient => Clause::Operation(Operation::Quotient),
+            Kind::Choice => Clause::Choice,
+            Kind::Group | Kind::Value | Kind::Function => Clause::None,
+        }
+    }
+
+    // The place of the argument that they stand for; 0 where they stand for none, since no body is given fewer.
+    pub fn argument_place(self) -> usize
+        ensures { result ≡ argument_place (own_code self) }
+    {
+        match self.clause() {
+            Clause::Argument(place) => place,
+            _ => 0,
+        }
+    }
+
+    // Whether they have values in a plan: Groups and values.
+    pub fn gives_values(self) -> bool
+        ensures { result ≡ gives_values (own_code self) }
+    {
+        self.is_definition() && self.takes() == 0
     }
 }

@@ -2,14 +2,12 @@
 -- lent with m cells, the plan o with p and the results u with q. (What lindypo_name and lindypo_print leave is said where they are: they
 -- hand on a part of the text, and the print.)
 use Rattle.std.specs.Prelude.{◌≡◌, List, ℕ, ℤ}
-use Rattle.refusals.specs.Refusal.{refusal_of, place_of, count_of}
-use Rattle.refusals.specs.declared.Reply.{Reply}
+use Rattle.refusals.specs.Refusal.{refusal_of, place_of, count_of, Reply}
 use Rattle.reading.specs.Read.{read_reply, read_table}
-use Rattle.calls.specs.Plan.{plan_reply, plan_table, plan_cells}
+use Rattle.calls.specs.Plan.{plan_reply, plan_table, plan_cells, PlanReply}
 use Rattle.calls.specs.Plan as plans
 use Rattle.calls.specs.Run.{run_reply, run_table, run_plan, run_results}
 use Rattle.calls.specs.Follow.{follow_reply, follow_table, follow_results}
-use Rattle.calls.specs.declared.PlanReply.{PlanReply}
 use Rattle.retouching.specs.Retouch.{retouch_reply, retouch_table, retouch_plan, retouch_results, retouch_changes}
 use Rattle.lindypo.specs.declared.CReply.{CReply}
 

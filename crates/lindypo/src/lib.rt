@@ -3,14 +3,16 @@
 #![tactic(auto)]
 
 ghost use Rattle.std.specs.Prelude.{◌≡◌, length};
+ghost use Rattle.refusals.specs.Rows.{row_number};
 ghost use Rattle.reading.specs.Name.{PartLeaves};
 ghost use Rattle.printing.specs.Print.{PrintLeaves};
 ghost use Rattle.lindypo.specs.Exports.{Answers, PlanAnswers, ReadExport, PlanExport, RunExport, FollowExport, RetouchExport};
 
 use calls::PlanReply;
+use planning::Plan;
 use printing::Printed;
 use reading::TextPart;
-use refusals::Reply;
+use refusals::{Refusal, Reply};
 
 // What a call answers, as C sees it. A refused reply has count 0 and order 0.
 #[repr(C)]
@@ -35,12 +37,12 @@ fn answered(count: u64, order: u64) -> CReply
 }
 
 // A refusal: no count and no order.
-fn refused(refusal: u64, place: u64) -> CReply
-    ensures { (result.refusal ≡ refusal) × (result.place ≡ place) × (result.count ≡ 0) × (result.order ≡ 0) }
+fn refused(refusal: Refusal) -> CReply
+    ensures { (result.refusal ≡ row_number refusal.row) × (result.place ≡ refusal.place) × (result.count ≡ 0) × (result.order ≡ 0) }
 {
     CReply {
-        refusal,
-        place,
+        refusal: refusal.row.number(),
+        place: refusal.place,
         count: 0,
         order: 0,
     }
@@ -51,8 +53,8 @@ fn answer_of(reply: Reply) -> CReply
     ensures { Answers reply result }
 {
     match reply {
-        Reply::Answered(count) => answered(count, 0),
-        Reply::Refused(refusal, place) => refused(refusal, place),
+        Ok(count) => answered(count, 0),
+        Err(refusal) => refused(refusal),
     }
 }
 
@@ -61,9 +63,9 @@ fn plan_answer(reply: PlanReply) -> CReply
     ensures { PlanAnswers reply result }
 {
     match reply {
-        PlanReply::Whole(count) => answered(count, 1),
-        PlanReply::Mixed(count) => answered(count, 2),
-        PlanReply::Refused(refusal, place) => refused(refusal, place),
+        Ok(Plan::Whole(count)) => answered(count, 1),
+        Ok(Plan::Mixed(count)) => answered(count, 2),
+        Err(refusal) => refused(refusal),
     }
 }
 

@@ -12,7 +12,8 @@ use lib.Dec.{leb, eqb}
 use lib.IntN.{ℤ}
 use lib.ListN.{length, get_or, take, length-append}
 use lib.Seq.{take_all, get_or-take}
-use borrow.Author.Tests.{eqb-true, leb-true, le-leb, lt-leb, eq-eqb, ne_eqb, not-true}
+use lib.Pointwise.{pointwise}
+use borrow.Author.Tests.{eqb-true, eqb-false, leb-true, le-leb, lt-leb, eq-eqb, ne_eqb, not-true}
 use Rattle.cells.specs.Limits.{label_limit, size_limit}
 use Rattle.cells.specs.Characters.{newline}
 use Rattle.numbers.specs.Rounding.{quotient}
@@ -21,11 +22,10 @@ use Rattle.numbers.specs.declared.Tie.{Tie}
 use Rattle.numbers.specs.declared.Tie.TheVariants.{Away, Even}
 use Rattle.kinds.specs.declared.Operation.TheVariants.{Quotient}
 use Rattle.refusals.specs.Rows.{text_row, first_line_row, labels_row}
-use Rattle.refusals.specs.Refusal.{reply_of}
-use Rattle.refusals.specs.declared.Verdict.{Verdict}
-use Rattle.refusals.specs.declared.Verdict.TheVariants.{Fine, Refused}
-use Rattle.refusals.specs.declared.Reply.{Reply}
-use Rattle.refusals.specs.declared.Reply.TheVariants as reply
+use Rattle.refusals.specs.Refusal.{Verdict, Fine, Refused, Reply, reply_of}
+use Rattle.refusals.specs.declared.Refusal.{Refusal}
+use Rattle.refusals.specs.declared.Row.{Row}
+use Rattle.std.specs.Prelude.{Option, Some, None, Ok}
 use Rattle.text.specs.Bytes.{all, count_by, is_allowed, is_newline, same, ends_lines}
 use Rattle.text.specs.Scans.{is_bad}
 use Rattle.text.specs.Pieces.{cut, cut_at, first_of}
@@ -37,27 +37,27 @@ use Rattle.lines.specs.Lines.{is_text, line, first_line, tie_of, arithmetic_of, 
 -- ---- row 1
 
 module _ (s : List ℕ) where
-  abbrev counted : ℕ
-  counted = cond (is_text s) (count_by is_newline s) 0
+  abbrev counted : Option ℕ
+  counted = cond (is_text s) (Some (count_by is_newline s)) None
 
-  pub text_empty : length s < 1 → 0 ≡ counted
+  pub text_empty : length s < 1 → None ≡ counted
   unfolding is_text
   text_empty h = rw (lt-leb 1 (length s) h)
 
-  pub text_long : size_limit < length s → 0 ≡ counted
+  pub text_long : size_limit < length s → None ≡ counted
   unfolding is_text
   text_long h = rw (lt-leb (length s) size_limit h, and-false (leb 1 (length s)) false refl)
 
-  pub text_open : (get_or s (length s - 1) 0 ≡ newline → ⊥) → 0 ≡ counted
+  pub text_open : (get_or s (length s - 1) 0 ≡ newline → ⊥) → None ≡ counted
   unfolding is_text
   text_open f = rw (ne_eqb (get_or s (length s - 1) 0) newline f, and-false (leb 1 (length s) && leb (length s) size_limit) false refl)
 
-  pub text_bad_lem : (count_by is_bad s ≡ 0 → ⊥) → 0 ≡ counted
+  pub text_bad_lem : (count_by is_bad s ≡ 0 → ⊥) → None ≡ counted
   unfolding is_text
   text_bad_lem f =
       rw (all_allowed s, ne_eqb (count_by is_bad s) 0 f, and-false (leb 1 (length s) && leb (length s) size_limit && eqb (get_or s (length s - 1) 0) newline) false refl)
 
-  pub text_right : 1 ≤ length s → length s ≤ size_limit → get_or s (length s - 1) 0 ≡ newline → count_by is_bad s ≡ 0 → count_by is_newline s ≡ counted
+  pub text_right : 1 ≤ length s → length s ≤ size_limit → get_or s (length s - 1) 0 ≡ newline → count_by is_bad s ≡ 0 → Some (count_by is_newline s) ≡ counted
   unfolding is_text
   text_right h k e z =
       rw (le-leb 1 (length s) h, le-leb (length s) size_limit k, eq-eqb (get_or s (length s - 1) 0) newline e, all_allowed s, eq-eqb (count_by is_bad s) 0 z)
@@ -87,26 +87,23 @@ module _ (s : List ℕ) where
     pub text_lines : 1 ≤ count_by is_newline s
     text_lines = count_some is_newline s (length s - 1) (omega (arith, text_some)) (eq-eqb (get_or s (length s - 1) 0) newline text_ends)
 
-  -- no line is counted exactly where row 1 refuses
-  pub none_counted : counted ≡ 0 → is_text s ≡ false
-  none_counted e = go (is_text s) refl e
+  -- lines are counted exactly where row 1 does not refuse
+  pub none_counted : None ≡ counted → is_text s ≡ false
+  none_counted e = go (is_text s) e
     where
-      go : (b : Bool) → is_text s ≡ b → cond b (count_by is_newline s) 0 ≡ 0 → b ≡ false
-      go true t z = absurd (omega (arith, text_lines t))
-      go false t z = refl
+      go : (b : Bool) → None ≡ cond b (Some (count_by is_newline s)) None → b ≡ false
+      go true z = absurd cc
+      go false z = refl
 
-  pub some_counted : (counted ≡ 0 → ⊥) → is_text s ≡ true
-  some_counted f = go (is_text s) refl f
+  pub some_counted : (m : ℕ) → Some m ≡ counted → (is_text s ≡ true) × (m ≡ count_by is_newline s)
+  some_counted m e = go (is_text s) e
     where
-      go : (b : Bool) → is_text s ≡ b → (cond b (count_by is_newline s) 0 ≡ 0 → ⊥) → b ≡ true
-      go true t z = refl
-      go false t z = absurd (z refl)
+      go : (b : Bool) → Some m ≡ cond b (Some (count_by is_newline s)) None → (b ≡ true) × (m ≡ count_by is_newline s)
+      go true z = (refl, cc)
+      go false z = absurd cc
 
 length_take_short : (n : ℕ) (s : List ℕ) → length s < n → length (take n s) ≡ length s
 length_take_short n s h = ap length (take_all n s (omega arith))
-
-pub counted_is : (s : List ℕ) → is_text s ≡ true → cond (is_text s) (count_by is_newline s) 0 ≡ count_by is_newline s
-counted_is s t = rw t
 
 -- ---- row 2: a text with a line begins with the bytes x, none of them a newline, and a newline exactly if x is its first line
 
@@ -153,6 +150,20 @@ first_line_lem s tie h =
 pub begins_short : (s x : List ℕ) → length s < length x → false ≡ same (take (length x) s) x
 begins_short s x h = sym (same_lengths (take (length x) s) x (λ e. omega (arith, e, length_take_short (length x) s h)))
 
+eqb_flip : (x y : ℕ) → eqb x y ≡ eqb y x
+eqb_flip x y = go (eqb x y) refl
+  where
+    go : (b : Bool) → eqb x y ≡ b → b ≡ eqb y x
+    go true e = sym (eq-eqb y x (sym (eqb-true x y e)))
+    go false e = sym (ne_eqb y x (λ q. eqb-false x y e (sym q)))
+
+-- the library's test, as `same` of the bytes that the text begins with
+pub begins_same : (x s : List ℕ) → pointwise eqb x s ≡ same s x
+begins_same [] [] = refl
+begins_same [] (y ∷ s) = refl
+begins_same (z ∷ x) [] = refl
+begins_same (z ∷ x) (y ∷ s) = rw (eqb_flip z y, begins_same x s)
+
 -- ---- the tie rule that line one names
 
 named_right : (tie : Tie) → is_first_line (first_line tie) ≡ true
@@ -191,29 +202,33 @@ module _ (s : List ℕ) where
 
 -- ---- rows 1 to 3 together
 
+-- a refusal is known by its row and its place
+pub refusal_is : (e : Refusal) (r : Row) (p : ℕ) → (e.row ≡ r) × (e.place ≡ p) → e ≡ record { row = r; place = p }
+refusal_is e r p w = ap (λ (x : Row). record { row = x; place = e.place }) w.0 ∙ ap (λ (y : ℕ). record { row = r; place = y }) w.1
+
 module _ (s : List ℕ) where
   abbrev reply_is : Reply
   reply_is = reply_of (head_bad s) (labels s)
 
-  pub head_text : is_text s ≡ false → reply.Refused text_row 0 ≡ reply_is
+  pub head_text : is_text s ≡ false → Refused text_row 0 ≡ reply_is
   unfolding head_bad
   head_text e = rw e
 
   module _ (t : is_text s ≡ true) where
-    pub head_first : is_first_line (line s 0) ≡ false → reply.Refused first_line_row 0 ≡ reply_is
+    pub head_first : is_first_line (line s 0) ≡ false → Refused first_line_row 0 ≡ reply_is
     unfolding head_bad
     head_first e = rw (t, e)
 
     module _ (f : is_first_line (line s 0) ≡ true) where
-      pub head_none : count_by is_newline s < 2 → reply.Refused labels_row 0 ≡ reply_is
+      pub head_none : count_by is_newline s < 2 → Refused labels_row 0 ≡ reply_is
       unfolding head_bad labels
       head_none h = rw (t, f, lt-leb 1 (count_by is_newline s - 1) (omega arith))
 
-      pub head_many : label_limit + 1 < count_by is_newline s → reply.Refused labels_row 0 ≡ reply_is
+      pub head_many : label_limit + 1 < count_by is_newline s → Refused labels_row 0 ≡ reply_is
       unfolding head_bad labels
       head_many h = rw (t, f, lt-leb (count_by is_newline s - 1) label_limit (omega arith), and-false (leb 1 (count_by is_newline s - 1)) false refl)
 
-      pub head_right : 2 ≤ count_by is_newline s → count_by is_newline s ≤ label_limit + 1 → reply.Answered (count_by is_newline s - 1) ≡ reply_is
+      pub head_right : 2 ≤ count_by is_newline s → count_by is_newline s ≤ label_limit + 1 → Ok (count_by is_newline s - 1) ≡ reply_is
       unfolding head_bad labels
       head_right h k = rw (t, f, le-leb 1 (count_by is_newline s - 1) (omega arith), le-leb (count_by is_newline s - 1) label_limit (omega arith))
 
@@ -228,16 +243,16 @@ pub record Headed (s : List ℕ) : Type 0 where
   pub low : 1 ≤ labels s
   pub high : labels s ≤ label_limit
 
-refused_fine : (b : Bool) (v : Verdict) (r p : ℕ) → cond b v (Refused r p) ≡ Fine → (b ≡ true) × (v ≡ Fine)
+refused_fine : (b : Bool) (v : Verdict) (r : Row) (p : ℕ) → cond b v (Refused r p) ≡ Fine → (b ≡ true) × (v ≡ Fine)
 refused_fine true v r p e = (refl, e)
-refused_fine false v r p e = let z : ◌≡◌ {A = ℕ} 0 1 = cc in absurd (omega arith)
+refused_fine false v r p e = absurd cc
 
 pub headed : (s : List ℕ) → head_bad s ≡ Fine → Headed s
 unfolding head_bad
 headed s e =
-    let one = refused_fine (is_text s) _ 1 0 e in
-    let two = refused_fine (is_first_line (line s 0)) _ 2 0 one.1 in
-    let three = refused_fine (leb 1 (labels s) && leb (labels s) label_limit) Fine 3 0 two.1 in
+    let one = refused_fine (is_text s) _ text_row 0 e in
+    let two = refused_fine (is_first_line (line s 0)) _ first_line_row 0 one.1 in
+    let three = refused_fine (leb 1 (labels s) && leb (labels s) label_limit) Fine labels_row 0 two.1 in
     record {
       size = text_size s one.0;
       some = text_some s one.0;

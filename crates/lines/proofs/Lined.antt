@@ -22,13 +22,11 @@ use Rattle.cells.specs.Table.{cell, kind, name_start, name_length, field_a}
 use Rattle.cells.specs.Table as table
 use Rattle.cells.proofs.Stores.{int_at_zeros}
 use Rattle.numbers.specs.Decimal.{number_of}
-use Rattle.numbers.specs.declared.Decimal.{Decimal}
-use Rattle.numbers.specs.declared.Decimal.TheVariants as decimal
-use Rattle.numbers.specs.declared.Number.{Number}
-use Rattle.numbers.specs.declared.Number.TheVariants as number
 use Rattle.numbers.proofs.Decimals.{number_size}
 use Rattle.refusals.specs.Rows.{fields_row, kind_row, form_row}
-use Rattle.refusals.specs.declared.Verdict.TheVariants.{Fine}
+use Rattle.refusals.specs.Refusal.{Fine}
+use Rattle.refusals.specs.declared.Row.{Row}
+use Rattle.std.specs.Prelude.{Option, Some, None}
 use Rattle.refusals.proofs.FirstBad.{first_none}
 use Rattle.text.specs.Bytes.{all, same, is_letter, is_alphanumeric}
 use Rattle.text.specs.Pieces.{cut, piece_start, fields_are}
@@ -36,7 +34,7 @@ use Rattle.text.specs.Forms.{is_name, is_path, label_of}
 use Rattle.text.proofs.Bytes.{true_false, and_left, and_right, same_eq}
 use Rattle.text.proofs.Cuts.{pieces, piece_inside, fields_count}
 use Rattle.text.proofs.Labels.{label_least}
-use Rattle.lines.specs.Fields.{dash, blank_if, from_label, from_number, field_of, is_right, held, kind_code}
+use Rattle.lines.specs.Fields.{dash, blank_if, from_label, field_of, is_right, held, kind_code}
 use Rattle.lines.specs.Lines.{line, labels, root_line, field, forms_right, line_bad, line_check, lines_bad, root_cells, field_cells, line_cells, lines_cells}
 use Rattle.lines.specs.Lined.{lined_table, Lined}
 use Rattle.lines.proofs.Fields.{kind_known}
@@ -63,9 +61,9 @@ name_size_lem f e =
     let c = is_letter (get_or f 0 0) in
     leb-true (length f) name_limit (and_right a b (and_left (a && b) c (and_left (a && b && c) (all is_alphanumeric f) e)))
 
-label_natural : (d : Decimal) → Natural (held (from_label d))
-label_natural (decimal.Is v) = refl
-label_natural decimal.Not = refl
+label_natural : (d : Option ℕ) → Natural (held (from_label d))
+label_natural (Some v) = refl
+label_natural None = refl
 
 held_natural : (f : Form) (n : ℕ) (w : List ℕ) → is_number f ≡ false → Natural (held (field_of f n w))
 unfolding field_of
@@ -80,17 +78,17 @@ held_number : (n : ℕ) (w : List ℕ) → nat_abs (held (field_of form.Number n
 unfolding field_of
 held_number n w = go (number_of w) refl
   where
-    go : (x : Number) → number_of w ≡ x → nat_abs (held (from_number x)) ≤ number_limit
-    go (number.Is z) e = number_size w z e
-    go number.Not e = omega arith
+    go : (x : Option ℤ) → number_of w ≡ x → nat_abs (held x) ≤ number_limit
+    go (Some z) e = number_size w z e
+    go None e = omega arith
 
 held_label : (n : ℕ) (w : List ℕ) → is_right (field_of form.Operand n w) ≡ true → 1 ≤ nat_of (held (field_of form.Operand n w))
 unfolding field_of
 held_label n w r = go (label_of n w) refl r
   where
-    go : (d : Decimal) → label_of n w ≡ d → is_right (from_label d) ≡ true → 1 ≤ nat_of (held (from_label d))
-    go (decimal.Is v) e f = label_least n w v e
-    go decimal.Not e f = absurd (true_false (sym f))
+    go : (d : Option ℕ) → label_of n w ≡ d → is_right (from_label d) ≡ true → 1 ≤ nat_of (held (from_label d))
+    go (Some v) e f = label_least n w v e
+    go None e f = absurd (true_false (sym f))
 
 -- ---- a line that rows 5 to 7 let pass
 
@@ -109,19 +107,19 @@ group_differs e = let z : ◌≡◌ {A = ℕ} 0 1 = cc in omega arith
 missing_differs : form.Missing ≡ form.Operand → ⊥
 missing_differs e = let z : ◌≡◌ {A = ℕ} 0 1 = cc in omega arith
 
-zero_then : (b : Bool) (x r : ℕ) → (r ≡ 0 → ⊥) → cond b x r ≡ 0 → (b ≡ true) × (x ≡ 0)
-zero_then true x r d e = (refl, e)
-zero_then false x r d e = absurd (d e)
+none_then : (b : Bool) (x : Option Row) (r : Row) → cond b x (Some r) ≡ None → (b ≡ true) × (x ≡ None)
+none_then true x r e = (refl, e)
+none_then false x r e = absurd cc
 
-zero_else : (b : Bool) (x r : ℕ) → (r ≡ 0 → ⊥) → cond b r x ≡ 0 → (b ≡ false) × (x ≡ 0)
-zero_else true x r d e = absurd (d e)
-zero_else false x r d e = (refl, e)
+none_else : (b : Bool) (x : Option Row) (r : Row) → cond b (Some r) x ≡ None → (b ≡ false) × (x ≡ None)
+none_else true x r e = absurd cc
+none_else false x r e = (refl, e)
 
 root_code : kind_code (field (cut space root_line) 0) ≡ group_code
 unfolding root_line code_of kinds
 root_code = refl
 
-module _ (n k : ℕ) (l : List ℕ) (e : line_bad n k l ≡ 0) where
+module _ (n k : ℕ) (l : List ℕ) (e : line_bad n k l ≡ None) where
   abbrev fs : List (List ℕ)
   fs = cut space l
 
@@ -132,21 +130,21 @@ module _ (n k : ℕ) (l : List ℕ) (e : line_bad n k l ≡ 0) where
   formed = cond (eqb k 1) (same l root_line) (forms_right n (fields_at code) fs)
 
   -- what row 7 finds, and rows 6 and 7
-  abbrev form_bad : ℕ
-  form_bad = cond formed 0 form_row
+  abbrev form_bad : Option Row
+  form_bad = cond formed None (Some form_row)
 
-  abbrev kind_bad : ℕ
-  kind_bad = cond (eqb code 0) kind_row form_bad
+  abbrev kind_bad : Option Row
+  kind_bad = cond (eqb code 0) (Some kind_row) form_bad
 
-  pub fine_fields : (fields_are 5 fs ≡ true) × (kind_bad ≡ 0)
+  pub fine_fields : (fields_are 5 fs ≡ true) × (kind_bad ≡ None)
   unfolding line_bad
-  fine_fields = zero_then (fields_are 5 fs) kind_bad fields_row (λ z. omega arith) e
+  fine_fields = none_then (fields_are 5 fs) kind_bad fields_row e
 
-  fine_kind : (eqb code 0 ≡ false) × (form_bad ≡ 0)
-  fine_kind = zero_else (eqb code 0) form_bad kind_row (λ z. omega arith) fine_fields.1
+  fine_kind : (eqb code 0 ≡ false) × (form_bad ≡ None)
+  fine_kind = none_else (eqb code 0) form_bad kind_row fine_fields.1
 
   pub fine_forms : formed ≡ true
-  fine_forms = (zero_then formed 0 form_row (λ z. omega arith) fine_kind.1).0
+  fine_forms = (none_then formed None form_row fine_kind.1).0
 
   five : length fs ≡ 5
   five = fields_count 5 fs fine_fields.0
@@ -283,7 +281,7 @@ module _ (s : List ℕ) (m : ℕ) (low : 1 ≤ labels s) (high : labels s ≤ la
   past : (k j : ℕ) → n ≤ k → cell t (suc k) j ≡ 0
   past k j h = ap nat_of (unused_at (8 * k + j) (omega arith))
 
-  line_fine : (k : ℕ) → k < n → line_bad n (suc k) (line s (suc k)) ≡ 0
+  line_fine : (k : ℕ) → k < n → line_bad n (suc k) (line s (suc k)) ≡ None
   unfolding lines_bad
   line_fine k h = first_none (line_check s n) n 1 fine (suc k) (omega arith) (omega arith)
 

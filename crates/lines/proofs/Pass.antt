@@ -8,13 +8,16 @@ use native.Mathlib.Numerals.{add-one}
 use native.Mathlib.Omega.{arith}
 use lib.Dec.{eqb, ltb}
 use lib.IntN.{ℤ}
-use lib.ListN.{length, get_or, drop, take, length-append, length-drop, drop_of_length-le}
-use lib.Seq.{sets}
+use lib.ListN.{length, get_or, set, drop, take, length-append, length-drop, drop_of_length-le}
+use lib.Seq.{sets, sets-eq}
+use borrow.Rule.Slice.PartMut.{put_mid}
+use Rattle.std.proofs.lemmas.Slice.{put_mid-paste}
 use borrow.Author.Tests.{ltb-true, ltb-false}
 use Rattle.cells.proofs.Stores.{sets_next}
 use Rattle.cells.specs.Characters.{newline, space}
-use Rattle.refusals.specs.Refusal.{first_bad}
-use Rattle.refusals.specs.declared.Verdict.TheVariants.{Fine, Refused}
+use Rattle.refusals.specs.Refusal.{Fine, Refused, first_bad}
+use Rattle.refusals.specs.declared.Row.{Row}
+use Rattle.std.specs.Prelude.{Option, Some, None, Result, Ok, Err}
 use Rattle.refusals.proofs.FirstBad.{first_start, first_fine, first_bad_lem, first_end}
 use Rattle.text.specs.Bytes.{count_by, is_newline, ends_lines}
 use Rattle.text.specs.Pieces.{cut, piece_start, first_of}
@@ -25,20 +28,17 @@ use Rattle.text.proofs.Fields.{line_inside, line_next}
 use Rattle.lines.specs.Lines.{line, first_line, tie_of, labels, line_bad, line_check, lines_bad, root_cells, field_cells, line_cells, lines_cells}
 use Rattle.lines.specs.LineSteps.{line_from, cells_by_fields, root_at, cells_for, eight_cells, decide, line_read, step_of, line_written, lines_written}
 use Rattle.lines.specs.declared.LineCells.{LineCells}
-use Rattle.lines.specs.declared.LineJudged.TheVariants.{Passes}
-use Rattle.lines.specs.declared.Next.TheVariants.{At, Stop}
 use Rattle.lines.proofs.Heads.{Headed}
 
 -- ---- one step
 
 pub record Went (n k : ℕ) (s : List ℕ) (at next : ℕ) : Type 0 where
-  pub fine : line_bad n k (line_from s at) ≡ 0
+  pub fine : line_bad n k (line_from s at) ≡ None
   pub is : next ≡ at + length (line_from s at) + 1
   pub cells : (base : ℕ) (t : List ℤ) → line_written (line_read n k s at) base t ≡ sets t base (line_cells n k at (fields_from s at))
 
-pub record Stopped (n k : ℕ) (s : List ℕ) (at b : ℕ) : Type 0 where
-  pub bad : line_bad n k (line_from s at) ≡ b
-  pub some : b ≡ 0 → ⊥
+pub record Stopped (n k : ℕ) (s : List ℕ) (at : ℕ) (b : Row) : Type 0 where
+  pub bad : line_bad n k (line_from s at) ≡ Some b
   pub cells : (base : ℕ) (t : List ℤ) → line_written (line_read n k s at) base t ≡ t
 
 module _ (n k : ℕ) (s : List ℕ) (at : ℕ) where
@@ -62,36 +62,35 @@ module _ (n k : ℕ) (s : List ℕ) (at : ℕ) where
       go true = refl
       go false = refl
 
-  at_next : (r : LineCells) (next : ℕ) → At (r.end + 1) ≡ At next → next ≡ r.end + 1
-  at_next r next f = cc
-
-  pub went : (next : ℕ) → step_of (line_read n k s at) ≡ At next → Went n k s at next
+  pub went : (next : ℕ) → step_of (line_read n k s at) ≡ Ok next → Went n k s at next
   unfolding line_read
   went next e = go (line_bad n k (line_from s at)) refl e
     where
-      go : (b : ℕ) → line_bad n k (line_from s at) ≡ b → step_of (decide b row) ≡ At next → Went n k s at next
-      go zero q f = record { fine = q; is = at_next row next f ∙ ap (λ (x : ℕ). x + 1) row_end; cells = λ base t. rw q (ap (sets t base) row_cells) }
-      go (suc b) q f = let z : ◌≡◌ {A = ℕ} 0 1 = cc in absurd (omega arith)
+      go : (b : Option Row) → line_bad n k (line_from s at) ≡ b → step_of (decide b row) ≡ Ok next → Went n k s at next
+      go None q f =
+          let p : row.end + 1 ≡ next = cc in
+          record { fine = q; is = sym p ∙ ap (λ (x : ℕ). x + 1) row_end; cells = λ base t. rw q (ap (sets t base) row_cells) }
+      go (Some b) q f = absurd cc
 
-  pub stopped : (b : ℕ) → step_of (line_read n k s at) ≡ Stop b → Stopped n k s at b
+  pub stopped : (b : Row) → step_of (line_read n k s at) ≡ Err b → Stopped n k s at b
   unfolding line_read
   stopped b e = go (line_bad n k (line_from s at)) refl e
     where
-      go : (x : ℕ) → line_bad n k (line_from s at) ≡ x → step_of (decide x row) ≡ Stop b → Stopped n k s at b
-      go zero q f = let z : ◌≡◌ {A = ℕ} 0 1 = cc in absurd (omega arith)
-      go (suc x) q f = let y : suc x ≡ b = cc in record { bad = q ∙ y; some = λ z. omega arith; cells = λ base t. rw q }
+      go : (x : Option Row) → line_bad n k (line_from s at) ≡ x → step_of (decide x row) ≡ Err b → Stopped n k s at b
+      go None q f = absurd cc
+      go (Some x) q f = let y : x ≡ b = cc in record { bad = q ∙ ap Some y; cells = λ base t. rw q }
 
   -- a line that passes ends inside the text
-  same_end : (x : LineCells) {r : LineCells} → Passes x ≡ Passes r → x.end ≡ r.end
+  same_end : (x : LineCells) {r : LineCells} → ◌≡◌ {A = Result LineCells Row} (Ok x) (Ok r) → x.end ≡ r.end
   same_end x {r} f = let q : x ≡ r = cc in ap (λ (y : LineCells). y.end) q
 
-  pub passes_inside : at < length s → ends_lines s → (r : LineCells) → line_read n k s at ≡ Passes r → r.end < length s
+  pub passes_inside : at < length s → ends_lines s → (r : LineCells) → line_read n k s at ≡ Ok r → r.end < length s
   unfolding line_read
   passes_inside h ends r e = go (line_bad n k (line_from s at)) e
     where
-      go : (b : ℕ) → decide b row ≡ Passes r → r.end < length s
-      go zero f = omega (arith, line_inside s at h ends, row_end, same_end row f)
-      go (suc b) f = let z : ◌≡◌ {A = ℕ} 0 1 = cc in absurd (omega arith)
+      go : (b : Option Row) → decide b row ≡ Ok r → r.end < length s
+      go None f = omega (arith, line_inside s at h ends, row_end, same_end row f)
+      go (Some b) f = absurd cc
 
 -- ---- the cells written so far
 
@@ -126,6 +125,19 @@ row_written s n k t h =
     let more-cells : 8 * k + length v ≡ 8 * (k + 1) = omega (arith, e) in
     let more : lines_cells s n (k + 1) ≡ lines_cells s n k ++ v = rw (add-one k) in
     sets_next (lines_cells s n k) v t (8 * k) (rows_length s n k) (omega (arith, e)) ∙ rw (more-cells, more)
+
+-- eight cells, each written in its place
+pub eight_set : (t : List ℤ) (a b c d e f g h : ℤ) → length t ≡ 8
+    → set (set (set (set (set (set (set (set t 0 a) 1 b) 2 c) 3 d) 4 e) 5 f) 6 g) 7 h ≡ a ∷ b ∷ c ∷ d ∷ e ∷ f ∷ g ∷ h ∷ []
+eight_set t a b c d e f g h n =
+    let fits : 0 + 8 ≤ length t = omega arith in
+    let past : length t ≤ 8 = omega arith in
+    let none : drop 8 t ≡ [] = drop_of_length-le t past in
+    sets-eq (a ∷ b ∷ c ∷ d ∷ e ∷ f ∷ g ∷ h ∷ []) t 0 fits ∙ rw none
+
+-- the cells of a line, written over eight cells of a slice
+pub cells_put : (t : List ℤ) (i k : ℕ) (r : LineCells) (ys : List ℤ) → ys ≡ eight_cells r → k ≡ 8 → i + 8 ≤ length t → put_mid i k t ys ≡ sets t i (eight_cells r)
+cells_put t i k r ys e q h = put_mid-paste i k t ys (eight_cells r) 8 e (sym q) refl ∙ sym (sets-eq (eight_cells r) t i h)
 
 -- ---- what the loop keeps at a label whose line begins at `at`, with the table t, which was t₀
 
@@ -214,11 +226,10 @@ module _ (s : List ℕ) (n : ℕ) (h : Headed s) (e : n ≡ labels s) where
             found = sym (first_fine (line_check s n) n k m (check_is ∙ w.fine)) ∙ g.found;
           }
 
-      pub stop : (b : ℕ) → Stopped n k s at b → Refused b k ≡ lines_bad s n
+      pub stop : (b : Row) → Stopped n k s at b → Refused b k ≡ lines_bad s n
       unfolding lines_bad
       stop b x =
-          let c : line_check s n k ≡ b = check_is ∙ x.bad in
-          ap (λ (r : ℕ). Refused r k) (sym c) ∙ sym (first_bad_lem (line_check s n) n k m (λ z. x.some (sym c ∙ z))) ∙ g.found
+          sym (first_bad_lem (line_check s n) n k b m (check_is ∙ x.bad)) ∙ g.found
 
     pub done : n < k → Fine ≡ lines_bad s n
     unfolding lines_bad

@@ -22,31 +22,32 @@ use Rattle.lines.specs.Lines.{root_line, line_bad, forms_right, field}
 use Rattle.lines.specs.LineSteps.{line_from, FiveAt, operands_of, operands_at, cells_by_ends, cells_by_fields, root_at, root_read, other_read, decide, line_read}
 use Rattle.lines.specs.declared.Ends.{Ends}
 use Rattle.lines.specs.declared.LineCells.{LineCells}
-use Rattle.lines.specs.declared.Field.{Field}
-use Rattle.lines.specs.declared.Field.TheVariants.{Holds, Wrong}
-use Rattle.lines.specs.declared.Operands.TheVariants as operands
-use Rattle.lines.specs.declared.LineJudged.TheVariants.{Passes, Fails}
+use Rattle.lines.specs.declared.Operands.{Operands}
+use Rattle.refusals.specs.declared.Row.{Row}
+use Rattle.std.specs.Prelude.{Option, Some, None, Result, Ok, Err}
 
 -- ---- what the operands' fields hold
 
-pub wrong_operands : (r : Bool) (x y z : Field) → operands_of x y z ≡ operands.Wrong → (r && is_right x && is_right y && is_right z) ≡ false
-wrong_operands r (Holds a) (Holds b) (Holds c) e = let q : ◌≡◌ {A = ℕ} 0 1 = cc in absurd (omega arith)
-wrong_operands r (Holds a) (Holds b) Wrong e = and-false (r && true && true) false refl
-wrong_operands r (Holds a) Wrong z e = rw (and-false (r && true) false refl)
-wrong_operands r Wrong y z e = rw (and-false r false refl)
+pub wrong_operands : (r : Bool) (x y z : Option ℤ) → operands_of x y z ≡ None → (r && is_right x && is_right y && is_right z) ≡ false
+wrong_operands r (Some a) (Some b) (Some c) e = absurd cc
+wrong_operands r (Some a) (Some b) None e = and-false (r && true && true) false refl
+wrong_operands r (Some a) None z e = rw (and-false (r && true) false refl)
+wrong_operands r None y z e = rw (and-false r false refl)
 
-pub record Held (x y z : Field) (a b c : ℤ) : Type 0 where
-  pub first : x ≡ Holds a
-  pub second : y ≡ Holds b
-  pub third : z ≡ Holds c
+pub record Held (x y z : Option ℤ) (o : Operands) : Type 0 where
+  pub first : x ≡ Some o.a
+  pub second : y ≡ Some o.b
+  pub third : z ≡ Some o.c
 
-pub hold_operands : (x y z : Field) (a b c : ℤ) → operands_of x y z ≡ operands.Hold a b c → Held x y z a b c
-hold_operands (Holds u) (Holds v) (Holds w) a b c e = record { first = cc; second = cc; third = cc }
-hold_operands (Holds u) (Holds v) Wrong a b c e = let q : ◌≡◌ {A = ℕ} 0 1 = cc in absurd (omega arith)
-hold_operands (Holds u) Wrong z a b c e = let q : ◌≡◌ {A = ℕ} 0 1 = cc in absurd (omega arith)
-hold_operands Wrong y z a b c e = let q : ◌≡◌ {A = ℕ} 0 1 = cc in absurd (omega arith)
+pub hold_operands : (x y z : Option ℤ) (o : Operands) → operands_of x y z ≡ Some o → Held x y z o
+hold_operands (Some u) (Some v) (Some w) o e =
+    let q : ◌≡◌ {A = Operands} (record { a = u; b = v; c = w }) o = cc in
+    record { first = ap (λ (r : Operands). Some r.a) q; second = ap (λ (r : Operands). Some r.b) q; third = ap (λ (r : Operands). Some r.c) q }
+hold_operands (Some u) (Some v) None o e = absurd cc
+hold_operands (Some u) None z o e = absurd cc
+hold_operands None y z o e = absurd cc
 
-by_test : (b : Bool) (r : LineCells) → cond b (Passes r) (Fails form_row) ≡ decide (cond b 0 form_row) r
+by_test : (b : Bool) (r : LineCells) → ◌≡◌ {A = Result LineCells Row} (cond b (Ok r) (Err form_row)) (decide (cond b None (Some form_row)) r)
 by_test true r = refl
 by_test false r = refl
 
@@ -64,10 +65,10 @@ module _ (s : List ℕ) (from : ℕ) (e : Ends) (f : FiveAt s from e) where
 
   -- label 1
   pub root_right : same (slice from e.c s) root_line ≡ true
-      → Passes (record { code = pos group_code; start = pos 0; length = pos 0; a = pos 0; b = pos 0; c = pos 0; end = e.c }) ≡ root_read s from
+      → Ok (record { code = pos group_code; start = pos 0; length = pos 0; a = pos 0; b = pos 0; c = pos 0; end = e.c }) ≡ root_read s from
   root_right g = rw (end_is, line_is, g)
 
-  pub root_wrong : same (slice from e.c s) root_line ≡ false → Fails form_row ≡ root_read s from
+  pub root_wrong : same (slice from e.c s) root_line ≡ false → Err form_row ≡ root_read s from
   root_wrong g = rw (line_is, g)
 
 module _ (n : ℕ) (s : List ℕ) (from : ℕ) (e : Ends) (f : FiveAt s from e) where
@@ -96,10 +97,10 @@ module _ (n : ℕ) (s : List ℕ) (from : ℕ) (e : Ends) (f : FiveAt s from e) 
       && is_right (field_of (fields_at code).c n (slice (e.b + 1) e.c s)))
   forms_are = rw f.are
 
-  name_wrong : field_of (fields_at code).name n (slice (e.kind + 1) e.name s) ≡ Wrong → Fails form_row ≡ other_read n s from
+  name_wrong : field_of (fields_at code).name n (slice (e.kind + 1) e.name s) ≡ None → Err form_row ≡ other_read n s from
   name_wrong g = rw (kind_is, forms_are, g)
 
-  operands_wrong : operands_at s e (fields_at code) n ≡ operands.Wrong → Fails form_row ≡ other_read n s from
+  operands_wrong : operands_at s e (fields_at code) n ≡ None → Err form_row ≡ other_read n s from
   operands_wrong g =
       rw (
         kind_is,
@@ -111,28 +112,28 @@ module _ (n : ℕ) (s : List ℕ) (from : ℕ) (e : Ends) (f : FiveAt s from e) 
             (field_of (fields_at code).c n (slice (e.b + 1) e.c s)) g,
       )
 
-  row_right : (x a b c : ℤ) → field_of (fields_at code).name n (slice (e.kind + 1) e.name s) ≡ Holds x → operands_at s e (fields_at code) n ≡ operands.Hold a b c
-      → Passes (cells_by_ends s e code a b c) ≡ other_read n s from
-  row_right x a b c g h =
-      let o = hold_operands (field_of (fields_at code).a n (slice (e.name + 1) e.a s)) (field_of (fields_at code).b n (slice (e.a + 1) e.b s))
-      (field_of (fields_at code).c n (slice (e.b + 1) e.c s)) a b c h in
-      rw (row_is, kind_is, forms_are, g, o.first, o.second, o.third)
+  row_right : (x : ℤ) (o : Operands) → field_of (fields_at code).name n (slice (e.kind + 1) e.name s) ≡ Some x → operands_at s e (fields_at code) n ≡ Some o
+      → Ok (cells_by_ends s e code o.a o.b o.c) ≡ other_read n s from
+  row_right x o g h =
+      let w = hold_operands (field_of (fields_at code).a n (slice (e.name + 1) e.a s)) (field_of (fields_at code).b n (slice (e.a + 1) e.b s))
+      (field_of (fields_at code).c n (slice (e.b + 1) e.c s)) o h in
+      rw (row_is, kind_is, forms_are, g, w.first, w.second, w.third)
 
   -- the same for what the code holds: the code and the kind that it looked up, and the row that it made
   module _ (found : ℕ) (k : Fields) (p : found ≡ code) (q : k ≡ fields_at found) where
     by_kind : k ≡ fields_at code
     by_kind = q ∙ ap fields_at p
 
-    pub read_name_wrong : field_of k.name n (slice (e.kind + 1) e.name s) ≡ Wrong → Fails form_row ≡ other_read n s from
+    pub read_name_wrong : field_of k.name n (slice (e.kind + 1) e.name s) ≡ None → Err form_row ≡ other_read n s from
     read_name_wrong g = name_wrong (rw by_kind at g)
 
-    pub read_operands_wrong : operands_at s e k n ≡ operands.Wrong → Fails form_row ≡ other_read n s from
+    pub read_operands_wrong : operands_at s e k n ≡ None → Err form_row ≡ other_read n s from
     read_operands_wrong g = operands_wrong (rw by_kind at g)
 
-    pub read_right : (x a b c : ℤ) (r : LineCells) → field_of k.name n (slice (e.kind + 1) e.name s) ≡ Holds x → operands_at s e k n ≡ operands.Hold a b c
-        → r ≡ cells_by_ends s e found a b c → Passes r ≡ other_read n s from
-    read_right x a b c r g h m =
-        ap Passes (m ∙ ap (λ (y : ℕ). cells_by_ends s e y a b c) p) ∙ row_right x a b c (rw by_kind at g) (rw by_kind at h)
+    pub read_right : (x : ℤ) (o : Operands) (r : LineCells) → field_of k.name n (slice (e.kind + 1) e.name s) ≡ Some x → operands_at s e k n ≡ Some o
+        → r ≡ cells_by_ends s e found o.a o.b o.c → Ok r ≡ other_read n s from
+    read_right x o r g h m =
+        ap Ok (m ∙ ap (λ (y : ℕ). cells_by_ends s e y o.a o.b o.c) p) ∙ row_right x o (rw by_kind at g) (rw by_kind at h)
 
   -- ---- rows 5 to 7 at a line with five fields
 
@@ -149,7 +150,7 @@ module _ (n : ℕ) (s : List ℕ) (from : ℕ) (e : Ends) (f : FiveAt s from e) 
       )
 
   module _ (k : ℕ) where
-    pub line_kind : code ≡ 0 → Fails kind_row ≡ line_read n k s from
+    pub line_kind : code ≡ 0 → Err kind_row ≡ line_read n k s from
     unfolding line_read line_bad
     line_kind g = rw (fields_right, kind_is, eq-eqb code 0 g)
 
@@ -163,6 +164,6 @@ module _ (n : ℕ) (s : List ℕ) (from : ℕ) (e : Ends) (f : FiveAt s from e) 
         rw (fields_right, ap (λ (m : ℕ). eqb m 0) kind_is ∙ ne_eqb code 0 g, ne_eqb k 1 q)
         (by_test (forms_right n (fields_at (kind_code (field (fields_from s from) 0))) (fields_from s from)) (cells_by_fields n s from (fields_from s from)))
 
-pub line_fields : (n k : ℕ) (s : List ℕ) (from : ℕ) → fields_are 5 (fields_from s from) ≡ false → Fails fields_row ≡ line_read n k s from
+pub line_fields : (n k : ℕ) (s : List ℕ) (from : ℕ) → fields_are 5 (fields_from s from) ≡ false → Err fields_row ≡ line_read n k s from
 unfolding line_read line_bad
 line_fields n k s from g = rw g

@@ -4,9 +4,8 @@ use mathlib.Core.List.{List, [], ◌∷◌, ◌++◌, map}
 use Prim.Native.Nat.{ℕ}
 use Rattle.numbers.specs.Decimal.{all_digits, digits_value, digits_of, decimal_of, number_of}
 use Rattle.numbers.specs.declared.Tie.TheVariants.{Away, Even}
-use Rattle.refusals.specs.Refusal.{or_else}
-use Rattle.refusals.specs.declared.Verdict.{Verdict}
-use Rattle.refusals.specs.declared.Verdict.TheVariants.{Fine, Refused}
+use Rattle.refusals.specs.Refusal.{Verdict, Fine, Refused, or_else}
+use Rattle.refusals.specs.declared.Row.TheVariants as row
 use Rattle.text.specs.Bytes.{is_allowed, is_letter, is_alphanumeric}
 use Rattle.text.specs.Forms.{is_name, is_path, label_of}
 use Rattle.cells.specs.Quoted.{bytes_of, text_of}
@@ -63,25 +62,25 @@ sheets =
 abbrev text_bad : List ℕ → Verdict
 text_bad s = or_else (head_bad s) (lines_bad s (labels s))
 
-found : map text_bad sheets ≡ Refused 1 0
-    ∷ Refused 1 0
-    ∷ Refused 2 0
-    ∷ Refused 2 0
+found : map text_bad sheets ≡ Refused row.Text 0
+    ∷ Refused row.Text 0
+    ∷ Refused row.FirstLine 0
+    ∷ Refused row.FirstLine 0
     ∷ Fine
-    ∷ Refused 6 1
-    ∷ Refused 2 0
-    ∷ Refused 3 0
+    ∷ Refused row.Kind 1
+    ∷ Refused row.FirstLine 0
+    ∷ Refused row.Labels 0
     ∷ Fine
-    ∷ Refused 7 1
-    ∷ Refused 5 2
-    ∷ Refused 6 2
-    ∷ Refused 7 2
-    ∷ Refused 7 2
-    ∷ Refused 7 2
+    ∷ Refused row.Form 1
+    ∷ Refused row.Fields 2
+    ∷ Refused row.Kind 2
+    ∷ Refused row.Form 2
+    ∷ Refused row.Form 2
+    ∷ Refused row.Form 2
     ∷ Fine
-    ∷ Refused 7 2
-    ∷ Refused 7 2
-    ∷ Refused 7 2
+    ∷ Refused row.Form 2
+    ∷ Refused row.Form 2
+    ∷ Refused row.Form 2
     ∷ Fine
     ∷ []
 unfolding sheets head_bad is_text is_allowed labels line first_line lines_bad line_bad root_line kinds kind_at code_of field_of is_name is_path is_letter

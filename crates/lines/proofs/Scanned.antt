@@ -8,11 +8,6 @@ use lib.IntN.{ℤ, pos}
 use lib.ListN.{length, get_or}
 use lib.Seq.{slice}
 use Rattle.cells.specs.Characters.{newline, space}
-use Rattle.numbers.specs.Decimal.{number_of}
-use Rattle.numbers.specs.declared.Decimal.{Decimal}
-use Rattle.numbers.specs.declared.Decimal.TheVariants as decimal
-use Rattle.numbers.specs.declared.Number.{Number}
-use Rattle.numbers.specs.declared.Number.TheVariants as number
 use Rattle.kinds.specs.declared.Form.{Form}
 use Rattle.kinds.specs.declared.Form.TheVariants as form
 use Rattle.kinds.specs.declared.Fields.{Fields}
@@ -25,58 +20,63 @@ use Rattle.text.proofs.Printed.{is_printed, name_printed, path_printed, number_p
 use Rattle.text.proofs.Labels.{label_printed}
 use Rattle.text.proofs.Scanned.{inside_next, field_found}
 use Rattle.text.proofs.Fields.{Spaced, Last}
-use Rattle.lines.specs.Fields.{dash, blank_if, from_label, from_number, field_of, kind_code}
+use Rattle.lines.specs.Fields.{dash, blank_if, from_label, field_of, kind_code}
 use Rattle.lines.specs.LineSteps.{FiveAt, cells_by_ends, line_read}
 use Rattle.lines.specs.Scanned.{Scanned, ScannedAll}
 use Rattle.lines.specs.declared.Ends.{Ends}
 use Rattle.lines.specs.declared.Scans.{Scans}
 use Rattle.lines.specs.declared.LineCells.{LineCells}
-use Rattle.lines.specs.declared.Field.TheVariants.{Holds}
-use Rattle.lines.specs.declared.LineJudged.TheVariants.{Passes}
+use Rattle.std.specs.Prelude.{Option, Some, None, IfSome, Ok}
+use Rattle.lines.specs.declared.Scan.{Scan}
 use Rattle.lines.proofs.Fields.{one_byte}
 use Rattle.lines.proofs.Letters.{kind_printed}
 use Rattle.lines.proofs.Splits.{spaced_at, last_at, five}
 use Rattle.lines.proofs.Rows.{read_right, line_row}
 
+-- ---- what a scan of some form says, as a field of a line
+
+pub cell_scanned : (f : Form) (n : ℕ) (s : List ℕ) (from stop : ℕ) (holds : List ℕ → Option ℤ) (r : Option Scan) → ((w : List ℕ) → field_of f n w ≡ holds w)
+    → IfSome r (λ x. EndsAt s from stop x.end × (holds (slice from x.end s) ≡ Some x.value)) → IfSome r (λ x. Scanned f n s from stop x.end x.value)
+cell_scanned f n s from stop holds (Some x) q w = record { at = w.0; holds = q (slice from x.end s) ∙ w.1 }
+cell_scanned f n s from stop holds None q w = tt
+
+pub name_scanned : (f : Form) (s : List ℕ) (from stop : ℕ) (right : List ℕ → Bool) (r : Option ℕ) → ((n : ℕ) (w : List ℕ) → field_of f n w ≡ blank_if (right w))
+    → IfSome r (λ e. EndsAt s from stop e × (right (slice from e s) ≡ true)) → IfSome r (λ e. (n : ℕ) → Scanned f n s from stop e (pos 0))
+name_scanned f s from stop right (Some e) q w = λ n. record { at = w.0; holds = q n (slice from e s) ∙ ap blank_if w.1 }
+name_scanned f s from stop right None q w = tt
+
 -- ---- a field that holds something is printed
 
-blank_right : (b : Bool) (x : ℤ) → blank_if b ≡ Holds x → b ≡ true
+blank_right : (b : Bool) (x : ℤ) → blank_if b ≡ Some x → b ≡ true
 blank_right true x e = refl
-blank_right false x e = let z : ◌≡◌ {A = ℕ} 0 1 = cc in absurd (omega arith)
+blank_right false x e = absurd cc
 
-label_field_printed : (n : ℕ) (w : List ℕ) (x : ℤ) → from_label (label_of n w) ≡ Holds x → all is_printed w ≡ true
+label_field_printed : (n : ℕ) (w : List ℕ) (x : ℤ) → from_label (label_of n w) ≡ Some x → all is_printed w ≡ true
 label_field_printed n w x = go (label_of n w) refl
   where
-    go : (d : Decimal) → label_of n w ≡ d → from_label d ≡ Holds x → all is_printed w ≡ true
-    go (decimal.Is v) q e = label_printed n w v q
-    go decimal.Not q e = let z : ◌≡◌ {A = ℕ} 0 1 = cc in absurd (omega arith)
+    go : (d : Option ℕ) → label_of n w ≡ d → from_label d ≡ Some x → all is_printed w ≡ true
+    go (Some v) q e = label_printed n w v q
+    go None q e = absurd cc
 
-number_field_printed : (w : List ℕ) (x : ℤ) → from_number (number_of w) ≡ Holds x → all is_printed w ≡ true
-number_field_printed w x = go (number_of w) refl
-  where
-    go : (d : Number) → number_of w ≡ d → from_number d ≡ Holds x → all is_printed w ≡ true
-    go (number.Is v) q e = number_printed w v q
-    go number.Not q e = let z : ◌≡◌ {A = ℕ} 0 1 = cc in absurd (omega arith)
-
-field_printed : (f : Form) (n : ℕ) (w : List ℕ) (x : ℤ) → field_of f n w ≡ Holds x → all is_printed w ≡ true
+field_printed : (f : Form) (n : ℕ) (w : List ℕ) (x : ℤ) → field_of f n w ≡ Some x → all is_printed w ≡ true
 unfolding field_of
 field_printed form.Missing n w x e = rw (same_eq w dash (blank_right (same w dash) x e))
 field_printed form.Name n w x e = name_printed w (blank_right (is_name w) x e)
 field_printed form.Path n w x e = path_printed w (blank_right (is_path w) x e)
 field_printed form.Group n w x e = label_field_printed n w x e
 field_printed form.Operand n w x e = label_field_printed n w x e
-field_printed form.Number n w x e = number_field_printed w x e
+field_printed form.Number n w x e = number_printed w x e
 
 -- ---- so it is the field that its end byte ends
 
 module _ (s : List ℕ) (ends : ends_lines s) (allowed : all is_allowed s ≡ true) (from e : ℕ) where
   spaced : EndsAt s from space e → all is_printed (slice from e s) ≡ true → Spaced s from e
   spaced a p =
-      spaced_at s ends allowed from from e (omega (arith, a.wide, a.inside)) (field_found s from space e ends a p refl) (λ z. omega (arith, a.wide))
+      spaced_at s ends allowed from from e (omega (arith, a.wide, a.inside)) (field_found s from space e ends a p refl)
 
   last : EndsAt s from newline e → all is_printed (slice from e s) ≡ true → Last s from e
   last a p =
-      last_at s ends allowed from from e (omega (arith, a.wide, a.inside)) (field_found s from newline e ends a p refl) (λ z. omega (arith, a.wide))
+      last_at s ends allowed from from e (omega (arith, a.wide, a.inside)) (field_found s from newline e ends a p refl)
 
   module _ (f : Form) (n : ℕ) (x : ℤ) where
     scanned_spaced : Scanned f n s from space e x → Spaced s from e
@@ -118,9 +118,9 @@ module _ (s : List ℕ) (ends : ends_lines s) (allowed : all is_allowed s ≡ tr
         (scanned_last s ends allowed (r.b.end + 1) r.c.end kind.c n r.c.value o.third)
 
     pub line_right : (k code : ℕ) (row : LineCells) → (k ≡ 1 → ⊥) → code ≡ code_of (get_or s from 0) → kind ≡ fields_at code
-        → row ≡ cells_by_ends s placed code r.a.value r.b.value r.c.value → Passes row ≡ line_read n k s from
+        → row ≡ cells_by_ends s placed code r.a.value r.b.value r.c.value → Ok row ≡ line_read n k s from
     line_right k code row q p t e =
         let l : code_of (get_or s from 0) ≡ kind_code (slice from (from + 1) s) = sym (ap kind_code letter_is) in
-        read_right n s from placed fields_five code kind (p ∙ l) t (pos 0) r.a.value r.b.value r.c.value row m.holds
+        read_right n s from placed fields_five code kind (p ∙ l) t (pos 0) (record { a = r.a.value; b = r.b.value; c = r.c.value }) row m.holds
         (rw (o.first.holds, o.second.holds, o.third.holds)) e
         ∙ line_row n s from placed fields_five k (λ z. f (l ∙ z)) q

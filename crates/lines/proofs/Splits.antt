@@ -1,11 +1,12 @@
 -- The five fields of a line, found one after the other.
-use mathlib.Core.Path.{◌≡◌, refl, ap, sym, ◌∙◌}
+use mathlib.Core.Path.{◌≡◌, refl, ap, ◌∙◌}
 use mathlib.Core.Bool.{true, false}
 use mathlib.Core.List.{List, ◌∷◌}
 use Prim.Native.Nat.{ℕ, suc, ◌+◌, ◌≤◌, ◌<◌}
 use native.Mathlib.Omega.{arith}
 use lib.ListN.{length}
 use lib.Seq.{slice}
+use Rattle.std.specs.Prelude.{Some, None}
 use Rattle.cells.specs.Characters.{newline, space}
 use Rattle.text.specs.Bytes.{all, is_allowed, ends_lines}
 use Rattle.text.specs.Pieces.{cut, fields_are}
@@ -25,28 +26,28 @@ full s k at e fs h g = rw (slice_at s at e h g)
 
 module _ (s : List ℕ) (ends : ends_lines s) (allowed : all is_allowed s ≡ true) (from : ℕ) where
   module _ (at e : ℕ) (h : at < length s) where
-    pub spaced_at : e ≡ field_end s at space → (e ≡ 0 → ⊥) → Spaced s at e
-    spaced_at q f = rw q (space_end s at h ends (λ z. f (q ∙ z)))
+    pub spaced_at : field_end s at space ≡ Some e → Spaced s at e
+    spaced_at q = space_end s at h ends q
 
-    pub last_at : e ≡ field_end s at newline → (e ≡ 0 → ⊥) → Last s at e
-    last_at q f = rw q (last_end s at h ends (λ z. f (q ∙ z)))
+    pub last_at : field_end s at newline ≡ Some e → Last s at e
+    last_at q = last_end s at h ends q
 
   pub left_all : from < length s → Left s from 5 from
   left_all h = record { here = h; same = refl }
 
-  pub left_next : (k at e : ℕ) → Left s from (suc k) at → e ≡ field_end s at space → (e ≡ 0 → ⊥) → Left s from k (e + 1)
-  left_next k at e l q f =
-      let p = spaced_at at e l.here q f in
+  pub left_next : (k at e : ℕ) → Left s from (suc k) at → field_end s at space ≡ Some e → Left s from k (e + 1)
+  left_next k at e l q =
+      let p = spaced_at at e l.here q in
       record {
         here = p.inside;
         same = l.same ∙ ap (fields_are (suc k)) p.fields ∙ full s k at e (fields_from s (e + 1)) p.wide (omega (arith, p.inside));
       }
 
-  pub left_none : (k at e : ℕ) → Left s from (suc (suc k)) at → e ≡ field_end s at space → e ≡ 0 → fields_are 5 (fields_from s from) ≡ false
-  left_none k at e l q z = l.same ∙ space_none s at l.here ends allowed k (sym q ∙ z)
+  pub left_none : (k at : ℕ) → Left s from (suc (suc k)) at → field_end s at space ≡ None → fields_are 5 (fields_from s from) ≡ false
+  left_none k at l z = l.same ∙ space_none s at l.here ends allowed k z
 
-  pub left_last : (at e : ℕ) → Left s from 1 at → e ≡ field_end s at newline → e ≡ 0 → fields_are 5 (fields_from s from) ≡ false
-  left_last at e l q z = l.same ∙ last_none s at l.here ends allowed (sym q ∙ z)
+  pub left_last : (at : ℕ) → Left s from 1 at → field_end s at newline ≡ None → fields_are 5 (fields_from s from) ≡ false
+  left_last at l z = l.same ∙ last_none s at l.here ends allowed z
 
 pub five : (s : List ℕ) (from : ℕ) (e : Ends) → Spaced s from e.kind → Spaced s (e.kind + 1) e.name → Spaced s (e.name + 1) e.a → Spaced s (e.a + 1) e.b
     → Last s (e.b + 1) e.c → FiveAt s from e

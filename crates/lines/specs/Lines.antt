@@ -1,5 +1,5 @@
 -- Rows 1 to 3 and 5 to 7 of document 01's table "Where each refusal is found", and the cells that Read writes of each line.
-use Rattle.std.specs.Prelude.{Bool, cond, ◌&&◌, ◌||◌, List, [], ◌∷◌, ◌++◌, ℕ, zero, suc, ◌+◌, ◌-◌, leb, eqb, ℤ, pos, length, get_or}
+use Rattle.std.specs.Prelude.{Bool, cond, ◌&&◌, ◌||◌, List, [], ◌∷◌, ◌++◌, ℕ, zero, suc, ◌+◌, ◌-◌, leb, eqb, ℤ, pos, length, get_or, Option, Some, None}
 use Rattle.cells.specs.Limits.{size_limit, label_limit}
 use Rattle.cells.specs.Characters.{newline, space}
 use Rattle.cells.specs.Quoted.{bytes_of}
@@ -13,9 +13,8 @@ use Rattle.numbers.specs.declared.Tie.TheVariants.{Away, Even}
 use Rattle.text.specs.Bytes.{all, count_by, is_allowed, is_newline, same}
 use Rattle.text.specs.Pieces.{cut, piece_start, fields_are}
 use Rattle.refusals.specs.Rows.{text_row, first_line_row, labels_row, fields_row, kind_row, form_row}
-use Rattle.refusals.specs.Refusal.{first_bad}
-use Rattle.refusals.specs.declared.Verdict.{Verdict}
-use Rattle.refusals.specs.declared.Verdict.TheVariants.{Fine, Refused}
+use Rattle.refusals.specs.Refusal.{Verdict, Fine, Refused, first_bad}
+use Rattle.refusals.specs.declared.Row.{Row}
 use Rattle.lines.specs.Fields.{dash, field_of, is_right, held, kind_code}
 
 -- ---- rows 1 to 3, at place 0
@@ -50,7 +49,7 @@ arithmetic_of s = rounding_by (tie_of s)
 abbrev pub is_first_line : List ℕ → Bool
 is_first_line l = same l (first_line Away) || same l (first_line Even)
 
-abbrev unless : Bool → ℕ → Verdict → Verdict
+abbrev unless : Bool → Row → Verdict → Verdict
 unless ok row next = cond ok next (Refused row 0)
 
 unfoldable pub head_bad : List ℕ → Verdict
@@ -78,18 +77,18 @@ forms_right n k fs =
     && is_right (field_of k.b n (field fs 3))
     && is_right (field_of k.c n (field fs 4))
 
--- the row that refuses the line l of label k, in a sheet of n labels, with the fields fs; 0 where none does
-abbrev pub fields_bad : ℕ → ℕ → List ℕ → List (List ℕ) → ℕ
+-- the row that refuses the line l of label k, in a sheet of n labels, with the fields fs; none where it passes
+abbrev pub fields_bad : ℕ → ℕ → List ℕ → List (List ℕ) → Option Row
 fields_bad n k l fs =
     cond (fields_are 5 fs)
-    (cond (eqb (kind_code (field fs 0)) 0) kind_row
-    (cond (cond (eqb k 1) (same l root_line) (forms_right n (fields_at (kind_code (field fs 0))) fs)) 0 form_row))
-    fields_row
+    (cond (eqb (kind_code (field fs 0)) 0) (Some kind_row)
+    (cond (cond (eqb k 1) (same l root_line) (forms_right n (fields_at (kind_code (field fs 0))) fs)) None (Some form_row)))
+    (Some fields_row)
 
-unfoldable pub line_bad : ℕ → ℕ → List ℕ → ℕ
+unfoldable pub line_bad : ℕ → ℕ → List ℕ → Option Row
 line_bad n k l = fields_bad n k l (cut space l)
 
-abbrev pub line_check : List ℕ → ℕ → ℕ → ℕ
+abbrev pub line_check : List ℕ → ℕ → ℕ → Option Row
 line_check s n k = line_bad n k (line s k)
 
 unfoldable pub lines_bad : List ℕ → ℕ → Verdict

@@ -1,5 +1,5 @@
 -- Laws of marks in a square: what stores of words do to them.
-use mathlib.Core.Path.{◌≡◌, refl, sym, ap, ◌∙◌, subst}
+use mathlib.Core.Path.{◌≡◌, refl, sym, ap, ◌∙◌}
 use mathlib.Core.Logic.{◌⊎◌, inl, inr}
 use mathlib.Core.List.{List, [], ◌∷◌, ◌++◌}
 use mathlib.Core.Bool.{true, false, ◌&&◌, ◌||◌}
@@ -7,18 +7,18 @@ use Prim.Native.Nat.{ℕ, suc, ◌+◌, ◌-◌, ◌*◌, ◌/◌, ◌%◌, ◌^
 use native.Mathlib.Omega.{arith}
 use native.Mathlib.Nat.{mul-le-mul_right, suc-mul, pow-le-pow_right, mod-eq_of_lt}
 use native.Mathlib.Decide.{ℕ_discrete, dec_lt}
-use lib.Bits.{bit_and, bit_or, bit_xor}
+use lib.Bits.{bit_or, bit_xor}
 use lib.Count.{count_trailing_zeros}
 use lib.Dec.{ltb}
 use lib.ListN.{length, get_or, set}
 use lib.Seq.{get_or-set_same, get_or-set_other}
 use borrow.Author.Count.{below_more}
 use borrow.Author.Tests.{lt-ltb, le-ltb}
-use Rattle.order.specs.LabelLists.{one, count, ◌∈◌}
+use Rattle.order.specs.LabelLists.{one, ◌∈◌}
 use Rattle.order.proofs.Tests.{both_ways, or_cases, or_left, or_right}
-use Rattle.order.proofs.Lists.{count_append, in_here, in_there, in_append}
-use Rattle.marks.specs.Marks.{bit, mark, InSquare, Added, Dropped, places, Rising, First}
-use Rattle.marks.proofs.Bits.{bit_or_lem, bit_and_lem, bit_none, put_own, put_other, drop_own, drop_other, lowest_is, lowest_below, count_low, count_high, count_place, places_from, places_rising}
+use Rattle.order.proofs.Lists.{in_here, in_there, in_append}
+use Rattle.marks.specs.Marks.{bit, mark, InSquare, Added, Dropped, Rising, First}
+use Rattle.marks.proofs.Bits.{bit_or_lem, bit_none, put_own, put_other, drop_own, drop_other, lowest_is, lowest_below}
 
 -- the code's `1 << k`
 pub shift_one : (k : ℕ) → k < 64 → 1 * 2 ^ k % 18446744073709551616 ≡ 2 ^ k
@@ -159,7 +159,7 @@ module _ (s₀ s : List ℕ) (w a b j : ℕ) (m : Merging s₀ s w a b j) where
 
 -- ---- marks listed word by word
 
-rising_join : (a b : List ℕ) (k : ℕ) → Rising a → ((x : ℕ) → x ∈ a → x < k) → Rising b → ((y : ℕ) → y ∈ b → k ≤ y) → Rising (a ++ b)
+pub rising_join : (a b : List ℕ) (k : ℕ) → Rising a → ((x : ℕ) → x ∈ a → x < k) → Rising b → ((y : ℕ) → y ∈ b → k ≤ y) → Rising (a ++ b)
 rising_join [] b k ra low rb high = rb
 rising_join (x ∷ a) b k ra low rb high = (λ y h. go y (in_append y a b h), rising_join a b k ra.1 (λ z i. low z (in_there z x a i)) rb high)
   where
@@ -178,50 +178,6 @@ mark_at_first s w j i g h =
     let e : 0 * w + j ≡ j = omega arith in
     mark_at s w 0 j i g h ∙ ap (λ (x : ℕ). bit (get_or s x 0) i) e
 
--- the marks that row p and the mask have in common, one word more of them
-pub common_turn : (s mask : List ℕ) (w p j : ℕ) → j < w → (q : ℕ)
-    → one (ltb q (64 * j) && mark s w p q && mark mask w 0 q) + count q (places 64 (64 * j) (bit_and (get_or s (p * w + j) 0) (get_or mask j 0)))
-    ≡ one (ltb q (64 * (j + 1)) && mark s w p q && mark mask w 0 q)
-common_turn s mask w p j hj q = go (dec_lt q (64 * j)) (dec_lt q (64 * (j + 1)))
-  where
-    x : ℕ
-    x = bit_and (get_or s (p * w + j) 0) (get_or mask j 0)
-
-    go : Dec (q < 64 * j) → Dec (q < 64 * (j + 1))
-        → one (ltb q (64 * j) && mark s w p q && mark mask w 0 q) + count q (places 64 (64 * j) x) ≡ one (ltb q (64 * (j + 1)) && mark s w p q && mark mask w 0 q)
-    go (yes h) _ = rw (lt-ltb q (64 * j) h, lt-ltb q (64 * (j + 1)) (omega arith)) (omega (arith, count_low 64 (64 * j) x q h))
-    go (no h) (no g) = rw (le-ltb q (64 * j) (omega arith), le-ltb q (64 * (j + 1)) (omega arith)) (omega (arith, count_high 64 (64 * j) x q (omega arith)))
-    go (no h) (yes g) =
-        let i : q ≡ 64 * j + (q - 64 * j) = omega arith in
-        let z : count q (places 64 (64 * j) x) ≡ one (bit x (q - 64 * j)) =
-        ap (λ (y : ℕ). count y (places 64 (64 * j) x)) i ∙ count_place 64 (64 * j) x (q - 64 * j) (omega arith) in
-        let m : bit x (q - 64 * j) ≡ (mark s w p q && mark mask w 0 q) =
-        bit_and_lem (get_or s (p * w + j) 0) (get_or mask j 0) (q - 64 * j)
-        ∙ sym (ap (λ (y : ℕ). mark s w p y && mark mask w 0 y) i
-        ∙ rw (mark_at s w p j (q - 64 * j) hj (omega arith), mark_at_first mask w j (q - 64 * j) hj (omega arith))) in
-        rw (le-ltb q (64 * j) (omega arith), lt-ltb q (64 * (j + 1)) g) (omega (arith, z, ap one m))
-
-module _ (s mask : List ℕ) (w p j : ℕ) (hj : j < w) (l l' : List ℕ) (old : (q : ℕ) → count q l ≡ one (ltb q (64 * j) && mark s w p q && mark mask w 0 q))
-    (e : l' ≡ l ++ places 64 (64 * j) (bit_and (get_or s (p * w + j) 0) (get_or mask j 0))) where
-  pub listing_turn : (q : ℕ) → count q l' ≡ one (ltb q (64 * (j + 1)) && mark s w p q && mark mask w 0 q)
-  listing_turn q =
-      let x = places 64 (64 * j) (bit_and (get_or s (p * w + j) 0) (get_or mask j 0)) in
-      ap (count q) e ∙ count_append q l x ∙ ap (λ (c : ℕ). c + count q x) (old q) ∙ common_turn s mask w p j hj q
-
-  pub listing_rising : Rising l → Rising l'
-  listing_rising r =
-      subst Rising (sym e) (rising_join l (places 64 (64 * j) x) (64 * j) r (λ q m. low q m (dec_lt q (64 * j))) (places_rising 64 (64 * j) x) (places_from 64 (64 * j) x))
-    where
-      x : ℕ
-      x = bit_and (get_or s (p * w + j) 0) (get_or mask j 0)
-
-      low : (q : ℕ) → q ∈ l → Dec (q < 64 * j) → q < 64 * j
-      low q m (yes h) = h
-      low q m (no h) = let c = old q in absurd (omega (arith, rw (le-ltb q (64 * j) (omega arith)) at c))
-
-pub listing_none : (s mask : List ℕ) (w p : ℕ) (q : ℕ) → count q [] ≡ one (ltb q (64 * 0) && mark s w p q && mark mask w 0 q)
-listing_none s mask w p q = rw (le-ltb q (64 * 0) (omega arith))
-
 pub listing_end : (s mask : List ℕ) (w p q : ℕ) → one (ltb q (64 * w) && mark s w p q && mark mask w 0 q) ≡ one (mark s w p q && mark mask w 0 q)
 listing_end s mask w p q = go (dec_lt q (64 * w))
   where
@@ -231,31 +187,27 @@ listing_end s mask w p q = go (dec_lt q (64 * w))
 
 -- ---- the first mark
 
-module _ (s : List ℕ) (w j : ℕ) (old : (q : ℕ) → q < 64 * j → mark s w 0 q ≡ false) where
-  pub first_turn : j < w → get_or s j 0 ≡ 0 → (q : ℕ) → q < 64 * (j + 1) → mark s w 0 q ≡ false
-  first_turn hj e q h = go (dec_lt q (64 * j))
-    where
-      go : Dec (q < 64 * j) → mark s w 0 q ≡ false
-      go (yes g) = old q g
-      go (no g) =
-          let i : q ≡ 64 * j + (q - 64 * j) = omega arith in
-          ap (mark s w 0) i ∙ mark_at_first s w j (q - 64 * j) hj (omega arith) ∙ ap (λ (x : ℕ). bit x (q - 64 * j)) e ∙ bit_none (q - 64 * j)
+first_free : (s : List ℕ) (w j : ℕ) → ((i : ℕ) → i < j → get_or s i 0 ≡ 0) → j ≤ w → (q : ℕ) → q < 64 * j → mark s w 0 q ≡ false
+first_free s w j none hj q h =
+    let e : 0 * w + q / 64 ≡ q / 64 = omega arith in
+    inside s w 0 q (omega arith) ∙ ap (λ (i : ℕ). bit (get_or s i 0) (q % 64)) e ∙ ap (λ (x : ℕ). bit x (q % 64)) (none (q / 64) (omega arith)) ∙ bit_none (q % 64)
 
-  pub first_found : j < w → 0 < get_or s j 0 → get_or s j 0 < 2 ^ 64 → First s w (64 * j + count_trailing_zeros 64 (get_or s j 0))
-  first_found hj p f =
-      let t = lowest_is 64 (get_or s j 0) p f in
-      record {
-        within = omega (arith, t.0);
-        here = λ _. mark_at_first s w j (count_trailing_zeros 64 (get_or s j 0)) hj t.0 ∙ t.1;
-        before = λ q h. go q h (dec_lt q (64 * j));
-      }
-    where
-      go : (q : ℕ) → q < 64 * j + count_trailing_zeros 64 (get_or s j 0) → Dec (q < 64 * j) → mark s w 0 q ≡ false
-      go q h (yes g) = old q g
-      go q h (no g) =
-          let t = lowest_is 64 (get_or s j 0) p f in
-          let i : q ≡ 64 * j + (q - 64 * j) = omega arith in
-          ap (mark s w 0) i ∙ mark_at_first s w j (q - 64 * j) hj (omega (arith, t.0)) ∙ lowest_below 64 (get_or s j 0) (q - 64 * j) (omega arith)
+pub first_found : (s : List ℕ) (w j : ℕ) → ((i : ℕ) → i < j → get_or s i 0 ≡ 0) → j < w → 0 < get_or s j 0 → get_or s j 0 < 2 ^ 64
+    → First s w (64 * j + count_trailing_zeros 64 (get_or s j 0))
+first_found s w j none hj p f = record {
+  within = omega (arith, t.0);
+  here = mark_at_first s w j (count_trailing_zeros 64 (get_or s j 0)) hj t.0 ∙ t.1;
+  before = λ q h. go q h (dec_lt q (64 * j));
+}
+  where
+    t : (count_trailing_zeros 64 (get_or s j 0) < 64) × (bit (get_or s j 0) (count_trailing_zeros 64 (get_or s j 0)) ≡ true)
+    t = lowest_is 64 (get_or s j 0) p f
+
+    go : (q : ℕ) → q < 64 * j + count_trailing_zeros 64 (get_or s j 0) → Dec (q < 64 * j) → mark s w 0 q ≡ false
+    go q h (yes g) = first_free s w j none (omega arith) q g
+    go q h (no g) =
+        let i : q ≡ 64 * j + (q - 64 * j) = omega arith in
+        ap (mark s w 0) i ∙ mark_at_first s w j (q - 64 * j) hj (omega (arith, t.0)) ∙ lowest_below 64 (get_or s j 0) (q - 64 * j) (omega arith)
 
 -- ---- a row cleared
 

@@ -1,7 +1,7 @@
 -- Rows of marks in words of 64 bits. A square of rows has w words a row; row p starts at index p * w, and its mark q is bit q % 64 of its
 -- word q / 64. A row has 64 * w marks, and no mark past them is set.
 use Rattle.std.specs.Prelude.{◌≡◌, ◌⊎◌, List, [], ◌∷◌, Bool, true, false, cond, ◌&&◌, ℕ, zero}
-use Rattle.std.specs.Prelude.{suc, ◌+◌, ◌*◌, ◌/◌, ◌%◌, ◌≤◌, ◌<◌, eqb, ltb, length, get_or, take}
+use Rattle.std.specs.Prelude.{◌++◌, bit_and, suc, ◌+◌, ◌*◌, ◌/◌, ◌%◌, ◌≤◌, ◌<◌, eqb, ltb, length, get_or, take}
 use Rattle.order.specs.LabelLists.{one, count, ◌∈◌}
 
 -- bit j of x, from 0
@@ -42,8 +42,14 @@ abbrev pub Rising : List ℕ → Type 0
 Rising [] = Unit {0}
 Rising (x ∷ l) = ((y : ℕ) → y ∈ l → x < y) × Rising l
 
--- r is the first mark of the first row, or 64 * w where there is none
+-- r is the first mark of the first row
 pub record First (s : List ℕ) (w r : ℕ) : Type 0 where
-  pub within : r ≤ 64 * w
-  pub here : r < 64 * w → mark s w 0 r ≡ true
+  pub within : r < 64 * w
+  pub here : mark s w 0 r ≡ true
   pub before : (q : ℕ) → q < r → mark s w 0 q ≡ false
+
+-- the places of the bits that words have in common, one by one, counted on from m, upward
+unfoldable pub shared : ℕ → List ℕ → List ℕ → List ℕ
+shared m [] ys = []
+shared m (x ∷ xs) [] = []
+shared m (x ∷ xs) (y ∷ ys) = places 64 m (bit_and x y) ++ shared (m + 64) xs ys

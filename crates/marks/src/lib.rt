@@ -2,15 +2,14 @@
 
 #![tactic(auto)]
 
-ghost use Rattle.std.specs.Prelude.{◌≡◌, true, false, ◌++◌, ℕ, ◌+◌, ◌*◌, ◌≤◌, ◌<◌, length, take};
-ghost use Rattle.marks.specs.Marks.{mark, InSquare, Added, Dropped, places, Common, Rising, First};
+ghost use Rattle.std.specs.Prelude.{◌≡◌, true, false, ◌&&◌, ℕ, ◌+◌, ◌*◌, ◌≤◌, length, take, ◌/◌, ◌<◌, eqb, ltb, MatchOption};
+ghost use Rattle.order.specs.LabelLists.{one, count};
+ghost use Rattle.marks.specs.Marks.{mark, InSquare, Added, Dropped, Common, Rising, First};
+ghost use Rattle.marks.specs.Walk.{word_left, marks_left};
 
-// A label that stands in a scratch array, as an index.
-pub fn widen(x: u16) -> usize
-    ensures { result ≡ x }
-{
-    x as usize
-}
+mod walk;
+
+pub use walk::{CommonMarks, WordMarks};
 
 // Whether row p has mark q.
 pub fn has_mark(s: &[u64], w: usize, p: usize, q: usize) -> bool
@@ -26,7 +25,7 @@ pub fn put_mark(s: &mut [u64], w: usize, p: usize, q: usize)
     ensures { Added (λ (b : ℕ). b ≡ q) s.old s.new w p }
 {
     let i = p * w + q / 64;
-    s[i] = s[i] | (1 << (q % 64));
+    s[i] |= 1 << (q % 64);
 }
 
 // Row p loses mark q, which it has.
@@ -36,7 +35,7 @@ pub fn drop_mark(s: &mut [u64], w: usize, p: usize, q: usize)
     ensures { Dropped s.old s.new w p q }
 {
     let i = p * w + q / 64;
-    s[i] = s[i] ^ (1 << (q % 64));
+    s[i] ^= 1 << (q % 64);
 }
 
 // Row `into` gains the marks of row `from`.
@@ -46,57 +45,70 @@ pub fn merge_row(s: &mut [u64], w: usize, from: usize, into: usize)
 {
     let a = from * w;
     let b = into * w;
-    let mut j = 0;
-    while j < w {
-        s[b + j] = s[b + j] | s[a + j];
-        j += 1;
+    for j in 0..w {
+        s[b + j] |= s[a + j];
     }
 }
 
-// The places of the set bits of a word, counted on from `base`, into the list from index `at`. Answers where they end.
-fn list_word(word: u64, base: usize, list: &mut [u16], at: usize) -> usize
-    requires { (at + 64 ≤ length list.old) × (base + 64 < 65536) }
-    ensures { (take result list.new ≡ take at list.old ++ places 64 base word) × (result ≤ at + 64) }
+// The marks that word j of row p and of the mask have in common, upward.
+pub fn common_marks_in(s: &[u64], w: usize, p: usize, mask: &[u64], j: usize) -> WordMarks
+    requires { (p * w + w ≤ length s.now) × (w ≤ length mask.now) × (w ≤ 1000) × (j < w) }
+    ensures { (q : ℕ) → count q (word_left result) ≡ one (eqb (q / 64) j && mark s.now w p q && mark mask.now w 0 q) }
 {
-    let mut x = word;
-    let mut m = at;
-    while x != 0 {
-        list[m] = (base + u64::trailing_zeros(x) as usize) as u16;
-        m += 1;
-        x = x & (x - 1);
-    }
-    m
+    WordMarks::new(j, s[p * w + j] & mask[j])
 }
 
-// The marks that row p and the mask have in common, upward. Answers how many.
+// The marks that the first k words of row p and of the mask have in common, upward.
+pub fn common_marks_within<'a>(
+    s: &'a [u64],
+    w: usize,
+    p: usize,
+    mask: &'a [u64],
+    k: usize,
+) -> CommonMarks<'a>
+    requires { (p * w + w ≤ length s.now) × (w ≤ length mask.now) × (w ≤ 1000) × (k ≤ w) }
+    ensures counted { (q : ℕ) → count q (marks_left result) ≡ one (ltb q (64 * k) && mark s.entry.now w p q && mark mask.entry.now w 0 q) }
+    ensures rising { Rising (marks_left result) }
+    ensures few { length (marks_left result) ≤ 64 * k }
+{
+    let a = p * w;
+    CommonMarks::new(&s[a..a + k], &mask[..k])
+}
+
+// The marks that row p and the mask have in common, upward.
+pub fn common_marks<'a>(s: &'a [u64], w: usize, p: usize, mask: &'a [u64]) -> CommonMarks<'a>
+    requires { (p * w + w ≤ length s.now) × (w ≤ length mask.now) × (w ≤ 1000) }
+    ensures counted { (q : ℕ) → count q (marks_left result) ≡ one (mark s.entry.now w p q && mark mask.entry.now w 0 q) }
+    ensures rising { Rising (marks_left result) }
+    ensures few { length (marks_left result) ≤ 64 * w }
+{
+    common_marks_within(s, w, p, mask, w)
+}
+
+// Those marks, as a list. Answers how many.
 pub fn list_marks(s: &[u64], w: usize, p: usize, mask: &[u64], list: &mut [u16]) -> usize
     requires { (p * w + w ≤ length s.now) × (w ≤ length mask.now) × (64 * w ≤ length list.old) × (w ≤ 1000) }
     ensures { Common s.now mask.now w p list.new result × (result ≤ 64 * w) × Rising (take result list.new) }
 {
-    let a = p * w;
     let mut m = 0;
-    let mut j = 0;
-    while j < w {
-        m = list_word(s[a + j] & mask[j], 64 * j, list, m);
-        j += 1;
+    for q in common_marks(s, w, p, mask) {
+        list[m] = q as u16;
+        m += 1;
     }
     m
 }
 
-// The first mark of the first row, or 64 * w where there is none.
-pub fn first_mark(s: &[u64], w: usize) -> usize
+// The first mark of the first row.
+pub fn first_mark(s: &[u64], w: usize) -> Option<usize>
     requires { (w ≤ length s.now) × (w ≤ 1000) }
-    ensures { First s.now w result }
+    ensures { MatchOption result ((q : ℕ) → mark s.now w 0 q ≡ false) (First s.now w) }
 {
-    let mut j = 0;
-    while j < w {
-        let x = s[j];
-        if x != 0 {
-            return 64 * j + u64::trailing_zeros(x) as usize;
+    for j in 0..w {
+        if s[j] != 0 {
+            return Some(64 * j + s[j].trailing_zeros() as usize);
         }
-        j += 1;
     }
-    64 * w
+    None
 }
 
 // No mark is left in the first row.
@@ -104,9 +116,5 @@ pub fn clear_marks(s: &mut [u64], w: usize)
     requires { w ≤ length s.old }
     ensures { (p : ℕ) → mark s.new w 0 p ≡ false }
 {
-    let mut j = 0;
-    while j < w {
-        s[j] = 0;
-        j += 1;
-    }
+    s[..w].fill(0);
 }

@@ -167,9 +167,6 @@ module _ (t : List ℤ) (n : ℕ) (ok : Accepted t n) where
 
 -- ---- the diagonal
 
-pub cut_none : (n : ℕ) (s : List ℕ) → Cut n 1 s s
-cut_none n s = record { gone = λ p a b. absurd (omega arith); kept = λ q p z. refl }
-
 module _ (n k : ℕ) (s₀ s : List ℕ) (c : Cut n k s₀ s) where
   pub cut_skip : mark s (width n) k k ≡ false → Cut n (k + 1) s₀ s
   cut_skip e = record { gone = λ p a b. go p a b (ℕ_discrete p k); kept = c.kept }

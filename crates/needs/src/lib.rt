@@ -3,51 +3,46 @@
 
 #![tactic(auto)]
 
-ghost use Rattle.std.specs.Prelude.{◌+◌, ◌*◌, ◌≤◌, length};
+ghost use Rattle.std.specs.Prelude.{◌+◌, ◌≤◌};
 ghost use Rattle.cells.specs.Limits.{label_limit};
-ghost use Rattle.cells.specs.Accepted.{Accepted};
-ghost use Rattle.reach.specs.MarkRows.{width, AllMarkRows};
+ghost use Rattle.reach.specs.MarkRows.{AllMarkRows, RowsRoom};
 ghost use Rattle.needs.specs.Needs.{Lifting, Cut, NeedRows};
 
+use cells::ReadTable;
+
 // Members lie above their Group: going down, a Group's row is complete when it is met.
-fn lift(table: &[i64], n: usize, square: &mut [u64])
-    requires accepted { Accepted table.now n }
-    requires n_in_bounds { (n + 1) * width n ≤ length square.old }
-    requires all_mark_rows { AllMarkRows table.now n 6 square.old }
-    ensures { Lifting table.now n 1 square.new }
+fn lift(sheet: ReadTable, square: &mut [u64])
+    requires room { RowsRoom sheet.n square.old }
+    requires all_mark_rows { AllMarkRows sheet.cells.now sheet.n 6 square.old }
+    ensures { Lifting sheet.entry.cells.now sheet.entry.n 1 square.new }
 {
-    let mut k = n;
-    while 1 < k {
-        if reach::gives_values(table, n, k) {
-            let o = reach::cell_of(table, n, k, cells::OWNER);
-            marks::merge_row(square, n / 64 + 1, k, o);
+    for k in (2..sheet.n + 1).rev() {
+        if sheet.gives_values(k) {
+            let o = sheet.cell(k, cells::OWNER);
+            marks::merge_row(square, sheet.n / 64 + 1, k, o);
         }
-        k -= 1;
     }
 }
 
 // No row keeps the mark of its own label: a member needs another one.
 fn cut_diagonal(n: usize, square: &mut [u64])
-    requires { (n ≤ label_limit) × ((n + 1) * width n ≤ length square.old) }
+    requires { (n ≤ label_limit) × RowsRoom n square.old }
     ensures { Cut n (n + 1) square.old square.new }
 {
     let w = n / 64 + 1;
-    let mut p = 1;
-    while p <= n {
+    for p in 1..n + 1 {
         if marks::has_mark(square, w, p, p) {
             marks::drop_mark(square, w, p, p);
         }
-        p += 1;
     }
 }
 
 // The square of needs: row q gets the marks of those that need q.
-pub fn needs_of(table: &[i64], n: usize, square: &mut [u64])
-    requires accepted { Accepted table.now n }
-    requires n_in_bounds { (n + 1) * width n ≤ length square.old }
-    requires all_mark_rows { AllMarkRows table.now n 6 square.old }
-    ensures { NeedRows table.now n square.new }
+pub fn needs_of(sheet: ReadTable, square: &mut [u64])
+    requires room { RowsRoom sheet.n square.old }
+    requires all_mark_rows { AllMarkRows sheet.cells.now sheet.n 6 square.old }
+    ensures { NeedRows sheet.entry.cells.now sheet.entry.n square.new }
 {
-    lift(table, n, square);
-    cut_diagonal(n, square);
+    lift(sheet, square);
+    cut_diagonal(sheet.n, square);
 }

@@ -7,12 +7,11 @@ use native.Mathlib.Omega.{arith}
 use borrow.Author.Tests.{ne_eqb, eqb-true, eqb-false}
 use lib.Dec.{eqb}
 use lib.IntN.{ℤ, pos, negsuc, nat_abs}
+use Rattle.std.specs.Prelude.{Some}
 use Rattle.cells.proofs.Signed.{clash}
 use Rattle.cells.specs.Limits.{number_limit}
 use Rattle.cells.specs.Characters.{digit_zero}
 use Rattle.numbers.specs.Decimal.{is_digit, all_digits, digits_value, no_leading_zero, decimal_of, number_of}
-use Rattle.numbers.specs.declared.Decimal.TheVariants as read
-use Rattle.numbers.specs.declared.Number.TheVariants as number
 use Rattle.numbers.proofs.Decimals.{digit_is, Written, decimal_is, decimal_number}
 use Rattle.numbers.specs.Numerals.{digits, decimal, integer}
 
@@ -81,10 +80,10 @@ decimal_written max (suc n) h =
     let r = digits_right (suc n) (suc n) (omega arith) in
     record { plain = leads_plain (digits (suc n) (suc n)) (digits_lead (suc n) (suc n) (omega arith) (omega arith)); digits = r.1; is = r.0; most = h }
 
-pub decimal_reads : (max n : ℕ) → n ≤ max → decimal_of max (decimal n) ≡ read.Is n
+pub decimal_reads : (max n : ℕ) → n ≤ max → decimal_of max (decimal n) ≡ Some n
 decimal_reads max n h = decimal_is max (decimal n) n (decimal_written max n h)
 
-pub integer_reads : (x : ℤ) → nat_abs x ≤ number_limit → number_of (integer x) ≡ number.Is x
+pub integer_reads : (x : ℤ) → nat_abs x ≤ number_limit → number_of (integer x) ≡ Some x
 unfolding number_of
 integer_reads (pos n) h = decimal_number number_limit (decimal n) n (omega arith) (decimal_reads number_limit n h)
 integer_reads (negsuc n) h = rw (decimal_reads number_limit (suc n) h, ne_eqb (suc n) 0 (λ e. omega arith))

@@ -32,14 +32,6 @@ pub tie_size : (tie : Tie) (q : ℕ) → on_tie tie q ≤ 1
 tie_size Away q = omega arith
 tie_size Even q = omega arith
 
--- one comparison, as the code makes it
-pub up_more : (tie : Tie) (q r d : ℕ) → d < 2 * r + on_tie tie q → 1 ≡ round_up tie q r d
-up_more tie q r d h =
-    by_remainder (λ x. 1 ≡ x) tie q r d (λ g. absurd (omega (arith, tie_size tie q))) (λ _. refl) (λ g. omega (arith, tie_size tie q))
-
-pub up_not : (tie : Tie) (q r d : ℕ) → 2 * r + on_tie tie q ≤ d → 0 ≡ round_up tie q r d
-up_not tie q r d h = by_remainder (λ x. 0 ≡ x) tie q r d (λ _. refl) (λ g. absurd (omega arith)) (λ g. omega arith)
-
 pub up_size : (tie : Tie) (q r d : ℕ) → round_up tie q r d ≤ 1
 up_size tie q r d = by_remainder (λ x. x ≤ 1) tie q r d (λ _. omega arith) (λ _. omega arith) (λ _. tie_size tie q)
 

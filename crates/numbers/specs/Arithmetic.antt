@@ -1,5 +1,5 @@
 -- Sum, difference, product and quotient of a sheet's numbers, by the arithmetic that the sheet is evaluated by.
-use Rattle.std.specs.Prelude.{Bool, false, cond, ℤ, ◌+ℤ◌, ◌-ℤ◌, ◌*ℤ◌}
+use Rattle.std.specs.Prelude.{Bool, false, cond, Result, Ok, Err, ℤ, ◌+ℤ◌, ◌-ℤ◌, ◌*ℤ◌}
 use Rattle.cells.specs.Cells.{equals}
 use Rattle.numbers.specs.Range.{in_range}
 use Rattle.numbers.specs.Rounding.{quotient}
@@ -9,8 +9,8 @@ use Rattle.numbers.specs.declared.Arithmetic.{Arithmetic}
 use Rattle.numbers.specs.declared.Arithmetic.TheVariants.{HalvesAway, HalvesToEven}
 use Rattle.kinds.specs.declared.Operation.{Operation}
 use Rattle.kinds.specs.declared.Operation.TheVariants.{Sum, Difference, Product, Quotient}
-use Rattle.numbers.specs.declared.Calculated.{Calculated}
-use Rattle.numbers.specs.declared.Calculated.TheVariants.{Number, OutOfRange, ZeroDivisor}
+use Rattle.numbers.specs.declared.Failure.{Failure}
+use Rattle.numbers.specs.declared.Failure.TheVariants.{OutOfRange, ZeroDivisor}
 
 -- the tie rule of an arithmetic, and the arithmetic that rounds by a tie rule
 abbrev pub tie_rule : Arithmetic → Tie
@@ -21,9 +21,9 @@ abbrev pub rounding_by : Tie → Arithmetic
 rounding_by Away = HalvesAway
 rounding_by Even = HalvesToEven
 
--- x where it is a number of a sheet
-unfoldable pub ranged_of : ℤ → Calculated
-ranged_of x = cond (in_range x) (Number x) OutOfRange
+-- x where it is a number of a sheet, else why not
+unfoldable pub ranged_of : ℤ → Result ℤ Failure
+ranged_of x = cond (in_range x) (Ok x) (Err OutOfRange)
 
 abbrev pub divides_by_zero : Operation → ℤ → Bool
 divides_by_zero Sum b = false
@@ -38,5 +38,5 @@ result α Difference a b = a -ℤ b
 result α Product a b = a *ℤ b
 result α Quotient a b = quotient (tie_rule α) a b
 
-unfoldable pub calculated : Arithmetic → Operation → ℤ → ℤ → Calculated
-calculated α op a b = cond (divides_by_zero op b) ZeroDivisor (ranged_of (result α op a b))
+unfoldable pub calculated : Arithmetic → Operation → ℤ → ℤ → Result ℤ Failure
+calculated α op a b = cond (divides_by_zero op b) (Err ZeroDivisor) (ranged_of (result α op a b))

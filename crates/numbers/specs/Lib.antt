@@ -3,5 +3,4 @@ pub mod Rounding
 pub mod Nearest
 pub mod Arithmetic
 pub mod Decimal
-pub mod Bounds
 pub mod Numerals

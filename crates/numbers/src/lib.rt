@@ -2,14 +2,12 @@
 
 #![tactic(auto)]
 
-ghost use Rattle.std.specs.Prelude.{◌≡◌, ◌^◌, ◌≤◌, ◌<◌, length, nat_abs};
-ghost use Rattle.std.proofs.Math.Seq.{slice};
+ghost use Rattle.std.specs.Prelude.{◌≡◌, ◌^◌, ◌≤◌, ◌<◌, Some, nat_abs};
 ghost use Rattle.cells.specs.Limits.{number_limit};
 ghost use Rattle.numbers.specs.Range.{in_range};
 ghost use Rattle.numbers.specs.Rounding.{on_tie, round_up, quotient};
 ghost use Rattle.numbers.specs.Arithmetic.{tie_rule, rounding_by, ranged_of, calculated};
 ghost use Rattle.numbers.specs.Decimal.{digits_of, decimal_of, signed_of, number_of};
-ghost use Rattle.numbers.specs.Bounds.{AtMost};
 
 use kinds::Operation;
 
@@ -26,13 +24,7 @@ pub const LARGEST_SIZE: u64 = 1000000000;
 pub fn in_range(x: i64) -> bool
     ensures { result ≡ in_range x }
 {
-    if x < SMALLEST {
-        return false;
-    }
-    if LARGEST < x {
-        return false;
-    }
-    true
+    SMALLEST <= x && x <= LARGEST
 }
 
 // ---- rounding
@@ -60,11 +52,7 @@ fn round_up(tie: Tie, q: u64, r: u64, d: u64) -> u64
     requires { r < 2 ^ 62 }
     ensures { result ≡ round_up tie q r d }
 {
-    let twice = 2 * r;
-    if d < twice + on_tie(tie, q) {
-        return 1;
-    }
-    0
+    u64::from(d < 2 * r + on_tie(tie, q))
 }
 
 // a / b to the nearest whole number. Signed division rounds toward zero; its remainder tells the rest.
@@ -74,9 +62,9 @@ pub fn nearest(tie: Tie, a: i64, b: i64) -> i64
 {
     let q = a / b;
     let r = a % b;
-    let m = cells::magnitude(q);
-    let up = round_up(tie, m, cells::magnitude(r), cells::magnitude(b));
-    cells::with_sign(cells::is_negative(a) != cells::is_negative(b), m + up)
+    let m = q.unsigned_abs();
+    let up = round_up(tie, m, r.unsigned_abs(), b.unsigned_abs());
+    cells::with_sign((a < 0) != (b < 0), m + up)
 }
 
 // ---- arithmetics
@@ -110,26 +98,26 @@ pub fn rounding_by(tie: Tie) -> Arithmetic
 
 // ---- the four operations
 
-// What an operation gives: a number of a sheet, or why there is none.
+// Why an operation gives no number of a sheet.
 #[derive(Clone, Copy)]
-pub enum Calculated {
-    Number(i64),
+pub enum Failure {
     OutOfRange,
     ZeroDivisor,
 }
 
 // x where it is a number of a sheet.
-fn ranged(x: i64) -> Calculated
+fn ranged(x: i64) -> Result<i64, Failure>
     ensures { result ≡ ranged_of x }
 {
     if in_range(x) {
-        return Calculated::Number(x);
+        Ok(x)
+    } else {
+        Err(Failure::OutOfRange)
     }
-    Calculated::OutOfRange
 }
 
 // a and b under an operation. A zero divisor comes before the range.
-pub fn calculate(arithmetic: Arithmetic, op: Operation, a: i64, b: i64) -> Calculated
+pub fn calculate(arithmetic: Arithmetic, op: Operation, a: i64, b: i64) -> Result<i64, Failure>
     requires { (nat_abs a ≤ number_limit) × (nat_abs b ≤ number_limit) }
     ensures { result ≡ calculated arithmetic op a b }
 {
@@ -139,7 +127,7 @@ pub fn calculate(arithmetic: Arithmetic, op: Operation, a: i64, b: i64) -> Calcu
         Operation::Product => ranged(a * b),
         Operation::Quotient => {
             if b == 0 {
-                Calculated::ZeroDivisor
+                Err(Failure::ZeroDivisor)
             } else {
                 ranged(nearest(tie_rule(arithmetic), a, b))
             }
@@ -149,88 +137,53 @@ pub fn calculate(arithmetic: Arithmetic, op: Operation, a: i64, b: i64) -> Calcu
 
 // ---- decimal numbers
 
-// What a decimal in the text is, if it has the form asked for.
-#[derive(Clone, Copy)]
-pub enum Decimal {
-    Is(u64),
-    Not,
-}
-
-// What a number in the text is, with its sign, if it has the form of one.
-#[derive(Clone, Copy)]
-pub enum Number {
-    Is(i64),
-    Not,
-}
-
-// The value of the digits text[from..to], where it is at most max. The loop stops at the first byte that rules it out.
-fn digits(text: &[u8], from: usize, to: usize, max: u64) -> Decimal
-    requires { (from ≤ to) × (to ≤ length text.now) × (max ≤ number_limit) }
-    ensures { result ≡ digits_of max 0 (slice from to text.now) }
+// The value of digits, where it is at most max. The loop stops at the first byte that rules it out.
+fn digits(field: &[u8], max: u64) -> Option<u64>
+    requires { max ≤ number_limit }
+    ensures { result ≡ digits_of max 0 field.now }
 {
     let mut v: u64 = 0;
-    let mut i = from;
-    while i < to {
-        let c = text[i];
-        if c < b'0' {
-            return Decimal::Not;
+    for &b in field {
+        if !b.is_ascii_digit() {
+            return None;
         }
-        if b'9' < c {
-            return Decimal::Not;
-        }
-        v = 10 * v + ((c - b'0') as u64);
+        v = 10 * v + u64::from(b - b'0');
         if max < v {
-            return Decimal::Not;
+            return None;
         }
-        i += 1;
     }
-    Decimal::Is(v)
+    Some(v)
 }
 
-// The decimal number text[from..to] with no leading zero, where it is at most max.
-pub fn read_decimal(text: &[u8], from: usize, to: usize, max: u64) -> Decimal
-    requires { (from ≤ to) × (to ≤ length text.now) × (max ≤ number_limit) }
-    ensures { result ≡ decimal_of max (slice from to text.now) }
+// The decimal number that a field is, with no leading zero, where it is at most max.
+pub fn read_decimal(field: &[u8], max: u64) -> Option<u64>
+    requires { max ≤ number_limit }
+    ensures { result ≡ decimal_of max field.now }
 {
-    if from == to {
-        return Decimal::Not;
+    let first = *field.first()?;
+    if first == b'0' && 1 < field.len() {
+        return None;
     }
-    if text[from] == b'0' {
-        if from + 1 < to {
-            return Decimal::Not;
-        }
-        return Decimal::Is(0);
-    }
-    digits(text, from, to, max)
+    digits(field, max)
 }
 
 // A decimal after its sign.
-fn signed(negative: bool, d: Decimal) -> Number
-    requires { AtMost number_limit d }
-    ensures { result ≡ signed_of negative d }
+fn signed(negative: bool, v: u64) -> Option<i64>
+    requires { v ≤ number_limit }
+    ensures { result ≡ signed_of negative (Some v) }
 {
-    let Decimal::Is(v) = d else {
-        return Number::Not;
-    };
-    if v == 0 {
-        if negative {
-            return Number::Not; // there is no `-0`
-        }
-        return Number::Is(0);
+    if negative && v == 0 {
+        return None; // there is no `-0`
     }
-    Number::Is(cells::with_sign(negative, v))
+    Some(cells::with_sign(negative, v))
 }
 
-// The number text[from..to].
-pub fn read_number(text: &[u8], from: usize, to: usize) -> Number
-    requires { (from ≤ to) × (to ≤ length text.now) }
-    ensures { result ≡ number_of (slice from to text.now) }
+// The number that a field is.
+pub fn read_number(field: &[u8]) -> Option<i64>
+    ensures { result ≡ number_of field.now }
 {
-    if from == to {
-        return Number::Not;
+    match field.strip_prefix(b"-") {
+        Some(size) => signed(true, read_decimal(size, LARGEST_SIZE)?),
+        None => signed(false, read_decimal(field, LARGEST_SIZE)?),
     }
-    if text[from] == b'-' {
-        return signed(true, read_decimal(text, from + 1, to, LARGEST_SIZE));
-    }
-    signed(false, read_decimal(text, from, to, LARGEST_SIZE))
 }

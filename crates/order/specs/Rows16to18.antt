@@ -1,8 +1,7 @@
 -- Rows 16 to 18 of document 01's table of refusals, of a table t of n labels and an order list.
 use Rattle.std.specs.Prelude.{List, ℕ, ℤ}
 use Rattle.refusals.specs.Rows.{cycle_row, listed_row, early_row}
-use Rattle.refusals.specs.Refusal.{or_else, found_at}
-use Rattle.refusals.specs.declared.Verdict.{Verdict}
+use Rattle.refusals.specs.Refusal.{Verdict, or_else, found_at}
 use Rattle.order.specs.Order.{place16}
 use Rattle.order.specs.Following.{place17, place18}
 

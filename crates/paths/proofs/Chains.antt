@@ -9,16 +9,18 @@ use native.Mathlib.Numerals.{add-one}
 use native.Mathlib.Omega.{arith}
 use lib.Dec.{eqb, ltb}
 use lib.IntN.{ℤ}
-use lib.ListN.{length, get_or, set, replicate, length-set}
+use lib.ListN.{length, get_or, set, length-set}
 use lib.Seq.{slice, get_or-set_same, get_or-set_other}
 use borrow.Author.Tests.{eq-eqb, eqb-true, eqb-false, ltb-true, ltb-false}
 use Rattle.cells.specs.Limits.{label_limit}
 use Rattle.cells.specs.Table.{name_start, name_length, owner, is_definition}
-use Rattle.cells.proofs.Scratch.{long, zero_at}
 use Rattle.text.proofs.Bytes.{true_false, and_left, and_right}
+use Rattle.std.specs.Prelude.{Some, None}
 use Rattle.paths.specs.Names.{name_of, same_name, is_named, member}
+use Rattle.paths.specs.Buckets.{some_label}
 use Rattle.paths.specs.Buckets.{Searchable, hashes, hash_of, start_of, Stretch, Allotted, bucket_of, bucket_at, in_bucket, last_below}
 use Rattle.paths.specs.Buckets.{LinkedBelow, AllLinked, Fresh, first_in, Walkable, walk_by, walk, linked_member}
+use Rattle.paths.proofs.SomeLabel.{some_is}
 use Rattle.paths.proofs.SameName.{same_hash}
 use Rattle.paths.proofs.Hashes.{hash_small}
 use Rattle.paths.proofs.LastBelow.{last_hit, last_miss, last_one, last_small, last_passes, none_last, last_skip}
@@ -191,15 +193,15 @@ pub record Walking (s : List ℕ) (t : List ℤ) (links w : List ℕ) (bound ans
   pub rest : walk s t links w x ≡ answer
 
 module _ {s : List ℕ} {t : List ℤ} {links w : List ℕ} {bound answer x : ℕ} (h : Walking s t links w bound answer x) where
-  pub walking_end : x ≡ 0 → 0 ≡ answer
-  walking_end e = (rw e at h).rest
+  pub walking_none : x ≡ 0 → None ≡ some_label answer
+  walking_none e = ap some_label (rw e at h).rest
 
   module _ (some : x ≡ 0 → ⊥) where
     pub walking_less : get_or links x 0 < x
     walking_less = h.falls x (omega (arith, some)) h.inside
 
-    pub walking_hit : same_name (name_of s t x) w ≡ true → x ≡ answer
-    walking_hit e = sym (walk_hit s t links w bound h.falls x some e) ∙ h.rest
+    pub walking_some : same_name (name_of s t x) w ≡ true → Some x ≡ some_label answer
+    walking_some e = some_is x some ∙ ap some_label (sym (walk_hit s t links w bound h.falls x some e) ∙ h.rest)
 
     pub walking_turn : same_name (name_of s t x) w ≡ false → Walking s t links w bound answer (get_or links x 0)
     walking_turn e = record {
@@ -325,9 +327,9 @@ module _ {s : List ℕ} {t : List ℤ} {n l : ℕ} {starts links : List ℕ} (ro
   pub own_group : group ≤ n
   own_group = omega (arith, o.owned, rows.falls l low high)
 
-  pub own_found : {found : ℕ} → found ≡ linked_member s t starts links group hash (slice from to s) → found ≡ last_below (is_named s t (owner t l) (name_of s t l)) l
-  own_found e =
-      e ∙ rw (o.hashed, o.name, o.owned) (found_last rows h low (owner t l) (omega (arith, rows.falls l low high)) (name_of s t l))
+  pub own_found : linked_member s t starts links group hash (slice from to s) ≡ last_below (is_named s t (owner t l) (name_of s t l)) l
+  own_found =
+      rw (o.hashed, o.name, o.owned) (found_last rows h low (owner t l) (omega (arith, rows.falls l low high)) (name_of s t l))
 
   module _ (d : is_definition t l ≡ true) {b : ℕ} (e : b ≡ bucket_of starts group hash) where
     own_bucket : b ≡ bucket_at s t starts l
@@ -344,27 +346,10 @@ module _ {s : List ℕ} {t : List ℤ} {n : ℕ} {starts links : List ℕ} (rows
   pub linked_walkable : Walkable t starts links g
   linked_walkable = walkable rows h.all (omega arith) g in_table
 
-  pub linked_stretch : Stretch starts g
-  linked_stretch = linked_walkable.stretch
-
-  pub linked_room : start_of starts (g + 1) ≤ length links
-  linked_room = linked_walkable.room
-
   pub found_member : (w : List ℕ) → linked_member s t starts links g (hash_of w) w ≡ member s t n g w
   found_member w = found_last rows h.all (omega arith) g in_table w ∙ member_last s t n h.apart g w
 
-  pub member_walking : (w : List ℕ) {hash x : ℕ} → hash ≡ hash_of w → x ≡ first_in starts links g hash → Walking s t links w (start_of starts 0) (member s t n g w) x
-  member_walking w e f =
-      rw (← (found_member w)) (walking_start s t w (hash_of w) linked_walkable (f ∙ ap (first_in starts links g) e))
-
-  pub member_is : (w : List ℕ) {hash r : ℕ} → hash ≡ hash_of w → r ≡ linked_member s t starts links g hash w → r ≡ member s t n g w
-  member_is w e f = f ∙ ap (λ (h : ℕ). linked_member s t starts links g h w) e ∙ found_member w
+  pub member_is : (w : List ℕ) {hash : ℕ} → hash ≡ hash_of w → linked_member s t starts links g hash w ≡ member s t n g w
+  member_is w e = ap (λ (h : ℕ). linked_member s t starts links g h w) e ∙ found_member w
 
 -- ---- scratch that is all zeros, for n labels below k
-
-pub fresh_zeros : (n k : ℕ) → n < k → Fresh n (replicate (k + 1) 0) (replicate (3 * k) 0)
-fresh_zeros n k h = record {
-  long = omega (arith, long (k + 1));
-  room = omega (arith, long (3 * k));
-  clear = λ i. (zero_at (k + 1) i, zero_at (3 * k) i);
-}

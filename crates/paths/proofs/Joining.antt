@@ -7,6 +7,8 @@ use native.Mathlib.Omega.{arith}
 use lib.Dec.{eqb}
 use lib.IntN.{ℤ}
 use lib.ListN.{length}
+use Rattle.std.specs.Prelude.{Option, Some, None}
+use Rattle.refusals.specs.declared.Row.{Row}
 use Rattle.kinds.specs.Kinds.{wanted_by}
 use Rattle.cells.specs.Table.{kind, target, with_column, has_path}
 use Rattle.cells.proofs.Columns.{column_own, column_same, column_over, column_length}
@@ -27,8 +29,8 @@ module _ (s : List ℕ) (t u : List ℤ) (n : ℕ) (e : u ≡ with_column 7 (tar
   held x h g = rw e (column_own 7 (target_cell s t n) (omega arith) n t x h g room)
 
   wrong_go : (x : ℕ) (h : Bool)
-      → ◌≡◌ {A = ℕ} (cond (h && not (eqb (kind t (cond h (target_of s t n x) 0)) (wanted_by (kind t x)))) target_row 0)
-      (cond (h && not (eqb (kind t (target_of s t n x)) (wanted_by (kind t x)))) target_row 0)
+      → ◌≡◌ {A = Option Row} (cond (h && not (eqb (kind t (cond h (target_of s t n x) 0)) (wanted_by (kind t x)))) (Some target_row) None)
+      (cond (h && not (eqb (kind t (target_of s t n x)) (wanted_by (kind t x)))) (Some target_row) None)
   wrong_go x true = refl
   wrong_go x false = refl
 

@@ -7,12 +7,13 @@ use native.Mathlib.Omega.{arith}
 use lib.Dec.{eqb}
 use lib.IntN.{ℤ}
 use lib.ListN.{drop}
+use Rattle.std.specs.Prelude.{Some, None}
+use Rattle.refusals.specs.declared.Row.{Row}
 use borrow.Author.Tests.{eq-eqb, ne_eqb, eqb-true, eqb-false, not-false}
 use Rattle.kinds.specs.Kinds.{group_code, wanted_by}
 use Rattle.cells.specs.Table.{kind, owner, is_definition, has_path}
 use Rattle.refusals.specs.Rows.{duplicate_row, head_row, later_row, target_row}
-use Rattle.refusals.specs.Refusal.{first_bad}
-use Rattle.refusals.specs.declared.Verdict.TheVariants.{Fine}
+use Rattle.refusals.specs.Refusal.{Fine, first_bad}
 use Rattle.refusals.proofs.OrElse.{both_fine}
 use Rattle.refusals.proofs.FirstBad.{first_none, none_first}
 use Rattle.text.specs.Pieces.{first_of}
@@ -28,12 +29,12 @@ use Rattle.paths.proofs.Resolving.{above_zero, owner_small, settled_at, down_non
 
 -- ---- a row's check of one label
 
-quiet : (h b : Bool) (r : ℕ) → 1 ≤ r → cond (h && b) r 0 ≡ 0 → h ≡ true → b ≡ false
-quiet true true r l e q = absurd (omega arith)
-quiet true false r l e q = refl
-quiet false b r l e q = absurd (true_false (sym q))
+quiet : (h b : Bool) (r : Row) → cond (h && b) (Some r) None ≡ None → h ≡ true → b ≡ false
+quiet true true r e q = absurd cc
+quiet true false r e q = refl
+quiet false b r e q = absurd (true_false (sym q))
 
-keeps_quiet : (h b : Bool) (r : ℕ) → (h ≡ true → b ≡ false) → cond (h && b) r 0 ≡ 0
+keeps_quiet : (h b : Bool) (r : Row) → (h ≡ true → b ≡ false) → cond (h && b) (Some r) None ≡ None
 keeps_quiet true b r f = rw (f refl)
 keeps_quiet false b r f = refl
 
@@ -86,7 +87,7 @@ module _ (s : List ℕ) (t : List ℤ) (n : ℕ) where
   fine_apart e l k low less high d f o q =
       let x = first_label (namesake k) 1 (k - 1) in
       let check = first_none (duplicate_bad s t) n 1 e k (omega arith) (omega arith) in
-      let z : x ≡ 0 = eqb-true x 0 (not-false (eqb x 0) (quiet (is_definition t k) (not (eqb x 0)) duplicate_row (omega arith) check f)) in
+      let z : x ≡ 0 = eqb-true x 0 (not-false (eqb x 0) (quiet (is_definition t k) (not (eqb x 0)) duplicate_row check f)) in
       none_passes (namesake k) (k - 1) 1 l (omega arith) z low (omega arith) (member_named s t (owner t k) (name_of s t k) l d o ∙ q)
 
   pub apart_fine : NamesApart s t n → first_bad (duplicate_bad s t) 1 n ≡ Fine
@@ -103,7 +104,7 @@ module _ (s : List ℕ) (t : List ℤ) (n : ℕ) where
               let p = named_parts s t (owner t k) (name_of s t k) (suc x) f.passes in
               absurd (apart (suc x) k f.low (omega (arith, f.high)) high p.definition d p.owned p.named)
 
-      quiet_at : (k : ℕ) → 1 ≤ k → k ≤ n → duplicate_bad s t k ≡ 0
+      quiet_at : (k : ℕ) → 1 ≤ k → k ≤ n → duplicate_bad s t k ≡ None
       quiet_at k low high =
           keeps_quiet (is_definition t k) (not (eqb (first_label (namesake k) 1 (k - 1)) 0)) duplicate_row (λ d. ap not (none k low high d))
 
@@ -227,28 +228,28 @@ module _ (s : List ℕ) (t : List ℤ) (n : ℕ) where
         );
       }
     where
-      ends : (x : ℕ) → has_path t x ≡ true → later_bad s t n x ≡ 0 → Leads s t n x (target_of s t n x)
-      ends x p q = target_leads x (target_of s t n x) refl (eqb-false (target_of s t n x) 0 (quiet (has_path t x) (eqb (target_of s t n x) 0) later_row (omega arith) q p))
+      ends : (x : ℕ) → has_path t x ≡ true → later_bad s t n x ≡ None → Leads s t n x (target_of s t n x)
+      ends x p q = target_leads x (target_of s t n x) refl (eqb-false (target_of s t n x) 0 (quiet (has_path t x) (eqb (target_of s t n x) 0) later_row q p))
 
-      fits : (x : ℕ) → has_path t x ≡ true → target_bad s t n x ≡ 0 → kind t (target_of s t n x) ≡ wanted_by (kind t x)
+      fits : (x : ℕ) → has_path t x ≡ true → target_bad s t n x ≡ None → kind t (target_of s t n x) ≡ wanted_by (kind t x)
       fits x p q =
           let r = eqb (kind t (target_of s t n x)) (wanted_by (kind t x)) in
-          eqb-true (kind t (target_of s t n x)) (wanted_by (kind t x)) (not-false r (quiet (has_path t x) (not r) target_row (omega arith) q p))
+          eqb-true (kind t (target_of s t n x)) (wanted_by (kind t x)) (not-false r (quiet (has_path t x) (not r) target_row q p))
 
   module _ (falls : (l : ℕ) → 1 ≤ l → l ≤ n → owner t l < l) where
     module _ (k : PathsKept s t n) (x : ℕ) (low : 1 ≤ x) (high : x ≤ n) where
       led : has_path t x ≡ true → (m : ℕ) × Leads s t n x m × (target_of s t n x ≡ m) × (kind t m ≡ wanted_by (kind t x))
       led p = let r = k.targets x low high p in (r.0, r.1, leads_target k.apart falls x r.0 high r.1, r.2)
 
-      head_kept : path_head_bad s t n x ≡ 0
+      head_kept : path_head_bad s t n x ≡ None
       unfolding path_head_bad
       head_kept = keeps_quiet (has_path t x) (eqb (head_of s t n x) 0) head_row (λ p. let l = (led p).1 in head_some k.apart falls x l.head high l.settles)
 
-      later_kept : later_bad s t n x ≡ 0
+      later_kept : later_bad s t n x ≡ None
       unfolding later_bad
       later_kept = keeps_quiet (has_path t x) (eqb (target_of s t n x) 0) later_row (λ p. let r = led p in rw r.2 (above r.0 (leads_low r.1)))
 
-      target_kept : target_bad s t n x ≡ 0
+      target_kept : target_bad s t n x ≡ None
       unfolding target_bad
       target_kept =
           keeps_quiet (has_path t x) (not (eqb (kind t (target_of s t n x)) (wanted_by (kind t x)))) target_row

@@ -1,11 +1,13 @@
 pub mod SameName
 pub mod Hashes
 pub mod FirstLabel
+pub mod SomeLabel
 pub mod LastBelow
 pub mod Members
 pub mod Allotting
 pub mod Chains
 pub mod Resolving
+pub mod ByKind
 pub mod Alike
 pub mod Passes
 pub mod Joining

@@ -5,6 +5,7 @@ use Prim.Native.Nat.{ℕ, ◌+◌, ◌≤◌, ◌<◌}
 use native.Mathlib.Omega.{arith}
 use lib.IntN.{ℤ}
 use lib.ListN.{length}
+use Rattle.std.specs.Prelude.{None}
 use Rattle.paths.specs.Paths.{duplicate_bad}
 use Rattle.paths.specs.Buckets.{LinkedBelow, AllLinked}
 use Rattle.paths.proofs.Passes.{Pass, pass_start, pass_turn, pass_done}
@@ -19,7 +20,7 @@ pub linking_start : {s : List ℕ} {t : List ℤ} {n : ℕ} {starts links : List
 linking_start {s} {t} {n} h = record { pass = pass_start (duplicate_bad s t) n; linked = h; size = refl }
 
 module _ {s : List ℕ} {t : List ℤ} {n : ℕ} {starts links₀ links : List ℕ} {label : ℕ} (g : Linking s t n starts links₀ links label) where
-  pub linking_turn : label ≤ n → duplicate_bad s t label ≡ 0 → {links' : List ℕ} → LinkedBelow s t n (label + 1) starts links' → length links' ≡ length links
+  pub linking_turn : label ≤ n → duplicate_bad s t label ≡ None → {links' : List ℕ} → LinkedBelow s t n (label + 1) starts links' → length links' ≡ length links
       → Linking s t n starts links₀ links' (label + 1)
   linking_turn m z h p = record { pass = pass_turn g.pass m z; linked = h; size = p ∙ g.size }
 

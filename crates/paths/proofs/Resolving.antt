@@ -6,6 +6,8 @@ use Prim.Native.Nat.{ℕ, zero, suc, ◌+◌, ◌-◌, ◌≤◌, ◌<◌}
 use native.Mathlib.Omega.{arith}
 use lib.Dec.{eqb, ltb}
 use lib.IntN.{ℤ}
+use Rattle.std.specs.Prelude.{Option, Some, None, is_some}
+use Rattle.refusals.specs.declared.Row.{Row}
 use lib.ListN.{length, get_or, drop}
 use lib.Seq.{slice, length-slice}
 use borrow.Author.Tests.{eq-eqb, ne_eqb, eqb-true, ltb-true, ltb-false, lt-ltb, le-ltb, not-false}
@@ -19,13 +21,15 @@ use Rattle.text.proofs.Bytes.{run_le, run_fails}
 use Rattle.text.proofs.Slices.{take_slice, drop_slice}
 use Rattle.text.proofs.Cuts.{cut_more, cut_last}
 use Rattle.paths.specs.Names.{name_of, is_named, member}
+use Rattle.paths.specs.Buckets.{some_label}
 use Rattle.cells.specs.Lists.{or_if_zero}
-use Rattle.paths.specs.Paths.{settled, head_from, descended, names_of, head_of, duplicate_bad}
+use Rattle.paths.specs.Paths.{settled, head_from, below, descended, names_of, head_of, duplicate_bad}
 use Rattle.paths.specs.TargetCells.{head_cell, target_by, wrong_target}
 use Rattle.paths.specs.Buckets.{not_dot, last_below}
 use Rattle.refusals.specs.Rows.{duplicate_row, target_row}
 use Rattle.paths.proofs.FirstLabel.{first_high}
 use Rattle.paths.proofs.LastBelow.{last_empty}
+use Rattle.paths.proofs.SomeLabel.{no_zero, some_not_zero}
 
 -- ---- the names of a path by positions
 
@@ -146,6 +150,14 @@ module _ (s : List ℕ) (t : List ℤ) (n : ℕ) where
   pub down_on : (m : ℕ) (w : List ℕ) (ws : List (List ℕ)) → kind t m ≡ group_code → descended s t n m (w ∷ ws) ≡ descended s t n (member s t n m w) ws
   down_on m w ws e = rw (eq-eqb (kind t m) group_code e)
 
+  pub descended_high : (ws : List (List ℕ)) (m : ℕ) → m ≤ n → descended s t n m ws ≤ n
+  descended_high [] m h = h
+  descended_high (w ∷ ws) m h = descended_high ws (below s t n m w) (go (eqb (kind t m) group_code))
+    where
+      go : (b : Bool) → cond b (member s t n m w) 0 ≤ n
+      go true = member_high m w
+      go false = omega arith
+
   -- ---- one name more of a path, whose names so far end at `at`
 
   module _ (m at to : ℕ) (more : at < to) (inside : to ≤ length s) where
@@ -185,31 +197,31 @@ module _ (s : List ℕ) (t : List ℤ) (n : ℕ) where
     abbrev named : ℕ → Bool
     named = is_named s t (owner t l) (name_of s t l)
 
-    duplicate_is : duplicate_bad s t l ≡ cond (not (eqb (last_below named l) 0)) duplicate_row 0
+    duplicate_is : duplicate_bad s t l ≡ cond (not (eqb (last_below named l) 0)) (Some duplicate_row) None
     unfolding duplicate_bad
     duplicate_is = rw (d, last_empty named l)
 
-    pub duplicate_none : {x : ℕ} → x ≡ last_below named l → x ≡ 0 → 0 ≡ duplicate_bad s t l
-    duplicate_none {x} e z = sym (duplicate_is ∙ rw (← e, z))
+    pub duplicate_none : {o : Option ℕ} → o ≡ some_label (last_below named l) → is_some o ≡ false → None ≡ duplicate_bad s t l
+    duplicate_none e f = sym (duplicate_is ∙ rw (no_zero (last_below named l) (ap is_some (sym e) ∙ f)))
 
-    pub duplicate_some : {x : ℕ} → x ≡ last_below named l → (x ≡ 0 → ⊥) → duplicate_row ≡ duplicate_bad s t l
-    duplicate_some {x} e z = sym (duplicate_is ∙ rw (← e, ne_eqb x 0 z))
+    pub duplicate_some : {o : Option ℕ} → o ≡ some_label (last_below named l) → is_some o ≡ true → Some duplicate_row ≡ duplicate_bad s t l
+    duplicate_some e f = sym (duplicate_is ∙ rw (some_not_zero (last_below named l) (ap is_some (sym e) ∙ f)))
 
-  pub duplicate_other : (l : ℕ) → is_definition t l ≡ false → 0 ≡ duplicate_bad s t l
+  pub duplicate_other : (l : ℕ) → is_definition t l ≡ false → None ≡ duplicate_bad s t l
   unfolding duplicate_bad
   duplicate_other l e = rw e
 
 -- row 15
 module _ (t : List ℤ) (x k found wants : ℕ) (p : k ≡ kind t x) (q : found ≡ kind t (target t x)) (r : wants ≡ wanted_by k) where
-  pub target_wrong : kinds.has_path k ≡ true → (found ≡ wants → ⊥) → target_row ≡ wrong_target t x
+  pub target_wrong : kinds.has_path k ≡ true → (found ≡ wants → ⊥) → Some target_row ≡ wrong_target t x
   target_wrong h f = rw (← p, ← q, ← r, h, ne_eqb found wants f)
 
-  pub target_right : found ≡ wants → 0 ≡ wrong_target t x
+  pub target_right : found ≡ wants → None ≡ wrong_target t x
   target_right e = rw (← p, ← q, ← r, eq-eqb found wants e) (go (kinds.has_path k))
     where
-      go : (b : Bool) → ◌≡◌ {A = ℕ} 0 (cond (b && false) target_row 0)
+      go : (b : Bool) → ◌≡◌ {A = Option Row} None (cond (b && false) (Some target_row) None)
       go true = refl
       go false = refl
 
-pub target_none : (t : List ℤ) (x : ℕ) → has_path t x ≡ false → 0 ≡ wrong_target t x
+pub target_none : (t : List ℤ) (x : ℕ) → has_path t x ≡ false → None ≡ wrong_target t x
 target_none t x h = rw h

@@ -3,7 +3,7 @@
 use mathlib.Core.Path.{◌≡◌, refl, ap, sym, ◌∙◌}
 use mathlib.Core.Bool.{Bool, true, false, ◌&&◌, and_assoc, and-true}
 use mathlib.Core.List.{List, [], ◌∷◌, ◌++◌}
-use Prim.Native.Nat.{ℕ, ◌+◌, ◌-◌, ◌≤◌, ◌<◌}
+use Prim.Native.Nat.{ℕ, ◌+◌, ◌≤◌, ◌<◌}
 use native.Mathlib.Omega.{arith}
 use lib.Dec.{eqb}
 use lib.ListN.{length, get_or}
@@ -133,11 +133,3 @@ module _ {s : List ℕ} {a b size i : ℕ} (h : Comparing s a b size i) where
       let y = slice_none s (b + i) (b + size) (omega arith) in
       let e : same_name (slice (a + i) (a + size) s) (slice (b + i) (b + size) s) ≡ true = rw (x, y) (same_self []) in
       sym e ∙ h.rest
-
-  -- what is left is compared by itself
-  pub compare_rest : same_name (slice (a + i) (a + i + (size - i)) s) (slice (b + i) (b + i + (size - i)) s) ≡ same_name (slice a (a + size) s) (slice b (b + size) s)
-  compare_rest =
-      let m = h.upto in
-      let p : a + i + (size - i) ≡ a + size = omega arith in
-      let q : b + i + (size - i) ≡ b + size = omega arith in
-      rw (p, q) h.rest

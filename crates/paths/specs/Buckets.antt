@@ -1,7 +1,7 @@
 -- How the code finds a member fast: each Group has buckets of its own, and the hash of a member's name says in which of them it stands. A
 -- search of a Group meets members of that Group and no others. Nothing of this is in a public contract.
 use Rattle.std.specs.Prelude.{◌≡◌, Bool, true, cond, not, ◌&&◌, List, [], ◌∷◌, ℕ, zero, suc, ◌+◌, ◌*◌}
-use Rattle.std.specs.Prelude.{◌/◌, ◌%◌, ◌-◌, ◌≤◌, ◌<◌, leb, eqb, ℤ, pos, length, get_or, set, take, drop}
+use Rattle.std.specs.Prelude.{◌/◌, ◌%◌, ◌-◌, ◌≤◌, ◌<◌, leb, eqb, ℤ, pos, length, get_or, set, take, drop, Option, Some, None}
 use Rattle.cells.specs.Limits.{label_limit}
 use Rattle.cells.specs.Characters.{dot}
 use Rattle.cells.specs.Cells.{int_at}
@@ -9,6 +9,11 @@ use Rattle.cells.specs.Table.{kind, name_start, name_length, owner, is_definitio
 use Rattle.text.specs.Bytes.{lowercase}
 use Rattle.paths.specs.Names.{name_of, same_name}
 use Rattle.paths.specs.Leads.{NamesApart}
+
+-- a label that is looked for, where 0 stands for none
+abbrev pub some_label : ℕ → Option ℕ
+some_label zero = None
+some_label (suc l) = Some (suc l)
 
 -- a byte of a name, in a path: no dot
 abbrev pub not_dot : ℕ → Bool

@@ -1,19 +1,19 @@
 -- Document 01, "Paths", and rows 12 to 15, over the text s and a table t of n labels with its owners.
-use Rattle.std.specs.Prelude.{cond, not, ◌&&◌, List, [], ◌∷◌, ℕ, zero, suc, ◌-◌, eqb, ℤ, drop}
+use Rattle.std.specs.Prelude.{cond, not, ◌&&◌, List, [], ◌∷◌, ℕ, zero, suc, ◌-◌, eqb, ℤ, drop, Option, Some, None}
 use Rattle.kinds.specs.Kinds.{group_code, wanted_by}
 use Rattle.cells.specs.Characters.{dot}
 use Rattle.cells.specs.Lists.{or_if_zero}
 use Rattle.cells.specs.Table.{kind, owner, is_definition, has_path}
 use Rattle.refusals.specs.Rows.{duplicate_row, head_row, later_row, target_row}
-use Rattle.refusals.specs.Refusal.{first_bad, or_else}
-use Rattle.refusals.specs.declared.Verdict.{Verdict}
+use Rattle.refusals.specs.declared.Row.{Row}
+use Rattle.refusals.specs.Refusal.{Verdict, first_bad, or_else}
 use Rattle.text.specs.Pieces.{cut, first_of}
 use Rattle.paths.specs.Names.{name_of, first_label, is_named, member}
 
 -- row 12: a smaller label in its Group has that name
-unfoldable pub duplicate_bad : List ℕ → List ℤ → ℕ → ℕ
+unfoldable pub duplicate_bad : List ℕ → List ℤ → ℕ → Option Row
 duplicate_bad s t l =
-    cond (is_definition t l && not (eqb (first_label (is_named s t (owner t l) (name_of s t l)) 1 (l - 1)) 0)) duplicate_row 0
+    cond (is_definition t l && not (eqb (first_label (is_named s t (owner t l) (name_of s t l)) 1 (l - 1)) 0)) (Some duplicate_row) None
 
 -- "The head (first name) is looked for among that Group's members, then in the Group around it, outward; the first Group with such a member settles
 -- the head": from Group g, at most k Groups; 0 where none has such a member
@@ -45,15 +45,15 @@ unfoldable pub target_of : List ℕ → List ℤ → ℕ → ℕ → ℕ
 target_of s t n x = descended s t n (head_of s t n x) (drop 1 (names_of s t x))
 
 -- rows 13 to 15
-unfoldable pub path_head_bad : List ℕ → List ℤ → ℕ → ℕ → ℕ
-path_head_bad s t n x = cond (has_path t x && eqb (head_of s t n x) 0) head_row 0
+unfoldable pub path_head_bad : List ℕ → List ℤ → ℕ → ℕ → Option Row
+path_head_bad s t n x = cond (has_path t x && eqb (head_of s t n x) 0) (Some head_row) None
 
-unfoldable pub later_bad : List ℕ → List ℤ → ℕ → ℕ → ℕ
-later_bad s t n x = cond (has_path t x && eqb (target_of s t n x) 0) later_row 0
+unfoldable pub later_bad : List ℕ → List ℤ → ℕ → ℕ → Option Row
+later_bad s t n x = cond (has_path t x && eqb (target_of s t n x) 0) (Some later_row) None
 
 -- "R needs a V, C needs an F": what a path must end at is read off the table of kinds
-unfoldable pub target_bad : List ℕ → List ℤ → ℕ → ℕ → ℕ
-target_bad s t n x = cond (has_path t x && not (eqb (kind t (target_of s t n x)) (wanted_by (kind t x)))) target_row 0
+unfoldable pub target_bad : List ℕ → List ℤ → ℕ → ℕ → Option Row
+target_bad s t n x = cond (has_path t x && not (eqb (kind t (target_of s t n x)) (wanted_by (kind t x)))) (Some target_row) None
 
 -- rows 12 to 15, each its own pass upward through the labels
 abbrev pub later_rows : List ℕ → List ℤ → ℕ → Verdict

@@ -3,23 +3,27 @@
 
 #![tactic(auto)]
 
-ghost use Rattle.std.specs.Prelude.{◌≡◌, true, ◌&&◌, ℕ, ◌+◌, ◌-◌, ◌*◌, ◌%◌, ◌≤◌, ◌<◌, min, eqb, pos, length, get_or, set, drop};
+ghost use Rattle.std.specs.Prelude.{◌≡◌, true, ◌&&◌, List, ℕ, ◌+◌, ◌-◌, ◌*◌, ◌%◌, ◌≤◌, ◌<◌, eqb, pos, length, get_or, set, drop, position, cond, is_none};
 ghost use Rattle.std.proofs.Math.Seq.{slice};
-ghost use Rattle.cells.specs.Limits.{label_limit};
+ghost use Rattle.cells.specs.Limits.{label_limit, size_limit};
 ghost use Rattle.cells.specs.Characters.{dot};
-ghost use Rattle.cells.specs.Table.{owner, target, with_column, is_definition, has_path};
-ghost use Rattle.refusals.specs.Refusal.{first_bad};
+ghost use Rattle.kinds.specs.Coded.{own_code, kind_with};
+ghost use Rattle.cells.specs.Table.{kind, owner, target, with_column, is_definition, has_path};
+ghost use Rattle.refusals.specs.Refusal.{Fine, Refused, first_bad};
+ghost use Rattle.std.specs.Option.{unwrap_or};
 ghost use Rattle.text.specs.Bytes.{lowercase_byte};
 ghost use Rattle.text.specs.Pieces.{cut};
 ghost use Rattle.text.specs.Scans.{run_end};
-ghost use Rattle.paths.specs.Names.{name_of, same_name, is_named};
+ghost use Rattle.paths.specs.Names.{name_of, same_name, is_named, member};
+ghost use Rattle.paths.specs.Buckets.{some_label};
 ghost use Rattle.paths.specs.Buckets.{not_dot, NameInText, Searchable, bits_of, add_word, hash_of, hashes};
-ghost use Rattle.paths.specs.Buckets.{start_of, Stretch, Allotted, counted_at, sum_to, MembersCounted, bucket_of};
+ghost use Rattle.paths.specs.Buckets.{Stretch, Allotted, counted_at, sum_to, MembersCounted, bucket_of};
 ghost use Rattle.paths.specs.Buckets.{last_below, LinkedBelow, AllLinked, Fresh, first_in, Walkable, linked_member};
 ghost use Rattle.paths.specs.Paths.{head_from, descended, target_cell, duplicate_bad, path_head_bad, later_bad, later_rows, head_rows, paths_bad};
 ghost use Rattle.paths.specs.TargetCells.{head_cell, target_by, wrong_target};
 
-use refusals::Verdict;
+use kinds::Kind;
+use refusals::{Row, Verdict};
 
 // A hash is below 2^32. The factors, for the two halves of a word, are such that no sum below wraps, and were chosen among some thousands: with
 // them members with names such as `v17`, `sphere3` or sixteen letters that differ at their end share a bucket as seldom as chance would have it.
@@ -36,26 +40,32 @@ const ALL_BITS: u64 = 0xffffffffffffffff;
 
 // ---- names
 
+// A name is given by the text and two positions in it, and not as a slice: it is hashed, and compared with another, by words of eight bytes of
+// the text, which may reach past its end.
+
+// Where the first dot is.
+fn first_dot(path: &[u8]) -> Option<usize>
+    ensures { result ≡ position (λ x. eqb x dot) path.now }
+{
+    path.iter().position(|byte| *byte == b'.')
+}
+
 // Where the name ends that begins at `from`: at the next dot, or at `to`.
 fn name_stop(text: &[u8], from: usize, to: usize) -> usize
     requires { (from ≤ to) × (to ≤ length text.now) }
     ensures { result ≡ run_end not_dot text.now from to }
 {
-    let mut i = from;
-    while i < to {
-        if text[i] == b'.' {
-            return i;
-        }
-        i += 1;
+    match first_dot(&text[from..to]) {
+        Some(size) => from + size,
+        None => to,
     }
-    i
 }
 
 // The low five bits of a byte as names are compared. Both cases of a letter have the same, so that nothing is left to be done for case.
 fn compared_bits(byte: u8) -> usize
     ensures { (result ≡ lowercase_byte byte % 32) × (result < 32) }
 {
-    (byte % 32) as usize
+    usize::from(byte % 32)
 }
 
 // The low five bits of up to eight bytes as one number, byte by byte from the last.
@@ -64,9 +74,7 @@ fn tail_bits(text: &[u8], from: usize, size: usize) -> usize
     ensures { result ≡ bits_of (slice from (from + size) text.now) }
 {
     let mut bits: usize = 0;
-    let mut i = size;
-    while 0 < i {
-        i -= 1;
+    for i in (0..size).rev() {
         bits = compared_bits(text[from + i]) + 256 * bits;
     }
     bits
@@ -94,34 +102,17 @@ fn add_word(hash: usize, word: usize) -> usize
     ((hash + word % HASHES) * LOW_FACTOR + word / HASHES * HIGH_FACTOR) / 16 % HASHES
 }
 
-// The smaller of a size and 8.
-fn at_most_eight(size: usize) -> usize
-    ensures { result ≡ min size 8 }
-{
-    if size < 8 { size } else { 8 }
-}
-
-// The hash of a name longer than eight bytes.
-fn hash_long(text: &[u8], from: usize, to: usize) -> usize
-    requires { (from + 8 < to) × (to ≤ length text.now) }
-    ensures { result ≡ hash_of (slice from to text.now) }
-{
-    let first = add_word(0, name_bits(text, from, 8));
-    add_word(
-        first,
-        name_bits(text, from + 8, at_most_eight(to - from - 8)),
-    )
-}
-
 // A hash of a name, by what the comparison of names compares.
 fn hash_name(text: &[u8], from: usize, to: usize) -> usize
     requires { (from ≤ to) × (to ≤ length text.now) }
     ensures { result ≡ hash_of (slice from to text.now) }
 {
-    if to - from <= 8 {
-        return add_word(0, name_bits(text, from, to - from));
+    let size = to - from;
+    let first = add_word(0, name_bits(text, from, size.min(8)));
+    if size <= 8 {
+        return first;
     }
-    hash_long(text, from, to)
+    add_word(first, name_bits(text, from + 8, (size - 8).min(8)))
 }
 
 // Whether two parts of the text, of one size, are the same name, byte by byte.
@@ -129,11 +120,8 @@ fn same_tail(text: &[u8], a: usize, b: usize, size: usize) -> bool
     requires { (a + size ≤ length text.now) × (b + size ≤ length text.now) }
     ensures { result ≡ same_name (slice a (a + size) text.now) (slice b (b + size) text.now) }
 {
-    let mut i: usize = 0;
-    while i < size {
-        if text::same_but_case(text[a + i], text[b + i]) {
-            i += 1;
-        } else {
+    for i in 0..size {
+        if !text::same_but_case(text[a + i], text[b + i]) {
             return false;
         }
     }
@@ -145,15 +133,14 @@ fn same_name(text: &[u8], a: usize, b: usize, size: usize) -> bool
     requires { (a + size ≤ length text.now) × (b + size ≤ length text.now) }
     ensures { result ≡ same_name (slice a (a + size) text.now) (slice b (b + size) text.now) }
 {
-    let mut i: usize = 0;
-    while 8 <= size - i {
-        if text::same_eight(text, a + i, b + i) {
-            i += 8;
-        } else {
+    let words = size / 8;
+    for word in 0..words {
+        if !text::same_eight(text, a + 8 * word, b + 8 * word) {
             return false;
         }
     }
-    same_tail(text, a + i, b + i, size - i)
+    let whole = 8 * words;
+    same_tail(text, a + whole, b + whole, size - whole)
 }
 
 // Whether definition m has the name text[from..to].
@@ -173,36 +160,49 @@ fn has_name(text: &[u8], table: &[i64], m: usize, from: usize, to: usize) -> boo
     )
 }
 
-// Whether the line is a definition.
+// Whether a label, which may be none of the table's, is of this kind.
+fn has_kind(table: &[i64], label: usize, wanted: Kind) -> bool
+    ensures { result ≡ eqb (kind table.now label) (own_code wanted) }
+{
+    cells::cell_at(table, label, cells::KIND) == wanted.code()
+}
+
+// The kind of a line.
+fn kind_of(table: &[i64], label: usize) -> Option<Kind>
+    requires { (1 ≤ label) × (8 * label ≤ length table.now) }
+    ensures { result ≡ kind_with (kind table.now label) }
+{
+    Kind::of_code(cells::label_cell(table, label, cells::KIND))
+}
+
+// Whether it is a definition.
 fn is_definition(table: &[i64], label: usize) -> bool
     requires { (1 ≤ label) × (8 * label ≤ length table.now) }
     ensures { result ≡ is_definition table.now label }
 {
-    kinds::is_definition(cells::label_cell(table, label, cells::KIND))
+    match kind_of(table, label) {
+        Some(kind) => kind.is_definition(),
+        None => false,
+    }
 }
 
-// ---- buckets: starts[g] is the first bucket of Group g; links[x] is what follows x in its chain, and x is a label or, behind the labels, a
-// bucket
+// A label as a cell or a link holds it, where 0 is none.
+fn some_label(cell: usize) -> Option<usize>
+    ensures { result ≡ some_label cell }
+{
+    if cell == 0 { None } else { Some(cell) }
+}
+
+// ---- buckets
 
 // The bucket of a name's hash in a Group, of those from starts[group] up to starts[group + 1].
 fn bucket(starts: &[u16], group: usize, hash: usize) -> usize
     requires { Stretch starts.now group × (hash < hashes) }
     ensures { result ≡ bucket_of starts.now group hash }
 {
-    let start = starts[group] as usize;
-    let size = (starts[group + 1] as usize) - start;
+    let start = usize::from(starts[group]);
+    let size = usize::from(starts[group + 1]) - start;
     start + hash * size / HASHES
-}
-
-// The first member in the bucket of a name's hash in a Group; 0 where there is none.
-fn first_in(starts: &[u16], links: &[u16], group: usize, hash: usize) -> usize
-    requires { Stretch starts.now group × (hash < hashes) × (start_of starts.now (group + 1) ≤ length links.now) }
-    ensures { result ≡ first_in starts.now links.now group hash }
-{
-    if starts[group] == starts[group + 1] {
-        return 0;
-    }
-    links[bucket(starts, group, hash)] as usize
 }
 
 // A definition counts for two buckets of its Group.
@@ -221,10 +221,8 @@ fn count_buckets(table: &[i64], n: usize, starts: &mut [u16])
     requires { (n ≤ label_limit) × ((l : ℕ) → 1 ≤ l → l ≤ n → owner table.now l < l) × MembersCounted table.now n 1 starts.old × (8 * n ≤ length table.now) }
     ensures { MembersCounted table.now n (n + 1) starts.new }
 {
-    let mut label: usize = 1;
-    while label <= n {
+    for label in 1..n + 1 {
         count_label(table, label, starts);
-        label += 1;
     }
 }
 
@@ -233,10 +231,8 @@ fn add_up(n: usize, starts: &mut [u16])
     requires { (n + 1 < length starts.old) × (sum_to starts.old (n + 1) ≤ 4096) }
     ensures { (g : ℕ) → g ≤ n + 1 → get_or starts.new g 0 ≡ sum_to starts.old g }
 {
-    let mut group: usize = 0;
-    while group <= n {
+    for group in 0..n + 1 {
         starts[group + 1] += starts[group];
-        group += 1;
     }
 }
 
@@ -253,29 +249,53 @@ fn allot(table: &[i64], n: usize, starts: &mut [u16])
 
 // ---- lookups
 
-// The member of a Group with the name text[from..to], whose hash is handed in; 0 where none is linked.
-fn member_in(
-    text: &[u8],
-    table: &[i64],
-    starts: &[u16],
-    links: &[u16],
-    group: usize,
-    hash: usize,
-    from: usize,
-    to: usize,
-) -> usize
-    requires walkable { Walkable table.now starts.now links.now group × (hash < hashes) }
-    requires from_le_to { (from ≤ to) × (to ≤ length text.now) × ((l : ℕ) → NameInText text.now table.now l) }
-    ensures { result ≡ linked_member text.now table.now starts.now links.now group hash (slice from to text.now) }
-{
-    let mut m = first_in(starts, links, group, hash);
-    while m != 0 {
-        if has_name(text, table, m, from, to) {
-            return m;
+// What is read beside the table: the text, how many labels there are, the first bucket of each Group, and the chains. links[x] is what follows
+// x in its chain, where x is a label or, behind the labels, a bucket; 0 ends a chain, since the links lie in fixed memory and no label is 0.
+#[derive(Clone, Copy)]
+struct Index<'a> {
+    text: &'a [u8],
+    n: usize,
+    starts: &'a [u16],
+    links: &'a [u16],
+}
+
+// The chains of a table's definitions, all of them or the first of them.
+#[derive(Clone, Copy)]
+struct Buckets<'a> {
+    index: Index<'a>,
+    table: &'a [i64],
+    ghost names: { (l : ℕ) → NameInText index.text.now table.now l },
+    ghost walks: { (g : ℕ) → g ≤ index.n → Walkable table.now index.starts.now index.links.now g },
+}
+
+impl Buckets<'_> {
+    // Where the chain of a name's hash in a Group begins; 0 where the Group has no bucket.
+    fn first_in(&self, group: usize, hash: usize) -> usize
+        requires { (group ≤ self.now.index.n) × (hash < hashes) }
+        ensures { result ≡ first_in self.now.index.starts.now self.now.index.links.now group hash }
+    {
+        let starts = self.index.starts;
+        if starts[group] == starts[group + 1] {
+            return 0;
         }
-        m = links[m] as usize;
+        usize::from(self.index.links[bucket(starts, group, hash)])
     }
-    0
+
+    // The member of a Group with the name text[from..to], whose hash is handed in.
+    fn member_in(&self, group: usize, hash: usize, from: usize, to: usize) -> Option<usize>
+        requires in_table { (group ≤ self.now.index.n) × (hash < hashes) }
+        requires in_text { (from ≤ to) × (to ≤ length self.now.index.text.now) }
+        ensures { let i = self.now.index in result ≡ some_label (linked_member i.text.now self.now.table.now i.starts.now i.links.now group hash (slice from to i.text.now)) }
+    {
+        let mut m = self.first_in(group, hash);
+        while m != 0 {
+            if has_name(self.index.text, self.table, m, from, to) {
+                return Some(m);
+            }
+            m = usize::from(self.index.links[m]);
+        }
+        None
+    }
 }
 
 // A label goes to the front of the bucket's chain.
@@ -287,25 +307,31 @@ fn push(links: &mut [u16], b: usize, label: usize)
     links[b] = label as u16;
 }
 
-// Links a definition. Answers the last one before it with its name in its Group; 0 where there is none.
-fn link_definition(
-    text: &[u8],
-    table: &[i64],
+// Links a definition. Answers the last one before it with its name in its Group.
+fn link_definition<'a>(
+    text: &'a [u8],
+    table: &'a [i64],
     n: usize,
-    starts: &[u16],
-    links: &mut [u16],
+    starts: &'a [u16],
+    links: &'a mut [u16],
     label: usize,
-) -> usize
+) -> Option<usize>
     requires searchable { Searchable text.now table.now n × LinkedBelow text.now table.now n label starts.now links.old }
     requires le_label { (1 ≤ label) × (label ≤ n) × (is_definition table.now label ≡ true) }
-    ensures value { result ≡ last_below (is_named text.now table.now (owner table.now label) (name_of text.now table.now label)) label }
+    ensures value { result ≡ some_label (last_below (is_named text.now table.now (owner table.now label) (name_of text.now table.now label)) label) }
     ensures linked_below { LinkedBelow text.now table.now n (label + 1) starts.now links.new }
 {
     let from = cells::label_cell(table, label, cells::NAME_START);
     let to = from + cells::label_cell(table, label, cells::NAME_LENGTH);
     let hash = hash_name(text, from, to);
     let group = cells::label_cell(table, label, cells::OWNER);
-    let found = member_in(text, table, starts, links, group, hash, from, to);
+    let index = Index {
+        text,
+        n,
+        starts,
+        links,
+    };
+    let found = Buckets { index, table }.member_in(group, hash, from, to);
     push(links, bucket(starts, group, hash), label);
     found
 }
@@ -318,7 +344,7 @@ fn link_label(
     starts: &[u16],
     links: &mut [u16],
     label: usize,
-) -> u64
+) -> Option<Row>
     requires searchable { Searchable text.now table.now n × LinkedBelow text.now table.now n label starts.now links.old }
     requires le_label { (1 ≤ label) × (label ≤ n) }
     ensures value { result ≡ duplicate_bad text.now table.now label }
@@ -326,267 +352,214 @@ fn link_label(
 {
     if is_definition(table, label) {
         let found = link_definition(text, table, n, starts, links, label);
-        if found != 0 {
-            return refusals::DUPLICATE;
+        if found.is_some() {
+            return Some(Row::Duplicate);
         }
     }
-    0
+    None
 }
 
 // Row 12. Where it finds nothing, every definition is linked.
 fn link(text: &[u8], table: &[i64], n: usize, starts: &[u16], links: &mut [u16]) -> Verdict
     requires { Searchable text.now table.now n × LinkedBelow text.now table.now n 1 starts.now links.old }
     ensures value { result ≡ first_bad (duplicate_bad text.now table.now) 1 n }
-    ensures all_linked { result ≡ Verdict.Fine → AllLinked text.now table.now n starts.now links.new }
+    ensures all_linked { result ≡ Fine → AllLinked text.now table.now n starts.now links.new }
 {
-    let mut label: usize = 1;
-    while label <= n {
-        let row = link_label(text, table, n, starts, links, label);
-        if row != 0 {
-            return Verdict::Refused(row, label as u64);
+    for label in 1..n + 1 {
+        if let Some(row) = link_label(text, table, n, starts, links, label) {
+            return Err(row.at(label as u64));
         }
-        label += 1;
     }
-    Verdict::Fine
-}
-
-// Where the head text[from..to] is settled: the member with that name of the first Group that has one, from `group` outward; 0 where none has.
-fn search(
-    text: &[u8],
-    table: &[i64],
-    n: usize,
-    starts: &[u16],
-    links: &[u16],
-    group: usize,
-    from: usize,
-    to: usize,
-) -> usize
-    requires searchable { Searchable text.now table.now n × AllLinked text.now table.now n starts.now links.now }
-    requires group_le_n { (group ≤ n) × (from ≤ to) × (to ≤ length text.now) }
-    ensures { result ≡ head_from text.now table.now n (slice from to text.now) group }
-{
-    let hash = hash_name(text, from, to);
-    let mut g = group;
-    let mut found: usize = 0;
-    'groups: while 0 < g {
-        let mut m = first_in(starts, links, g, hash);
-        while m != 0 {
-            if has_name(text, table, m, from, to) {
-                found = m;
-                break 'groups;
-            }
-            m = links[m] as usize;
-        }
-        g = cells::natural_cell(table, g, cells::OWNER);
-    }
-    found
+    Ok(())
 }
 
 // ---- paths
-
-// Where the path text[from..to] leads whose head is settled at `head`; 0 where a later name is not found, or asked of a V or F.
-fn descend(
-    text: &[u8],
-    table: &[i64],
-    n: usize,
-    starts: &[u16],
-    links: &[u16],
-    head: usize,
-    from: usize,
-    to: usize,
-) -> usize
-    requires searchable { Searchable text.now table.now n × AllLinked text.now table.now n starts.now links.now }
-    requires head_le_n { (head ≤ n) × (from ≤ to) × (to ≤ length text.now) }
-    ensures { (result ≡ descended text.now table.now n head (drop 1 (cut dot (slice from to text.now)))) × (result ≤ n) }
-{
-    let mut m = head;
-    let mut at = name_stop(text, from, to);
-    while at < to {
-        if cells::cell_at(table, m, cells::KIND) != kinds::GROUP {
-            return 0;
-        }
-        let start = at + 1;
-        at = name_stop(text, start, to);
-        let hash = hash_name(text, start, at);
-        m = member_in(text, table, starts, links, m, hash, start, at);
-    }
-    m
-}
 
 // Whether the line has a path: R or C.
 fn has_path(table: &[i64], label: usize) -> bool
     requires { (1 ≤ label) × (8 * label ≤ length table.now) }
     ensures { result ≡ has_path table.now label }
 {
-    kinds::has_path(cells::label_cell(table, label, cells::KIND))
+    match kind_of(table, label) {
+        Some(kind) => kind.has_path(),
+        None => false,
+    }
 }
 
-// Where the head of a line's path is settled; 0 where it is settled nowhere, and of a line that has no path.
-fn head_at(
-    text: &[u8],
-    table: &[i64],
-    n: usize,
-    starts: &[u16],
-    links: &[u16],
-    label: usize,
-) -> usize
-    requires searchable { Searchable text.now table.now n × AllLinked text.now table.now n starts.now links.now }
-    requires le_label { (1 ≤ label) × (label ≤ n) }
-    ensures { (result ≡ head_cell text.now table.now n label) × (result ≤ n) }
-{
-    if has_path(table, label) {
-        let from = cells::label_cell(table, label, cells::NAME_START);
-        let to = name_stop(
-            text,
-            from,
-            from + cells::label_cell(table, label, cells::NAME_LENGTH),
-        );
-        let group = cells::cell_at(
-            table,
-            cells::label_cell(table, label, cells::OWNER),
-            cells::OWNER,
-        );
-        return search(text, table, n, starts, links, group, from, to);
-    }
-    0
+// The members of a table's Groups, once all are linked.
+#[derive(Clone, Copy)]
+struct Directory<'a> {
+    index: Index<'a>,
+    table: &'a [i64],
+    ghost rows: { Searchable index.text.now table.now index.n },
+    ghost all: { AllLinked index.text.now table.now index.n index.starts.now index.links.now },
 }
 
-// Where a line's path ends, from where its head is settled; 0 of a line that has no path.
-fn target_at(
-    text: &[u8],
-    table: &[i64],
-    n: usize,
-    starts: &[u16],
-    links: &[u16],
-    label: usize,
-    head: usize,
-) -> usize
-    requires searchable { Searchable text.now table.now n × AllLinked text.now table.now n starts.now links.now }
-    requires le_label { (1 ≤ label) × (label ≤ n) × (head ≤ n) }
-    ensures { (result ≡ target_by text.now table.now n label head) × (result ≤ n) }
-{
-    if has_path(table, label) {
-        let from = cells::label_cell(table, label, cells::NAME_START);
-        return descend(
-            text,
-            table,
-            n,
-            starts,
-            links,
-            head,
-            from,
-            from + cells::label_cell(table, label, cells::NAME_LENGTH),
-        );
+impl Directory<'_> {
+    // The member of a Group with the name text[from..to], whose hash is handed in.
+    fn member(&self, group: usize, hash: usize, from: usize, to: usize) -> Option<usize>
+        requires in_table { (group ≤ self.now.index.n) × (hash ≡ hash_of (slice from to self.now.index.text.now)) }
+        requires in_text { (from ≤ to) × (to ≤ length self.now.index.text.now) }
+        ensures { result ≡ some_label (member self.now.index.text.now self.now.table.now self.now.index.n group (slice from to self.now.index.text.now)) }
+    {
+        let buckets = Buckets {
+            index: self.index,
+            table: self.table,
+        };
+        buckets.member_in(group, hash, from, to)
     }
-    0
+
+    // The first Group around one that has members in the bucket of a hash; 0 where none has. Most have none, and a loop that compares no names
+    // goes past them in registers alone.
+    fn outward(&self, group: usize, hash: usize) -> usize
+        requires { (1 ≤ group) × (group ≤ self.now.index.n) × (hash < hashes) }
+        ensures lower { result < group }
+        ensures heads { (w : List ℕ) → hash ≡ hash_of w
+            → head_from self.now.index.text.now self.now.table.now self.now.index.n w result
+            ≡ head_from self.now.index.text.now self.now.table.now self.now.index.n w (owner self.now.table.now group) }
+    {
+        let buckets = Buckets {
+            index: self.index,
+            table: self.table,
+        };
+        let mut g = cells::natural_cell(self.table, group, cells::OWNER);
+        while 0 < g && buckets.first_in(g, hash) == 0 {
+            g = cells::natural_cell(self.table, g, cells::OWNER);
+        }
+        g
+    }
+
+    // Where the head text[from..to] is settled: the member with that name of the first Group that has one, from `group` outward.
+    fn search(&self, group: usize, from: usize, to: usize) -> Option<usize>
+        requires { (group ≤ self.now.index.n) × (from ≤ to) × (to ≤ length self.now.index.text.now) }
+        ensures { result ≡ some_label (head_from self.now.index.text.now self.now.table.now self.now.index.n (slice from to self.now.index.text.now) group) }
+    {
+        let buckets = Buckets {
+            index: self.index,
+            table: self.table,
+        };
+        let hash = hash_name(self.index.text, from, to);
+        let mut g = group;
+        let mut found = None;
+        'groups: while 0 < g {
+            let mut m = buckets.first_in(g, hash);
+            while m != 0 {
+                if has_name(self.index.text, self.table, m, from, to) {
+                    found = Some(m);
+                    break 'groups;
+                }
+                m = usize::from(self.index.links[m]);
+            }
+            g = self.outward(g, hash);
+        }
+        found
+    }
+
+    // Where the path text[from..to] leads whose head is settled at `head`, 0 for nowhere; None too where a later name is not found, or asked of a V or F.
+    fn descend(&self, head: usize, from: usize, to: usize) -> Option<usize>
+        requires { (head ≤ self.now.index.n) × (from ≤ to) × (to ≤ length self.now.index.text.now) }
+        ensures { result ≡ some_label (descended self.now.index.text.now self.now.table.now self.now.index.n head (drop 1 (cut dot (slice from to self.now.index.text.now)))) }
+    {
+        let text = self.index.text;
+        let mut m = head;
+        let mut at = name_stop(text, from, to);
+        while at < to {
+            if !has_kind(self.table, m, Kind::Group) {
+                return None;
+            }
+            let start = at + 1;
+            at = name_stop(text, start, to);
+            let hash = hash_name(text, start, at);
+            m = self.member(m, hash, start, at)?;
+        }
+        some_label(m)
+    }
+
+    // Where the head of a line's path is settled.
+    fn head_at(&self, label: usize) -> Option<usize>
+        requires { (1 ≤ label) × (label ≤ self.now.index.n) }
+        ensures { result ≡ some_label (head_cell self.now.index.text.now self.now.table.now self.now.index.n label) }
+    {
+        if !has_path(self.table, label) {
+            return None;
+        }
+        let from = cells::label_cell(self.table, label, cells::NAME_START);
+        let end = from + cells::label_cell(self.table, label, cells::NAME_LENGTH);
+        let owner = cells::label_cell(self.table, label, cells::OWNER);
+        let group = cells::cell_at(self.table, owner, cells::OWNER);
+        self.search(group, from, name_stop(self.index.text, from, end))
+    }
+
+    // Where a line's path ends, from where its head is settled.
+    fn target_at(&self, label: usize, head: usize) -> Option<usize>
+        requires { (1 ≤ label) × (label ≤ self.now.index.n) × (head ≤ self.now.index.n) }
+        ensures { result ≡ some_label (target_by self.now.index.text.now self.now.table.now self.now.index.n label head) }
+    {
+        if !has_path(self.table, label) {
+            return None;
+        }
+        let from = cells::label_cell(self.table, label, cells::NAME_START);
+        // the end lies in the text too, so that it fits
+        prove!(from <= self.index.text.len());
+        let end = from + cells::label_cell(self.table, label, cells::NAME_LENGTH);
+        self.descend(head, from, end)
+    }
 }
 
 // Row 15 at one label, whose target is in its cell.
-fn wrong_target_at(table: &[i64], label: usize) -> u64
+fn wrong_target_at(table: &[i64], label: usize) -> Option<Row>
     requires { (1 ≤ label) × (8 * label ≤ length table.now) }
     ensures { result ≡ wrong_target table.now label }
 {
-    let code = cells::label_cell(table, label, cells::KIND);
-    if kinds::has_path(code) {
-        let target = cells::label_cell(table, label, cells::TARGET);
-        if cells::cell_at(table, target, cells::KIND) != kinds::wanted_by(code) {
-            return refusals::TARGET;
-        }
+    let wanted = kind_of(table, label)?.wants()?;
+    let target = cells::label_cell(table, label, cells::TARGET);
+    if has_kind(table, target, wanted) {
+        return None;
     }
-    0
+    Some(Row::Target)
 }
 
 // ---- the passes
 
-// The head of a line's path is settled, and stands in its target cell.
-fn settle_head(
-    text: &[u8],
-    table: &mut [i64],
-    n: usize,
-    starts: &[u16],
-    links: &[u16],
-    label: usize,
-) -> usize
-    requires searchable { Searchable text.now table.old n × AllLinked text.now table.old n starts.now links.now }
-    requires le_label { (1 ≤ label) × (label ≤ n) }
-    ensures value { result ≡ head_cell text.now table.old n label }
-    ensures table_after { table.new ≡ set table.old (8 * (label - 1) + 7) (pos (head_cell text.now table.old n label)) }
+// What a line's path has come to stands in its target cell, where 0 is nothing. A line with a path that came to nothing is refused by the row.
+fn settle(table: &mut [i64], label: usize, found: Option<usize>, row: Row) -> Verdict
+    requires { (1 ≤ label) × (8 * label ≤ length table.old) × (unwrap_or found 0 ≤ size_limit) }
+    ensures value { result ≡ cond (has_path table.new label && is_none found) (Refused row label) Fine }
+    ensures table_after { table.new ≡ set table.old (8 * (label - 1) + 7) (pos (unwrap_or found 0)) }
 {
-    let head = head_at(text, table, n, starts, links, label);
-    cells::put_cell(table, label, cells::TARGET, head);
-    head
-}
-
-// Where a line's path ends, from the head in its target cell, stands there instead.
-fn settle_target(
-    text: &[u8],
-    table: &mut [i64],
-    n: usize,
-    starts: &[u16],
-    links: &[u16],
-    label: usize,
-) -> usize
-    requires searchable { Searchable text.now table.old n × AllLinked text.now table.old n starts.now links.now }
-    requires le_label { (1 ≤ label) × (label ≤ n) × (target table.old label ≤ n) }
-    ensures value { result ≡ target_by text.now table.old n label (target table.old label) }
-    ensures table_after { table.new ≡ set table.old (8 * (label - 1) + 7) (pos (target_by text.now table.old n label (target table.old label))) }
-{
-    let head = cells::label_cell(table, label, cells::TARGET);
-    let end = target_at(text, table, n, starts, links, label, head);
-    cells::put_cell(table, label, cells::TARGET, end);
-    end
-}
-
-// Whether a line that has a path has come to nothing.
-fn is_unresolved(table: &[i64], label: usize, found: usize) -> bool
-    requires { (1 ≤ label) × (8 * label ≤ length table.now) }
-    ensures { result ≡ (has_path table.now label && eqb found 0) }
-{
-    if has_path(table, label) {
-        return found == 0;
+    cells::put_cell(table, label, cells::TARGET, found.unwrap_or(0));
+    if has_path(table, label) && found.is_none() {
+        return Err(row.at(label as u64));
     }
-    false
+    Ok(())
 }
 
 // Row 13. The heads stand in the target cells.
-fn settle_heads(text: &[u8], table: &mut [i64], n: usize, starts: &[u16], links: &[u16]) -> Verdict
-    requires { Searchable text.now table.old n × AllLinked text.now table.old n starts.now links.now }
-    ensures value { result ≡ first_bad (path_head_bad text.now table.old n) 1 n }
-    ensures table_after { result ≡ Verdict.Fine → table.new ≡ with_column 7 (head_cell text.now table.old n) n table.old }
+fn settle_heads(index: Index, table: &mut [i64]) -> Verdict
+    requires { Searchable index.text.now table.old index.n × AllLinked index.text.now table.old index.n index.starts.now index.links.now }
+    ensures value { result ≡ first_bad (path_head_bad index.entry.text.now table.old index.entry.n) 1 index.entry.n }
+    ensures table_after { result ≡ Fine → table.new ≡ with_column 7 (head_cell index.entry.text.now table.old index.entry.n) index.entry.n table.old }
 {
-    let mut label: usize = 1;
-    while label <= n {
-        let head = settle_head(text, table, n, starts, links, label);
-        if is_unresolved(table, label, head) {
-            return Verdict::Refused(refusals::HEAD, label as u64);
-        }
-        label += 1;
+    for label in 1..index.n + 1 {
+        let head = Directory { index, table }.head_at(label);
+        settle(table, label, head, Row::Head)?;
     }
-    Verdict::Fine
+    Ok(())
 }
 
-// Row 14. The targets stand in their cells.
-fn settle_targets(
-    text: &[u8],
-    table: &mut [i64],
-    n: usize,
-    starts: &[u16],
-    links: &[u16],
-) -> Verdict
-    requires searchable { Searchable text.now table.old n × AllLinked text.now table.old n starts.now links.now }
-    requires by_index { (l : ℕ) → 1 ≤ l → l ≤ n → target table.old l ≡ head_cell text.now table.old n l }
-    ensures value { result ≡ first_bad (later_bad text.now table.old n) 1 n }
-    ensures table_after { result ≡ Verdict.Fine → table.new ≡ with_column 7 (target_cell text.now table.old n) n table.old }
+// Row 14. The targets stand in their cells, in place of the heads.
+fn settle_targets(index: Index, table: &mut [i64]) -> Verdict
+    requires searchable { Searchable index.text.now table.old index.n × AllLinked index.text.now table.old index.n index.starts.now index.links.now }
+    requires by_index { (l : ℕ) → 1 ≤ l → l ≤ index.n → target table.old l ≡ head_cell index.text.now table.old index.n l }
+    ensures value { result ≡ first_bad (later_bad index.entry.text.now table.old index.entry.n) 1 index.entry.n }
+    ensures table_after { result ≡ Fine → table.new ≡ with_column 7 (target_cell index.entry.text.now table.old index.entry.n) index.entry.n table.old }
 {
-    let mut label: usize = 1;
-    while label <= n {
-        let end = settle_target(text, table, n, starts, links, label);
-        if is_unresolved(table, label, end) {
-            return Verdict::Refused(refusals::LATER, label as u64);
-        }
-        label += 1;
+    for label in 1..index.n + 1 {
+        let head = cells::label_cell(table, label, cells::TARGET);
+        let end = Directory { index, table }.target_at(label, head);
+        settle(table, label, end, Row::Later)?;
     }
-    Verdict::Fine
+    Ok(())
 }
 
 // Row 15.
@@ -594,52 +567,55 @@ fn check_targets(table: &[i64], n: usize) -> Verdict
     requires { (n ≤ label_limit) × (8 * n ≤ length table.now) }
     ensures { result ≡ first_bad (wrong_target table.now) 1 n }
 {
-    let mut label: usize = 1;
-    while label <= n {
-        let row = wrong_target_at(table, label);
-        if row != 0 {
-            return Verdict::Refused(row, label as u64);
+    for label in 1..n + 1 {
+        if let Some(row) = wrong_target_at(table, label) {
+            return Err(row.at(label as u64));
         }
-        label += 1;
     }
-    Verdict::Fine
+    Ok(())
 }
 
 // Rows 14 and 15, with the heads in the target cells.
-fn resolve_later(text: &[u8], table: &mut [i64], n: usize, starts: &[u16], links: &[u16]) -> Verdict
-    requires searchable { Searchable text.now table.old n × AllLinked text.now table.old n starts.now links.now }
-    requires by_index { (l : ℕ) → 1 ≤ l → l ≤ n → target table.old l ≡ head_cell text.now table.old n l }
-    ensures value { result ≡ later_rows text.now table.old n }
-    ensures table_after { result ≡ Verdict.Fine → table.new ≡ with_column 7 (target_cell text.now table.old n) n table.old }
+fn resolve_later(index: Index, table: &mut [i64]) -> Verdict
+    requires searchable { Searchable index.text.now table.old index.n × AllLinked index.text.now table.old index.n index.starts.now index.links.now }
+    requires by_index { (l : ℕ) → 1 ≤ l → l ≤ index.n → target table.old l ≡ head_cell index.text.now table.old index.n l }
+    ensures value { result ≡ later_rows index.entry.text.now table.old index.entry.n }
+    ensures table_after { result ≡ Fine → table.new ≡ with_column 7 (target_cell index.entry.text.now table.old index.entry.n) index.entry.n table.old }
 {
-    match settle_targets(text, table, n, starts, links) {
-        Verdict::Fine => check_targets(table, n),
-        Verdict::Refused(row, label) => Verdict::Refused(row, label),
-    }
+    settle_targets(index, table)?;
+    check_targets(table, index.n)
 }
 
 // Rows 13 to 15.
-fn resolve_heads(text: &[u8], table: &mut [i64], n: usize, starts: &[u16], links: &[u16]) -> Verdict
-    requires { Searchable text.now table.old n × AllLinked text.now table.old n starts.now links.now }
-    ensures value { result ≡ head_rows text.now table.old n }
-    ensures table_after { result ≡ Verdict.Fine → table.new ≡ with_column 7 (target_cell text.now table.old n) n table.old }
+fn resolve_heads(index: Index, table: &mut [i64]) -> Verdict
+    requires { Searchable index.text.now table.old index.n × AllLinked index.text.now table.old index.n index.starts.now index.links.now }
+    ensures value { result ≡ head_rows index.entry.text.now table.old index.entry.n }
+    ensures table_after { result ≡ Fine → table.new ≡ with_column 7 (target_cell index.entry.text.now table.old index.entry.n) index.entry.n table.old }
 {
-    match settle_heads(text, table, n, starts, links) {
-        Verdict::Fine => resolve_later(text, table, n, starts, links),
-        Verdict::Refused(row, label) => Verdict::Refused(row, label),
-    }
+    settle_heads(index, table)?;
+    resolve_later(index, table)
 }
 
 // Rows 12 to 15, once each Group has its buckets.
-fn resolve(text: &[u8], table: &mut [i64], n: usize, starts: &[u16], links: &mut [u16]) -> Verdict
+fn resolve<'a>(
+    text: &'a [u8],
+    table: &mut [i64],
+    n: usize,
+    starts: &'a [u16],
+    links: &'a mut [u16],
+) -> Verdict
     requires { Searchable text.now table.old n × LinkedBelow text.now table.old n 1 starts.now links.old }
     ensures value { result ≡ paths_bad text.now table.old n }
-    ensures table_after { result ≡ Verdict.Fine → table.new ≡ with_column 7 (target_cell text.now table.old n) n table.old }
+    ensures table_after { result ≡ Fine → table.new ≡ with_column 7 (target_cell text.now table.old n) n table.old }
 {
-    match link(text, table, n, starts, links) {
-        Verdict::Fine => resolve_heads(text, table, n, starts, links),
-        Verdict::Refused(row, label) => Verdict::Refused(row, label),
-    }
+    link(text, table, n, starts, links)?;
+    let index = Index {
+        text,
+        n,
+        starts,
+        links,
+    };
+    resolve_heads(index, table)
 }
 
 // Rows 12 to 15, with scratch that is all zeros.
@@ -652,31 +628,24 @@ fn read_with(
 ) -> Verdict
     requires { Searchable text.now table.old n × Fresh n starts.old links.old }
     ensures value { result ≡ paths_bad text.now table.old n }
-    ensures table_after { result ≡ Verdict.Fine → table.new ≡ with_column 7 (target_cell text.now table.old n) n table.old }
+    ensures table_after { result ≡ Fine → table.new ≡ with_column 7 (target_cell text.now table.old n) n table.old }
 {
     allot(table, n, starts);
     resolve(text, table, n, starts, links)
 }
 
-// The same with scratch for up to 127 labels: most sheets are small, and scratch is zeroed at each call.
-fn read_small(text: &[u8], table: &mut [i64], n: usize) -> Verdict
-    requires { Searchable text.now table.old n × (n < 128) }
+// The same with scratch of its own, of these sizes: it is zeroed at each call.
+fn read_within<const STARTS: usize, const LINKS: usize>(
+    text: &[u8],
+    table: &mut [i64],
+    n: usize,
+) -> Verdict
+    requires { Searchable text.now table.old n × (n + 1 < STARTS) × (n + 2 * n < LINKS) × (STARTS < 65536) × (LINKS < 65536) }
     ensures value { result ≡ paths_bad text.now table.old n }
-    ensures table_after { result ≡ Verdict.Fine → table.new ≡ with_column 7 (target_cell text.now table.old n) n table.old }
+    ensures table_after { result ≡ Fine → table.new ≡ with_column 7 (target_cell text.now table.old n) n table.old }
 {
-    let mut starts = [0u16; 129];
-    let mut links = [0u16; 384];
-    read_with(text, table, n, &mut starts, &mut links)
-}
-
-// The same with scratch for up to 1,024 labels.
-fn read_large(text: &[u8], table: &mut [i64], n: usize) -> Verdict
-    requires { Searchable text.now table.old n }
-    ensures value { result ≡ paths_bad text.now table.old n }
-    ensures table_after { result ≡ Verdict.Fine → table.new ≡ with_column 7 (target_cell text.now table.old n) n table.old }
-{
-    let mut starts = [0u16; 1026];
-    let mut links = [0u16; 3075];
+    let mut starts = [0u16; STARTS];
+    let mut links = [0u16; LINKS];
     read_with(text, table, n, &mut starts, &mut links)
 }
 
@@ -685,10 +654,11 @@ fn read_large(text: &[u8], table: &mut [i64], n: usize) -> Verdict
 pub fn read_paths(text: &[u8], table: &mut [i64], n: usize) -> Verdict
     requires { Searchable text.now table.old n }
     ensures value { result ≡ paths_bad text.now table.old n }
-    ensures table_after { result ≡ Verdict.Fine → table.new ≡ with_column 7 (target_cell text.now table.old n) n table.old }
+    ensures table_after { result ≡ Fine → table.new ≡ with_column 7 (target_cell text.now table.old n) n table.old }
 {
+    // most sheets are small
     if n < 128 {
-        return read_small(text, table, n);
+        return read_within::<129, 384>(text, table, n);
     }
-    read_large(text, table, n)
+    read_within::<1026, 3075>(text, table, n)
 }

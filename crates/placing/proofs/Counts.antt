@@ -1,24 +1,21 @@
 -- Counts raised, lowered and cleared; marks of what is ready.
 use mathlib.Core.Path.{◌≡◌, refl, sym, ap, ◌∙◌, subst}
 use mathlib.Core.Logic.{◌⊎◌, inl, inr, ◌↔◌}
-use mathlib.Core.List.{List}
+use mathlib.Core.List.{List, ◌∷◌}
 use mathlib.Core.Bool.{Bool, true, false, ◌&&◌}
-use Prim.Native.Nat.{ℕ, ◌+◌, ◌-◌, ◌*◌, ◌^◌, ◌≤◌, ◌<◌}
+use Prim.Native.Nat.{ℕ, ◌+◌, ◌-◌, ◌*◌, ◌/◌, ◌≤◌, ◌<◌}
 use native.Mathlib.Omega.{arith}
-use native.Mathlib.Decide.{ℕ_discrete}
-use lib.Bits.{bit_and}
-use lib.Count.{count_trailing_zeros}
+use native.Mathlib.Decide.{ℕ_discrete, dec_lt}
 use lib.Dec.{eqb, ltb}
 use lib.ListN.{length, get_or, set, take}
 use lib.Seq.{get_or-set_same, get_or-set_other, length-take-le}
-use borrow.Author.Tests.{eq-eqb, ne_eqb}
+use borrow.Author.Tests.{eq-eqb, ne_eqb, lt-ltb, le-ltb}
 use Rattle.order.specs.LabelLists.{one, count, ◌∈◌, filter}
 use Rattle.order.proofs.Tests.{and_right, one_le, one_in}
 use Rattle.order.proofs.Lists.{zero_or_in, filter_le}
-use Rattle.marks.specs.Marks.{mark, places, Added}
-use Rattle.marks.proofs.Bits.{places_step}
-use Rattle.marks.proofs.Squares.{common_turn, listing_none, listing_end}
-use Rattle.placing.specs.UnmetCounts.{needed, Fits, Row, RaisedBy, LoweredBy}
+use Rattle.marks.specs.Marks.{mark, Added}
+use Rattle.marks.proofs.Squares.{mark_in}
+use Rattle.placing.specs.UnmetCounts.{needed, Fits, MaskedRow, RaisedBy, LoweredBy}
 use Rattle.placing.proofs.Lists.{count_more, in_more, filter_more}
 
 pub eq_one : (x p : ℕ) → x ≡ p → one (eqb x p) ≡ 1
@@ -33,40 +30,50 @@ module _ (square mask : List ℕ) (w q : ℕ) where
   needed_right : (p : ℕ) → needed square mask w p q ≡ true → mark mask w 0 p ≡ true
   needed_right p e = and_right (mark square w q p) (mark mask w 0 p) (and_right (mark mask w 0 q) (mark square w q p && mark mask w 0 p) e)
 
-  pub needed_none : mark mask w 0 q ≡ false → (p : ℕ) → one (needed square mask w p q) ≡ 0
-  needed_none e p = rw e
-
-  -- 1 for each of the marks below k that row q and the mask have in common
+  -- 1 for what needs q, where it is below k
   abbrev pub below : ℕ → ℕ → ℕ
-  below k p = one (ltb p k && mark square w q p && mark mask w 0 p)
+  below k p = one (ltb p k && needed square mask w p q)
 
-  pub below_start : (p : ℕ) → below (64 * 0) p ≡ 0
-  below_start p = sym (listing_none square mask w q p)
+  pub below_none : (p : ℕ) → below (64 * 0) p ≡ 0
+  below_none p = rw (le-ltb p (64 * 0) (omega arith))
 
-  -- word j of what they have in common
-  abbrev pub word : ℕ → List ℕ
-  word j = places 64 (64 * j) (bit_and (get_or square (q * w + j) 0) (get_or mask j 0))
+  pub below_all : (p : ℕ) → below (64 * w) p ≡ one (needed square mask w p q)
+  below_all p = go (dec_lt p (64 * w)) (needed square mask w p q) refl
+    where
+      go : Dec (p < 64 * w) → (t : Bool) → needed square mask w p q ≡ t → below (64 * w) p ≡ one (needed square mask w p q)
+      go (yes h) _ _ = rw (lt-ltb p (64 * w) h)
+      go (no h) true e = absurd (h (mark_in mask w 0 p (needed_right p e)))
+      go (no h) false e = rw (le-ltb p (64 * w) (omega arith), e)
 
-  pub in_word : (j : ℕ) → j < w → (p : ℕ) → p ∈ word j → mark mask w 0 p ≡ true
-  in_word j h p i = and_right (ltb p (64 * (j + 1)) && mark square w q p) (mark mask w 0 p) (one_in _ (omega (arith, common_turn square mask w q j h p)))
+  below_le : (k p : ℕ) → below k p ≤ one (needed square mask w p q)
+  below_le k p = go (ltb p k) refl
+    where
+      go : (t : Bool) → ltb p k ≡ t → below k p ≤ one (needed square mask w p q)
+      go true h = rw h (omega arith)
+      go false h = rw h (omega arith)
 
-  module _ (e : mark mask w 0 q ≡ true) where
-    needed_masked : (p : ℕ) → one (mark square w q p && mark mask w 0 p) ≡ one (needed square mask w p q)
-    needed_masked p = rw e
-
-    pub below_end : (p : ℕ) → below (64 * w) p ≡ one (needed square mask w p q)
-    below_end p = listing_end square mask w q p ∙ needed_masked p
-
-    below_le : (k p : ℕ) → below k p ≤ one (needed square mask w p q)
-    below_le k p = go (ltb p k) refl
+  -- with the marks of word j
+  module _ (e : mark mask w 0 q ≡ true) (j : ℕ) (l : List ℕ) (own : (p : ℕ) → count p l ≡ one (eqb (p / 64) j && mark square w q p && mark mask w 0 p)) where
+    pub below_turn : (p : ℕ) → below (64 * j) p + count p l ≡ below (64 * (j + 1)) p
+    below_turn p = go (ℕ_discrete (p / 64) j) (dec_lt p (64 * j))
       where
-        go : (t : Bool) → ltb p k ≡ t → below k p ≤ one (needed square mask w p q)
-        go true h = rw h (omega (arith, needed_masked p))
-        go false h = rw h (omega arith)
+        none : (p / 64 ≡ j → ⊥) → count p l ≡ 0
+        none z = own p ∙ rw (ne_eqb (p / 64) j z)
 
-    -- what word j adds goes to those that need q
-    pub word_le : (j : ℕ) → j < w → (p : ℕ) → below (64 * j) p + count p (word j) ≤ one (needed square mask w p q)
-    word_le j h p = omega (arith, common_turn square mask w q j h p, below_le (64 * (j + 1)) p)
+        met : p / 64 ≡ j → count p l ≡ one (needed square mask w p q)
+        met z = own p ∙ rw (eq-eqb (p / 64) j z, e)
+
+        go : Dec (p / 64 ≡ j) → Dec (p < 64 * j) → below (64 * j) p + count p l ≡ below (64 * (j + 1)) p
+        go (yes z) _ = rw (le-ltb p (64 * j) (omega arith), lt-ltb p (64 * (j + 1)) (omega arith)) (omega (arith, met z))
+        go (no z) (yes h) = rw (lt-ltb p (64 * j) h, lt-ltb p (64 * (j + 1)) (omega arith)) (omega (arith, none z))
+        go (no z) (no h) = rw (le-ltb p (64 * j) (omega arith), le-ltb p (64 * (j + 1)) (omega arith)) (omega (arith, none z))
+
+    -- the word has only such as need q
+    pub word_le : (p : ℕ) → below (64 * j) p + count p l ≤ one (needed square mask w p q)
+    word_le p = omega (arith, below_turn p, below_le (64 * (j + 1)) p)
+
+    pub in_word : (p : ℕ) → p ∈ l → mark mask w 0 p ≡ true
+    in_word p h = needed_right p (one_in (needed square mask w p q) (omega (arith, h, word_le p)))
 
 -- what needs q is an item
 pub need_item : (items square mask unmet : List ℕ) (w q : ℕ) → Fits items square mask unmet w → (p : ℕ) → needed square mask w p q ≡ true → p ∈ items
@@ -77,18 +84,10 @@ module _ (items square mask unmet unmet' : List ℕ) (w : ℕ) (e : length unmet
   fits_as = record { in_rows = f.in_rows; few = f.few; counted = λ p m. omega (arith, f.counted p m) }
 
   -- an item has a row
-  pub row_of : (q : ℕ) → q ∈ items → Row square mask unmet' w q
+  pub row_of : (q : ℕ) → q ∈ items → MaskedRow square mask unmet' w q
   row_of q m =
       let r = f.in_rows in
       record { narrow = r.narrow; below = r.below q m; row = r.rows q m; mask_room = r.mask_room; counted = λ p h. omega (arith, f.counted p (r.masked p h)) }
-
--- ---- the marks of a word, the lowest first
-
-abbrev pub Counted : ℕ → ℕ → ℕ → Type 0
-Counted base x p = count p (places 64 base x) ≡ one (eqb p (base + count_trailing_zeros 64 x)) + count p (places 64 base (bit_and x (x - 1)))
-
-pub lowest_counted : (base x : ℕ) → 0 < x → x < 2 ^ 64 → (p : ℕ) → Counted base x p
-lowest_counted base x some fits p = ap (count p) (places_step 64 base x some fits)
 
 -- ---- counted, item by item
 
@@ -140,6 +139,14 @@ module _ (a b both : ℕ → ℕ) (sum : (p : ℕ) → a p + b p ≡ both p) (un
       only : (p : ℕ) → (mark ready₁ w 0 p ≡ true) ⊎ ((0 < b p) × (get_or unmet₂ p 0 ≡ 0)) → (mark ready w 0 p ≡ true) ⊎ ((0 < both p) × (get_or unmet₂ p 0 ≡ 0))
       only p (inl e) = first p (f.only p e)
       only p (inr (i, e)) = inr (omega (arith, sum p), e)
+
+-- by what is needed of the marks that were passed: one mark more
+module _ (need : ℕ → ℕ) (p : ℕ) (l r : List ℕ) (e : l ≡ p ∷ r) (le : (x : ℕ) → count x l ≤ need x) where
+  pub lowered_turn : (unmet ready unmet₁ ready₁ unmet₂ ready₂ : List ℕ) (w : ℕ) → LoweredBy (λ (x : ℕ). need x - count x l) unmet ready unmet₁ ready₁ w
+      → LoweredBy (λ (x : ℕ). one (eqb x p)) unmet₁ ready₁ unmet₂ ready₂ w → LoweredBy (λ (x : ℕ). need x - count x r) unmet ready unmet₂ ready₂ w
+  lowered_turn unmet ready unmet₁ ready₁ unmet₂ ready₂ w =
+      lowered_on (λ (x : ℕ). need x - count x l) (λ (x : ℕ). one (eqb x p)) (λ (x : ℕ). need x - count x r) (λ x. omega (arith, ap (count x) e, le x))
+      unmet ready unmet₁ ready₁ unmet₂ ready₂ w
 
 -- one count falls
 module _ (unmet ready ready' : List ℕ) (w p : ℕ) (inside : p < length unmet) (some : 1 ≤ get_or unmet p 0) where

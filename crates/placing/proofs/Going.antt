@@ -4,7 +4,7 @@ use mathlib.Core.Logic.{◌⊎◌, inl, inr, ◌↔◌}
 use mathlib.Core.List.{List, [], ◌∷◌, ◌++◌}
 use mathlib.Core.Bool.{Bool, true, false, not, ◌&&◌, and-true}
 use mathlib.Core.Option.{none, some}
-use Prim.Native.Nat.{ℕ, zero, suc, ◌+◌, ◌-◌, ◌*◌, ◌≤◌, ◌<◌}
+use Prim.Native.Nat.{ℕ, zero, suc, ◌+◌, ◌-◌, ◌≤◌, ◌<◌}
 use native.Mathlib.Omega.{arith}
 use native.Mathlib.Numerals.{add-one}
 use native.Mathlib.Decide.{ℕ_discrete}
@@ -15,7 +15,6 @@ use Rattle.order.specs.Placing.{waits, next, rounds, placed}
 use Rattle.order.proofs.Tests.{both_ways, so_or_not, one_in}
 use Rattle.order.proofs.Lists.{in_append, in_single, of_mem, zero_or_in, first_refute}
 use Rattle.marks.specs.Marks.{mark, Dropped, First}
-use Rattle.marks.proofs.Squares.{mark_in}
 use Rattle.placing.specs.UnmetCounts.{Rising, blocks, State, LoweredBy, Placed}
 use Rattle.placing.proofs.Lists.{filter_ext, any_zero, zero_any, rising_once, first_least_is, mem_same, mem_other, one_less}
 
@@ -49,51 +48,34 @@ module _ (R : ℕ → ℕ → Bool) (items : List ℕ) (rising : Rising items) (
         go (inr e) (inl d) = rw (e, d)
         go (inr e) (inr d) = both_ways (mark ready w 0 p) ((st.free p).1 (i, e, st.counts p i ∙ zero_any (blocks R done p) items d)) m
 
-    next_is : (r : ℕ) → First ready w r → r < 64 * w → next R items done ≡ some r
-    next_is r f h =
-        let m = f.here h in
+    next_is : (r : ℕ) → First ready w r → next R items done ≡ some r
+    next_is r f =
+        let m = f.here in
         first_least_is (λ p. not (mem p done) && not (waits R items done p)) items rising r ((st.free r).0 m).0 (passes r m) (λ x i l. fails x i (f.before x l))
 
-    next_none : (r : ℕ) → First ready w r → r ≡ 64 * w → next R items done ≡ none
-    next_none r f e = first_refute (λ p. not (mem p done) && not (waits R items done p)) items (λ x i. fails x i (low x (so_or_not (mark ready w 0 x))))
-      where
-        low : (x : ℕ) → (mark ready w 0 x ≡ true) ⊎ (mark ready w 0 x ≡ false) → mark ready w 0 x ≡ false
-        low x (inl m) = f.before x (omega (arith, mark_in ready w 0 x m))
-        low x (inr m) = m
-
-  pub going_start : (unmet ready order : List ℕ) → State R items [] unmet ready w → Going R items unmet ready order w 0
-  going_start unmet ready order st = record {
-    state = st;
-    rest = let e : length items - 0 ≡ length items = omega arith in ap (λ (j : ℕ). rounds R items j []) e;
-    within = omega arith;
-  }
+    next_none : ((x : ℕ) → mark ready w 0 x ≡ false) → next R items done ≡ none
+    next_none f = first_refute (λ p. not (mem p done) && not (waits R items done p)) items (λ x i. fails x i (f x))
 
   module _ (unmet ready order : List ℕ) (k : ℕ) (g : Going R items unmet ready order w k) where
-    pub going_end : length items ≤ k → Placed R items order k
-    going_end h = record { cells = sym (ap (λ (j : ℕ). rounds R items j (take k order)) zero_left) ∙ g.rest; within = g.within }
+    pub going_none : k < length items → ((x : ℕ) → mark ready w 0 x ≡ false) → Placed R items order k
+    going_none h f = record { cells = sym (step (length items - k) (omega arith)) ∙ g.rest; within = g.within }
       where
-        zero_left : length items - k ≡ 0
-        zero_left = omega arith
+        step : (j : ℕ) → 0 < j → rounds R items j (take k order) ≡ take k order
+        step zero m = absurd (omega arith)
+        step (suc j) m = rw (next_none (take k order) unmet ready g.state f)
 
     module _ (r : ℕ) (f : First ready w r) where
-      pub going_none : k < length items → r ≡ 64 * w → Placed R items order k
-      going_none h e = record { cells = sym (step (length items - k) (omega arith)) ∙ g.rest; within = g.within }
-        where
-          step : (j : ℕ) → 0 < j → rounds R items j (take k order) ≡ take k order
-          step zero m = absurd (omega arith)
-          step (suc j) m = rw (next_none (take k order) unmet ready g.state r f e)
-
       -- what is placed next: an item that is not placed and has no unmet needs
-      pub item_is : r < 64 * w → (r ∈ items) × (mem r (take k order) ≡ false) × (get_or unmet r 0 ≡ 0)
-      item_is h = (g.state.free r).0 (f.here h)
+      pub item_is : (r ∈ items) × (mem r (take k order) ≡ false) × (get_or unmet r 0 ≡ 0)
+      item_is = (g.state.free r).0 f.here
 
       -- those that need it have it unmet
-      module _ (h : r < 64 * w) (of : (p : ℕ) → R p r ≡ true → p ∈ items) where
+      module _ (of : (p : ℕ) → R p r ≡ true → p ∈ items) where
         single : count r items ≡ 1
-        single = omega (arith, rising_once items rising r, (item_is h).0)
+        single = omega (arith, rising_once items rising r, item_is.0)
 
         less : (p : ℕ) → length (filter (blocks R (take k order ++ r ∷ []) p) items) + one (R p r) ≡ length (filter (blocks R (take k order) p) items)
-        less p = one_less R (take k order) r (item_is h).1 p items single
+        less p = one_less R (take k order) r item_is.1 p items single
 
         item : (p : ℕ) → 0 < one (R p r) → p ∈ items
         item p i = of p (one_in (R p r) i)
@@ -119,7 +101,7 @@ module _ (R : ℕ → ℕ → Bool) (items : List ℕ) (rising : Rising items) (
             met_case p (inl i) = omega (arith, low.counts p, g.state.met p i)
             met_case p (inr i) =
                 let e : p ≡ r = in_single p r i in
-                rw e (omega (arith, low.counts r, (item_is h).2))
+                rw e (omega (arith, low.counts r, item_is.2))
 
             met : (p : ℕ) → p ∈ take (k + 1) (set order k r) → get_or unmet' p 0 ≡ 0
             met p i = met_case p (in_append p (take k order) (r ∷ []) (subst (λ (l : List ℕ). p ∈ l) done i))
@@ -141,7 +123,7 @@ module _ (R : ℕ → ℕ → Bool) (items : List ℕ) (rising : Rising items) (
                 go (inl e) (no y) =
                     let o = (g.state.free p).0 (sym (drop.others 0 p (λ _ z. y z)) ∙ e) in
                     (o.0, ap (mem p) done ∙ mem_other p r (take k order) y ∙ o.1, omega (arith, low.counts p, o.2))
-                go (inr (i, e)) (yes y) = absurd (omega (arith, (item_is h).2, low.counts r, subst (λ (v : ℕ). 0 < one (R v r)) y i))
+                go (inr (i, e)) (yes y) = absurd (omega (arith, item_is.2, low.counts r, subst (λ (v : ℕ). 0 < one (R v r)) y i))
                 go (inr (i, e)) (no y) = (item p i, ap (mem p) done ∙ mem_other p r (take k order) y ∙ unplaced p (omega (arith, low.counts p)), e)
 
             back : (p : ℕ) → (p ∈ items) × (mem p (take (k + 1) (set order k r)) ≡ false) × (get_or unmet' p 0 ≡ 0) → mark ready' w 0 p ≡ true
@@ -154,7 +136,7 @@ module _ (R : ℕ → ℕ → Bool) (items : List ℕ) (rising : Rising items) (
                     low.kept p (drop.others 0 p (λ _ x. y x) ∙ (g.state.free p).1 (i, sym (ap (mem p) done ∙ mem_other p r (take k order) y) ∙ e, omega (arith, low.counts p)))
 
             step : (j : ℕ) → j ≡ suc (length items - (k + 1)) → rounds R items j (take k order) ≡ rounds R items (length items - (k + 1)) (take k order ++ r ∷ [])
-            step j e = rw (e, next_is (take k order) unmet ready g.state r f h)
+            step j e = rw (e, next_is (take k order) unmet ready g.state r f)
 
             rest : rounds R items (length items - (k + 1)) (take (k + 1) (set order k r)) ≡ placed R items
             rest = rw done (sym (step (length items - k) (omega arith)) ∙ g.rest)

@@ -4,25 +4,21 @@ use mathlib.Core.Logic.{◌⊎◌, inl, inr}
 use mathlib.Core.List.{List, [], ◌∷◌}
 use mathlib.Core.Bool.{Bool, true, false, not, ◌&&◌, and-false}
 use mathlib.Core.Option.{some}
-use Prim.Native.Nat.{ℕ, zero, suc, ◌+◌, ◌-◌, ◌*◌, ◌^◌, ◌<◌}
+use Prim.Native.Nat.{ℕ, zero, suc, ◌+◌, ◌*◌, ◌≤◌, ◌<◌}
 use native.Mathlib.Omega.{arith}
 use native.Mathlib.Decide.{dec_lt}
-use lib.Bits.{bit_and}
-use lib.Count.{count_trailing_zeros}
 use lib.Dec.{ltb}
 use lib.ListN.{length, get_or, take}
 use lib.Seq.{take_all}
-use borrow.Author.Tests.{lt-ltb}
+use borrow.Author.Tests.{lt-ltb, ltb-true}
 use Rattle.order.specs.LabelLists.{one, count, ◌∈◌, mem}
 use Rattle.order.specs.Placing.{waits, next, rounds, placed}
-use Rattle.order.proofs.Tests.{both_ways, so_or_not}
+use Rattle.order.proofs.Tests.{both_ways, so_or_not, and_left, one_in}
 use Rattle.order.proofs.Lists.{any_refute, in_here, in_there, in_cons, mem_of}
-use Rattle.marks.specs.Marks.{mark, places}
-use Rattle.marks.proofs.Bits.{places_none, count_low, count_place, lowest_is, lowest_below}
-use Rattle.marks.proofs.Squares.{common_turn}
+use Rattle.marks.specs.Marks.{mark}
 use Rattle.placing.specs.UnmetCounts.{Rising, needed, Ordered}
 use Rattle.placing.proofs.Lists.{in_at, in_more, take_more, count_more, count_take_le, rising_once, first_least_is}
-use Rattle.placing.proofs.Counts.{eq_one, below, word}
+use Rattle.placing.proofs.Counts.{eq_one}
 
 -- ---- the rule
 
@@ -81,44 +77,46 @@ module _ (R : ℕ → ℕ → Bool) (items : List ℕ) (rising : Rising items) (
 
 -- ---- its test
 
-module _ (square mask : List ℕ) (w q : ℕ) where
-  -- what has no mark in common with the mask below k does not need q
-  pub below_free : (k p : ℕ) → p < k → below square mask w q k p ≡ 0 → needed square mask w p q ≡ false
-  below_free k p h z = go (mark square w q p) refl (mark mask w 0 p) refl
+-- none is below the first of a list that rises
+first_least : (x : ℕ) (l : List ℕ) → Rising (x ∷ l) → (p : ℕ) → p < x → count p (x ∷ l) ≡ 0
+first_least x l r p h = go (dec_lt 0 (count p (x ∷ l)))
+  where
+    by : (p ≡ x) ⊎ (p ∈ l) → count p (x ∷ l) ≡ 0
+    by (inl e) = absurd (omega arith)
+    by (inr i) = absurd (omega (arith, r.0 p i))
+
+    go : Dec (0 < count p (x ∷ l)) → count p (x ∷ l) ≡ 0
+    go (yes i) = by (in_cons p x l i)
+    go (no i) = omega arith
+
+module _ (square mask : List ℕ) (w q k : ℕ) (l : List ℕ)
+    (counted : (p : ℕ) → count p l ≡ one (ltb p (64 * k) && mark square w q p && mark mask w 0 p)) where
+  -- what is not among the marks below k does not need q
+  unneeded : (p : ℕ) → p < 64 * k → count p l ≡ 0 → needed square mask w p q ≡ false
+  unneeded p h z = go (mark square w q p) refl (mark mask w 0 p) refl
     where
       go : (a : Bool) → mark square w q p ≡ a → (b : Bool) → mark mask w 0 p ≡ b → needed square mask w p q ≡ false
       go true x true y =
-          let one-is : one (ltb p k && mark square w q p && mark mask w 0 p) ≡ 1 = rw (lt-ltb p k h, x, y) in
-          absurd (omega arith)
+          let one-is : one (ltb p (64 * k) && mark square w q p && mark mask w 0 p) ≡ 1 = rw (lt-ltb p (64 * k) h, x, y) in
+          absurd (omega (arith, counted p))
       go true x false y = rw (x, y) (and-false (mark mask w 0 q))
       go false x b y = rw x (and-false (mark mask w 0 q))
 
-  module _ (j : ℕ) (h : j < w) (old : (p : ℕ) → below square mask w q (64 * j) p ≡ 0) where
-    pub below_turn : bit_and (get_or square (q * w + j) 0) (get_or mask j 0) ≡ 0 → (p : ℕ) → below square mask w q (64 * (j + 1)) p ≡ 0
-    below_turn z p =
-        let e : count p (word square mask w q j) ≡ 0 = rw (z, places_none 64 (64 * j)) in
-        omega (arith, common_turn square mask w q j h p, old p)
+  pub none_free : l ≡ [] → (p : ℕ) → p < 64 * k → needed square mask w p q ≡ false
+  none_free e p h = unneeded p h (ap (count p) e)
 
-    -- the lowest mark of the word is the first
-    pub below_first : (x : ℕ) → x ≡ bit_and (get_or square (q * w + j) 0) (get_or mask j 0) → 0 < x → x < 2 ^ 64
-        → (p : ℕ) → p < 64 * j + count_trailing_zeros 64 x → needed square mask w p q ≡ false
-    below_first x e has fits p l =
-        let t = lowest_is 64 x has fits in
-        let z : count p (word square mask w q j) ≡ 0 = ap (λ (y : ℕ). count p (places 64 (64 * j) y)) (sym e) ∙ go (dec_lt p (64 * j)) in
-        below_free (64 * (j + 1)) p (omega (arith, t.0)) (omega (arith, common_turn square mask w q j h p, old p))
-      where
-        go : Dec (p < 64 * j) → count p (places 64 (64 * j) x) ≡ 0
-        go (yes g) = count_low 64 (64 * j) x p g
-        go (no g) =
-            let t = lowest_is 64 x has fits in
-            let i : p ≡ 64 * j + (p - 64 * j) = omega arith in
-            ap (λ (y : ℕ). count y (places 64 (64 * j) x)) i ∙ count_place 64 (64 * j) x (p - 64 * j) (omega (arith, t.0)) ∙ ap one (lowest_below 64 x (p - 64 * j) (omega arith))
+  pub first_free : (x : ℕ) (r : List ℕ) → Rising l → l ≡ x ∷ r → (p : ℕ) → p < x → needed square mask w p q ≡ false
+  first_free x r rs e p h =
+      let own : (ltb x (64 * k) && mark square w q x && mark mask w 0 x) ≡ true =
+      one_in _ (omega (arith, counted x, ap (count x) e, in_here x r)) in
+      let within : x < 64 * k = ltb-true x (64 * k) (and_left (ltb x (64 * k)) (mark square w q x) (and_left (ltb x (64 * k) && mark square w q x) (mark mask w 0 x) own)) in
+      unneeded p (omega arith) (ap (count p) e ∙ first_least x r (subst Rising e rs) p h)
 
 -- ---- its loop
 
-pub ordered_turn : (R : ℕ → ℕ → Bool) (items : List ℕ) (i q r : ℕ) → i < length items → q ≡ get_or items i 0 → ((p : ℕ) → p < r → R p q ≡ false) → q < r
-    → Ordered R (take i items) → Ordered R (take (i + 1) items)
-ordered_turn R items i q r h e f l old p x m n = go (in_more x items i h m)
+pub ordered_turn : (R : ℕ → ℕ → Bool) (items : List ℕ) (i q : ℕ) → i < length items → q ≡ get_or items i 0
+    → ((p : ℕ) → p ≤ q → R p q ≡ false) → Ordered R (take i items) → Ordered R (take (i + 1) items)
+ordered_turn R items i q h e f old p x m n = go (in_more x items i h m)
   where
     go : (x ∈ take i items) ⊎ (x ≡ get_or items i 0) → x < p
     go (inl y) = old p x y n

@@ -14,7 +14,7 @@ abbrev pub AllBelow : List ℕ → ℕ → Type 0
 AllBelow l k = (p : ℕ) → p ∈ l → p < k
 
 -- row q of the square, with a count for each that the mask has
-pub record Row (square mask unmet : List ℕ) (w q : ℕ) : Type 0 where
+pub record MaskedRow (square mask unmet : List ℕ) (w q : ℕ) : Type 0 where
   pub narrow : w ≤ 1000
   pub below : q < 64 * w
   pub row : q * w + w ≤ length square

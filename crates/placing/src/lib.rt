@@ -4,61 +4,55 @@
 
 #![tactic(auto)]
 
-ghost use Rattle.std.specs.Prelude.{◌≡◌, true, false, [], ◌↔◌, ℕ, ◌+◌, ◌*◌, ◌≤◌, ◌<◌, length, get_or, take};
+ghost use Rattle.std.specs.Prelude.{◌≡◌, true, false, [], ◌↔◌, ℕ, ◌+◌, ◌*◌, ◌≤◌, ◌<◌, length, get_or, MatchOption};
 ghost use Rattle.order.specs.LabelLists.{one, count, ◌∈◌, filter};
-ghost use Rattle.marks.specs.Marks.{mark, places};
-ghost use Rattle.placing.specs.UnmetCounts.{needed, AllBelow, Row, Raisable, RaisedBy, LoweredBy, InRows, Fits, Ordered, State, Placed};
+ghost use Rattle.marks.specs.Marks.{mark};
+ghost use Rattle.marks.specs.Walk.{word_left};
+ghost use Rattle.placing.specs.UnmetCounts.{needed, AllBelow, MaskedRow, Raisable, RaisedBy, LoweredBy, InRows, Fits, Ordered, State, Placed};
 
-// One unmet need more for each mark of a word, counted on from `base`.
-fn raise_word(word: u64, base: usize, unmet: &mut [u16])
-    requires { (base + 64 < 65536) × AllBelow (places 64 base word) (length unmet.old) × Raisable (λ (p : ℕ). count p (places 64 base word)) unmet.old }
-    ensures { RaisedBy (λ (p : ℕ). count p (places 64 base word)) unmet.old unmet.new }
+use marks::WordMarks;
+
+// One unmet need more for each mark of a word.
+fn raise_word(word: WordMarks, unmet: &mut [u16])
+    requires { AllBelow (word_left word) (length unmet.old) × Raisable (λ (p : ℕ). count p (word_left word)) unmet.old }
+    ensures { RaisedBy (λ (p : ℕ). count p (word_left word)) unmet.old unmet.new }
 {
-    let mut x = word;
-    while x != 0 {
-        let p = base + u64::trailing_zeros(x) as usize;
-        unmet[p] = unmet[p] + 1;
-        x = x & (x - 1);
+    for p in word {
+        unmet[p] += 1;
     }
 }
 
 // One unmet need more for each item that needs q.
 fn raise(square: &[u64], w: usize, mask: &[u64], q: usize, unmet: &mut [u16])
-    requires row { Row square.now mask.now unmet.old w q }
+    requires row { MaskedRow square.now mask.now unmet.old w q }
     requires raisable { Raisable (λ (p : ℕ). one (needed square.now mask.now w p q)) unmet.old }
     ensures { RaisedBy (λ (p : ℕ). one (needed square.now mask.now w p q)) unmet.old unmet.new }
 {
     if !marks::has_mark(mask, w, 0, q) {
         return;
     }
-    let a = q * w;
-    let mut j = 0;
-    while j < w {
-        raise_word(square[a + j] & mask[j], 64 * j, unmet);
-        j += 1;
+    for j in 0..w {
+        raise_word(marks::common_marks_in(square, w, q, mask, j), unmet);
     }
 }
 
-// One unmet need less for each mark of a word.
-fn lower_word(word: u64, base: usize, w: usize, unmet: &mut [u16], ready: &mut [u64])
-    requires base_bound { (base + 64 < 65536) × AllBelow (places 64 base word) (length unmet.old) × AllBelow (places 64 base word) (64 * w) }
-    requires by_index { ((p : ℕ) → count p (places 64 base word) ≤ get_or unmet.old p 0) × (w ≤ length ready.old) }
-    ensures { LoweredBy (λ (p : ℕ). count p (places 64 base word)) unmet.old ready.old unmet.new ready.new w }
+// One unmet need less for each mark of a word. What so comes to 0 is ready.
+fn lower_word(word: WordMarks, w: usize, unmet: &mut [u16], ready: &mut [u64])
+    requires below { AllBelow (word_left word) (length unmet.old) × AllBelow (word_left word) (64 * w) × (w ≤ length ready.old) }
+    requires by_index { (p : ℕ) → count p (word_left word) ≤ get_or unmet.old p 0 }
+    ensures { LoweredBy (λ (p : ℕ). count p (word_left word)) unmet.old ready.old unmet.new ready.new w }
 {
-    let mut x = word;
-    while x != 0 {
-        let p = base + u64::trailing_zeros(x) as usize;
-        unmet[p] = unmet[p] - 1;
+    for p in word {
+        unmet[p] -= 1;
         if unmet[p] == 0 {
             marks::put_mark(ready, w, 0, p);
         }
-        x = x & (x - 1);
     }
 }
 
 // One unmet need less for each item that needs q.
 fn lower(square: &[u64], w: usize, mask: &[u64], q: usize, unmet: &mut [u16], ready: &mut [u64])
-    requires row { Row square.now mask.now unmet.old w q }
+    requires row { MaskedRow square.now mask.now unmet.old w q }
     requires by_index { ((p : ℕ) → one (needed square.now mask.now w p q) ≤ get_or unmet.old p 0) × (w ≤ length ready.old) }
     ensures { LoweredBy (λ (p : ℕ). one (needed square.now mask.now w p q))
         unmet.old ready.old unmet.new ready.new w }
@@ -66,11 +60,9 @@ fn lower(square: &[u64], w: usize, mask: &[u64], q: usize, unmet: &mut [u16], re
     if !marks::has_mark(mask, w, 0, q) {
         return;
     }
-    let a = q * w;
-    let mut j = 0;
-    while j < w {
-        lower_word(square[a + j] & mask[j], 64 * j, w, unmet, ready);
-        j += 1;
+    for j in 0..w {
+        let needing = marks::common_marks_in(square, w, q, mask, j);
+        lower_word(needing, w, unmet, ready);
     }
 }
 
@@ -79,11 +71,8 @@ pub fn clear_cells(items: &[u16], cells: &mut [u16])
     requires { AllBelow items.now (length cells.old) }
     ensures { (p : ℕ) → p ∈ items.now → get_or cells.new p 0 ≡ 0 }
 {
-    let mut i = 0;
-    while i < items.len() {
-        let p = marks::widen(items[i]);
-        cells[p] = 0;
-        i += 1;
+    for &x in items {
+        cells[usize::from(x)] = 0;
     }
 }
 
@@ -93,11 +82,8 @@ fn count_needs(items: &[u16], square: &[u64], w: usize, mask: &[u64], unmet: &mu
     requires by_index { (p : ℕ) → p ∈ items.now → get_or unmet.old p 0 ≡ 0 }
     ensures { (p : ℕ) → p ∈ items.now → get_or unmet.new p 0 ≡ length (filter (needed square.now mask.now w p) items.now) }
 {
-    let mut i = 0;
-    while i < items.len() {
-        let q = marks::widen(items[i]);
-        raise(square, w, mask, q, unmet);
-        i += 1;
+    for &x in items {
+        raise(square, w, mask, usize::from(x), unmet);
     }
 }
 
@@ -107,13 +93,11 @@ fn mark_ready(items: &[u16], w: usize, unmet: &[u16], ready: &mut [u64])
     requires by_index { (p : ℕ) → mark ready.old w 0 p ≡ false }
     ensures { (p : ℕ) → (mark ready.new w 0 p ≡ true) ↔ ((p ∈ items.now) × (get_or unmet.now p 0 ≡ 0)) }
 {
-    let mut i = 0;
-    while i < items.len() {
-        let p = marks::widen(items[i]);
+    for &x in items {
+        let p = usize::from(x);
         if unmet[p] == 0 {
             marks::put_mark(ready, w, 0, p);
         }
-        i += 1;
     }
 }
 
@@ -151,40 +135,28 @@ fn place_counted(
     ensures { Placed (needed square.now mask.now w) items.now order.new result }
 {
     start(items, square, w, mask, unmet, ready);
-    let mut k = 0;
-    while k < items.len() {
-        let q = marks::first_mark(ready, w);
-        if q == 64 * w {
+    for k in 0..items.len() {
+        let Some(q) = marks::first_mark(ready, w) else {
             return k;
-        }
+        };
         marks::drop_mark(ready, w, 0, q);
         order[k] = q as u16;
-        k += 1;
         lower(square, w, mask, q, unmet, ready);
     }
-    k
+    items.len()
 }
 
 // ---- items that are in order as they stand
 
-// Below where the answer says, nothing needs q. It is past q where nothing up to q does.
-fn first_needing(square: &[u64], w: usize, mask: &[u64], q: usize) -> usize
+// The first item that needs q, if one up to q does; else none, or one past q.
+fn first_needing(square: &[u64], w: usize, mask: &[u64], q: usize) -> Option<usize>
     requires { (w ≤ 1000) × (q < 64 * w) × (q * w + w ≤ length square.now) × (w ≤ length mask.now) }
-    ensures { (p : ℕ) → p < result → needed square.now mask.now w p q ≡ false }
+    ensures { MatchOption result ((p : ℕ) → p ≤ q → needed square.now mask.now w p q ≡ false) (λ r. (p : ℕ) → p < r → needed square.now mask.now w p q ≡ false) }
 {
     if !marks::has_mark(mask, w, 0, q) {
-        return q + 1;
+        return None;
     }
-    let a = q * w;
-    let mut j = 0;
-    while 64 * j <= q {
-        let x = square[a + j] & mask[j];
-        if x != 0 {
-            return 64 * j + u64::trailing_zeros(x) as usize;
-        }
-        j += 1;
-    }
-    64 * j
+    marks::common_marks_within(square, w, q, mask, q / 64 + 1).next()
 }
 
 // Whether every item is known to need only such as stand before it.
@@ -192,28 +164,15 @@ fn are_in_order(items: &[u16], square: &[u64], w: usize, mask: &[u64]) -> bool
     requires { InRows items.now square.now mask.now w }
     ensures { result ≡ true → Ordered (needed square.now mask.now w) items.now }
 {
-    let mut i = 0;
-    while i < items.len() {
-        let q = marks::widen(items[i]);
-        if first_needing(square, w, mask, q) <= q {
+    for &x in items {
+        let q = usize::from(x);
+        if let Some(p) = first_needing(square, w, mask, q)
+            && p <= q
+        {
             return false;
         }
-        i += 1;
     }
     true
-}
-
-// The items as they stand. Answers how many.
-fn copy_items(items: &[u16], order: &mut [u16]) -> usize
-    requires { length items.now ≤ length order.old }
-    ensures { (take result order.new ≡ items.now) × (result ≤ length items.now) }
-{
-    let mut k = 0;
-    while k < items.len() {
-        order[k] = items[k];
-        k += 1;
-    }
-    k
 }
 
 // Places the items in the order. Answers how many; fewer than there are if it gets stuck. In most sheets items need only earlier ones:
@@ -232,7 +191,8 @@ pub fn place(
     ensures { Placed (needed square.now mask.now w) items.now order.new result }
 {
     if are_in_order(items, square, w, mask) {
-        return copy_items(items, order);
+        order[..items.len()].copy_from_slice(items);
+        return items.len();
     }
     place_counted(items, square, w, mask, unmet, ready, order)
 }

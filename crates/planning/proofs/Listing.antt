@@ -10,7 +10,14 @@ use lib.IntN.{ℤ, pos}
 use lib.ListN.{length, get_or, set, take, drop, length-append}
 use lib.Seq.{take-suc-set, drop-set-lt, drop-drop}
 use borrow.Author.Tests.{ne_eqb}
+use denote.Enum.Bare.{sameb, same_true}
+use Rattle.std.proofs.Common.{rules}
+use Rattle.kinds.specs.contracts.Kind.{the_type}
+use Rattle.kinds.specs.declared.Kind.{Kind}
+use Rattle.kinds.specs.declared.Kind.TheVariants as kind_of
+use Rattle.kinds.proofs.Enumerated.{one_kind}
 use Rattle.kinds.specs.Kinds.{group_code, value_code}
+use Rattle.kinds.specs.Coded.{own_code}
 use Rattle.cells.specs.Table.{kind}
 use Rattle.cells.specs.Accepted.{Accepted}
 use Rattle.order.specs.LabelLists.{◌∈◌, joined}
@@ -82,6 +89,15 @@ put_then l l' at to to' plan₀ plan plan' p q = record {
   rest = q.rest ∙ ap (λ (k : ℕ). drop k plan) q.end ∙ sym (drop-drop (length l') to plan) ∙ ap (λ (z : List ℤ). drop (length l') z) p.rest
       ∙ drop-drop (length l') to plan₀ ∙ sym (ap (λ (k : ℕ). drop k plan₀) q.end);
 }
+
+-- ---- whether a kind is that of a Group
+
+pub is_group : (k : Kind) (c : ℕ) → own_code k ≡ c → sameb the_type k kind_of.Group ≡ true → c ≡ group_code
+is_group k c e h = sym e ∙ ap own_code (same_true the_type (search rules) k kind_of.Group h)
+
+pub no_group : (k : Kind) (c : ℕ) → own_code k ≡ c → sameb the_type k kind_of.Group ≡ false → c ≡ group_code → ⊥
+no_group k c e h z =
+    both_ways (sameb the_type k kind_of.Group) (subst (λ (m : Kind). sameb the_type m kind_of.Group ≡ true) (sym (one_kind k kind_of.Group (e ∙ z))) refl) h
 
 -- ---- the turns of `list_group`
 

@@ -3,27 +3,39 @@ use mathlib.Core.Path.{◌≡◌, refl, sym, ap, ◌∙◌, subst}
 use mathlib.Core.List.{List, ◌++◌, map}
 use mathlib.Core.Bool.{true, false}
 use mathlib.Core.Option.{Option, none, some}
-use Prim.Native.Nat.{ℕ, zero, suc, ◌-◌, ◌*◌, ◌≤◌, ◌<◌}
+use Prim.Native.Nat.{ℕ, zero, suc, ◌*◌, ◌≤◌, ◌<◌}
 use native.Mathlib.Omega.{arith}
 use lib.IntN.{ℤ, pos}
 use lib.ListN.{length, drop, replicate, take-append-drop}
 use Rattle.cells.specs.Table.{owner}
 use Rattle.cells.specs.Accepted.{Accepted}
-use Rattle.order.specs.Order.{first_cycle, sheet_tangled, or_zero, place16, plan_order, cycle, whole, mixed, plan}
+use Rattle.cells.proofs.Scratch.{long, zero_at}
+use Rattle.order.specs.Order.{first_cycle, sheet_tangled, or_zero, place16, plan_order, whole, mixed, plan}
 use Rattle.order.proofs.Planned.{cycle_smallest, cycle_none, order_short}
 use Rattle.order.proofs.Tables.{owner_below}
 use Rattle.order.proofs.BlockPlan.{order_proper}
-use Rattle.reach.specs.Chains.{Empty}
-use Rattle.reach.proofs.Scratch.{long, zero_chain}
+use Rattle.std.specs.Prelude.{Ok, Some, None}
+use Rattle.std.specs.Prelude as maybe
+use Rattle.std.specs.Option as tested
 use Rattle.reach.specs.MarkRows.{width}
 use Rattle.groups.specs.Members.{Scratch}
+use Rattle.reach.specs.Chains.{Empty}
 use Rattle.groups.specs.Opened.{Opened}
-use Rattle.splitting.specs.Leaders.{SearchRoom}
 use Rattle.groups.proofs.Progress.{within_le}
-use Rattle.planning.specs.declared.Planned.TheVariants.{Cycle, Whole, Mixed}
+use Rattle.planning.specs.declared.Plan.TheVariants.{Whole, Mixed}
 use Rattle.planning.specs.Listing.{list_of, PutAt}
 use Rattle.planning.specs.Plans.{PlanIs}
 use Rattle.planning.proofs.Listing.{whole_list}
+
+-- ---- whether some Group is stuck
+
+pub is_none : (o : maybe.Option ℕ) → tested.is_some o ≡ false → o ≡ None
+is_none None e = refl
+is_none (Some g) e = cc
+
+pub is_some : (o : maybe.Option ℕ) → tested.is_some o ≡ true → (g : ℕ) × (o ≡ Some g)
+is_some None e = absurd cc
+is_some (Some g) e = (g, refl)
 
 -- ---- the plan's cells
 
@@ -45,18 +57,6 @@ module _ (t : List ℤ) (n : ℕ) (ok : Accepted t n) where
           let y : suc v ≡ 0 = sym (ap or_zero e) ∙ z in
           absurd (omega arith)
 
-  a_cycle : (v : ℕ) → v ≡ place16 t n → (v ≡ 0 → ⊥) → first_cycle t n ≡ some v
-  a_cycle v z d = go (first_cycle t n) refl
-    where
-      go : (c : Option ℕ) → first_cycle t n ≡ c → first_cycle t n ≡ some v
-      go none e = absurd (d (z ∙ ap or_zero e))
-      go (some u) e = e ∙ ap some (sym (z ∙ ap or_zero e))
-
-  pub plan_cycle : (v : ℕ) (p : List ℤ) → v ≡ place16 t n → (v ≡ 0 → ⊥) → PlanIs (plan t n) p p (Cycle v)
-  plan_cycle v p z d =
-      let e : plan t n ≡ cycle v = rw (a_cycle v z d) in
-      rw e (record { reply = refl; cells = refl })
-
   -- ---- whole, or mixed
 
   pub plan_short_lem : place16 t n ≡ 0 → length (list_of t n 1) ≤ n
@@ -69,15 +69,15 @@ module _ (t : List ℤ) (n : ℕ) (ok : Accepted t n) where
     many : r ≡ length (plan_order t n)
     many = omega (arith, as_plan.end)
 
-    pub plan_whole : sheet_tangled t n ≡ false → PlanIs (plan t n) p p' (Whole r)
+    pub plan_whole : sheet_tangled t n ≡ false → PlanIs (plan t n) p p' (Ok (Whole r))
     plan_whole f =
         let e : plan t n ≡ whole (plan_order t n) = rw (no_cycle z, f) in
-        rw e (record { reply = ap Whole many; cells = put_cells (plan_order t n) p p' r as_plan })
+        rw e (record { reply = ap (λ (k : ℕ). Ok (Whole k)) many; cells = put_cells (plan_order t n) p p' r as_plan })
 
-    pub plan_mixed : sheet_tangled t n ≡ true → PlanIs (plan t n) p p' (Mixed r)
+    pub plan_mixed : sheet_tangled t n ≡ true → PlanIs (plan t n) p p' (Ok (Mixed r))
     plan_mixed f =
         let e : plan t n ≡ mixed (plan_order t n) = rw (no_cycle z, f) in
-        rw e (record { reply = ap Mixed many; cells = put_cells (plan_order t n) p p' r as_plan })
+        rw e (record { reply = ap (λ (k : ℕ). Ok (Mixed k)) many; cells = put_cells (plan_order t n) p p' r as_plan })
 
   -- the outermost Group is not opened
   pub top_free : (g : ℕ) → Opened t n g 1 → ⊥
@@ -89,16 +89,16 @@ module _ (t : List ℤ) (n : ℕ) (ok : Accepted t n) where
 
 -- ---- scratch that is all 0
 
--- what `list_in` asks of it, for n labels below k and rows of b words
-module _ (n k b : ℕ) where
+-- what `link_members` and `order_groups` ask of it, for n labels below k, rows of b words and chains of l cells
+module _ (n k b l : ℕ) where
   abbrev pub Fresh : Type 0
   Fresh =
-      ((2 * n < length (replicate {0} {A = ℕ} (2 * k - 1) 0)) × Empty n (replicate (2 * k - 1) 0))
+      ((2 * n < length (replicate {0} {A = ℕ} l 0)) × Empty n (replicate l 0))
       × ((n < length (replicate {0} {A = ℕ} k 0)) × Scratch n (replicate b 0) (replicate k 0) (replicate b 0) (replicate k 0))
 
-  pub zero_lists : n < k → width n ≤ b → Fresh
-  zero_lists h g = (
-    zero_chain n (2 * k - 1) (omega arith),
+  pub zero_lists : n < k → width n ≤ b → 2 * n < l → Fresh
+  zero_lists h g c = (
+    (omega (arith, long l), λ d e. zero_at l d),
     (
       omega (arith, long k),
       record {
@@ -108,20 +108,4 @@ module _ (n k b : ℕ) where
         orders = omega (arith, long k);
       },
     ),
-  )
-
-  -- and what opening Groups asks
-  abbrev pub FreshSearch : Type 0
-  FreshSearch = (2 * n < length (replicate {0} {A = ℕ} (2 * k - 1) 0)) × SearchRoom n (replicate (64 * b) 0) (replicate b 0) (replicate (64 * b) 0) (replicate k 0) (replicate k 0)
-
-  pub zero_search : n < k → width n ≤ b → FreshSearch
-  zero_search h g = (
-    omega (arith, long (2 * k - 1)),
-    record {
-      list_room = omega (arith, long (64 * b));
-      stacked_room = omega (arith, long b);
-      stack_room = omega (arith, long (64 * b));
-      path_room = omega (arith, long k);
-      lead_room = omega (arith, long k);
-    },
   )

@@ -1,5 +1,6 @@
 -- How long a print can get: the line of column names, 36 bytes, and 1,024 lines of at most 48.
-use mathlib.Core.Path.{◌≡◌, ap, ◌∙◌}
+use mathlib.Core.Path.{◌≡◌, refl, ap, ◌∙◌}
+use Rattle.std.specs.Prelude.{Ok, Err}
 use mathlib.Core.Bool.{true}
 use mathlib.Core.List.{List, [], ◌∷◌, ◌++◌}
 use Prim.Native.Nat.{ℕ, ◌+◌, ◌-◌, ◌*◌, ◌≤◌}
@@ -18,7 +19,9 @@ use Rattle.order.specs.Following.{labels_of}
 use Rattle.order.proofs.Lists.{in_here, in_there}
 use Rattle.order.proofs.Proper.{listed_value, proper_no_cycle}
 use Rattle.order.proofs.Planned.{order_short}
-use Rattle.refusals.specs.declared.Verdict.TheVariants.{Fine}
+use Rattle.refusals.specs.Rows.{row_number}
+use Rattle.refusals.specs.Refusal.{Fine}
+use Rattle.refusals.specs.declared.Refusal.{Refusal}
 use Rattle.reading.specs.Read.{sheet_table, table_of}
 use Rattle.reading.proofs.Padding.{cell_padded}
 use Rattle.reading.proofs.Accepted.{read_accepted, read_short}
@@ -31,11 +34,11 @@ use Rattle.numbers.specs.declared.Arithmetic.{Arithmetic}
 use Rattle.figures.specs.Figures.{result_cells}
 use Rattle.figures.proofs.Working.{value_label, figures_value, figures_stored}
 use Rattle.figures.proofs.Early.{figures_recorded}
-use Rattle.calls.specs.Plan.{plan_refusal, plan_place, length_of, is_answer}
+use Rattle.calls.specs.Plan.{plan_refusal, plan_place, length_of, is_answer, PlanReply}
 use Rattle.calls.specs.Run.{run_reply, run_table, run_plan, run_results}
 use Rattle.calls.specs.Leaves.{RunLeaves}
-use Rattle.calls.specs.declared.PlanReply.{PlanReply}
-use Rattle.calls.specs.declared.PlanReply.TheVariants as reply
+use Rattle.planning.specs.declared.Plan.{Plan}
+use Rattle.planning.specs.declared.Plan.TheVariants.{Whole, Mixed}
 use Rattle.numbers.specs.Numerals.{decimal, integer}
 use Rattle.printing.specs.Print.{line_of, columns_line, refusal_line, whole_word, mixed_word, name_field, value_line, value_lines, refusal_print, print_by, print_with, print_bound}
 use Rattle.printing.specs.Writing.{last_index, Wrote, PrintWritten}
@@ -159,15 +162,20 @@ refusal_length row place h g =
 module _ (s : List ℕ) (m p q : ℕ) where
   print_short : (x : PlanReply) → run_reply s m p q ≡ x → plan_refusal x ≤ last_index → plan_place x ≤ last_index → length (print_with s m p q) ≤ print_bound
   unfolding whole_word mixed_word
-  print_short (reply.Whole k) e h g = rw e (rw e at (answer_length s m p q (ap is_answer e) whole_word (omega arith)))
-  print_short (reply.Mixed k) e h g = rw e (rw e at (answer_length s m p q (ap is_answer e) mixed_word (omega arith)))
-  print_short (reply.Refused row place) e h g = rw e (refusal_length row place h g)
+  print_short (Ok (Whole k)) e h g = rw e (rw e at (answer_length s m p q (ap is_answer e) whole_word (omega arith)))
+  print_short (Ok (Mixed k)) e h g = rw e (rw e at (answer_length s m p q (ap is_answer e) mixed_word (omega arith)))
+  print_short (Err z) e h g = rw e (refusal_length (row_number z.row) z.place h g)
 
-  -- Run left the reply x, and its print was written
-  module _ (r : PlanReply) (t o u : List ℤ) (left : RunLeaves s m p q r t o u) (x : PlanReply) (is : r ≡ x) where
-    pub print_written : (out : List ℕ) (a : Printed) (w : List ℕ) → plan_refusal x ≤ last_index → plan_place x ≤ last_index
+  -- a plan is no refusal
+  answer_zeros : (made : Plan) → (0 ≡ plan_refusal (Ok made)) × (0 ≡ plan_place (Ok made))
+  answer_zeros (Whole k) = (refl, refl)
+  answer_zeros (Mixed k) = (refl, refl)
+
+  module _ (r : PlanReply) (t o u : List ℤ) (left : RunLeaves s m p q r t o u) where
+    -- Run left the reply x, and its print was written
+    print_written : (x : PlanReply) → r ≡ x → (out : List ℕ) (a : Printed) (w : List ℕ) → plan_refusal x ≤ last_index → plan_place x ≤ last_index
         → a.refusal ≡ plan_refusal x → a.place ≡ plan_place x → Wrote out 0 (print_by s x t o u) w a.length → PrintWritten s m p q out a w
-    print_written out a w h g f i k =
+    print_written x is out a w h g f i k =
         let e = replied s m p q r t o u left x is in
         record {
           refusal = rw e f;
@@ -175,3 +183,13 @@ module _ (s : List ℕ) (m p q : ℕ) where
           short = print_short x e h g;
           wrote = rw (← printed s m p q r t o u left x is) k;
         }
+
+    pub answer_written : (made : Plan) → r ≡ Ok made → (out w : List ℕ) (n : ℕ) → Wrote out 0 (print_by s (Ok made) t o u) w n
+        → PrintWritten s m p q out (record { refusal = 0; place = 0; length = n }) w
+    answer_written made is out w n k =
+        let z = answer_zeros made in
+        print_written (Ok made) is out _ w (omega (arith, z.0)) (omega (arith, z.1)) z.0 z.1 k
+
+    pub refusal_written : (e : Refusal) → r ≡ Err e → (out w : List ℕ) (n : ℕ) → row_number e.row ≤ last_index → e.place ≤ last_index
+        → Wrote out 0 (print_by s (Err e) t o u) w n → PrintWritten s m p q out (record { refusal = row_number e.row; place = e.place; length = n }) w
+    refusal_written e is out w n h g k = print_written (Err e) is out _ w h g refl refl k

@@ -1,12 +1,11 @@
 -- The line of a value from its parts, and the lines of a plan one by one.
 use mathlib.Core.Path.{◌≡◌, refl, sym, ap, ◌∙◌}
 use mathlib.Core.List.{List, [], ◌∷◌, ◌++◌, append_assoc, append-nil}
-use Prim.Native.Nat.{ℕ, zero, suc, ◌+◌, ◌-◌, ◌*◌, ◌≤◌, ◌<◌}
-use native.Mathlib.Nat.{add-zero, not-suc-le-zero}
+use Prim.Native.Nat.{ℕ, zero, suc, ◌+◌, ◌*◌, ◌<◌}
+use native.Mathlib.Nat.{add-zero}
 use native.Mathlib.Numerals.{add-one}
-use native.Mathlib.Omega.{arith}
 use lib.IntN.{ℤ, pos}
-use lib.ListN.{length, take, get_or-eq_default}
+use lib.ListN.{length, take}
 use lib.Seq.{take-suc}
 use Rattle.cells.specs.Cells.{nat_of, int_at, nat_at}
 use Rattle.order.specs.Following.{labels_of}
@@ -15,17 +14,6 @@ use Rattle.printing.specs.Print.{value_line, value_lines, plan_lines}
 use Rattle.printing.specs.Writing.{result_at}
 
 -- ---- the results of a label
-
-pub result_zero : (r : List ℤ) (l j : ℕ) → l ≡ 0 → pos 0 ≡ result_at r l j
-result_zero r l j e = rw e
-
-pub result_past : (r : List ℤ) (l j : ℕ) → length r < l → pos 0 ≡ result_at r l j
-result_past r zero j h = refl
-result_past r (suc k) j h = sym (get_or-eq_default r (pos 0) (omega arith))
-
-pub result_in : (r : List ℤ) (l j : ℕ) → 1 ≤ l → int_at r (3 * (l - 1) + j) ≡ result_at r l j
-result_in r zero j h = absurd (not-suc-le-zero h)
-result_in r (suc k) j h = let e : suc k - 1 ≡ k = omega arith in rw e
 
 pub state_is : (r : List ℤ) (l : ℕ) → state_at r l ≡ nat_of (result_at r l 0)
 state_is r zero = refl

@@ -7,11 +7,10 @@ use native.Mathlib.Omega.{arith}
 use borrow.Author.Tests.{le-leb}
 use lib.IntN.{ℤ, pos}
 use lib.ListN.{length, take, length-append, length-map}
+use Rattle.std.specs.Prelude.{Ok}
 use Rattle.cells.specs.Limits.{label_limit}
 use Rattle.cells.specs.Cells.{zeros}
-use Rattle.refusals.specs.Refusal.{or_else}
-use Rattle.refusals.specs.declared.Verdict.{Verdict}
-use Rattle.refusals.specs.declared.Verdict.TheVariants.{Fine}
+use Rattle.refusals.specs.Refusal.{or_else, Verdict, Fine}
 use Rattle.refusals.proofs.OrElse.{both_fine}
 use Rattle.lines.specs.Lines.{labels, head_bad}
 use Rattle.lines.proofs.Heads.{headed}
@@ -23,13 +22,14 @@ use Rattle.reading.specs.Read.{table_short, sheet_table, Reads, read_bad, table_
 use Rattle.reading.specs.Name.{name_begin, name_size, name_part}
 use Rattle.reading.proofs.Padding.{cell_padded}
 use Rattle.reading.proofs.Accepted.{read_names}
+use Rattle.planning.specs.PlanLength.{plan_length}
+use Rattle.planning.specs.declared.Plan.{Plan}
 use Rattle.calls.specs.Buffers.{plan_short, results_short, run_buffers}
-use Rattle.calls.specs.Plan.{plan_of, answer_by, listed_by, length_of, is_answer}
+use Rattle.calls.specs.Plan.{plan_of, answer_by, listed_by, length_of, is_answer, PlanReply}
 use Rattle.calls.specs.Run.{run_bad, run_reply, run_table, run_plan}
 use Rattle.calls.specs.Leaves.{RunLeaves}
-use Rattle.calls.specs.declared.PlanReply.{PlanReply}
 use Rattle.calls.proofs.Rooms.{results_room}
-use Rattle.calls.proofs.Answers.{answers_number, answers_fine}
+use Rattle.calls.proofs.Answers.{answers_number, answers_fine, made_answers, made_length}
 use Rattle.calls.proofs.Sheets.{planned_reads, kept}
 use Rattle.printing.specs.Print.{name_field, print_by, print_with}
 use Rattle.printing.specs.Writing.{NamesIn}
@@ -94,17 +94,19 @@ module _ (s : List ℕ) (m p q : ℕ) (a : is_answer (run_reply s m p q) ≡ tru
 
 -- ---- for the code: Run left the reply r, the table t, the plan o and the results u
 
-module _ (s : List ℕ) (m p q : ℕ) (r : PlanReply) (t o u : List ℤ) (left : RunLeaves s m p q r t o u) (x : PlanReply) (is : r ≡ x) where
+module _ (s : List ℕ) (m p q : ℕ) (r : PlanReply) (t o u : List ℤ) (left : RunLeaves s m p q r t o u) where
   -- the reply is x
-  pub replied : run_reply s m p q ≡ x
-  replied = sym left.reply ∙ is
+  module _ (x : PlanReply) (is : r ≡ x) where
+    pub replied : run_reply s m p q ≡ x
+    replied = sym left.reply ∙ is
 
-  pub printed : print_by s x t o u ≡ print_with s m p q
-  printed = rw (replied, left.table, left.plan, left.results)
+    pub printed : print_by s x t o u ≡ print_with s m p q
+    printed = rw (replied, left.table, left.plan, left.results)
 
-  module _ (a : is_answer x ≡ true) where
+  -- it is a plan
+  module _ (made : Plan) (is : r ≡ Ok made) where
     answered : is_answer (run_reply s m p q) ≡ true
-    answered = ap is_answer replied ∙ a
+    answered = ap is_answer (replied (Ok made) is) ∙ made_answers made
 
     pub names_in_lem : NamesIn s t
     names_in_lem l =
@@ -112,5 +114,5 @@ module _ (s : List ℕ) (m p q : ℕ) (r : PlanReply) (t o u : List ℤ) (left :
         rw (left.table ∙ table_is s m p q answered, cell_padded (sheet_table s) k l 1, cell_padded (sheet_table s) k l 2)
         (read_names s (reads s m p q answered) l)
 
-    pub count_in : length_of x ≤ length o
-    count_in = rw (← replied, left.plan) (plan_long s m p q answered)
+    pub count_in : plan_length made ≤ length o
+    count_in = rw (← made_length made, left.plan) (rw (replied (Ok made) is) at (plan_long s m p q answered))

@@ -7,12 +7,13 @@ use native.Mathlib.Nat.{add-zero, add-suc, suc-add}
 use native.Mathlib.Omega.{arith}
 use borrow.Author.Tests.{leb-true, leb-false}
 use lib.Dec.{leb}
-use lib.ListN.{length, set, take, length-append, replicate-append-replicate}
-use lib.Seq.{sets, length-sets, set_out}
+use lib.ListN.{length, set, take, length-append}
+use lib.Seq.{sets, length-sets, set_out, take-nil}
 use Rattle.cells.specs.Limits.{label_limit}
 use Rattle.printing.specs.Print.{print_with, print_reply, print_of, zero_bytes, PrintLeaves}
-use Rattle.printing.specs.Writing.{last_index, Wrote, PrintWritten}
+use Rattle.printing.specs.Writing.{last_index, Wrote, Puts, PrintWritten}
 use Rattle.printing.specs.declared.Printed.{Printed}
+use Rattle.printing.specs.declared.Writer.{Writer}
 
 sets_append : (o : List ℕ) (a : ℕ) (x y : List ℕ) → sets o a (x ++ y) ≡ sets (sets o a x) (a + length x) y
 sets_append o a [] y = rw (add-zero a)
@@ -40,10 +41,6 @@ sets_stopped o a k x h = go (leb a k) refl
 pub nothing : (o : List ℕ) (a : ℕ) → a ≤ last_index → length o ≤ last_index → Wrote o a [] o a
 nothing o a h g = record { bytes = refl; behind = omega arith; room = g }
 
--- a byte that has no room
-pub one : (o : List ℕ) (a v b : ℕ) → length o ≤ a → length o ≤ last_index → b ≡ min (a + 1) last_index → Wrote o a (v ∷ []) o b
-one o a v b h g e = record { bytes = sym (set_out o a v h); behind = e; room = g }
-
 module _ (o : List ℕ) (a : ℕ) (x p : List ℕ) (b : ℕ) (w : Wrote o a x p b) where
   pub same_size : length p ≡ length o
   same_size = ap length w.bytes ∙ length-sets o a x
@@ -58,62 +55,47 @@ module _ (o : List ℕ) (a : ℕ) (x p : List ℕ) (b : ℕ) (w : Wrote o a x p 
       stopped : sets p b y ≡ sets (sets o a x) (a + length x) y
       stopped = rw (w.behind, sets_stopped p (a + length x) last_index y (omega (arith, same_size, w.room)), w.bytes)
 
--- a field with the byte that ends it, and what stands behind
-pub field_then : (o : List ℕ) (a : ℕ) (x : List ℕ) (k : ℕ) (p : List ℕ) (b : ℕ) → Wrote o a (x ++ k ∷ []) p b
-    → (y q : List ℕ) (c : ℕ) → Wrote p b y q c → Wrote o a (x ++ k ∷ y) q c
-field_then o a x k p b w y q c v = rw append_assoc at (then o a (x ++ k ∷ []) p b w y q c v)
+-- ---- the same of a writer
 
--- ---- from the start on, and zeros behind
+pub puts_nothing : (w : Writer) → w.at ≤ last_index → length w.out.now ≤ last_index → Puts w [] w
+puts_nothing w h g = record { same = refl; wrote = nothing w.out.now w.at h g }
+
+pub puts_then : {w m v : Writer} {x y : List ℕ} → Puts w x m → Puts m y v → Puts w (x ++ y) v
+puts_then h k = record { same = k.same ∙ h.same; wrote = then _ _ _ _ _ h.wrote _ _ _ k.wrote }
+
+-- a field with the byte that ends it, and what stands behind
+pub field_then : {w m v : Writer} (x : List ℕ) (k : ℕ) {y : List ℕ} → Puts w (x ++ k ∷ []) m → Puts m y v → Puts w (x ++ k ∷ y) v
+field_then x k h g = rw append_assoc at (puts_then h g)
+
+-- ---- from the start on
 
 sets_next : (o : List ℕ) (v a : ℕ) (x : List ℕ) → sets (v ∷ o) (suc a) x ≡ v ∷ sets o a x
 sets_next o v a [] = refl
 sets_next o v a (w ∷ x) = sets_next (set o a w) v (suc a) x
 
-all_zeros : (o : List ℕ) → sets o 0 (zero_bytes (length o)) ≡ zero_bytes (length o)
-all_zeros [] = refl
-all_zeros (v ∷ o) = sets_next o 0 0 (zero_bytes (length o)) ∙ ap (λ (y : List ℕ). 0 ∷ y) (all_zeros o)
-
-zeros_behind : (o x : List ℕ) → sets o 0 (x ++ zero_bytes (length o - length x)) ≡ take (length o) x ++ zero_bytes (length o - length x)
-zeros_behind [] x = let e : 0 - length x ≡ 0 = omega arith in rw e (sets_past [] 0 (x ++ []) (omega arith))
-zeros_behind (v ∷ o) [] = let e : suc (length o) - 0 ≡ suc (length o) = omega arith in rw e (all_zeros (v ∷ o))
-zeros_behind (v ∷ o) (w ∷ x) =
-    let e : suc (length o) - suc (length x) ≡ length o - length x = omega arith in
-    rw e (sets_next o w 0 (x ++ zero_bytes (length o - length x)) ∙ ap (λ (y : List ℕ). w ∷ y) (zeros_behind o x))
-
-one_zero_more : (n : ℕ) → zero_bytes (n + 1) ≡ zero_bytes n ++ 0 ∷ []
-one_zero_more n = sym (replicate-append-replicate n 1 0)
-
--- one zero more, for which there is room
-module _ (o : List ℕ) (a : ℕ) (p : List ℕ) (b : ℕ) (w : Wrote o a (zero_bytes (b - a)) p b) (q : List ℕ) (c : ℕ) (v : Wrote p b (0 ∷ []) q c) (h : b < length p) where
-  pub next_index : c ≡ b + 1
-  next_index = omega (arith, v.behind, v.room)
-
-  pub zero_then : a ≤ b → Wrote o a (zero_bytes (c - a)) q c
-  zero_then g =
-      let e : c - a ≡ b - a + 1 = omega (arith, next_index) in
-      rw (e, one_zero_more (b - a)) (then o a (zero_bytes (b - a)) p b w (0 ∷ []) q c v)
-
--- bytes x, as many as there are indices at most, and the zeros that fill the buffer
-module _ (o x p : List ℕ) (b : ℕ) (w : Wrote o 0 x p b) (short : length x ≤ last_index) where
-  counted : b ≡ length x
-  counted = omega (arith, w.behind)
-
-  zeros_then : (q : List ℕ) (c : ℕ) → Wrote p b (zero_bytes (length p - b)) q c → q ≡ take (length o) x ++ zero_bytes (length o - length x)
-  zeros_then q c v =
-      (rw (same_size o 0 x p b w, counted) at (then o 0 x p b w _ q c v).bytes) ∙ zeros_behind o x
+-- what stands before index `length x`
+written : (o x : List ℕ) → take (length x) (sets o 0 x) ≡ take (length o) x
+written [] x = ap (take (length x)) (sets_past [] 0 x (omega arith)) ∙ take-nil (length x)
+written (v ∷ o) [] = refl
+written (v ∷ o) (w ∷ x) = ap (take (suc (length x))) (sets_next o w 0 x) ∙ ap (λ (y : List ℕ). w ∷ y) (written o x)
 
 -- ---- the print
 
+-- what a buffer holds, once it is given back
+pub left_as : (s : List ℕ) (m p q : ℕ) (o : List ℕ) (a : Printed) (w : List ℕ) → PrintWritten s m p q o a w → (x : List ℕ) → x ≡ w → PrintWritten s m p q o a x
+left_as s m p q o a w h x e = rw e h
+
+-- zeros from the end of the print on, in the buffer that was lent
 pub zeros_left : (s o : List ℕ) (a : Printed) (p : List ℕ) → PrintWritten s (8 * label_limit) label_limit (3 * label_limit) o a p
-    → (q : List ℕ) (c : ℕ) → Wrote p a.length (zero_bytes (length p - a.length)) q c → PrintLeaves s (length o) a q
+    → (q : List ℕ) → q ≡ take a.length p ++ zero_bytes (length p - a.length) → PrintLeaves s (length o) a q
 unfolding print_reply print_of
-zeros_left s o a p w q c v =
+zeros_left s o a p w q e =
     let x = print_with s (8 * label_limit) label_limit (3 * label_limit) in
-    let h : length x ≤ last_index = omega (arith, w.short) in
+    let n : a.length ≡ length x = omega (arith, w.wrote.behind, w.short) in
     record {
       refusal = w.refusal;
       place = w.place;
-      whole = counted o x p a.length w.wrote h;
+      whole = n;
       short = w.short;
-      bytes = zeros_then o x p a.length w.wrote h q c v;
+      bytes = rw (n, same_size o 0 x p a.length w.wrote, w.wrote.bytes, written o x) at e;
     }

@@ -1,16 +1,18 @@
 -- Document 01's "Program and its print", in bytes.
-use Rattle.std.specs.Prelude.{◌≡◌, List, [], ◌∷◌, ◌++◌, ℕ, ◌+◌, ◌-◌, ◌*◌, ◌≤◌, ℤ, length, take, replicate}
+use Rattle.std.specs.Prelude.{◌≡◌, List, [], ◌∷◌, ◌++◌, ℕ, ◌+◌, ◌-◌, ◌*◌, ◌≤◌, ℤ, length, take, replicate, Ok, Err}
 use Rattle.std.proofs.Math.Seq.{slice}
 use Rattle.cells.specs.Limits.{label_limit}
 use Rattle.cells.specs.Characters.{newline, space}
 use Rattle.cells.specs.Quoted.{bytes_of}
 use Rattle.cells.specs.Table.{name_start, name_length}
+use Rattle.refusals.specs.Rows.{row_number}
 use Rattle.order.specs.Following.{labels_of}
 use Rattle.evaluation.specs.Results.{state_at, number_at, steps_at}
-use Rattle.calls.specs.Plan.{plan_refusal, plan_place}
+use Rattle.calls.specs.Plan.{plan_refusal, plan_place, PlanReply}
 use Rattle.calls.specs.Run.{run_reply, run_table, run_plan, run_results}
-use Rattle.calls.specs.declared.PlanReply.{PlanReply}
-use Rattle.calls.specs.declared.PlanReply.TheVariants as reply
+use Rattle.planning.specs.PlanLength.{plan_length}
+use Rattle.planning.specs.declared.Plan.{Plan}
+use Rattle.planning.specs.declared.Plan.TheVariants.{Whole, Mixed}
 use Rattle.numbers.specs.Numerals.{decimal, integer}
 use Rattle.printing.specs.declared.Printed.{Printed}
 
@@ -36,6 +38,11 @@ whole_word = bytes_of "whole"
 
 unfoldable pub mixed_word : List ℕ
 mixed_word = bytes_of "mixed"
+
+-- the word for a plan
+abbrev pub word_of : Plan → List ℕ
+word_of (Whole k) = whole_word
+word_of (Mixed k) = mixed_word
 
 -- ---- one line per value: the text s, its table t, the results r, and the word for the plan
 
@@ -71,9 +78,8 @@ refusal_print row place = refusal_line ++ line_of (decimal row ∷ decimal place
 
 -- of a reply, with the table t, the plan p and the results r as Run leaves them
 abbrev pub print_by : List ℕ → PlanReply → List ℤ → List ℤ → List ℤ → List ℕ
-print_by s (reply.Whole k) t p r = answer_print s t p k r whole_word
-print_by s (reply.Mixed k) t p r = answer_print s t p k r mixed_word
-print_by s (reply.Refused row place) t p r = refusal_print row place
+print_by s (Ok made) t p r = answer_print s t p (plan_length made) r (word_of made)
+print_by s (Err e) t p r = refusal_print (row_number e.row) e.place
 
 -- of what Run gives with a table of m cells, a plan of p and results of q
 abbrev pub print_with : List ℕ → ℕ → ℕ → ℕ → List ℕ

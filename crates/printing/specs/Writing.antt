@@ -7,6 +7,7 @@ use Rattle.calls.specs.Plan.{plan_refusal, plan_place}
 use Rattle.calls.specs.Run.{run_reply}
 use Rattle.printing.specs.Print.{print_with, print_bound}
 use Rattle.printing.specs.declared.Printed.{Printed}
+use Rattle.printing.specs.declared.Writer.{Writer}
 
 -- the largest index
 abbrev pub last_index : ℕ
@@ -18,6 +19,11 @@ pub record Wrote (out : List ℕ) (at : ℕ) (x left : List ℕ) (end : ℕ) : T
   pub bytes : left ≡ sets out at x
   pub behind : end ≡ min (at + length x) last_index
   pub room : length out ≤ last_index
+
+-- the same of a writer before, w, and behind the bytes x, v: it goes on with the buffer that it was lent
+pub record Puts (w : Writer) (x : List ℕ) (v : Writer) : Type 0 where
+  pub same : v.out.ghost_name ≡ w.out.ghost_name
+  pub wrote : Wrote w.out.now w.at x v.out.now v.at
 
 -- every name field of the table t lies in the text s
 abbrev pub NamesIn : List ℕ → List ℤ → Type 0

@@ -2,123 +2,118 @@
 
 #![tactic(auto)]
 
-ghost use Rattle.std.specs.Prelude.{◌≡◌, [], ◌∷◌, ◌++◌, ◌+◌, ◌-◌, ◌≤◌, ◌<◌, min, length, nat_abs};
+ghost use Rattle.std.specs.Prelude.{◌≡◌, [], ◌∷◌, ◌++◌, ◌-◌, ◌<◌, length, take};
 ghost use Rattle.cells.specs.Characters.{space};
 ghost use Rattle.cells.specs.Cells.{nat_of};
+ghost use Rattle.refusals.specs.Rows.{row_number};
 ghost use Rattle.numbers.specs.Numerals.{digits, decimal, integer};
-ghost use Rattle.printing.specs.Print.{line_of, name_field, result_fields, value_line, plan_lines, answer_print, refusal_print, zero_bytes, PrintLeaves};
-ghost use Rattle.printing.specs.Writing.{last_index, Wrote, NamesIn, result_at, PrintWritten};
+ghost use Rattle.order.specs.Following.{labels_of};
+ghost use Rattle.printing.specs.Print.{line_of, word_of, columns_line, name_field, result_fields, value_line, value_lines, refusal_print, zero_bytes, PrintLeaves};
+ghost use Rattle.printing.specs.Writing.{Puts, NamesIn, result_at, PrintWritten};
 
-use calls::PlanReply;
+use planning::Plan;
+use refusals::Refusal;
 
-// ---- bytes, from index `at` of the buffer on. Each function answers the index behind what it wrote: a byte for which the buffer has no
-// room counts as well.
+// ---- bytes, written one behind the other
 
-// The largest index there is.
-const LAST: usize = 18446744073709551615;
-
-// The index behind one; the last has none behind it.
-fn behind(at: usize) -> usize
-    ensures { result ≡ min (at + 1) last_index }
-{
-    if at < LAST { at + 1 } else { at }
+// A lent buffer, and the index at which its next byte goes. A byte for which the buffer has no room counts as well.
+#[derive(Drop)]
+struct Writer<'a> {
+    out: &'a mut [u8],
+    at: usize,
 }
 
-// One byte.
-fn put(out: &mut [u8], at: usize, byte: u8) -> usize
-    ensures { Wrote out.old at (byte ∷ []) out.new result }
-{
-    if at < out.len() {
-        out[at] = byte;
-        return at + 1;
+impl Writer<'_> {
+    // One byte.
+    fn put(&mut self, byte: u8)
+        ensures { Puts self.old (byte ∷ []) self.new }
+    {
+        if self.at < self.out.len() {
+            self.out[self.at] = byte;
+        }
+        self.at = self.at.saturating_add(1);
     }
-    behind(at)
-}
 
-// Several bytes.
-fn put_all(out: &mut [u8], at: usize, bytes: &[u8]) -> usize
-    ensures { Wrote out.old at bytes.now out.new result }
-{
-    let mut end = at;
-    let mut i = 0;
-    while i < bytes.len() {
-        end = put(out, end, bytes[i]);
-        i += 1;
+    // Several bytes.
+    fn put_all(&mut self, bytes: &[u8])
+        ensures { Puts self.old bytes.now self.new }
+    {
+        for &byte in bytes {
+            self.put(byte);
+        }
     }
-    end
-}
 
-// ---- numbers
+    // ---- numbers
 
-// The digits of n, none of 0.
-fn put_digits(out: &mut [u8], at: usize, n: u64) -> usize
-    ensures { Wrote out.old at (digits n n) out.new result }
-{
-    if n == 0 {
-        return at;
+    // The digits of n, none of 0.
+    fn put_digits(&mut self, n: u64)
+        ensures { Puts self.old (digits n n) self.new }
+    {
+        if n == 0 {
+            return;
+        }
+        self.put_digits(n / 10);
+        self.put(b'0' + (n % 10) as u8);
     }
-    let end = put_digits(out, at, n / 10);
-    put(out, end, b'0' + (n % 10) as u8)
-}
 
-// n in decimal, with no leading zeros.
-fn put_decimal(out: &mut [u8], at: usize, n: u64) -> usize
-    ensures { Wrote out.old at (decimal n) out.new result }
-{
-    if n == 0 {
-        return put(out, at, b'0');
+    // n in decimal, with no leading zeros.
+    fn put_decimal(&mut self, n: u64)
+        ensures { Puts self.old (decimal n) self.new }
+    {
+        if n == 0 {
+            return self.put(b'0');
+        }
+        self.put_digits(n)
     }
-    put_digits(out, at, n)
-}
 
-// The size of x, also of the least number of its type.
-fn size_of(x: i64) -> u64
-    ensures { result ≡ nat_abs x }
-{
-    if cells::is_negative(x) {
-        return cells::magnitude(x + 1) + 1;
+    // x in decimal, with `-` before a negative number.
+    fn put_integer(&mut self, x: i64)
+        ensures { Puts self.old (integer x) self.new }
+    {
+        if x < 0 {
+            self.put(b'-');
+            return self.put_decimal(x.unsigned_abs());
+        }
+        self.put_decimal(x.unsigned_abs())
     }
-    cells::nat_of(x) as u64
-}
 
-// x in decimal, with `-` before a negative number.
-fn put_integer(out: &mut [u8], at: usize, x: i64) -> usize
-    ensures { Wrote out.old at (integer x) out.new result }
-{
-    if cells::is_negative(x) {
-        let end = put(out, at, b'-');
-        return put_decimal(out, end, size_of(x));
+    // ---- fields, each with the byte that ends it
+
+    // A field of bytes as they stand.
+    fn put_text(&mut self, bytes: &[u8], after: u8)
+        ensures { Puts self.old (bytes.now ++ (after ∷ [])) self.new }
+    {
+        self.put_all(bytes);
+        self.put(after);
     }
-    put_decimal(out, at, size_of(x))
+
+    // A field with a natural number.
+    fn put_count(&mut self, n: u64, after: u8)
+        ensures { Puts self.old (decimal n ++ (after ∷ [])) self.new }
+    {
+        self.put_decimal(n);
+        self.put(after);
+    }
+
+    // A field with an integer.
+    fn put_number(&mut self, x: i64, after: u8)
+        ensures { Puts self.old (integer x ++ (after ∷ [])) self.new }
+    {
+        self.put_integer(x);
+        self.put(after);
+    }
+
+    // The print of a refused sheet: `refusal place`, then the two numbers.
+    fn put_refusal(&mut self, refusal: Refusal)
+        ensures { Puts self.old (refusal_print (row_number refusal.row) refusal.place) self.new }
+    {
+        self.put_all(b"refusal place\n");
+        self.put_count(refusal.row.number(), b' ');
+        self.put_count(refusal.place, b'\n');
+    }
 }
 
-// ---- fields, each with the byte that ends it
-
-// A field of bytes as they stand.
-fn put_text(out: &mut [u8], at: usize, bytes: &[u8], after: u8) -> usize
-    ensures { Wrote out.old at (bytes.now ++ (after ∷ [])) out.new result }
-{
-    let end = put_all(out, at, bytes);
-    put(out, end, after)
-}
-
-// A field with a natural number.
-fn put_count(out: &mut [u8], at: usize, n: u64, after: u8) -> usize
-    ensures { Wrote out.old at (decimal n ++ (after ∷ [])) out.new result }
-{
-    let end = put_decimal(out, at, n);
-    put(out, end, after)
-}
-
-// A field with an integer.
-fn put_number(out: &mut [u8], at: usize, x: i64, after: u8) -> usize
-    ensures { Wrote out.old at (integer x ++ (after ∷ [])) out.new result }
-{
-    let end = put_integer(out, at, x);
-    put(out, end, after)
-}
-
-// ---- the line of a value
+// ---- a sheet that runs
 
 // Result j of a label.
 fn result_at(results: &[i64], label: usize, j: usize) -> i64
@@ -143,108 +138,72 @@ fn count_at(results: &[i64], label: usize, j: usize) -> u64
     cells::nat_of(result_at(results, label, j)) as u64
 }
 
-// The end of the line: state, number, steps.
-fn put_results(results: &[i64], label: usize, out: &mut [u8], at: usize) -> usize
-    ensures { Wrote out.old at (line_of (result_fields results.now label)) out.new result }
-{
-    let state = count_at(results, label, 0);
-    let number = result_at(results, label, 1);
-    let steps = count_at(results, label, 2);
-    let behind_state = put_count(out, at, state, b' ');
-    let behind_number = put_number(out, behind_state, number, b' ');
-    put_count(out, behind_number, steps, b'\n')
+// What the lines show of a run, and the word for its plan. Each name stands in the text.
+#[derive(Clone, Copy)]
+struct Run<'a> {
+    text: &'a [u8],
+    table: &'a [i64],
+    results: &'a [i64],
+    word: &'a [u8],
+    ghost names: { NamesIn text.now table.now },
 }
 
-// The label's name, from the text.
-fn put_name(text: &[u8], table: &[i64], label: usize, out: &mut [u8], at: usize) -> usize
-    requires { NamesIn text.now table.now }
-    ensures { Wrote out.old at (name_field text.now table.now label ++ (space ∷ [])) out.new result }
-{
-    let start = cells::cell_at(table, label, cells::NAME_START);
-    let end = start + cells::cell_at(table, label, cells::NAME_LENGTH);
-    put_text(out, at, &text[start..end], b' ')
-}
+impl Run<'_> {
+    // The end of a label's line: state, number, steps.
+    fn put_results(&self, label: usize, writer: &mut Writer)
+        ensures { Puts writer.old (line_of (result_fields self.now.results.now label)) writer.new }
+    {
+        writer.put_count(count_at(self.results, label, 0), b' ');
+        writer.put_number(result_at(self.results, label, 1), b' ');
+        writer.put_count(count_at(self.results, label, 2), b'\n');
+    }
 
-// The whole line: label, name, whole or mixed, state, number, steps.
-fn put_line(
-    text: &[u8],
-    table: &[i64],
-    results: &[i64],
-    word: &[u8],
-    label: usize,
-    out: &mut [u8],
-    at: usize,
-) -> usize
-    requires { NamesIn text.now table.now }
-    ensures { Wrote out.old at (value_line text.now table.now results.now word.now label) out.new result }
-{
-    let behind_label = put_count(out, at, label as u64, b' ');
-    let behind_name = put_name(text, table, label, out, behind_label);
-    let behind_word = put_text(out, behind_name, word, b' ');
-    put_results(results, label, out, behind_word)
+    // The label's name, from the text.
+    fn put_name(&self, label: usize, writer: &mut Writer)
+        ensures { Puts writer.old (name_field self.now.text.now self.now.table.now label ++ (space ∷ [])) writer.new }
+    {
+        let start = cells::cell_at(self.table, label, cells::NAME_START);
+        let end = start + cells::cell_at(self.table, label, cells::NAME_LENGTH);
+        writer.put_text(&self.text[start..end], b' ');
+    }
+
+    // The label's whole line: label, name, whole or mixed, state, number, steps.
+    fn put_line(&self, label: usize, writer: &mut Writer)
+        ensures { Puts writer.old (value_line self.now.text.now self.now.table.now self.now.results.now self.now.word.now label) writer.new }
+    {
+        writer.put_count(label as u64, b' ');
+        self.put_name(label, writer);
+        writer.put_text(self.word, b' ');
+        self.put_results(label, writer);
+    }
+
+    // The lines of the values that the plan names.
+    fn put_lines(&self, plan: &[i64], writer: &mut Writer)
+        ensures { Puts writer.old (value_lines self.now.text.now self.now.table.now self.now.results.now self.now.word.now (labels_of plan.now)) writer.new }
+    {
+        for &cell in plan {
+            self.put_line(cells::nat_of(cell), writer);
+        }
+    }
+
+    // The whole print: the column names, then one line per value.
+    fn put_answer(&self, plan: &[i64], writer: &mut Writer)
+        ensures { Puts writer.old (columns_line ++ value_lines self.now.text.now self.now.table.now self.now.results.now self.now.word.now (labels_of plan.now)) writer.new }
+    {
+        writer.put_all(b"label name order state number steps\n");
+        self.put_lines(plan, writer);
+    }
 }
 
 // ---- the print
 
-// The lines of the values that the first `count` cells of the plan name.
-fn put_lines(
-    text: &[u8],
-    table: &[i64],
-    plan: &[i64],
-    count: usize,
-    results: &[i64],
-    word: &[u8],
-    out: &mut [u8],
-    at: usize,
-) -> usize
-    requires { (count ≤ length plan.now) × NamesIn text.now table.now }
-    ensures { Wrote out.old at (plan_lines text.now table.now plan.now count results.now word.now) out.new result }
+// Zeros from index `at` to the end of the buffer.
+fn put_zeros(out: &mut [u8], at: usize)
+    ensures { out.new ≡ take at out.old ++ zero_bytes (length out.old - at) }
 {
-    let mut end = at;
-    let mut i = 0;
-    while i < count {
-        let label = cells::nat_at(plan, i);
-        end = put_line(text, table, results, word, label, out, end);
-        i += 1;
+    if at < out.len() {
+        out[at..].fill(0);
     }
-    end
-}
-
-// The print of a sheet that runs: the column names, then one line per value.
-fn put_answer(
-    text: &[u8],
-    table: &[i64],
-    plan: &[i64],
-    count: usize,
-    results: &[i64],
-    word: &[u8],
-    out: &mut [u8],
-) -> usize
-    requires { (count ≤ length plan.now) × NamesIn text.now table.now }
-    ensures { Wrote out.old 0 (answer_print text.now table.now plan.now count results.now word.now) out.new result }
-{
-    let end = put_all(out, 0, b"label name order state number steps\n");
-    put_lines(text, table, plan, count, results, word, out, end)
-}
-
-// The print of a refused sheet: `refusal place`, then the two numbers.
-fn put_refusal(row: u64, place: u64, out: &mut [u8]) -> usize
-    ensures { Wrote out.old 0 (refusal_print row place) out.new result }
-{
-    let end = put_all(out, 0, b"refusal place\n");
-    let behind_row = put_count(out, end, row, b' ');
-    put_count(out, behind_row, place, b'\n')
-}
-
-// Zeros to the end of the buffer.
-fn put_zeros(out: &mut [u8], at: usize) -> usize
-    ensures { Wrote out.old at (zero_bytes (length out.old - at)) out.new result }
-{
-    let mut end = at;
-    while end < out.len() {
-        end = put(out, end, 0);
-    }
-    end
 }
 
 // What the print answers: Run's refusal and its place, 0 and 0 on an answer; and the length of the whole print.
@@ -254,6 +213,17 @@ pub struct Printed {
     pub refusal: u64,
     pub place: u64,
     pub length: u64,
+}
+
+// The word for a plan, whole or mixed.
+#[tactic(auto, unfolding(crate::specs::Print::whole_word, crate::specs::Print::mixed_word))]
+fn word_of(made: Plan) -> &'static [u8]
+    ensures { result.now ≡ word_of made }
+{
+    match made {
+        Plan::Whole(_) => b"whole",
+        Plan::Mixed(_) => b"mixed",
+    }
 }
 
 // The print of a sheet that is run with these buffers.
@@ -266,22 +236,30 @@ fn print_with(
 ) -> Printed
     ensures { PrintWritten text.now (length table.old) (length plan.old) (length results.old) out.old result out.new }
 {
+    let mut writer = Writer { out, at: 0 };
     match calls::run(text, table, plan, results) {
-        PlanReply::Whole(count) => Printed {
-            refusal: 0,
-            place: 0,
-            length: put_answer(text, table, plan, count as usize, results, b"whole", out) as u64,
-        },
-        PlanReply::Mixed(count) => Printed {
-            refusal: 0,
-            place: 0,
-            length: put_answer(text, table, plan, count as usize, results, b"mixed", out) as u64,
-        },
-        PlanReply::Refused(row, place) => Printed {
-            refusal: row,
-            place,
-            length: put_refusal(row, place, out) as u64,
-        },
+        Ok(made) => {
+            let run = Run {
+                text,
+                table,
+                results,
+                word: word_of(made),
+            };
+            run.put_answer(&plan[..made.count() as usize], &mut writer);
+            Printed {
+                refusal: 0,
+                place: 0,
+                length: writer.at as u64,
+            }
+        }
+        Err(refusal) => {
+            writer.put_refusal(refusal);
+            Printed {
+                refusal: refusal.row.number(),
+                place: refusal.place,
+                length: writer.at as u64,
+            }
+        }
     }
 }
 

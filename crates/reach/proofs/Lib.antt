@@ -1,7 +1,7 @@
 pub mod Links
 pub mod Reading
 pub mod Scratch
-mod Chains
+mod Chaining
 mod Raise
 mod Spread
 pub mod Visits

@@ -20,9 +20,13 @@ use Rattle.order.proofs.Tree.{within_owner, leaf}
 use Rattle.reach.specs.Links.{Column, Link, Links, once, then, Around, Touches}
 use Rattle.reach.specs.MarkRows.{width}
 
-pub column_range : (j : ℕ) → Column j → (6 ≤ j) × (j ≤ 7)
-column_range j (inl e) = (omega arith, omega arith)
-column_range j (inr e) = (omega arith, omega arith)
+-- a column that stands in a struct, where the fact is a bound
+pub column_of : (j : ℕ) → (6 ≤ j) × (j ≤ 7) → Column j
+column_of j h = go (ℕ_discrete j 6)
+  where
+    go : Dec (j ≡ 6) → Column j
+    go (yes e) = inl e
+    go (no e) = inr (omega arith)
 
 module _ (t : List ℤ) (n : ℕ) (ok : Accepted t n) where
   -- ---- what has a body is no Group

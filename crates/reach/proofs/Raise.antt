@@ -10,14 +10,13 @@ use lib.IntN.{ℤ}
 use Rattle.kinds.specs.Kinds.{group_code, value_code}
 use Rattle.kinds.proofs.Codes.{group_definition, value_definition}
 use Rattle.cells.specs.Table.{kind, is_definition, owner}
-use Rattle.cells.specs.Accepted.{Accepted, HasBody}
+use Rattle.cells.specs.Accepted.{Accepted}
 use Rattle.order.specs.Order.{up, Within}
 use Rattle.order.proofs.Tree.{within_owner}
 use Rattle.marks.specs.Marks.{mark, Added}
 use Rattle.marks.proofs.Squares.{mark_in}
 use Rattle.reach.specs.Links.{Around}
 use Rattle.reach.specs.Turns.{Raised}
-use Rattle.reach.proofs.Links.{body_group}
 
 -- above nothing there is nothing
 up_zero : (t : List ℤ) (i : ℕ) → up t i 0 ≡ 0
@@ -127,14 +126,7 @@ module _ (t : List ℤ) (n : ℕ) (ok : Accepted t n) where
 
   -- ---- e and what is around it
 
-  module _ (w d e : ℕ) (b : HasBody t e) (s s₁ : List ℕ) (put : Added (λ (q : ℕ). q ≡ e) s s₁ w d) where
-    pub put_raised : e < 64 * w → Raised t (mark s w d) → Raised t (mark s₁ w d)
-    put_raised room r g k m h = go (put.only g m)
-      where
-        go : (mark s w d g ≡ true) ⊎ (g ≡ e) → mark s₁ w d (owner t g) ≡ true
-        go (inl y) = put.kept (owner t g) (r g k y h)
-        go (inr y) = absurd (body_group t n ok e b (subst (λ (x : ℕ). kind t x ≡ group_code) y k))
-
+  module _ (w d e : ℕ) (s s₁ : List ℕ) (put : Added (λ (q : ℕ). q ≡ e) s s₁ w d) where
     pub around_value : kind t e ≡ value_code → (s₂ : List ℕ) → Added (λ (q : ℕ). (1 ≤ q) × Within t q (owner t e)) s₁ s₂ w d → Added (λ (q : ℕ). Around t e q) s s₂ w d
     around_value k s₂ more = record {
       others = λ a q y. more.others a q y ∙ put.others a q y;
@@ -155,17 +147,6 @@ module _ (t : List ℤ) (n : ℕ) (ok : Accepted t n) where
         only : (q : ℕ) → (mark s₁ w d q ≡ true) ⊎ ((1 ≤ q) × Within t q (owner t e)) → (mark s w d q ≡ true) ⊎ Around t e q
         only q (inl y) = first q (put.only q y)
         only q (inr (p, (i, u))) = inr (inr (k, p, (suc i, u)))
-
-    pub around_other : (kind t e ≡ value_code → ⊥) → Added (λ (q : ℕ). Around t e q) s s₁ w d
-    around_other k = record { others = put.others; kept = put.kept; new = new; only = λ q y. only q (put.only q y) }
-      where
-        new : (q : ℕ) → q < 64 * w → Around t e q → mark s₁ w d q ≡ true
-        new q h (inl y) = put.new q h y
-        new q h (inr y) = absurd (k y.0)
-
-        only : (q : ℕ) → (mark s w d q ≡ true) ⊎ (q ≡ e) → (mark s w d q ≡ true) ⊎ Around t e q
-        only q (inl y) = inl y
-        only q (inr y) = inr (inl y)
 
 -- something added, and something more
 pub added_then : (P Q : ℕ → Type 0) (s s₁ s₂ : List ℕ) (w d : ℕ) → Added P s s₁ w d → Added Q s₁ s₂ w d → Added (λ (q : ℕ). Q q ⊎ P q) s s₂ w d

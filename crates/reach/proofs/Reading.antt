@@ -1,22 +1,25 @@
--- Cells of an accepted table, read and cast; and the room of a row.
-use mathlib.Core.Path.{◌≡◌, ap, ◌∙◌}
-use mathlib.Core.List.{List}
-use Prim.Native.Nat.{ℕ, suc, ◌+◌, ◌-◌, ◌*◌, ◌<◌, ◌≤◌}
+-- The kind of a label by the test of the code; and the room of a row.
+use mathlib.Core.Path.{◌≡◌, refl, sym, ap, ◌∙◌, subst}
+use mathlib.Core.Bool.{true, false}
+use Prim.Native.Nat.{ℕ, suc, ◌+◌, ◌*◌, ◌≤◌}
 use native.Mathlib.Omega.{arith}
 use native.Mathlib.Nat.{mul-le-mul_right, suc-mul}
-use lib.IntN.{ℤ, pos}
-use Rattle.cells.specs.Cells.{int_at}
-use Rattle.cells.specs.Table.{cell, kind}
-use Rattle.cells.specs.Accepted.{Accepted}
+use denote.Enum.Bare.{sameb, same_true}
+use Rattle.std.proofs.Common.{rules}
+use Rattle.kinds.specs.contracts.Kind.{the_type}
+use Rattle.kinds.specs.declared.Kind.{Kind}
+use Rattle.kinds.specs.declared.Kind.TheVariants as kind
+use Rattle.kinds.specs.Kinds.{value_code}
+use Rattle.kinds.specs.Coded.{own_code}
+use Rattle.kinds.proofs.Enumerated.{one_kind}
+use Rattle.order.proofs.Tests.{both_ways}
 
-module _ (t : List ℤ) (n : ℕ) (ok : Accepted t n) (l : ℕ) (low : 1 ≤ l) (high : l ≤ n) where
-  pub cell_is : (j : ℕ) → 4 ≤ j → j < 8 → int_at t (8 * (l - 1) + j) ≡ pos (cell t l j)
-  cell_is j a b = ok.natural l j low high b (λ k e. omega arith)
+pub is_value : (k : Kind) (c : ℕ) → own_code k ≡ c → sameb the_type k kind.Value ≡ true → c ≡ value_code
+is_value k c e h = sym e ∙ ap own_code (same_true the_type (search rules) k kind.Value h)
 
-  pub kind_is : int_at t (8 * (l - 1)) ≡ pos (kind t l)
-  kind_is =
-      let e : 8 * (l - 1) ≡ 8 * (l - 1) + 0 = omega arith in
-      ap (int_at t) e ∙ ok.natural l 0 low high (omega arith) (λ k i. omega arith)
+pub no_value : (k : Kind) (c : ℕ) → own_code k ≡ c → sameb the_type k kind.Value ≡ false → c ≡ value_code → ⊥
+no_value k c e h z =
+    both_ways (sameb the_type k kind.Value) (subst (λ (m : Kind). sameb the_type m kind.Value ≡ true) (sym (one_kind k kind.Value (e ∙ z))) refl) h
 
 pub row_room : (n w p size : ℕ) → p ≤ n → (n + 1) * w ≤ size → p * w + w ≤ size
 row_room n w p size h g =

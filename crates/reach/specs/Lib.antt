@@ -2,3 +2,4 @@ pub mod Links
 pub mod MarkRows
 pub mod Chains
 pub mod Turns
+pub mod FoundPlace

@@ -5,6 +5,8 @@ use Rattle.cells.specs.Table.{kind}
 use Rattle.cells.specs.Accepted.{HasBody}
 use Rattle.marks.specs.Marks.{mark}
 use Rattle.reach.specs.Links.{Touches}
+use Rattle.reach.specs.declared.State.{State}
+use Rattle.reach.specs.declared.State.TheVariants.{New, Made}
 
 -- words in a row
 abbrev pub width : ℕ → ℕ
@@ -21,15 +23,18 @@ pub record AllMarkRows (t : List ℤ) (n j : ℕ) (square : List ℕ) : Type 0 w
   pub values : (v : ℕ) → kind t v ≡ value_code → MarkRow t n j square v
   pub groups : (g : ℕ) → kind t g ≡ group_code → Blank n square g
 
--- State 0: not begun; 1: begun; 2: the row is made. Other rows are blank, and only what has a body is begun.
-pub record MarkRows (t : List ℤ) (n j : ℕ) (state square : List ℕ) : Type 0 where
-  pub small : (d : ℕ) → get_or state d 0 ≤ 2
-  pub begun : (d : ℕ) → (get_or state d 0 ≡ 0 → ⊥) → HasBody t d
-  pub made : (d : ℕ) → get_or state d 0 ≡ 2 → MarkRow t n j square d
-  pub blank : (d : ℕ) → (get_or state d 0 ≡ 2 → ⊥) → Blank n square d
+-- What the states say: a row that is made is so, every other is blank, and only what has a body is begun.
+pub record MarkRows (t : List ℤ) (n j : ℕ) (state : List State) (square : List ℕ) : Type 0 where
+  pub begun : (d : ℕ) → (get_or state d New ≡ New → ⊥) → HasBody t d
+  pub made : (d : ℕ) → get_or state d New ≡ Made → MarkRow t n j square d
+  pub blank : (d : ℕ) → (get_or state d New ≡ Made → ⊥) → Blank n square d
+
+-- room for the rows of n labels
+abbrev pub RowsRoom : ℕ → List ℕ → Type 0
+RowsRoom n square = (n + 1) * width n ≤ length square
 
 -- room for the rows, the states and the stack of n labels
-pub record MarksRoom (n : ℕ) (state square stack : List ℕ) : Type 0 where
+pub record MarksRoom (n : ℕ) (state : List State) (square stack : List ℕ) : Type 0 where
   pub states : n < length state
-  pub rows : (n + 1) * width n ≤ length square
+  pub rows : RowsRoom n square
   pub heights : n < length stack

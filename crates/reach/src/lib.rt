@@ -4,352 +4,309 @@
 #![tactic(auto)]
 
 ghost use Rattle.std.specs.Prelude.{◌≡◌, ◌⊎◌, ℕ, ◌+◌, ◌*◌, ◌≤◌, ◌<◌, length, get_or, take};
-ghost use Rattle.cells.specs.Limits.{label_limit};
 ghost use Rattle.kinds.specs.Kinds.{value_code};
-ghost use Rattle.kinds.specs.GivesValues.{gives_values};
-ghost use Rattle.cells.specs.Table.{cell, kind, is_definition, has_path, owner};
-ghost use Rattle.cells.specs.Accepted.{Accepted, HasBody};
+ghost use Rattle.cells.specs.Limits.{label_limit};
+ghost use Rattle.cells.specs.Table.{cell, kind, owner};
+ghost use Rattle.cells.specs.Reaches.{HasPath};
+ghost use Rattle.cells.specs.Accepted.{HasBody};
 ghost use Rattle.order.specs.Order.{Within, place16};
 ghost use Rattle.marks.specs.Marks.{mark, Added};
+ghost use Rattle.reach.specs.declared.State.TheVariants.{New, Made};
 ghost use Rattle.reach.specs.Links.{Column, Links, Around};
-ghost use Rattle.reach.specs.MarkRows.{width, MarkRow, Blank, AllMarkRows, MarkRows, MarksRoom};
+ghost use Rattle.reach.specs.MarkRows.{width, MarkRow, Blank, AllMarkRows, MarkRows, RowsRoom, MarksRoom};
 ghost use Rattle.reach.specs.Chains.{ChainedTo, Empty};
 ghost use Rattle.reach.specs.Turns.{Raised, Met, Spread, Grown, Filled, Shared, Visited};
+ghost use Rattle.reach.specs.FoundPlace.{found_place};
 
-// ---- cells of an accepted table
-
-// The label's kind code.
-pub fn kind_of(table: &[i64], n: usize, label: usize) -> usize
-    requires accepted { Accepted table.now n }
-    requires le_label { (1 ≤ label) × (label ≤ n) }
-    ensures { result ≡ kind table.now label }
-{
-    table[8 * (label - 1)] as usize
-}
-
-// Cell j, which is b or a later one.
-pub fn cell_of(table: &[i64], n: usize, label: usize, j: usize) -> usize
-    requires accepted { Accepted table.now n }
-    requires le_label { (1 ≤ label) × (label ≤ n) × (4 ≤ j) × (j < 8) }
-    ensures { result ≡ cell table.now label j }
-{
-    table[8 * (label - 1) + j] as usize
-}
-
-// Whether the line has a path.
-fn has_path(table: &[i64], n: usize, label: usize) -> bool
-    requires accepted { Accepted table.now n }
-    requires le_label { (1 ≤ label) × (label ≤ n) }
-    ensures { result ≡ has_path table.now label }
-{
-    kinds::has_path(kind_of(table, n, label))
-}
-
-// Whether it is a definition.
-pub fn is_definition(table: &[i64], n: usize, label: usize) -> bool
-    requires accepted { Accepted table.now n }
-    requires le_label { (1 ≤ label) × (label ≤ n) }
-    ensures { result ≡ is_definition table.now label }
-{
-    kinds::is_definition(kind_of(table, n, label))
-}
-
-// Whether it has values in a plan: a Group or a value.
-pub fn gives_values(table: &[i64], n: usize, label: usize) -> bool
-    requires accepted { Accepted table.now n }
-    requires le_label { (1 ≤ label) × (label ≤ n) }
-    ensures { result ≡ gives_values (kind table.now label) }
-{
-    kinds::gives_values(kind_of(table, n, label))
-}
+use cells::ReadTable;
+use kinds::Kind;
 
 // ---- chains of lines
 
-// The chains by which links by column j are followed.
-pub fn link(table: &[i64], n: usize, j: usize, chains: &mut [u16])
-    requires accepted { Accepted table.now n }
-    requires column { Column j }
-    requires n_in_bounds { 2 * n < length chains.old }
-    requires empty { Empty n chains.old }
-    ensures { ChainedTo table.now n j n chains.new }
+// How far the row of a definition is.
+#[derive(Clone, Copy, PartialEq, Eq)]
+pub enum State {
+    New,
+    Begun,
+    Made,
+}
+
+// The lines of a table whose links by a column are followed, each in the chain of the definition from which its link leads, as `link` makes them.
+#[derive(Clone, Copy)]
+pub struct Chains<'a> {
+    pub sheet: ReadTable<'a>,
+    pub column: usize,
+    pub links: &'a [u16],
+    // `Column`, as a bound: a ghost field is a fact with one proof
+    pub ghost column_is: { (6 ≤ column) × (column ≤ 7) },
+    pub ghost room: { 2 * sheet.n < length links.now },
+    pub ghost chained: { ChainedTo sheet.cells.now sheet.n column sheet.n links.now },
+}
+
+// The chains by which links by a column are followed.
+pub fn link(sheet: ReadTable, column: usize, chains: &mut [u16])
+    requires column { Column column }
+    requires room { 2 * sheet.n < length chains.old }
+    requires empty { Empty sheet.n chains.old }
+    ensures { ChainedTo sheet.entry.cells.now sheet.entry.n column sheet.entry.n chains.new }
 {
-    let mut l = 1;
-    while l <= n {
-        if has_path(table, n, l) {
-            let d = cell_of(table, n, l, 13 - j);
-            chains[n + l] = chains[d];
+    for l in 1..sheet.n + 1 {
+        if sheet.has_path(l) {
+            // the other column
+            let d = sheet.cell(l, cells::OWNER + cells::TARGET - column);
+            chains[sheet.n + l] = chains[d];
             chains[d] = l as u16;
         }
-        l += 1;
     }
 }
 
 // ---- a row
 
 // Marks the Groups around v in row d. Above one that is marked, all are.
-fn mark_groups(table: &[i64], n: usize, square: &mut [u64], d: usize, v: usize)
-    requires accepted { Accepted table.now n }
-    requires d_le_n { (d ≤ n) × (1 ≤ v) × (v ≤ n) × ((n + 1) * width n ≤ length square.old) }
-    requires v_value { kind table.now v ≡ value_code }
-    requires raised { Raised table.now (mark square.old (width n) d) }
-    ensures { Added (λ (q : ℕ). (1 ≤ q) × Within table.now q (owner table.now v)) square.old square.new (width n) d }
+fn mark_groups(sheet: ReadTable, square: &mut [u64], d: usize, v: usize)
+    requires d_le_n { (d ≤ sheet.n) × (1 ≤ v) × (v ≤ sheet.n) }
+    requires room { RowsRoom sheet.n square.old }
+    requires v_value { kind sheet.cells.now v ≡ value_code }
+    requires raised { Raised sheet.cells.now (mark square.old (width sheet.n) d) }
+    ensures { Added (λ (q : ℕ). (1 ≤ q) × Within sheet.entry.cells.now q (owner sheet.entry.cells.now v)) square.old square.new (width sheet.entry.n) d }
 {
-    let w = n / 64 + 1;
-    let mut g = cell_of(table, n, v, cells::OWNER);
+    let w = sheet.n / 64 + 1;
+    let mut g = sheet.cell(v, cells::OWNER);
     while g != 0 {
         if marks::has_mark(square, w, d, g) {
             return;
         }
         marks::put_mark(square, w, d, g);
-        g = cell_of(table, n, g, cells::OWNER);
+        g = sheet.cell(g, cells::OWNER);
     }
 }
 
 // Marks e in row d and, if it is a V, the Groups around it.
-fn mark_around(table: &[i64], n: usize, square: &mut [u64], d: usize, e: usize)
-    requires accepted { Accepted table.now n }
-    requires d_le_n { (d ≤ n) × ((n + 1) * width n ≤ length square.old) }
-    requires has_body { HasBody table.now e }
-    requires raised { Raised table.now (mark square.old (width n) d) }
-    ensures { Added (λ (q : ℕ). Around table.now e q) square.old square.new (width n) d }
+fn mark_around(sheet: ReadTable, square: &mut [u64], d: usize, e: usize)
+    requires d_le_n { d ≤ sheet.n }
+    requires room { RowsRoom sheet.n square.old }
+    requires has_body { HasBody sheet.cells.now e }
+    requires raised { Raised sheet.cells.now (mark square.old (width sheet.n) d) }
+    ensures { Added (λ (q : ℕ). Around sheet.entry.cells.now e q) square.old square.new (width sheet.entry.n) d }
 {
-    marks::put_mark(square, n / 64 + 1, d, e);
-    if kind_of(table, n, e) == kinds::VALUE {
-        mark_groups(table, n, square, d, e);
-    }
-}
-
-// A link leads to f: if f is not in row d yet, it is marked, and its row is added if that is made, or else it waits on the stack.
-fn meet(
-    table: &[i64],
-    n: usize,
-    state: &[u8],
-    square: &mut [u64],
-    stack: &mut [u16],
-    d: usize,
-    f: usize,
-    top: usize,
-) -> usize
-    requires accepted { Accepted table.now n }
-    requires marks_room { MarksRoom n state.now square.old stack.old }
-    requires d_le_n { (d ≤ n) × (top ≤ n) }
-    requires has_body { HasBody table.now f }
-    requires raised { Raised table.now (mark square.old (width n) d) }
-    requires raised_2 { get_or state.now f 0 ≡ 2 → Raised table.now (mark square.old (width n) f) }
-    ensures { Met table.now n state.now d f square.old stack.old top square.new stack.new result }
-{
-    let w = n / 64 + 1;
-    if marks::has_mark(square, w, d, f) {
-        return top;
-    }
-    if state[f] == 2 {
-        // its row first: above a Group that it has, all are marked
-        marks::merge_row(square, w, f, d);
-        mark_around(table, n, square, d, f);
-        return top;
-    }
-    mark_around(table, n, square, d, f);
-    stack[top] = f as u16;
-    top + 1
-}
-
-// Row d of the marks meets all that e links to. Answers the stack's height.
-fn grow(
-    table: &[i64],
-    n: usize,
-    j: usize,
-    chains: &[u16],
-    state: &[u8],
-    square: &mut [u64],
-    stack: &mut [u16],
-    d: usize,
-    e: usize,
-    top: usize,
-) -> usize
-    requires accepted { Accepted table.now n }
-    requires column { Column j }
-    requires n_in_bounds { (2 * n < length chains.now) × ChainedTo table.now n j n chains.now }
-    requires marks_room { MarksRoom n state.now square.old stack.old }
-    requires d_le_n { (d ≤ n) × (get_or state.now d 0 ≡ 2 → ⊥) × HasBody table.now e × ((e ≡ d) ⊎ Links table.now j d e) }
-    requires by_index { (f : ℕ) → get_or state.now f 0 ≡ 2 → MarkRow table.now n j square.old f }
-    requires spread { Spread table.now j d e (mark square.old (width n) d) (take top stack.old) × (top ≤ n) }
-    ensures { Grown table.now n j d e square.old top square.new stack.new result × (result ≤ n) }
-{
-    let mut height = top;
-    let mut x = marks::widen(chains[e]);
-    while x != 0 {
-        let f = cell_of(table, n, x, j);
-        height = meet(table, n, state, square, stack, d, f, height);
-        x = marks::widen(chains[n + x]);
-    }
-    height
-}
-
-// Makes row d, which is blank. Only those whose own rows are not made are visited, each once.
-fn fill(
-    table: &[i64],
-    n: usize,
-    j: usize,
-    chains: &[u16],
-    state: &[u8],
-    square: &mut [u64],
-    stack: &mut [u16],
-    d: usize,
-)
-    requires accepted { Accepted table.now n }
-    requires column { Column j }
-    requires n_in_bounds { (2 * n < length chains.now) × ChainedTo table.now n j n chains.now }
-    requires marks_room { MarksRoom n state.now square.old stack.old }
-    requires fact { (get_or state.now d 0 ≡ 2 → ⊥) × HasBody table.now d }
-    requires by_index { ((f : ℕ) → get_or state.now f 0 ≡ 2 → MarkRow table.now n j square.old f) × Blank n square.old d }
-    ensures { Filled table.now n j d square.old square.new }
-{
-    let mut top = grow(table, n, j, chains, state, square, stack, d, d, 0);
-    while 0 < top {
-        let e = marks::widen(stack[top - 1]);
-        top = grow(table, n, j, chains, state, square, stack, d, e, top - 1);
+    marks::put_mark(square, sheet.n / 64 + 1, d, e);
+    if sheet.kind(e) == Kind::Value {
+        mark_groups(sheet, square, d, e);
     }
 }
 
 // If row e is made and has d, which links to e, both reach the same: d has the same row. Answers whether it is so.
-fn share_row(n: usize, state: &[u8], square: &mut [u64], d: usize, e: usize) -> bool
-    requires { (n ≤ label_limit) × (d ≤ n) × (e ≤ n) × (n < length state.now) × ((n + 1) * width n ≤ length square.old) }
-    ensures { Shared n state.now d e square.old square.new result }
+fn share_row(n: usize, state: State, square: &mut [u64], d: usize, e: usize) -> bool
+    requires { (n ≤ label_limit) × (d ≤ n) × (e ≤ n) × RowsRoom n square.old }
+    ensures { Shared n state d e square.old square.new result }
 {
     let w = n / 64 + 1;
-    if state[e] != 2 {
-        return false;
-    }
-    if marks::has_mark(square, w, e, d) {
+    if state == State::Made && marks::has_mark(square, w, e, d) {
         marks::merge_row(square, w, e, d);
         return true;
     }
     false
 }
 
-// Makes row d after the rows of what d links to, unless d is begun.
-pub fn visit(
-    table: &[i64],
-    n: usize,
-    j: usize,
-    chains: &[u16],
-    state: &mut [u8],
-    square: &mut [u64],
-    stack: &mut [u16],
-    d: usize,
-)
-    requires accepted { Accepted table.now n }
-    requires column { Column j }
-    requires n_in_bounds { (2 * n < length chains.now) × ChainedTo table.now n j n chains.now }
-    requires marks_room { MarksRoom n state.old square.old stack.old }
-    requires mark_rows { MarkRows table.now n j state.old square.old × HasBody table.now d }
-    ensures { Visited table.now n j d state.old state.new square.new }
-{
-    if state[d] != 0 {
-        return;
+// States and stack are lent apart, since what makes a row reads the states and writes none.
+impl Chains<'_> {
+    // Where the link of a line leads.
+    fn end(&self, line: usize) -> usize
+        requires { HasPath self.now.sheet.cells.now line }
+        ensures end { result ≡ cell self.now.sheet.cells.now line self.now.column }
+        ensures has_body { HasBody self.now.sheet.cells.now result }
+    {
+        self.sheet.cell(line, self.column)
     }
-    state[d] = 1;
-    let mut x = marks::widen(chains[d]);
-    while x != 0 {
-        let e = cell_of(table, n, x, j);
-        if state[e] == 0 {
-            visit(table, n, j, chains, state, square, stack, e);
+
+    // The line before one in its chain; 0 where there is none.
+    fn before(&self, line: usize) -> usize
+        requires { (1 ≤ line) × (line ≤ self.now.sheet.n) }
+        ensures { result ≡ get_or self.now.links.now (self.now.sheet.n + line) 0 }
+    {
+        usize::from(self.links[self.sheet.n + line])
+    }
+
+    // A link leads to f: if f is not in row d yet, it is marked, and its row is added if that is made, or else it waits on the stack.
+    fn meet(
+        &self,
+        state: &[State],
+        square: &mut [u64],
+        stack: &mut [u16],
+        d: usize,
+        f: usize,
+        top: usize,
+    ) -> usize
+        requires room { MarksRoom self.now.sheet.n state.now square.old stack.old }
+        requires d_le_n { (d ≤ self.now.sheet.n) × (top ≤ self.now.sheet.n) }
+        requires has_body { HasBody self.now.sheet.cells.now f }
+        requires raised { Raised self.now.sheet.cells.now (mark square.old (width self.now.sheet.n) d) }
+        requires raised_2 { get_or state.now f New ≡ Made → Raised self.now.sheet.cells.now (mark square.old (width self.now.sheet.n) f) }
+        ensures { Met self.now.sheet.cells.now self.now.sheet.n state.now d f square.old stack.old top square.new stack.new result }
+    {
+        let w = self.sheet.n / 64 + 1;
+        if marks::has_mark(square, w, d, f) {
+            return top;
         }
-        if share_row(n, state, square, d, e) {
-            state[d] = 2;
+        if state[f] == State::Made {
+            // its row first: above a Group that it has, all are marked
+            marks::merge_row(square, w, f, d);
+            mark_around(self.sheet, square, d, f);
+            return top;
+        }
+        mark_around(self.sheet, square, d, f);
+        stack[top] = f as u16;
+        top + 1
+    }
+
+    // Row d of the marks meets all that e links to. Answers the stack's height.
+    fn grow(
+        &self,
+        state: &[State],
+        square: &mut [u64],
+        stack: &mut [u16],
+        d: usize,
+        e: usize,
+        top: usize,
+    ) -> usize
+        requires room { MarksRoom self.now.sheet.n state.now square.old stack.old }
+        requires d_le_n { (d ≤ self.now.sheet.n) × (get_or state.now d New ≡ Made → ⊥) }
+        requires linked { HasBody self.now.sheet.cells.now e × ((e ≡ d) ⊎ Links self.now.sheet.cells.now self.now.column d e) }
+        requires by_index { (f : ℕ) → get_or state.now f New ≡ Made → MarkRow self.now.sheet.cells.now self.now.sheet.n self.now.column square.old f }
+        requires spread { Spread self.now.sheet.cells.now self.now.column d e (mark square.old (width self.now.sheet.n) d) (take top stack.old)
+            × (top ≤ self.now.sheet.n) }
+        ensures { Grown self.now.sheet.cells.now self.now.sheet.n self.now.column d e square.old top square.new stack.new result
+            × (result ≤ self.now.sheet.n) }
+    {
+        // read once, and not again after each write to a row
+        let chains = *self;
+        let mut height = top;
+        let mut x = usize::from(chains.links[e]);
+        while x != 0 {
+            let f = chains.end(x);
+            height = chains.meet(state, square, stack, d, f, height);
+            x = chains.before(x);
+        }
+        height
+    }
+
+    // Makes row d, which is blank. Only those whose own rows are not made are visited, each once.
+    fn fill(&self, state: &[State], square: &mut [u64], stack: &mut [u16], d: usize)
+        requires room { MarksRoom self.now.sheet.n state.now square.old stack.old }
+        requires fact { (get_or state.now d New ≡ Made → ⊥) × HasBody self.now.sheet.cells.now d }
+        requires by_index { (f : ℕ) → get_or state.now f New ≡ Made → MarkRow self.now.sheet.cells.now self.now.sheet.n self.now.column square.old f }
+        requires blank { Blank self.now.sheet.n square.old d }
+        ensures { Filled self.now.sheet.cells.now self.now.sheet.n self.now.column d square.old square.new }
+    {
+        let mut top = self.grow(state, square, stack, d, d, 0);
+        while 0 < top {
+            let e = usize::from(stack[top - 1]);
+            top = self.grow(state, square, stack, d, e, top - 1);
+        }
+    }
+
+    // Makes row d after the rows of what d links to, unless d is begun.
+    pub fn visit(&self, state: &mut [State], square: &mut [u64], stack: &mut [u16], d: usize)
+        requires room { MarksRoom self.now.sheet.n state.old square.old stack.old }
+        requires mark_rows { MarkRows self.now.sheet.cells.now self.now.sheet.n self.now.column state.old square.old × HasBody self.now.sheet.cells.now d }
+        ensures { Visited self.now.sheet.cells.now self.now.sheet.n self.now.column d state.old state.new square.new }
+    {
+        let State::New = state[d] else {
             return;
+        };
+        state[d] = State::Begun;
+        let mut x = usize::from(self.links[d]);
+        while x != 0 {
+            let e = self.end(x);
+            if let State::New = state[e] {
+                self.visit(state, square, stack, e);
+            }
+            if share_row(self.sheet.n, state[e], square, d, e) {
+                state[d] = State::Made;
+                return;
+            }
+            x = self.before(x);
         }
-        x = marks::widen(chains[n + x]);
+        self.fill(state, square, stack, d);
+        state[d] = State::Made;
     }
-    fill(table, n, j, chains, state, square, stack, d);
-    state[d] = 2;
+
+    // The row of every V, in a blank square.
+    fn reach_rows(&self, state: &mut [State], square: &mut [u64], stack: &mut [u16])
+        requires room { MarksRoom self.now.sheet.n state.old square.old stack.old }
+        requires new { (d : ℕ) → get_or state.old d New ≡ New }
+        requires blank { (d : ℕ) → Blank self.now.sheet.n square.old d }
+        ensures { AllMarkRows self.now.sheet.cells.now self.now.sheet.n self.now.column square.new }
+    {
+        for v in 1..self.sheet.n + 1 {
+            if self.sheet.kind(v) == Kind::Value {
+                self.visit(state, square, stack, v);
+            }
+        }
+    }
 }
 
 // ---- all rows
 
-// The row of every V, in a blank square.
-fn reach_rows(
-    table: &[i64],
-    n: usize,
-    j: usize,
-    chains: &[u16],
-    state: &mut [u8],
-    square: &mut [u64],
-    stack: &mut [u16],
-)
-    requires accepted { Accepted table.now n }
-    requires column { Column j }
-    requires n_in_bounds { (2 * n < length chains.now) × ChainedTo table.now n j n chains.now }
-    requires marks_room { MarksRoom n state.old square.old stack.old }
-    requires by_index { ((d : ℕ) → get_or state.old d 0 ≡ 0) × ((d : ℕ) → Blank n square.old d) }
-    ensures { AllMarkRows table.now n j square.new }
+// Row 16: the smallest V that reaches itself.
+fn first_cycle(sheet: ReadTable, column: usize, square: &[u64]) -> Option<usize>
+    requires column { Column column }
+    requires room { RowsRoom sheet.n square.now }
+    requires all_mark_rows { AllMarkRows sheet.cells.now sheet.n column square.now }
+    ensures { result ≡ found_place (place16 sheet.entry.cells.now sheet.entry.n) }
 {
-    let mut v = 1;
-    while v <= n {
-        if kind_of(table, n, v) == kinds::VALUE {
-            visit(table, n, j, chains, state, square, stack, v);
-        }
-        v += 1;
-    }
-}
-
-// Row 16: the smallest V that reaches itself, or 0.
-fn first_cycle(table: &[i64], n: usize, j: usize, square: &[u64]) -> usize
-    requires accepted { Accepted table.now n }
-    requires column { Column j }
-    requires n_in_bounds { (n + 1) * width n ≤ length square.now }
-    requires all_mark_rows { AllMarkRows table.now n j square.now }
-    ensures { result ≡ place16 table.now n }
-{
-    let mut v = 1;
-    while v <= n {
-        if kind_of(table, n, v) == kinds::VALUE { // functions may reach themselves
-            if marks::has_mark(square, n / 64 + 1, v, v) {
-                return v;
+    for v in 1..sheet.n + 1 {
+        if sheet.kind(v) == Kind::Value { // functions may reach themselves
+            if marks::has_mark(square, sheet.n / 64 + 1, v, v) {
+                return Some(v);
             }
         }
-        v += 1;
     }
-    0
+    None
 }
 
-// Row 16, and the row of marks of every V, in a blank square, with scratch that is all 0.
-fn cycle_in(
-    table: &[i64],
-    n: usize,
-    j: usize,
+// Row 16, and the row of marks of every V, in a blank square, with chains of C cells and scratch for fewer than N labels.
+fn cycle_in<const C: usize, const N: usize>(
+    sheet: ReadTable,
+    column: usize,
     square: &mut [u64],
-    chains: &mut [u16],
-    state: &mut [u8],
-    stack: &mut [u16],
-) -> usize
-    requires accepted { Accepted table.now n }
-    requires column { Column j }
-    requires n_in_bounds { (2 * n < length chains.old) × Empty n chains.old }
-    requires marks_room { MarksRoom n state.old square.old stack.old }
-    requires by_index { ((d : ℕ) → get_or state.old d 0 ≡ 0) × ((d : ℕ) → Blank n square.old d) }
-    ensures { (result ≡ place16 table.now n) × AllMarkRows table.now n j square.new }
+) -> Option<usize>
+    requires column { Column column }
+    requires few { (2 * sheet.n < C) × (C ≤ 2 * label_limit + 1) × (sheet.n < N) × (N ≤ label_limit + 1) }
+    requires room { RowsRoom sheet.n square.old }
+    requires blank { (d : ℕ) → Blank sheet.n square.old d }
+    ensures { (result ≡ found_place (place16 sheet.entry.cells.now sheet.entry.n)) × AllMarkRows sheet.entry.cells.now sheet.entry.n column square.new }
 {
-    link(table, n, j, chains);
-    reach_rows(table, n, j, chains, state, square, stack);
-    first_cycle(table, n, j, square)
+    let mut links = [0; C];
+    link(sheet, column, &mut links);
+    let chains = Chains {
+        sheet,
+        column,
+        links: &links,
+    };
+    let mut state = [State::New; N];
+    let mut stack = [0; N];
+    chains.reach_rows(&mut state, square, &mut stack);
+    first_cycle(sheet, column, square)
 }
+
+// The lines of a small table.
+pub const FEW_LINES: usize = 128;
+
+// The cells of the chains of a small table, and of any.
+pub const FEW_LINKS: usize = 2 * FEW_LINES - 1;
+
+pub const LINKS: usize = 2 * cells::LINE_LIMIT - 1;
 
 // The same, with scratch of two sizes, since it is zeroed at each call.
-pub fn find_cycle(table: &[i64], n: usize, j: usize, square: &mut [u64]) -> usize
-    requires accepted { Accepted table.now n }
-    requires column { Column j }
-    requires n_in_bounds { ((n + 1) * width n ≤ length square.old) × ((d : ℕ) → Blank n square.old d) }
-    ensures { (result ≡ place16 table.now n) × AllMarkRows table.now n j square.new }
+pub fn find_cycle(sheet: ReadTable, column: usize, square: &mut [u64]) -> Option<usize>
+    requires column { Column column }
+    requires room { RowsRoom sheet.n square.old }
+    requires blank { (d : ℕ) → Blank sheet.n square.old d }
+    ensures { (result ≡ found_place (place16 sheet.entry.cells.now sheet.entry.n)) × AllMarkRows sheet.entry.cells.now sheet.entry.n column square.new }
 {
-    if n <= 127 {
-        let mut chains = [0u16; 255];
-        let mut state = [0u8; 128];
-        let mut stack = [0u16; 128];
-        return cycle_in(table, n, j, square, &mut chains, &mut state, &mut stack);
+    if sheet.n < FEW_LINES {
+        return cycle_in::<FEW_LINKS, FEW_LINES>(sheet, column, square);
     }
-    let mut chains = [0u16; 2049];
-    let mut state = [0u8; 1025];
-    let mut stack = [0u16; 1025];
-    cycle_in(table, n, j, square, &mut chains, &mut state, &mut stack)
+    cycle_in::<LINKS, { cells::LINE_LIMIT }>(sheet, column, square)
 }

@@ -1,6 +1,7 @@
 -- The table of a sheet in which rows 1 to 15 find nothing has all that planning and evaluation lean on, and its owners and targets are
 -- those that the rules define.
 use mathlib.Core.Path.{◌≡◌, refl, ap, sym, ◌∙◌}
+use Rattle.std.specs.Prelude.{Some, None}
 use mathlib.Core.Logic.{⊎_elim}
 use mathlib.Core.Bool.{Bool, true, false}
 use mathlib.Core.List.{List}
@@ -21,8 +22,7 @@ use Rattle.cells.specs.Accepted.{Part, Accepted}
 use Rattle.cells.proofs.Table.{cell_at}
 use Rattle.cells.proofs.Columns.{column_length, column_keeps, column_has, column_own, column_other, column_number}
 use Rattle.refusals.specs.Rows.{target_row}
-use Rattle.refusals.specs.Refusal.{first_bad, or_else}
-use Rattle.refusals.specs.declared.Verdict.TheVariants.{Fine}
+use Rattle.refusals.specs.Refusal.{first_bad, or_else, Fine}
 use Rattle.refusals.proofs.OrElse.{both_fine}
 use Rattle.refusals.proofs.FirstBad.{first_none}
 use Rattle.lines.specs.Lines.{labels, head_bad, lines_bad}
@@ -176,9 +176,9 @@ module _ (s : List ℕ) (t : List ℤ) (n : ℕ) (is : Lined s t n) (tree : tree
   unfolding target_bad
   aimed l h g e = go (eqb (kind u (target_of s u n l)) (wanted_by (kind u l))) refl (first_none (target_bad s u n) n 1 found l h (omega arith))
     where
-      go : (b : Bool) → eqb (kind u (target_of s u n l)) (wanted_by (kind u l)) ≡ b → target_bad s u n l ≡ 0 → kind u (target_of s u n l) ≡ wanted_by (kind u l)
+      go : (b : Bool) → eqb (kind u (target_of s u n l)) (wanted_by (kind u l)) ≡ b → target_bad s u n l ≡ None → kind u (target_of s u n l) ≡ wanted_by (kind u l)
       go true q z = eqb-true (kind u (target_of s u n l)) (wanted_by (kind u l)) q
-      go false q z = let y : ◌≡◌ {A = ℕ} target_row 0 = rw (e, q) at z in absurd (omega arith)
+      go false q z = let y : Some target_row ≡ None = rw (e, q) at z in absurd cc
 
   target_own : (l : ℕ) → 1 ≤ l → l ≤ n → target w l ≡ target_cell s u n l
   unfolding resolved_table

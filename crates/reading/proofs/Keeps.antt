@@ -1,5 +1,7 @@
 -- A sheet is accepted exactly when it keeps the rules.
 use mathlib.Core.Path.{◌≡◌, refl, ap, sym, ◌∙◌}
+use Rattle.refusals.specs.declared.Row.{Row}
+use Rattle.std.specs.Prelude.{Option, Some, None}
 use mathlib.Core.Bool.{Bool, true, false, cond, ◌&&◌}
 use mathlib.Core.List.{List, [], ◌∷◌}
 use Prim.Native.Nat.{ℕ, ◌-◌, ◌*◌, ◌≤◌}
@@ -16,7 +18,7 @@ use Rattle.kinds.proofs.Codes.{other_place}
 use Rattle.cells.specs.Lists.{count, all}
 use Rattle.cells.specs.Table.{kind, is_definition, is_expression, field_a}
 use Rattle.refusals.specs.Rows.{form_row}
-use Rattle.refusals.specs.declared.Verdict.TheVariants.{Fine}
+use Rattle.refusals.specs.Refusal.{Fine}
 use Rattle.refusals.proofs.FirstBad.{first_none, none_first}
 use Rattle.text.specs.Bytes.{same}
 use Rattle.text.specs.Pieces.{cut}
@@ -58,7 +60,7 @@ kept_text s k =
 -- ---- the lines
 
 module _ (s : List ℕ) (n l : ℕ) where
-  line_kept : line_check s n l ≡ 0 → LineKept s n l
+  line_kept : line_check s n l ≡ None → LineKept s n l
   line_kept e = record {
     five = (fine_fields n l (line s l) e).0;
     known = known n l (line s l) e;
@@ -66,13 +68,15 @@ module _ (s : List ℕ) (n l : ℕ) where
     forms = λ h. rw (ne_eqb l 1 (λ q. omega arith)) at (fine_forms n l (line s l) e);
   }
 
-  kept_line : 1 ≤ l → LineKept s n l → line_check s n l ≡ 0
+  kept_line : 1 ≤ l → LineKept s n l → line_check s n l ≡ None
   unfolding line_bad root_line
   kept_line low k =
       rw (k.five, ne_eqb (kind_code (field (cut space (line s l)) 0)) 0 (λ z. omega (arith, k.known))) (go (eqb l 1) refl)
     where
       go : (b : Bool) → eqb l 1 ≡ b
-          → ◌≡◌ {A = ℕ} (cond (cond b (same (line s l) root_line) (forms_right n (fields_at (kind_code (field (cut space (line s l)) 0))) (cut space (line s l)))) 0 form_row) 0
+          → ◌≡◌ {A = Option Row}
+          (cond (cond b (same (line s l) root_line) (forms_right n (fields_at (kind_code (field (cut space (line s l)) 0))) (cut space (line s l)))) None (Some form_row))
+          None
       go true e = rw (k.root (eqb-true l 1 e))
       go false e = rw (k.forms (omega (arith, eqb-false l 1 e)))
 
@@ -110,7 +114,7 @@ module _ (t : List ℤ) (n : ℕ) (s : Formed t n) where
     used : UsedOnce t n
     used = record { structure = record { formed = s; group = k.group; part = k.part }; once = k.once }
 
-    kept_structure : (l : ℕ) → l ≤ n → structure_bad t l ≡ 0
+    kept_structure : (l : ℕ) → l ≤ n → structure_bad t l ≡ None
     unfolding structure_bad
     kept_structure l g = rw (group (leb 2 l && is_definition t l) refl, all_so (part_right t l) (parts t l) part)
       where
@@ -123,21 +127,21 @@ module _ (t : List ℤ) (n : ℕ) (s : Formed t n) where
         part : (x : ℕ) → 1 ≤ count x (parts t l) → part_right t l x ≡ true
         part x p = rw (lt-ltb l x (k.part l x p).0) (k.part l x p).1
 
-    kept_uses : (x : ℕ) → uses_bad t n x ≡ 0
+    kept_uses : (x : ℕ) → uses_bad t n x ≡ None
     kept_uses x = go (is_expression t x) refl
       where
-        go : (b : Bool) → is_expression t x ≡ b → uses_bad t n x ≡ 0
+        go : (b : Bool) → is_expression t x ≡ b → uses_bad t n x ≡ None
         go true e = rw (e, k.once x e)
         go false e = rw e
 
-    kept_argument : (x : ℕ) → argument_bad t n x ≡ 0
+    kept_argument : (x : ℕ) → argument_bad t n x ≡ None
     kept_argument x = rw (le-ltb (takes (kind t (owner_of t n x))) (argument_place (kind t x)) (go (is_expression t x) refl))
       where
         go : (b : Bool) → is_expression t x ≡ b → argument_place (kind t x) ≤ takes (kind t (owner_of t n x))
         go true e = k.argument (owner_of t n x) x (owned t n used x e)
         go false e = omega (arith, other_place (kind t x) e)
 
-    kept_level : (x : ℕ) → level_bad t n x ≡ 0
+    kept_level : (x : ℕ) → level_bad t n x ≡ None
     kept_level x = rw (le-ltb level_limit (level_of t n x) (go (is_expression t x) refl))
       where
         go : (b : Bool) → is_expression t x ≡ b → level_of t n x ≤ level_limit

@@ -1,5 +1,7 @@
 -- Name's part, by what Read answered.
 use mathlib.Core.Path.{◌≡◌, ap, sym, ◌∙◌}
+use Rattle.std.specs.Prelude.{Ok, Err}
+use Rattle.refusals.specs.declared.Refusal.{Refusal}
 use mathlib.Core.List.{List, [], ◌∷◌}
 use Prim.Native.Nat.{ℕ, zero, suc, ◌+◌, ◌-◌, ◌*◌, ◌≤◌, ◌<◌}
 use native.Mathlib.Nat.{suc-add}
@@ -10,9 +12,7 @@ use lib.Seq.{slice, take-nil}
 use borrow.Author.Tests.{le-leb, lt-leb}
 use Rattle.cells.specs.Cells.{nat_of}
 use Rattle.cells.specs.Table.{cell}
-use Rattle.refusals.specs.declared.Verdict.{Verdict}
-use Rattle.refusals.specs.declared.Verdict.TheVariants.{Fine}
-use Rattle.refusals.specs.declared.Reply.TheVariants as reply
+use Rattle.refusals.specs.Refusal.{Verdict, Fine}
 use Rattle.lines.specs.Lines.{labels}
 use Rattle.reading.specs.Read.{sheet_table, read_bad, read_reply, read_table, table_of, ReadLeaves}
 use Rattle.reading.specs.Name.{label_in, name_begin, name_size, name_part, PartLeaves, NameLeaves}
@@ -36,7 +36,7 @@ module _ (n : ℕ) (z : ℤ) (r : ℕ) (e : r ≡ nat_of z) where
 
 module _ (s : List ℕ) (m : ℕ) (z : ℤ) where
   -- of a sheet that Read accepted, by the cells of the label l in the table w
-  pub part_answered : (n l : ℕ) (p : TextPart) (w : List ℤ) → ReadLeaves s m (reply.Answered n) w → l ≡ label_in n z → p.start ≡ cell w l 1 → p.length ≡ cell w l 2
+  pub part_answered : (n l : ℕ) (p : TextPart) (w : List ℤ) → ReadLeaves s m (Ok n) w → l ≡ label_in n z → p.start ≡ cell w l 1 → p.length ≡ cell w l 2
       → PartLeaves s m z p w
   unfolding read_reply read_table name_begin name_size
   part_answered n l p w k q a b =
@@ -53,10 +53,10 @@ module _ (s : List ℕ) (m : ℕ) (z : ℤ) where
         table = k.table;
       }
 
-  pub part_refused : (r l : ℕ) (p : TextPart) (w : List ℤ) → ReadLeaves s m (reply.Refused r l) w → p.start ≡ 0 → p.length ≡ 0 → PartLeaves s m z p w
+  pub part_refused : (r : Refusal) (p : TextPart) (w : List ℤ) → ReadLeaves s m (Err r) w → p.start ≡ 0 → p.length ≡ 0 → PartLeaves s m z p w
   unfolding read_reply name_begin name_size
-  part_refused r l p w k a b =
-      let f = refused (read_bad s m) (labels s) r l (sym k.reply) in
+  part_refused r p w k a b =
+      let f = refused (read_bad s m) (labels s) r (sym k.reply) in
       record { begins = rw (f) a; size = rw (f) b; inside = omega arith; table = k.table }
 
   -- the part from its start to its end, of the text at `text`

@@ -1,5 +1,7 @@
 -- From the table that rows 1 to 7 leave to what rows 8 to 11 and rows 12 to 15 ask.
 use mathlib.Core.Path.{◌≡◌, refl, ap, sym, ◌∙◌}
+use Rattle.std.specs.Prelude.{Ok, Err}
+use Rattle.refusals.specs.declared.Refusal.{Refusal}
 use mathlib.Core.Logic.{⊎_elim}
 use mathlib.Core.Bool.{Bool, true, false}
 use mathlib.Core.List.{List}
@@ -16,8 +18,7 @@ use Rattle.cells.specs.Table.{cell, kind, is_definition, owner, with_column}
 use Rattle.cells.proofs.Columns.{column_length, column_has, column_other}
 use Rattle.kinds.specs.declared.Form.{Form}
 use Rattle.kinds.specs.declared.Form.TheVariants.{Missing, Name, Path, Group, Operand, Number}
-use Rattle.refusals.specs.declared.Verdict.{Verdict}
-use Rattle.refusals.specs.declared.Verdict.TheVariants.{Fine, Refused}
+use Rattle.refusals.specs.Refusal.{Verdict, Fine}
 use Rattle.tree.specs.Tree.{owner_of, tree_bad}
 use Rattle.tree.specs.Treed.{Formed, Plain, Written}
 use Rattle.tree.proofs.Codes.{label_low, label_high}
@@ -109,8 +110,8 @@ module _ (s : List ℕ) (t : List ℤ) (n : ℕ) (is : Lined s t n) where
 
 owned_is : (t : List ℤ) (n : ℕ) (v : Verdict) (w : List ℤ) → v ≡ Fine → Written v t n w → w ≡ owned_table t n
 unfolding owned_table
-owned_is t n Fine w f h = h
-owned_is t n (Refused r p) w f h = let z : ◌≡◌ {A = ℕ} 0 1 = cc in absurd (omega arith)
+owned_is t n (Ok _) w f h = h
+owned_is t n (Err e) w f h = let z : ◌≡◌ {A = ℕ} 0 1 = cc in absurd (omega arith)
 
 module _ (s : List ℕ) (t : List ℤ) (n : ℕ) (v : Verdict) (w : List ℤ) (found : v ≡ tree_bad t n) where
   pub paths_rows : Lined s t n → v ≡ Fine → Written v t n w → Searchable s w n
@@ -123,6 +124,6 @@ module _ (s : List ℕ) (t : List ℤ) (n : ℕ) (v : Verdict) (w : List ℤ) (f
       let o = owned_is t n v w f h in
       record { found = rw (sym found ∙ f, ← o) e; left = λ q. rw (← o) (g q) }
 
-  pub resolved_refused : (r p : ℕ) (x : List ℤ) → v ≡ Refused r p → Resolves s t n (Refused r p) x
+  pub resolved_refused : (r : Refusal) (x : List ℤ) → v ≡ Err r → Resolves s t n (Err r) x
   unfolding resolved_bad
-  resolved_refused r p x f = refused_judged _ _ r p x (rw (sym found ∙ f))
+  resolved_refused r x f = refused_judged _ _ r x (rw (sym found ∙ f))

@@ -1,5 +1,7 @@
 -- Rows 1 to 7 have run, and the others follow: reply and table, case by case.
 use mathlib.Core.Path.{◌≡◌, refl, ap, sym, ◌∙◌}
+use Rattle.std.specs.Prelude.{Ok, Err}
+use Rattle.refusals.specs.declared.Refusal.{Refusal}
 use mathlib.Core.List.{List, ◌++◌}
 use Prim.Native.Nat.{ℕ, ◌-◌, ◌*◌, ◌≤◌, ◌<◌}
 use native.Mathlib.Omega.{arith}
@@ -11,11 +13,7 @@ use Rattle.cells.specs.Cells.{zeros}
 use Rattle.cells.specs.Clearing.{clear_from}
 use Rattle.cells.proofs.Clearing.{clear_split}
 use Rattle.refusals.specs.Rows.{buffers_row}
-use Rattle.refusals.specs.Refusal.{reply_of}
-use Rattle.refusals.specs.declared.Verdict.{Verdict}
-use Rattle.refusals.specs.declared.Verdict.TheVariants.{Fine, Refused}
-use Rattle.refusals.specs.declared.Reply.{Reply}
-use Rattle.refusals.specs.declared.Reply.TheVariants as reply
+use Rattle.refusals.specs.Refusal.{reply_of, Verdict, Fine, Refused, Reply}
 use Rattle.lines.specs.Lines.{labels, head_bad, lines_bad, lines_cells}
 use Rattle.lines.specs.LineSteps.{passed, lines_written}
 use Rattle.lines.proofs.Pass.{rows_length, written_length}
@@ -28,17 +26,17 @@ use Rattle.reading.proofs.Padding.{sheet_bad_lem, sheet_table_lem}
 
 -- ---- what a reply says of the verdict behind it
 
-pub answered : (v : Verdict) (n m : ℕ) → reply_of v n ≡ reply.Answered m → (v ≡ Fine) × (m ≡ n)
-answered Fine n m e = (refl, cc)
-answered (Refused r p) n m e = let z : ◌≡◌ {A = ℕ} 0 1 = cc in absurd (omega arith)
+pub answered : (v : Verdict) (n m : ℕ) → reply_of v n ≡ Ok m → (v ≡ Fine) × (m ≡ n)
+answered (Ok _) n m e = (refl, cc)
+answered (Err r) n m e = let z : ◌≡◌ {A = ℕ} 0 1 = cc in absurd (omega arith)
 
-pub refused : (v : Verdict) (n r p : ℕ) → reply_of v n ≡ reply.Refused r p → v ≡ Refused r p
-refused Fine n r p e = let z : ◌≡◌ {A = ℕ} 0 1 = cc in absurd (omega arith)
-refused (Refused x y) n r p e = cc
+pub refused : (v : Verdict) (n : ℕ) (r : Refusal) → reply_of v n ≡ Err r → v ≡ Err r
+refused (Ok _) n r e = let z : ◌≡◌ {A = ℕ} 0 1 = cc in absurd (omega arith)
+refused (Err z) n r e = cc
 
 -- rows that refuse leave the table to the caller
-pub refused_judged : (wanted : Verdict) (made : List ℤ) (r p : ℕ) (t : List ℤ) → Refused r p ≡ wanted → Judged wanted made (Refused r p) t
-refused_judged wanted made r p t e = record {
+pub refused_judged : (wanted : Verdict) (made : List ℤ) (r : Refusal) (t : List ℤ) → Err r ≡ wanted → Judged wanted made (Err r) t
+refused_judged wanted made r t e = record {
   found = e;
   left = λ q. let z : ◌≡◌ {A = ℕ} 0 1 = cc in absurd (omega arith);
 }
@@ -73,15 +71,15 @@ module _ (s : List ℕ) (n : ℕ) (t u : List ℤ) (v : Verdict) (is : n ≡ lab
         left = λ z. b.left z ∙ rw (q, is) (sheet_table_lem s (length t));
       }
 
-  pub sheet_refused : (r p : ℕ) (y : List ℤ) → v ≡ Refused r p → SheetReads s (length t) (Refused r p) y
+  pub sheet_refused : (r : Refusal) (y : List ℤ) → v ≡ Err r → SheetReads s (length t) (Err r) y
   unfolding sheet_bad
-  sheet_refused r p y f = refused_judged _ _ r p y (rw (lines_are ∙ f))
+  sheet_refused r y f = refused_judged _ _ r y (rw (lines_are ∙ f))
 
 -- ---- rows 1 to 3, and row 4
 
 -- rows 1 to 3 replied q
 module _ (s : List ℕ) (q : Reply) (e : q ≡ reply_of (head_bad s) (labels s)) where
-  pub head_passed : (k : ℕ) → q ≡ reply.Answered k → Passed s k
+  pub head_passed : (k : ℕ) → q ≡ Ok k → Passed s k
   head_passed k f =
       let a = answered (head_bad s) (labels s) k (sym e ∙ f) in
       record { head = a.0; count = a.1; few = omega (arith, a.1, (headed s a.0).high) }
@@ -92,13 +90,13 @@ module _ (s : List ℕ) (m : ℕ) where
   unfolding read_reply read_table
   leaves v r t e f g = record { reply = rw e f; table = rw e g }
 
-  pub head_refused : (q : Reply) → q ≡ reply_of (head_bad s) (labels s) → (r p : ℕ) (t : List ℤ) → q ≡ reply.Refused r p → t ≡ zeros m
-      → ReadLeaves s m (reply.Refused r p) t
+  pub head_refused : (q : Reply) → q ≡ reply_of (head_bad s) (labels s) → (r : Refusal) (t : List ℤ) → q ≡ Err r → t ≡ zeros m
+      → ReadLeaves s m (Err r) t
   unfolding read_bad
-  head_refused q e r p t f g = leaves (Refused r p) _ t (rw (refused (head_bad s) (labels s) r p (sym e ∙ f))) refl g
+  head_refused q e r t f g = leaves (Err r) _ t (rw (refused (head_bad s) (labels s) r (sym e ∙ f))) refl g
 
   module _ (n : ℕ) (h : Passed s n) where
-    pub table_short_lem : (t : List ℤ) → m < 8 * n → t ≡ zeros m → ReadLeaves s m (reply.Refused buffers_row 1) t
+    pub table_short_lem : (t : List ℤ) → m < 8 * n → t ≡ zeros m → ReadLeaves s m (Refused buffers_row 1) t
     unfolding read_bad table_short
     table_short_lem t g e = leaves (Refused buffers_row 1) _ t (rw (h.head, lt-leb (8 * labels s) m (omega (arith, h.count)))) refl e
 
@@ -108,8 +106,8 @@ module _ (s : List ℕ) (m : ℕ) where
       unfolding read_bad table_short
       rows_are = rw (h.head, le-leb (8 * labels s) m (omega (arith, h.count))) (sym b.found)
 
-      pub sheet_leaves : v ≡ Fine → ReadLeaves s m (reply.Answered n) t
-      sheet_leaves e = leaves Fine _ t (rows_are ∙ e) (ap reply.Answered h.count) (b.left e)
+      pub sheet_leaves : v ≡ Fine → ReadLeaves s m (Ok n) t
+      sheet_leaves e = leaves Fine _ t (rows_are ∙ e) (ap Ok h.count) (b.left e)
 
-      pub refused_leaves : (r p : ℕ) (w : List ℤ) → v ≡ Refused r p → w ≡ zeros m → ReadLeaves s m (reply.Refused r p) w
-      refused_leaves r p w e g = leaves (Refused r p) _ w (rows_are ∙ e) refl g
+      pub refused_leaves : (r : Refusal) (w : List ℤ) → v ≡ Err r → w ≡ zeros m → ReadLeaves s m (Err r) w
+      refused_leaves r w e g = leaves (Err r) _ w (rows_are ∙ e) refl g

@@ -2,7 +2,7 @@
 use Rattle.std.specs.Prelude.{◌≡◌, true, List, ℕ, ◌≤◌, length}
 use Rattle.cells.specs.Limits.{label_limit}
 use Rattle.text.specs.Bytes.{all, is_allowed, ends_lines}
-use Rattle.refusals.specs.declared.Verdict.TheVariants.{Fine}
+use Rattle.refusals.specs.Refusal.{Fine}
 use Rattle.lines.specs.Lines.{line, labels, first_line, tie_of}
 use Rattle.reading.specs.Read.{sheet_bad}
 

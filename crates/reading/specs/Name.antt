@@ -1,10 +1,9 @@
 -- Document 01's Name: the text s, a table lent with m cells, and a label z, which is any i64.
-use Rattle.std.specs.Prelude.{◌≡◌, cond, List, ℕ, ◌+◌, ◌≤◌, leb, ℤ, length}
+use Rattle.std.specs.Prelude.{◌≡◌, cond, List, ℕ, ◌+◌, ◌≤◌, leb, ℤ, length, Ok, Err}
 use Rattle.std.proofs.Math.Seq.{slice}
 use Rattle.cells.specs.Cells.{nat_of}
 use Rattle.cells.specs.Table.{cell}
-use Rattle.refusals.specs.declared.Verdict.{Verdict}
-use Rattle.refusals.specs.declared.Verdict.TheVariants.{Fine, Refused}
+use Rattle.refusals.specs.Refusal.{Verdict}
 use Rattle.lines.specs.Lines.{labels}
 use Rattle.reading.specs.Read.{sheet_table, read_bad, read_table}
 use Rattle.reading.specs.declared.TextPart.{TextPart}
@@ -15,8 +14,8 @@ label_in n z = cond (leb (nat_of z) n) (nat_of z) 0
 
 -- cell j of that label in Read's table; 0 where Read refuses
 abbrev pub cell_asked : Verdict → List ℕ → ℤ → ℕ → ℕ
-cell_asked Fine s z j = cell (sheet_table s) (label_in (labels s) z) j
-cell_asked (Refused r p) s z j = 0
+cell_asked (Ok _) s z j = cell (sheet_table s) (label_in (labels s) z) j
+cell_asked (Err e) s z j = 0
 
 -- where the name field begins in the text, and its length; both are 0 for `-`, as in the table
 unfoldable pub name_begin : List ℕ → ℕ → ℤ → ℕ

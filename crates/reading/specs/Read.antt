@@ -1,12 +1,9 @@
 -- Document 01's Read: the text s, and a table lent with m cells.
-use Rattle.std.specs.Prelude.{◌≡◌, cond, List, ◌++◌, ℕ, ◌-◌, ◌*◌, leb, ℤ}
+use Rattle.std.specs.Prelude.{◌≡◌, cond, List, ◌++◌, ℕ, ◌-◌, ◌*◌, leb, ℤ, Ok, Err}
 use Rattle.cells.specs.Cells.{zeros}
 use Rattle.cells.specs.Table.{with_column}
 use Rattle.refusals.specs.Rows.{buffers_row}
-use Rattle.refusals.specs.Refusal.{or_else, reply_of}
-use Rattle.refusals.specs.declared.Verdict.{Verdict}
-use Rattle.refusals.specs.declared.Verdict.TheVariants.{Fine, Refused}
-use Rattle.refusals.specs.declared.Reply.{Reply}
+use Rattle.refusals.specs.Refusal.{or_else, reply_of, Verdict, Fine, Refused, Reply}
 use Rattle.lines.specs.Lines.{labels, head_bad, lines_bad, lines_cells}
 use Rattle.tree.specs.Tree.{owner_of, tree_bad}
 use Rattle.paths.specs.Paths.{target_cell, paths_bad}
@@ -53,8 +50,8 @@ unfoldable pub read_reply : List ℕ → ℕ → Reply
 read_reply s m = reply_of (read_bad s m) (labels s)
 
 abbrev pub table_of : Verdict → List ℕ → ℕ → List ℤ
-table_of Fine s m = sheet_table s ++ zeros (m - 8 * labels s)
-table_of (Refused r p) s m = zeros m
+table_of (Ok _) s m = sheet_table s ++ zeros (m - 8 * labels s)
+table_of (Err e) s m = zeros m
 
 unfoldable pub read_table : List ℕ → ℕ → List ℤ
 read_table s m = table_of (read_bad s m) s m

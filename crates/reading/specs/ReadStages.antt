@@ -1,8 +1,7 @@
 -- What the functions between the rows and Read promise.
 use Rattle.std.specs.Prelude.{◌≡◌, List, ℕ, ◌≤◌, ℤ}
 use Rattle.cells.specs.Limits.{label_limit}
-use Rattle.refusals.specs.declared.Verdict.{Verdict}
-use Rattle.refusals.specs.declared.Verdict.TheVariants.{Fine}
+use Rattle.refusals.specs.Refusal.{Verdict, Fine}
 use Rattle.lines.specs.Lines.{labels, head_bad}
 use Rattle.reading.specs.Read.{resolved_bad, resolved_table, sheet_bad, table_of}
 

@@ -8,17 +8,15 @@ ghost use Rattle.reading.specs.Read.{ReadLeaves};
 ghost use Rattle.reading.specs.Name.{label_in, PartLeaves, NameLeaves};
 ghost use Rattle.reading.specs.ReadStages.{Passed, Resolves, SheetReads};
 
-use refusals::{Reply, Verdict};
+use refusals::{Reply, Row, Verdict};
 
 // Rows 8 to 15, and owners and targets in a table of lines.
 fn resolve(text: &[u8], table: &mut [i64], n: usize) -> Verdict
     requires { Lined text.now table.old n }
     ensures { Resolves text.now table.old n result table.new }
 {
-    match tree::read_tree(table, n) {
-        Verdict::Fine => paths::read_paths(text, table, n),
-        Verdict::Refused(row, label) => Verdict::Refused(row, label),
-    }
+    tree::read_tree(table, n)?;
+    paths::read_paths(text, table, n)
 }
 
 // Rows 5 to 15 of a text that rows 1 to 4 let pass. Where they refuse, the table is for the caller to clear.
@@ -26,13 +24,9 @@ pub fn read_sheet(text: &[u8], n: usize, table: &mut [i64]) -> Verdict
     requires { Passed text.now n × (8 * n ≤ length table.old) }
     ensures { SheetReads text.now (length table.old) result table.new }
 {
-    match lines::read_lines(text, n, table) {
-        Verdict::Fine => {
-            cells::clear_from(table, 8 * n);
-            resolve(text, table, n)
-        }
-        Verdict::Refused(row, label) => Verdict::Refused(row, label),
-    }
+    lines::read_lines(text, n, table)?;
+    cells::clear_from(table, 8 * n);
+    resolve(text, table, n)
 }
 
 // Rows 4 to 15 of a text that rows 1 to 3 let pass.
@@ -42,13 +36,13 @@ fn read_body(text: &[u8], n: usize, table: &mut [i64]) -> Reply
 {
     if table.len() < 8 * n {
         cells::clear(table);
-        return Reply::Refused(refusals::BUFFERS, 1);
+        return Err(Row::Buffers.at(1));
     }
     match read_sheet(text, n, table) {
-        Verdict::Fine => Reply::Answered(n as u64),
-        Verdict::Refused(row, label) => {
+        Ok(()) => Ok(n as u64),
+        Err(refusal) => {
             cells::clear(table);
-            Reply::Refused(row, label)
+            Err(refusal)
         }
     }
 }
@@ -58,10 +52,10 @@ pub fn read(text: &[u8], table: &mut [i64]) -> Reply
     ensures { ReadLeaves text.now (length table.old) result table.new }
 {
     match lines::check_head(text) {
-        Reply::Answered(n) => read_body(text, n as usize, table),
-        Reply::Refused(row, place) => {
+        Ok(n) => read_body(text, n as usize, table),
+        Err(refusal) => {
             cells::clear(table);
-            Reply::Refused(row, place)
+            Err(refusal)
         }
     }
 }
@@ -89,14 +83,14 @@ pub fn name_part(text: &[u8], table: &mut [i64], label: i64) -> TextPart
     ensures { PartLeaves text.now (length table.old) label result table.new }
 {
     match read(text, table) {
-        Reply::Answered(n) => {
+        Ok(n) => {
             let l = label_in(label, n as usize);
             TextPart {
                 start: cells::cell_at(table, l, cells::NAME_START) as u64,
                 length: cells::cell_at(table, l, cells::NAME_LENGTH) as u64,
             }
         }
-        Reply::Refused(_, _) => TextPart {
+        Err(_) => TextPart {
             start: 0,
             length: 0,
         },

@@ -6,7 +6,7 @@ use native.Mathlib.Omega.{arith}
 use native.Mathlib.Decide.{ℕ_discrete}
 use lib.IntN.{ℤ, pos, nat_abs}
 use lib.ListN.{length, take, drop, length-map, length-append}
-use lib.Seq.{sets, length-sets, length-take-le}
+use lib.Seq.{sets, length-sets, take-length}
 use Rattle.kinds.specs.Kinds.{value_code, number_code}
 use Rattle.cells.specs.Cells.{nat_of, nat_at, zeros}
 use Rattle.cells.specs.Limits.{number_limit}
@@ -15,13 +15,13 @@ use Rattle.cells.specs.Accepted.{Accepted}
 use Rattle.cells.proofs.Accepted.{body_label}
 use Rattle.cells.proofs.Stores.{sets_next}
 use Rattle.order.specs.Order.{NoCycle, Proper, SameStructure}
-use Rattle.order.specs.Following.{labels_of}
+use Rattle.order.specs.Following.{ProperList, labels_of}
 use Rattle.order.specs.Evaluating.{down}
 use Rattle.order.proofs.Lists.{filter_le}
 use Rattle.order.proofs.Proper.{proper_no_cycle}
 use Rattle.order.proofs.Planned.{order_short}
 use Rattle.order.proofs.Following.{proper_list}
-use Rattle.reach.specs.MarkRows.{width, MarkRow}
+use Rattle.reach.specs.MarkRows.{MarkRow}
 use Rattle.numbers.specs.declared.Arithmetic.{Arithmetic}
 use Rattle.evaluation.specs.Results.{steps_at, stored, Recorded}
 use Rattle.evaluation.specs.Evaluation.{step_limit}
@@ -34,13 +34,14 @@ use Rattle.figures.proofs.Early.{figures_recorded}
 use Rattle.figures.proofs.Loop.{listed}
 use Rattle.redoing.specs.Pairs.{pair_count, pair_label, pair_number, PairRight, PairsRight, with_pairs}
 use Rattle.redoing.specs.Redone.{is_redone, redone_of, redone_count, failing, step_sum, change_cells, change_of, changes_of}
-use Rattle.redoing.specs.RedoStages.{Tallied, Redoable, Redid, Window, OwnersMarked, OwnersWindows, Standing, PairApplied, PairsApplied}
+use Rattle.redoing.specs.RedoStages.{Tallied, Redoable, Redid, WindowPart, OwnersMarked, Standing, PairApplied, PairsApplied}
 use Rattle.redoing.specs.declared.Change.{Change}
 use Rattle.redoing.proofs.Numbers.{number_length, number_structure, number_owner, number_accepted}
 use Rattle.redoing.proofs.Structure.{structure_then, proper_on, proper_list_on, mark_row_on}
 use Rattle.redoing.proofs.Redone.{redone_many}
 use Rattle.redoing.proofs.Dependents.{pair_reached}
 use Rattle.redoing.proofs.Sums.{failing_few, steps_few}
+use Rattle.redoing.proofs.Windows.{part_few, part_cell, redid_part}
 
 -- ---- results that stand
 
@@ -67,25 +68,31 @@ module _ (α : Arithmetic) (t : List ℤ) (n : ℕ) (ok : Accepted t n) (nc : No
 
 -- ---- a pair
 
-module _ (α : Arithmetic) (t : List ℤ) (n : ℕ) (plan : List ℤ) (k : ℕ) (r : List ℤ) (st : Standing α t n plan k r) where
+module _ (α : Arithmetic) (t : List ℤ) (n : ℕ) (plan r : List ℤ) (st : Standing α t n plan (length plan) r) where
   abbrev order : List ℕ
-  order = labels_of (take k plan)
+  order = labels_of plan
+
+  listed_all : ProperList t plan
+  listed_all = rw (take-length plan) at st.proper
 
   proper : Proper t order
-  proper = (proper_list t (take k plan)).0 st.proper
+  proper = (proper_list t plan).0 listed_all
 
   no_cycle : NoCycle t
   no_cycle = proper_no_cycle proper
 
-  order_length : length order ≡ k
-  order_length = length-map (take k plan) nat_of ∙ length-take-le k plan st.plans
+  order_length : length order ≡ length plan
+  order_length = length-map plan nat_of
 
-  pub plan_few : k ≤ n
+  pub plan_few : length plan ≤ n
   plan_few = omega (arith, order_length, order_short t n st.accepted order proper)
 
-  pub plan_labels : (i : ℕ) → i < k → nat_at plan i ≤ n
+  plan_value : (i : ℕ) → i < length plan → kind t (nat_at plan i) ≡ value_code
+  plan_value = (listed t plan n (length r) st.accepted st.fit listed_all refl).values
+
+  pub plan_labels : (i : ℕ) → i < length plan → nat_at plan i ≤ n
   plan_labels i h =
-      (value_label t n st.accepted (nat_at plan i) ((listed t plan n k (length r) st.accepted st.plans st.fit st.proper refl).values i h)).1
+      (value_label t n st.accepted (nat_at plan i) (plan_value i h)).1
 
   -- no value has taken more than its allowance
   pub steps_standing : (l : ℕ) → steps_at r l ≤ step_limit
@@ -121,23 +128,33 @@ module _ (α : Arithmetic) (t : List ℤ) (n : ℕ) (plan : List ℤ) (k : ℕ) 
       recorded = λ x. rw st.results (recorded α t n st.accepted no_cycle (length r) st.fit x);
     }
 
-    pub pair_redoable : (square : List ℕ) → (n + 1) * width n ≤ length square → MarkRow t n 6 square (owner t l) → Redoable (with_number l z t) n r plan k square (owner t l)
-    pair_redoable square rows row = record {
-      accepted = ok;
-      results = st.fit;
-      ready = ready;
-      evaluated = λ v e. rw st.results (figures_recorded α t n st.accepted no_cycle (length r) st.fit v (sym (same.kinds v) ∙ e)).least;
-      room = st.plans;
-      few = plan_few;
-      values = λ i h. same.kinds (nat_at plan i) ∙ (listed t plan n k (length r) st.accepted st.plans st.fit st.proper refl).values i h;
-      body = rw (same.kinds d) (number_owner t n st.accepted l line);
-      rows = rows;
-      row = mark_row_on same n square d row;
-    }
+    module _ (square : List ℕ) (row : MarkRow t n 6 square (owner t l)) {part : List ℤ} (p : WindowPart square n plan (owner t l) part) where
+      row_still : MarkRow u n 6 square d
+      row_still = mark_row_on same n square d row
+
+      value_still : (i : ℕ) → i < length plan → kind u (nat_at plan i) ≡ value_code
+      value_still i h = same.kinds (nat_at plan i) ∙ plan_value i h
+
+      pub pair_redoable : Redoable (with_number l z t) n r part square (owner t l)
+      pair_redoable = record {
+        accepted = ok;
+        results = st.fit;
+        ready = ready;
+        evaluated = λ v e. rw st.results (figures_recorded α t n st.accepted no_cycle (length r) st.fit v (sym (same.kinds v) ∙ e)).least;
+        few = omega (arith, part_few p, plan_few);
+        values = λ i h. let (j, g, e) = part_cell p i h in rw e (value_still j g);
+        body = rw (same.kinds d) (number_owner t n st.accepted l line);
+        row = row_still;
+      }
+
+      -- going down the window is going down the plan
+      pub pair_done : {c c' : Change} {r' : List ℤ} → Redid α (with_number l z t) n r (labels_of part) (owner t l) c r' c'
+          → Redid α (with_number l z t) n r (labels_of plan) (owner t l) c r' c'
+      pair_done = redid_part u n ok plan value_still square d row_still p
 
     -- ---- what it leaves
 
-    module _ {c : Change} (none : c.redone ≡ 0) {r' : List ℤ} {c' : Change} (did : Redid α (with_number l z t) n r (labels_of (take k plan)) (owner t l) c r' c') where
+    module _ {c : Change} (none : c.redone ≡ 0) {r' : List ℤ} {c' : Change} (did : Redid α (with_number l z t) n r (labels_of plan) (owner t l) c r' c') where
       settled : r' ≡ result_cells α u n (length r)
       settled =
           did.results
@@ -177,7 +194,7 @@ module _ (α : Arithmetic) (t : List ℤ) (n : ℕ) (plan : List ℤ) (k : ℕ) 
       }
 
     -- the plan and the results stand again
-    pub standing_next : {r' : List ℤ} → r' ≡ result_cells α (with_number l z t) n (length r) → Standing α (with_number l z t) n plan k r'
+    pub standing_next : {r' : List ℤ} → r' ≡ result_cells α (with_number l z t) n (length r) → Standing α (with_number l z t) n plan (length plan) r'
     standing_next {r'} e =
         let long : length r' ≡ length r = ap length e ∙ buffer_length (figures α u n) n (length r) st.fit in
         record {
@@ -188,28 +205,33 @@ module _ (α : Arithmetic) (t : List ℤ) (n : ℕ) (plan : List ℤ) (k : ℕ) 
           results = e ∙ ap (result_cells α u n) (sym long);
         }
 
+-- a plan cut to its length stands as the whole list did
+pub standing_cut : (α : Arithmetic) (t : List ℤ) (n : ℕ) (plan : List ℤ) (k : ℕ) (r : List ℤ) → Standing α t n plan k r
+    → Standing α t n (take k plan) (length (take k plan)) r
+standing_cut α t n plan k r st = record {
+  accepted = st.accepted;
+  plans = omega arith;
+  proper = rw (take-length (take k plan)) st.proper;
+  fit = st.fit;
+  results = st.results;
+}
+
 -- ---- the same in the code's words: its label is l, and its table u has the number in it
 
--- the sums go on, and the count begins again
-pub kept_tally : {n : ℕ} {r : List ℤ} {c : Change} → Tallied n r c → Tallied n r (record { redone = 0; failing = c.failing; steps = c.steps })
-kept_tally w = record { failed = w.failed; taken = w.taken; short = w.short }
-
-module _ (t : List ℤ) (n : ℕ) (ps : List ℤ) (i : ℕ) {l : ℕ} {u : List ℤ} (named : l ≡ pair_label ps i) (put : u ≡ with_number l (pair_number ps i) t) where
+module _ (t : List ℤ) (n : ℕ) (ps : List ℤ) (i : ℕ) {l : ℕ} {z : ℤ} {u : List ℤ} (named : (l ≡ pair_label ps i) × (z ≡ pair_number ps i)) (put : u ≡ with_number l z t) where
   table_is : u ≡ with_number (pair_label ps i) (pair_number ps i) t
-  table_is = put ∙ ap (λ (x : ℕ). with_number x (pair_number ps i) t) named
+  table_is = put ∙ (λ j. with_number (named.0 j) (named.1 j) t)
 
   pub owner_is : {d : ℕ} → d ≡ owner u l → d ≡ owner t (pair_label ps i)
-  owner_is own = own ∙ ap (λ (w : List ℤ). owner w l) put ∙ (number_structure t l (pair_number ps i)).owners l ∙ ap (owner t) named
-
-  pub accepted_still : Accepted t n → PairRight t ps i → Accepted u n
-  accepted_still ok right = rw table_is (number_accepted t n ok (pair_label ps i) right.line (pair_number ps i) right.number)
+  owner_is own = own ∙ ap (λ (w : List ℤ). owner w l) put ∙ (number_structure t l z).owners l ∙ ap (owner t) named.0
 
   pub owner_few : Accepted t n → PairRight t ps i → {d : ℕ} → d ≡ owner u l → d ≤ n
   owner_few ok right own = rw (owner_is own) (body_label t n ok (owner t (pair_label ps i)) (number_owner t n ok (pair_label ps i) right.line)).1
 
-  module _ (r plan : List ℤ) (k : ℕ) {d : ℕ} (own : d ≡ owner u l) where
-    pub redoable_still : (square : List ℕ) → Redoable (with_number (pair_label ps i) (pair_number ps i) t) n r plan k square (owner t (pair_label ps i)) → Redoable u n r plan k square d
-    redoable_still square w = transport (λ j. Redoable (sym table_is j) n r plan k square (sym (owner_is own) j)) w
+  module _ {r : List ℤ} {d : ℕ} (own : d ≡ owner u l) where
+    pub redoable_still : {part : List ℤ} (square : List ℕ) → Redoable (with_number (pair_label ps i) (pair_number ps i) t) n r part square (owner t (pair_label ps i))
+        → Redoable u n r part square d
+    redoable_still {part} square w = transport (λ j. Redoable (sym table_is j) n r part square (sym (owner_is own) j)) w
 
     pub redid_still : {α : Arithmetic} {o : List ℕ} {c c' : Change} {r' : List ℤ} → Redid α u n r o d c r' c'
         → Redid α (with_number (pair_label ps i) (pair_number ps i) t) n r o (owner t (pair_label ps i)) c r' c'
@@ -226,39 +248,24 @@ changes_length α t n ps zero = refl
 changes_length α t n ps (suc k) = omega (arith, length-append (changes_of α t n ps k) (change_of α t n ps (suc k)), changes_length α t n ps k)
 
 -- after i pairs, from table t, results r and changes w
-pub record Applying (α : Arithmetic) (t : List ℤ) (n : ℕ) (plan : List ℤ) (k : ℕ) (ps r w u r' w' : List ℤ) (c : Change) (i : ℕ) : Type 0 where
+pub record Applying (α : Arithmetic) (t : List ℤ) (n : ℕ) (plan ps r w u r' w' : List ℤ) (c : Change) (i : ℕ) : Type 0 where
   pub upto : i ≤ pair_count ps
   pub applied : PairsApplied α t n ps i r w u r' w'
-  pub standing : Standing α u n plan k r'
+  pub standing : Standing α u n plan (length plan) r'
   pub tallied : Tallied n r' c
   pub structure : SameStructure t u
   pub tables : length u ≡ length t
   pub results_long : length r' ≡ length r
   pub changes_long : length w' ≡ length w
 
-module _ (α : Arithmetic) (t : List ℤ) (n : ℕ) (plan : List ℤ) (k : ℕ) (ps r w : List ℤ) where
-  pub applying_start : Standing α t n plan k r → {c : Change} → Tallied n r c → Applying α t n plan k ps r w t r w c 0
-  applying_start st a = record {
-    upto = omega arith;
-    applied = record { table = refl; results = st.results; changes = refl };
-    standing = st;
-    tallied = a;
-    structure = record { kinds = λ l. refl; owners = λ l. refl; targets = λ l. refl };
-    tables = refl;
-    results_long = refl;
-    changes_long = refl;
-  }
-
-  module _ {u r' w' : List ℤ} {c : Change} {i : ℕ} (g : Applying α t n plan k ps r w u r' w' c i) (h : i < pair_count ps) where
+module _ (α : Arithmetic) (t : List ℤ) (n : ℕ) (plan ps r w : List ℤ) where
+  module _ {u r' w' : List ℤ} {c : Change} {i : ℕ} (g : Applying α t n plan ps r w u r' w' c i) (h : i < pair_count ps) where
     -- the next pair names an N line of the table as it is, and its owner's row is made
     pub next_right : PairsRight t ps → PairRight u ps (i + 1)
     next_right right = let p = right (i + 1) (omega arith) (omega arith) in record { line = g.structure.kinds (pair_label ps (i + 1)) ∙ p.line; number = p.number }
 
     pub next_row : (square : List ℕ) → OwnersMarked t n ps (pair_count ps) square → MarkRow u n 6 square (owner u (pair_label ps (i + 1)))
     next_row square rows = rw (g.structure.owners (pair_label ps (i + 1))) (mark_row_on g.structure n square (owner t (pair_label ps (i + 1))) (rows (i + 1) (omega arith) (omega arith)))
-
-    pub next_window : (square windows : List ℕ) → OwnersWindows t n plan k square ps (pair_count ps) windows → Window square n plan k windows (owner u (pair_label ps (i + 1)))
-    next_window square windows found = rw (g.structure.owners (pair_label ps (i + 1))) (found (i + 1) (omega arith) (omega arith))
 
     module _ (room : 3 * pair_count ps ≤ length w) (right : PairsRight t ps) {u'' r'' w'' : List ℤ} {c' : Change} (a : PairApplied α u n ps (i + 1) r' w' u'' r'' w'' c') where
       abbrev l : ℕ
@@ -294,7 +301,7 @@ module _ (α : Arithmetic) (t : List ℤ) (n : ℕ) (plan : List ℤ) (k : ℕ) 
       long : length r'' ≡ length r'
       long = ap length a.results ∙ buffer_length (figures α u'' n) n (length r') g.standing.fit
 
-      pub applying_next : Applying α t n plan k ps r w u'' r'' w'' c' (i + 1)
+      pub applying_next : Applying α t n plan ps r w u'' r'' w'' c' (i + 1)
       applying_next =
           record {
             upto = omega arith;
@@ -303,19 +310,10 @@ module _ (α : Arithmetic) (t : List ℤ) (n : ℕ) (plan : List ℤ) (k : ℕ) 
               results = a.results ∙ (λ j. result_cells α (table_next j) n (g.results_long j));
               changes = changes_next;
             };
-            standing = rw a.table (standing_next α u n plan k r' g.standing l z line (next_right right).number (rw a.table at a.results));
+            standing = rw a.table (standing_next α u n plan r' g.standing l z line (next_right right).number (rw a.table at a.results));
             tallied = a.tallied;
             structure = rw a.table (structure_then g.structure (number_structure u l z));
             tables = ap length a.table ∙ number_length u l z ∙ g.tables;
             results_long = long ∙ g.results_long;
             changes_long = ap length a.changes ∙ length-sets w' (3 * (i + 1 - 1)) (change_cells α u'' n (owner u l)) ∙ g.changes_long;
           }
-
-  pub applying_done : {u r' w' : List ℤ} {c : Change} {i : ℕ} → Applying α t n plan k ps r w u r' w' c i → pair_count ps ≤ i → PairsApplied α t n ps (pair_count ps) r w u r' w'
-  applying_done {u} {r'} {w'} {c} {i} g h =
-      let e : i ≡ pair_count ps = omega (arith, g.upto) in
-      subst (λ (x : ℕ). PairsApplied α t n ps x r w u r' w') e g.applied
-
-  -- an empty list changes nothing
-  pub applied_none : Standing α t n plan k r → pair_count ps ≡ 0 → PairsApplied α t n ps (pair_count ps) r w t r w
-  applied_none st e = rw e (record { table = refl; results = st.results; changes = refl })

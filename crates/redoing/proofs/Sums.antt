@@ -2,32 +2,22 @@
 use mathlib.Core.Path.{◌≡◌, refl, sym, ap, ◌∙◌}
 use mathlib.Core.Bool.{Bool, true, false}
 use mathlib.Core.List.{List}
-use Prim.Native.Nat.{ℕ, zero, suc, ◌+◌, ◌-◌, ◌*◌, ◌^◌, ◌≤◌, ◌<◌}
+use Prim.Native.Nat.{ℕ, zero, suc, ◌+◌, ◌-◌, ◌*◌, ◌≤◌, ◌<◌}
 use native.Mathlib.Omega.{arith}
 use native.Mathlib.Numerals.{add-one}
 use native.Mathlib.Decide.{ℕ_discrete}
-use borrow.Author.Tests.{lt-ltb, le-ltb, eq-eqb, ne_eqb}
 use lib.IntN.{ℤ}
-use lib.Signed.{mag}
-use mir.Syntax.{w64}
-use mir.Val.{to_z, of_z}
-use lib.ListN.{length, set}
-use Rattle.cells.specs.Cells.{nat_of, int_at}
-use Rattle.cells.proofs.Signed.{whole}
-use Rattle.cells.specs.Table.{with_number}
+use lib.ListN.{length}
 use Rattle.order.specs.LabelLists.{one}
 use Rattle.numbers.specs.declared.Arithmetic.{Arithmetic}
 use Rattle.evaluation.specs.declared.Value.{Value}
-use Rattle.evaluation.specs.Results.{state_at, steps_at, stored}
+use Rattle.evaluation.specs.Results.{steps_at, stored}
 use Rattle.evaluation.specs.Evaluation.{step_limit, evaluated}
 use Rattle.evaluation.specs.Ready.{ResultsRoom}
 use Rattle.evaluation.proofs.Stored.{stored_own, stored_other}
 use Rattle.figures.specs.Figures.{evaluate_into}
-use Rattle.marks.specs.Marks.{mark}
-use Rattle.reach.specs.MarkRows.{width}
-use Rattle.redoing.specs.Pairs.{pair_number}
 use Rattle.redoing.specs.Redone.{total, is_failure, failing, step_sum}
-use Rattle.redoing.specs.RedoStages.{Tallied, Turned, turns}
+use Rattle.redoing.specs.RedoStages.{Tallied}
 use Rattle.redoing.specs.declared.Change.{Change}
 
 -- ---- sums
@@ -56,20 +46,6 @@ module _ (f g : ℕ → ℕ) (v : ℕ) (low : 1 ≤ v) (other : (l : ℕ) → (l
           let r = before (omega arith) in
           let a = other (suc k) d in
           (omega (arith, r.0), omega (arith, r.0, r.1, a))
-
--- ---- cells of results, by their index
-
--- as the code reads them
-pub steps_are :
-    (r : List ℤ) (l : ℕ) → 1 ≤ l → {x : ℕ} → mag (int_at r (3 * (l - 1) + 2)) < 2 ^ 63 → x ≡ nat_of (to_z w64 (of_z w64 (int_at r (3 * (l - 1) + 2)))) → x ≡ steps_at r l
-steps_are r zero h f e = absurd (omega arith)
-steps_are r (suc k) h f e = let q : suc k - 1 ≡ k = omega arith in e ∙ ap nat_of (whole (int_at r (3 * (suc k - 1) + 2)) f) ∙ rw q refl
-
-pub fails_not : (r : List ℤ) (l : ℕ) {x : ℕ} → x ≡ state_at r l → x ≤ 1 → 0 ≡ one (is_failure (stored r l))
-fails_not r l e q = rw (le-ltb 1 (state_at r l) (omega (arith, e))) refl
-
-pub fails_so : (r : List ℤ) (l : ℕ) {x : ℕ} → x ≡ state_at r l → 1 < x → 1 ≡ one (is_failure (stored r l))
-fails_so r l e q = rw (lt-ltb 1 (state_at r l) (omega (arith, e))) refl
 
 -- ---- the failing values and the steps
 
@@ -166,32 +142,3 @@ module _ (r : List ℤ) (n : ℕ) where
       failed = omega (arith, w.failed, p, failing_next (stored r) l);
       taken = omega (arith, w.taken, q, steps_next (stored r) l);
     }
-
-    pub counted : n ≤ l → ((l : ℕ) → steps_at r l ≤ step_limit) → Tallied n r (record { redone = 0; failing = x; steps = y })
-    counted h s =
-        let e : l ≡ n = omega (arith, w.upto) in
-        record { failed = w.failed ∙ ap (failing (stored r)) e; taken = w.taken ∙ ap (step_sum (stored r)) e; short = s }
-
--- ---- pairs, by their index
-
-pub number_there : (ps : List ℤ) (k : ℕ) → int_at ps (2 * k + 1) ≡ pair_number ps (k + 1)
-number_there ps k = let e : suc k ≡ k + 1 = omega arith in ap (pair_number ps) e
-
-pub put_there : (t : List ℤ) (l : ℕ) (z : ℤ) → 1 ≤ l → set t (8 * (l - 1) + 3) z ≡ with_number l z t
-put_there t zero z h = absurd (omega arith)
-put_there t (suc k) z h = let e : suc k - 1 ≡ k = omega arith in rw e refl
-
--- ---- the test of a value, and its turn
-
-pub turns_own : (square : List ℕ) (n d v : ℕ) → v ≡ d → true ≡ turns square n d v
-turns_own square n d v e = rw (eq-eqb v d e) refl
-
-pub turns_other : (square : List ℕ) (n d v : ℕ) {b : Bool} → (v ≡ d → ⊥) → b ≡ mark square (width n) d v → b ≡ turns square n d v
-turns_other square n d v e m = rw (ne_eqb v d e) m
-
-module _ (α : Arithmetic) (b : Bool) (t : List ℤ) (n v : ℕ) (r : List ℤ) (c : Change) where
-  pub turned_so : (r' : List ℤ) (c' : Change) → b ≡ true → (r' ≡ evaluate_into α t r v) × (c'.redone ≡ c.redone + 1) × Tallied n r' c' → Turned α b t n v r c r' c'
-  turned_so r' c' e w = rw e w
-
-  pub turned_not : b ≡ false → Turned α b t n v r c r c
-  turned_not e = rw e (refl, refl)

@@ -2,14 +2,15 @@
 use mathlib.Core.Path.{◌≡◌, refl, sym, ap, ◌∙◌}
 use mathlib.Core.Bool.{Bool, true, false}
 use mathlib.Core.List.{List, [], ◌∷◌, ◌++◌, append-nil}
-use Prim.Native.Nat.{ℕ, zero, suc, ◌+◌, ◌-◌, ◌*◌, ◌≤◌, ◌<◌}
+use Prim.Native.Nat.{ℕ, zero, suc, ◌+◌, ◌-◌, ◌≤◌, ◌<◌}
 use native.Mathlib.Omega.{arith}
-use native.Mathlib.Decide.{ℕ_discrete}
-use lib.IntN.{ℤ}
-use lib.ListN.{length, get_or, set, take, length-set, drop_of_length-le}
-use lib.Seq.{get_or-set_same, get_or-set_other, length-take-le}
+use lib.IntN.{ℤ, pos}
+use lib.ListN.{length, get_or, take, drop, replicate, drop_of_length-le, length-drop}
+use lib.Seq.{length-take-le, get_or-take, get_or-drop, take-length}
+use Rattle.std.specs.Prelude.{Option, None, IsSome, slice_range}
+use Rattle.std.proofs.lemmas.List.{drop-take}
 use Rattle.kinds.specs.Kinds.{value_code}
-use Rattle.cells.specs.Cells.{nat_at}
+use Rattle.cells.specs.Cells.{nat_of, nat_at}
 use Rattle.cells.specs.Table.{kind, owner}
 use Rattle.cells.specs.Accepted.{Accepted}
 use Rattle.numbers.specs.declared.Arithmetic.{Arithmetic}
@@ -21,8 +22,9 @@ use Rattle.figures.specs.Figures.{evaluate_into}
 use Rattle.figures.proofs.Loop.{next, labels_cut}
 use Rattle.redoing.specs.Pairs.{pair_count, pair_label}
 use Rattle.redoing.specs.Redone.{is_redone, redone_of}
-use Rattle.redoing.specs.RedoStages.{turns, Redoable, Redid, between, NoneDepends, Window, Windows, FoundWindow, OwnersWindows}
+use Rattle.redoing.specs.RedoStages.{Redid, KnownWindow, Windows, WindowPart}
 use Rattle.redoing.specs.declared.Change.{Change}
+use Rattle.redoing.specs.declared.Window.{Window}
 use Rattle.redoing.proofs.Redone.{row_redone}
 
 -- ---- nothing outside the window is redone
@@ -34,6 +36,10 @@ filter_append f (x ∷ a) b = go (f x) refl (filter_append f a b)
     go : (c : Bool) → f x ≡ c → filter f (a ++ b) ≡ filter f a ++ filter f b → filter f (x ∷ (a ++ b)) ≡ filter f (x ∷ a) ++ filter f b
     go true e h = rw e (ap (λ (l : List ℕ). x ∷ l) h)
     go false e h = rw e h
+
+-- the labels of a plan from one position to before another
+abbrev between : List ℤ → ℕ → ℕ → List ℕ
+between plan from to = labels_of (drop from (take to plan))
 
 module _ (f : ℕ → Bool) (plan : List ℤ) where
   none_pass : (m i : ℕ) → i + m ≤ length plan → ((j : ℕ) → i ≤ j → j < i + m → f (nat_at plan j) ≡ false) → filter f (between plan i (i + m)) ≡ []
@@ -48,17 +54,19 @@ module _ (f : ℕ → Bool) (plan : List ℤ) where
       ∙ none_pass m (i + 1) (omega arith) (λ j a b. none j (omega arith) (omega arith))
 
   -- what passes stands in the window
-  pub window_passes : (from to k : ℕ) → from ≤ to → to ≤ k → k ≤ length plan → ((j : ℕ) → j < from → f (nat_at plan j) ≡ false)
-      → ((j : ℕ) → to ≤ j → j < k → f (nat_at plan j) ≡ false) → filter f (between plan from to) ≡ filter f (labels_of (take k plan))
-  window_passes from to k a b c before behind =
+  window_passes : (from to : ℕ) → from ≤ to → to ≤ length plan → ((j : ℕ) → j < from → f (nat_at plan j) ≡ false)
+      → ((j : ℕ) → to ≤ j → j < length plan → f (nat_at plan j) ≡ false) → filter f (between plan from to) ≡ filter f (labels_of plan)
+  window_passes from to a b before behind =
       let front : 0 + from ≡ from = omega arith in
-      let back : to + (k - to) ≡ k = omega arith in
+      let back : to + (length plan - to) ≡ length plan = omega arith in
       let none_before : filter f (labels_of (take from plan)) ≡ [] =
       ap (λ (x : ℕ). filter f (labels_of (take x plan))) (sym front) ∙ none_pass from 0 (omega arith) (λ j _ h. before j (omega arith)) in
-      let none-behind : filter f (between plan to k) ≡ [] = ap (λ (x : ℕ). filter f (between plan to x)) (sym back) ∙ none_pass (k - to) to (omega arith) (λ j g h. behind j g (omega arith)) in
+      let none-behind : filter f (between plan to (length plan)) ≡ [] =
+      ap (λ (x : ℕ). filter f (between plan to x)) (sym back) ∙ none_pass (length plan - to) to (omega arith) (λ j g h. behind j g (omega arith)) in
       sym (
-      ap (filter f) (labels_cut plan k to b)
-      ∙ filter_append f (labels_of (take to plan)) (between plan to k)
+      ap (λ (l : List ℤ). filter f (labels_of l)) (sym (take-length plan))
+      ∙ ap (filter f) (labels_cut plan (length plan) to b)
+      ∙ filter_append f (labels_of (take to plan)) (between plan to (length plan))
       ∙ ap (λ (l : List ℕ). filter f (labels_of (take to plan)) ++ l) none-behind
       ∙ append-nil (filter f (labels_of (take to plan)))
       ∙ ap (filter f) (labels_cut plan to from a)
@@ -66,140 +74,75 @@ module _ (f : ℕ → Bool) (plan : List ℤ) where
       ∙ ap (λ (l : List ℕ). l ++ filter f (between plan from to)) none_before
       )
 
--- so the values in d's window that are redone are those of the whole plan
-pub window_redone : (t : List ℤ) (n : ℕ) → Accepted t n → (plan : List ℤ) (k : ℕ) → k ≤ length plan → ((i : ℕ) → i < k → kind t (nat_at plan i) ≡ value_code)
-    → (square : List ℕ) (d : ℕ) → MarkRow t n 6 square d → (windows : List ℕ) → Window square n plan k windows d
-    → redone_of t n d (between plan (get_or windows (2 * d) 0) (get_or windows (2 * d + 1) 0 - 1)) ≡ redone_of t n d (labels_of (take k plan))
-window_redone t n ok plan k h values square d row windows w =
-    window_passes (is_redone t n d) plan (get_or windows (2 * d) 0) (get_or windows (2 * d + 1) 0 - 1) k (omega (arith, w.begun)) (omega (arith, w.ended)) h
-    (λ j a. sym (row_redone t n ok square d row (nat_at plan j) (values j (omega (arith, w.begun, w.ended)))) ∙ w.before j (omega arith) a)
-    (λ j a b. sym (row_redone t n ok square d row (nat_at plan j) (values j b)) ∙ w.behind j a b)
+-- the labels of a part of a plan
+part_labels : (plan : List ℤ) (from to : ℕ) → from ≤ to → labels_of (slice_range plan from to) ≡ between plan from to
+part_labels plan from to h =
+    let e : from + (to - from) ≡ to = omega arith in
+    ap labels_of (sym (drop-take from (to - from) plan)) ∙ ap (λ (x : ℕ). between plan from x) e
 
--- going down the window is going down the plan
-pub redid_window : {α : Arithmetic} {t : List ℤ} {n : ℕ} {r plan : List ℤ} {k : ℕ} {square : List ℕ} {d : ℕ} (windows : List ℕ) → Redoable t n r plan k square d
-    → Window square n plan k windows d
-    → {from to : ℕ} {c c' : Change} {r' : List ℤ} → from ≡ get_or windows (2 * d) 0 → to ≡ get_or windows (2 * d + 1) 0 - 1 → Redid α t n r (between plan from to) d c r' c'
-    → Redid α t n r (labels_of (take k plan)) d c r' c'
-redid_window {α} {t} {n} {r} {plan} {k} {square} {d} windows w h {from} {to} e f did =
-    let same : redone_of t n d (between plan from to) ≡ redone_of t n d (labels_of (take k plan)) =
-    (λ i. redone_of t n d (between plan (e i) (f i))) ∙ window_redone t n w.accepted plan k w.room w.values square d w.row windows h in
-    record {
-      results = did.results ∙ ap (λ (l : List ℕ). down (evaluate_into α t) l r) same;
-      redone = did.redone ∙ omega (arith, ap length same);
-      tallied = did.tallied;
-    }
+module _ {square : List ℕ} {n : ℕ} {plan : List ℤ} {d : ℕ} {part : List ℤ} (p : WindowPart square n plan d part) where
+  abbrev from : ℕ
+  from = p.window.from
 
--- and a window is a part of it
-pub redoable_window : {t : List ℤ} {n : ℕ} {r plan : List ℤ} {k : ℕ} {square : List ℕ} {d : ℕ} (windows : List ℕ) → Redoable t n r plan k square d → Window square n plan k windows d
-    → {from to : ℕ} → from ≡ get_or windows (2 * d) 0 → to ≡ get_or windows (2 * d + 1) 0 - 1 → Redoable t n r plan to square d × (from ≤ to)
-redoable_window windows w h e f = (
-  record {
-    accepted = w.accepted;
-    results = w.results;
-    ready = w.ready;
-    evaluated = w.evaluated;
-    room = omega (arith, f, h.ended, w.room);
-    few = omega (arith, f, h.ended, w.few);
-    values = λ i g. w.values i (omega (arith, f, h.ended));
-    body = w.body;
-    rows = w.rows;
-    row = w.row;
-  },
-  omega (arith, e, f, h.begun),
-)
+  abbrev to : ℕ
+  to = p.window.to
+
+  -- no longer than the plan, and its cells are the plan's
+  part_long : length part ≡ to - from
+  part_long = ap length p.cells ∙ length-take-le (to - from) (drop from plan) (omega (arith, length-drop from plan, p.right.ended))
+
+  pub part_few : length part ≤ length plan
+  part_few = omega (arith, part_long, p.right.ended)
+
+  pub part_cell : (i : ℕ) → i < length part → (j : ℕ) × (j < length plan) × (nat_at part i ≡ nat_at plan j)
+  part_cell i h = (
+    from + i,
+    omega (arith, h, part_long, p.right.begun, p.right.ended),
+    ap nat_of (ap (λ (l : List ℤ). get_or l i (pos 0)) p.cells ∙ get_or-take (to - from) (drop from plan) i (pos 0) (omega (arith, h, part_long)) ∙ get_or-drop from plan i (pos 0)),
+  )
 
 -- d by another name
-pub window_named : {square : List ℕ} {n : ℕ} {plan : List ℤ} {k : ℕ} {windows : List ℕ} {d e : ℕ} → e ≡ d → Window square n plan k windows d → Window square n plan k windows e
+pub window_named : {square : List ℕ} {n : ℕ} {plan : List ℤ} {windows : List (Option Window)} {d e : ℕ} → e ≡ d
+    → KnownWindow square n plan windows d → KnownWindow square n plan windows e
 window_named q w = rw q w
 
--- ---- positions looked at, from the front and from the end
+pub part_named : {square : List ℕ} {n : ℕ} {plan : List ℤ} {d e : ℕ} {part : List ℤ} → e ≡ d → WindowPart square n plan e part → WindowPart square n plan d part
+part_named q p = rw q at p
 
-module _ (square : List ℕ) (n d : ℕ) (plan : List ℤ) where
-  pub none_after : (from i : ℕ) → NoneDepends square n d plan from i → {v : ℕ} → v ≡ nat_at plan i → turns square n d v ≡ false → NoneDepends square n d plan from (i + 1)
-  none_after from i old {v} e f j h g = go (ℕ_discrete j i)
-    where
-      go : Dec (j ≡ i) → turns square n d (nat_at plan j) ≡ false
-      go (yes q) = rw (q, ← e) f
-      go (no q) = old j h (omega arith)
+module _ (t : List ℤ) (n : ℕ) (ok : Accepted t n) (plan : List ℤ) (values : (i : ℕ) → i < length plan → kind t (nat_at plan i) ≡ value_code)
+    (square : List ℕ) (d : ℕ) (row : MarkRow t n 6 square d) {part : List ℤ} (p : WindowPart square n plan d part) where
+  abbrev w : Window
+  w = p.window
 
-  pub none_before : (i to : ℕ) → NoneDepends square n d plan i to → {v : ℕ} → v ≡ nat_at plan (i - 1) → turns square n d v ≡ false → NoneDepends square n d plan (i - 1) to
-  none_before i to old {v} e f j h g = go (ℕ_discrete j (i - 1))
-    where
-      go : Dec (j ≡ i - 1) → turns square n d (nat_at plan j) ≡ false
-      go (yes q) = rw (q, ← e) f
-      go (no q) = old j (omega arith) g
+  -- so the values in d's window that are redone are those of the whole plan
+  part_redone : redone_of t n d (labels_of part) ≡ redone_of t n d (labels_of plan)
+  part_redone =
+      ap (λ (l : List ℤ). redone_of t n d (labels_of l)) p.cells
+      ∙ ap (redone_of t n d) (part_labels plan w.from w.to p.right.begun)
+      ∙ window_passes (is_redone t n d) plan w.from w.to p.right.begun p.right.ended
+      (λ j a. sym (row_redone t n ok square d row (nat_at plan j) (values j (omega (arith, p.right.begun, p.right.ended)))) ∙ p.right.before j (omega arith) a)
+      (λ j a b. sym (row_redone t n ok square d row (nat_at plan j) (values j b)) ∙ p.right.behind j a b)
+
+  -- going down the window is going down the plan
+  pub redid_part : {α : Arithmetic} {r : List ℤ} {c c' : Change} {r' : List ℤ} → Redid α t n r (labels_of part) d c r' c' → Redid α t n r (labels_of plan) d c r' c'
+  redid_part {α} {r} did = record {
+    results = did.results ∙ ap (λ (l : List ℕ). down (evaluate_into α t) l r) part_redone;
+    redone = did.redone ∙ omega (arith, ap length part_redone);
+    tallied = did.tallied;
+  }
 
 -- ---- windows found
 
--- two stores for d leave the others
-module _ (w : List ℕ) (d a b : ℕ) (room : 2 * d + 1 < length w) where
-  abbrev w' : List ℕ
-  w' = set (set w (2 * d) a) (2 * d + 1) b
-
-  own_start : get_or w' (2 * d) 0 ≡ a
-  own_start = get_or-set_other (set w (2 * d) a) (2 * d + 1) (2 * d) b 0 (λ e. omega arith) ∙ get_or-set_same w (2 * d) a 0 (omega arith)
-
-  own_end : get_or w' (2 * d + 1) 0 ≡ b
-  own_end = get_or-set_same (set w (2 * d) a) (2 * d + 1) b 0 (omega (arith, length-set w (2 * d) a))
-
-  other_start : (e : ℕ) → (e ≡ d → ⊥) → get_or w' (2 * e) 0 ≡ get_or w (2 * e) 0
-  other_start e z = get_or-set_other (set w (2 * d) a) (2 * d + 1) (2 * e) b 0 (λ q. omega arith) ∙ get_or-set_other w (2 * d) (2 * e) a 0 (λ q. z (omega arith))
-
-  other_end : (e : ℕ) → (e ≡ d → ⊥) → get_or w' (2 * e + 1) 0 ≡ get_or w (2 * e + 1) 0
-  other_end e z = get_or-set_other (set w (2 * d) a) (2 * d + 1) (2 * e + 1) b 0 (λ q. z (omega arith)) ∙ get_or-set_other w (2 * d) (2 * e + 1) a 0 (λ q. omega arith)
-
-module _ (square : List ℕ) (n : ℕ) (plan : List ℤ) (k : ℕ) where
-  pub window_known : {w : List ℕ} {d : ℕ} → Windows square n plan k w → (get_or w (2 * d + 1) 0 ≡ 0 → ⊥) → FoundWindow square n plan k d w w
-  window_known h z = record { windows = h; here = z; kept = λ e f. f }
-
-  pub window_found : (w : List ℕ) (d from to : ℕ) → 2 * d + 1 < length w → Windows square n plan k w → from ≤ to → to ≤ k → NoneDepends square n d plan 0 from
-      → NoneDepends square n d plan to k → FoundWindow square n plan k d w (set (set w (2 * d) from) (2 * d + 1) (to + 1))
-  window_found w d from to room h a b before behind = record {
-    windows = λ e f. go e f (ℕ_discrete e d);
-    here = λ z. omega (arith, own_end w d from (to + 1) room);
-    kept = λ e f z. keep e f z (ℕ_discrete e d);
-  }
-    where
-      own : Window square n plan k (set (set w (2 * d) from) (2 * d + 1) (to + 1)) d
-      own =
-          let s = own_start w d from (to + 1) room in
-          let t = own_end w d from (to + 1) room in
-          let back : to + 1 - 1 ≡ to = omega arith in
-          record { begun = omega (arith, s, t); ended = omega (arith, t); before = rw s before; behind = rw (t, back) behind }
-
-      go : (e : ℕ) → (get_or (set (set w (2 * d) from) (2 * d + 1) (to + 1)) (2 * e + 1) 0 ≡ 0 → ⊥) → Dec (e ≡ d)
-          → Window square n plan k (set (set w (2 * d) from) (2 * d + 1) (to + 1)) e
-      go e f (yes q) = rw q own
-      go e f (no q) =
-          let s = other_start w d from (to + 1) room e q in
-          let t = other_end w d from (to + 1) room e q in
-          let old = h e (λ z. f (t ∙ z)) in
-          record { begun = rw (s, t) old.begun; ended = rw t old.ended; before = rw s old.before; behind = rw t old.behind }
-
-      keep : (e : ℕ) → (get_or w (2 * e + 1) 0 ≡ 0 → ⊥) → get_or (set (set w (2 * d) from) (2 * d + 1) (to + 1)) (2 * e + 1) 0 ≡ 0 → Dec (e ≡ d) → ⊥
-      keep e f z (yes q) = omega (arith, own_end w d from (to + 1) room, ap (λ (x : ℕ). get_or (set (set w (2 * d) from) (2 * d + 1) (to + 1)) (2 * x + 1) 0) q)
-      keep e f z (no q) = f (sym (other_end w d from (to + 1) room e q) ∙ z)
+-- none is known at first
+pub none_at : (k i : ℕ) → get_or (replicate {0} {A = Option Window} k None) i None ≡ None
+none_at zero i = refl
+none_at (suc k) zero = refl
+none_at (suc k) (suc i) = none_at k i
 
 -- ---- of the owners of the pairs' lines, one after the other
 
-pub record Finding (t : List ℤ) (n : ℕ) (plan : List ℤ) (k : ℕ) (square : List ℕ) (ps : List ℤ) (w₀ w : List ℕ) (j : ℕ) : Type 0 where
+pub record Finding (t : List ℤ) (n : ℕ) (plan : List ℤ) (square : List ℕ) (ps : List ℤ) (w₀ w : List (Option Window)) (j : ℕ) : Type 0 where
   pub upto : j ≤ pair_count ps
   pub long : length w ≡ length w₀
-  pub windows : Windows square n plan k w
-  pub known : (i : ℕ) → 1 ≤ i → i ≤ j → get_or w (2 * owner t (pair_label ps i) + 1) 0 ≡ 0 → ⊥
-
-module _ (t : List ℤ) (n : ℕ) (plan : List ℤ) (k : ℕ) (square : List ℕ) (ps : List ℤ) (w₀ : List ℕ) where
-  pub finding_start : ((i : ℕ) → get_or w₀ i 0 ≡ 0) → Finding t n plan k square ps w₀ w₀ 0
-  finding_start z = record { upto = omega arith; long = refl; windows = λ e f. absurd (f (z (2 * e + 1))); known = λ i h g. absurd (omega arith) }
-
-  module _ {w : List ℕ} {j : ℕ} (g : Finding t n plan k square ps w₀ w j) where
-    pub finding_next : {w' : List ℕ} {l d : ℕ} → j < pair_count ps → l ≡ pair_label ps (j + 1) → d ≡ owner t l → FoundWindow square n plan k d w w' → length w' ≡ length w
-        → Finding t n plan k square ps w₀ w' (j + 1)
-    finding_next {w'} {l} {d} h e q f a = record { upto = omega arith; long = a ∙ g.long; windows = f.windows; known = λ i low high. go i low high (ℕ_discrete i (j + 1)) }
-      where
-        go : (i : ℕ) → 1 ≤ i → i ≤ j + 1 → Dec (i ≡ j + 1) → get_or w' (2 * owner t (pair_label ps i) + 1) 0 ≡ 0 → ⊥
-        go i low high (yes z) = rw (z, ← e, ← q) f.here
-        go i low high (no z) = f.kept (owner t (pair_label ps i)) (g.known i low (omega arith))
-
-    pub finding_done : pair_count ps ≤ j → OwnersWindows t n plan k square ps (pair_count ps) w
-    finding_done h i low high = g.windows (owner t (pair_label ps i)) (g.known i low (omega arith))
+  pub windows : Windows square n plan w
+  pub known : (i : ℕ) → 1 ≤ i → i ≤ j → IsSome (get_or w (owner t (pair_label ps i)) None)

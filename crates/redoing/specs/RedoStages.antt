@@ -1,12 +1,13 @@
 -- What the functions between a pair and its values promise. The table t has n labels; r are results.
-use Rattle.std.specs.Prelude.{◌≡◌, Bool, true, false, ◌||◌, List, ◌++◌, ℕ, ◌+◌, ◌-◌, ◌*◌, ◌≤◌, ◌<◌, eqb, ℤ, length, get_or, take, drop}
+use Rattle.std.specs.Prelude.{◌≡◌, Bool, true, false, ◌||◌, List, ◌++◌, Option, Some, None, IsSome, ℕ, ◌+◌, ◌-◌, ◌*◌, ◌≤◌, ◌<◌, eqb, ℤ}
+use Rattle.std.specs.Prelude.{length, get_or, take, drop, slice_range}
 use Rattle.std.proofs.lemmas.List.Edits.{sets}
 use Rattle.kinds.specs.Kinds.{value_code}
 use Rattle.cells.specs.Cells.{nat_at}
-use Rattle.cells.specs.Limits.{label_limit, pair_limit}
+use Rattle.cells.specs.Limits.{pair_limit}
 use Rattle.cells.specs.Table.{kind, owner, with_number}
 use Rattle.cells.specs.Accepted.{Accepted, HasBody}
-use Rattle.order.specs.Following.{ProperList, labels_of}
+use Rattle.order.specs.Following.{ProperList}
 use Rattle.order.specs.Evaluating.{down}
 use Rattle.numbers.specs.declared.Arithmetic.{Arithmetic}
 use Rattle.marks.specs.Marks.{mark}
@@ -19,6 +20,7 @@ use Rattle.redoing.specs.Pairs.{pair_count, pair_label, pair_number, PairsRight,
 use Rattle.redoing.specs.Redone.{redone_of, failing, step_sum, change_cells, changes_of}
 use Rattle.redoing.specs.declared.Change.{Change}
 use Rattle.redoing.specs.declared.Completed.{Completed}
+use Rattle.redoing.specs.declared.Window.{Window}
 
 -- the stored figures are sums over the results r
 pub record Tallied (n : ℕ) (r : List ℤ) (c : Change) : Type 0 where
@@ -37,23 +39,17 @@ Turned α false t n v r c r' c' = (r' ≡ r) × (c' ≡ c)
 abbrev pub turns : List ℕ → ℕ → ℕ → ℕ → Bool
 turns square n d v = eqb v d || mark square (width n) d v
 
--- what going down the first k cells of a plan asks
-pub record Redoable (t : List ℤ) (n : ℕ) (r plan : List ℤ) (k : ℕ) (square : List ℕ) (d : ℕ) : Type 0 where
+-- what going down a part of a plan asks
+pub record Redoable (t : List ℤ) (n : ℕ) (r part : List ℤ) (square : List ℕ) (d : ℕ) : Type 0 where
   pub accepted : Accepted t n
   pub results : 3 * n ≤ length r
   pub ready : Ready t r
   -- every value has been evaluated
   pub evaluated : (v : ℕ) → kind t v ≡ value_code → 1 ≤ state_at r v
-  pub room : k ≤ length plan
-  pub few : k ≤ n
-  pub values : (i : ℕ) → i < k → kind t (nat_at plan i) ≡ value_code
+  pub few : length part ≤ n
+  pub values : (i : ℕ) → i < length part → kind t (nat_at part i) ≡ value_code
   pub body : HasBody t d
-  pub rows : (n + 1) * width n ≤ length square
   pub row : MarkRow t n 6 square d
-
--- the labels of a plan from one position to before another
-abbrev pub between : List ℤ → ℕ → ℕ → List ℕ
-between plan from to = labels_of (drop from (take to plan))
 
 -- what it leaves, of the labels o that it goes down: those that depend on d evaluated again, in turn, and counted
 pub record Redid (α : Arithmetic) (t : List ℤ) (n : ℕ) (r : List ℤ) (o : List ℕ) (d : ℕ) (c : Change) (r' : List ℤ) (c' : Change) : Type 0 where
@@ -61,36 +57,40 @@ pub record Redid (α : Arithmetic) (t : List ℤ) (n : ℕ) (r : List ℤ) (o : 
   pub redone : c'.redone ≡ c.redone + length (redone_of t n d o)
   pub tallied : Tallied n r' c'
 
--- ---- where those that depend on d stand in the first k cells of a plan
-
--- what looking for them asks
-pub record PlanRow (n : ℕ) (plan : List ℤ) (k : ℕ) (square : List ℕ) (d : ℕ) : Type 0 where
-  pub few : n ≤ label_limit
-  pub rows : (n + 1) * width n ≤ length square
-  pub owner : d ≤ n
-  pub labels : (i : ℕ) → i < k → nat_at plan i ≤ n
+-- ---- where those that depend on d stand in a plan
 
 -- none stands from one position to before another
 abbrev pub NoneDepends : List ℕ → ℕ → ℕ → List ℤ → ℕ → ℕ → Type 0
 NoneDepends square n d plan from to = (i : ℕ) → from ≤ i → i < to → turns square n d (nat_at plan i) ≡ false
 
--- d's window is known: none stands outside it. Windows has, at index 2 * d, its first position and, at 2 * d + 1, one more than the
--- position past its last; 0 there while it is not known.
-pub record Window (square : List ℕ) (n : ℕ) (plan : List ℤ) (k : ℕ) (windows : List ℕ) (d : ℕ) : Type 0 where
-  pub begun : get_or windows (2 * d) 0 < get_or windows (2 * d + 1) 0
-  pub ended : get_or windows (2 * d + 1) 0 ≤ k + 1
-  pub before : NoneDepends square n d plan 0 (get_or windows (2 * d) 0)
-  pub behind : NoneDepends square n d plan (get_or windows (2 * d + 1) 0 - 1) k
+-- w is d's window: none stands outside it
+pub record IsWindow (square : List ℕ) (n : ℕ) (plan : List ℤ) (d : ℕ) (w : Window) : Type 0 where
+  pub begun : w.from ≤ w.to
+  pub ended : w.to ≤ length plan
+  pub before : NoneDepends square n d plan 0 w.from
+  pub behind : NoneDepends square n d plan w.to (length plan)
+
+-- d's window is known
+pub record KnownWindow (square : List ℕ) (n : ℕ) (plan : List ℤ) (windows : List (Option Window)) (d : ℕ) : Type 0 where
+  pub window : Window
+  pub known : get_or windows d None ≡ Some window
+  pub right : IsWindow square n plan d window
 
 -- what is written is a window
-abbrev pub Windows : List ℕ → ℕ → List ℤ → ℕ → List ℕ → Type 0
-Windows square n plan k windows = (e : ℕ) → (get_or windows (2 * e + 1) 0 ≡ 0 → ⊥) → Window square n plan k windows e
+abbrev pub Windows : List ℕ → ℕ → List ℤ → List (Option Window) → Type 0
+Windows square n plan windows = (e : ℕ) → IsSome (get_or windows e None) → KnownWindow square n plan windows e
 
 -- d's window is known now, and others are known still
-pub record FoundWindow (square : List ℕ) (n : ℕ) (plan : List ℤ) (k d : ℕ) (w w' : List ℕ) : Type 0 where
-  pub windows : Windows square n plan k w'
-  pub here : get_or w' (2 * d + 1) 0 ≡ 0 → ⊥
-  pub kept : (e : ℕ) → (get_or w (2 * e + 1) 0 ≡ 0 → ⊥) → get_or w' (2 * e + 1) 0 ≡ 0 → ⊥
+pub record FoundWindow (square : List ℕ) (n : ℕ) (plan : List ℤ) (d : ℕ) (w w' : List (Option Window)) : Type 0 where
+  pub windows : Windows square n plan w'
+  pub here : IsSome (get_or w' d None)
+  pub kept : (e : ℕ) → IsSome (get_or w e None) → IsSome (get_or w' e None)
+
+-- the part of the plan in d's window
+pub record WindowPart (square : List ℕ) (n : ℕ) (plan : List ℤ) (d : ℕ) (part : List ℤ) : Type 0 where
+  pub window : Window
+  pub right : IsWindow square n plan d window
+  pub cells : part ≡ slice_range plan window.from window.to
 
 -- ---- down the list of pairs
 
@@ -99,8 +99,8 @@ abbrev pub OwnersMarked : List ℤ → ℕ → List ℤ → ℕ → List ℕ →
 OwnersMarked t n ps k square = (i : ℕ) → 1 ≤ i → i ≤ k → MarkRow t n 6 square (owner t (pair_label ps i))
 
 -- their windows
-abbrev pub OwnersWindows : List ℤ → ℕ → List ℤ → ℕ → List ℕ → List ℤ → ℕ → List ℕ → Type 0
-OwnersWindows t n plan k square ps j windows = (i : ℕ) → 1 ≤ i → i ≤ j → Window square n plan k windows (owner t (pair_label ps i))
+abbrev pub OwnersWindows : List ℤ → ℕ → List ℤ → List ℕ → List ℤ → ℕ → List (Option Window) → Type 0
+OwnersWindows t n plan square ps j windows = (i : ℕ) → 1 ≤ i → i ≤ j → KnownWindow square n plan windows (owner t (pair_label ps i))
 
 -- a table of n labels whose plan, in the first k cells of a list, and whose results stand
 pub record Standing (α : Arithmetic) (t : List ℤ) (n : ℕ) (plan : List ℤ) (k : ℕ) (r : List ℤ) : Type 0 where

@@ -16,7 +16,7 @@ use Rattle.cells.specs.Limits.{size_limit, label_limit}
 use Rattle.cells.specs.Table.{kind, name_start, owner, with_column, with_number}
 use Rattle.cells.proofs.Table.{cell_past}
 use Rattle.cells.proofs.Columns.{column_length, column_over, column_other}
-use Rattle.refusals.specs.declared.Verdict.TheVariants.{Fine}
+use Rattle.refusals.specs.Refusal.{Fine}
 use Rattle.refusals.proofs.OrElse.{both_fine}
 use Rattle.lines.specs.Lines.{is_text, labels, head_bad, tie_of, arithmetic_of}
 use Rattle.lines.proofs.Heads.{headed, named_first}

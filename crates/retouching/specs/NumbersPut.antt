@@ -3,7 +3,7 @@
 use Rattle.std.specs.Prelude.{◌≡◌, List, ℕ, zero, suc, ◌≤◌, ℤ, length}
 use Rattle.cells.specs.Limits.{size_limit}
 use Rattle.cells.specs.Table.{name_start, with_column}
-use Rattle.refusals.specs.declared.Verdict.TheVariants.{Fine}
+use Rattle.refusals.specs.Refusal.{Fine}
 use Rattle.lines.specs.Lines.{labels, tie_of}
 use Rattle.reading.specs.Read.{sheet_table, table_of}
 use Rattle.reading.specs.AnyLength.{ReadsAtAnyLength}

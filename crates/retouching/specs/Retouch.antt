@@ -1,24 +1,22 @@
 -- Order 4's Retouch: the text s and a list of pairs ps; a table is lent with m cells, a plan with p, results with q and changes, the reply
 -- buffer, with w.
-use Rattle.std.specs.Prelude.{◌≡◌, Bool, cond, ◌&&◌, List, ◌++◌, ℕ, ◌-◌, ◌*◌, ◌%◌, eqb, leb, ℤ, length}
+use Rattle.std.specs.Prelude.{◌≡◌, Bool, cond, ◌&&◌, List, ◌++◌, ℕ, ◌-◌, ◌*◌, ◌%◌, eqb, leb, ℤ, length, Ok, Err, Option, Some, None}
+use Rattle.refusals.specs.declared.Row.{Row}
 use Rattle.kinds.specs.Kinds.{number_code}
 use Rattle.cells.specs.Cells.{zeros}
 use Rattle.cells.specs.Limits.{pair_limit}
 use Rattle.cells.specs.Table.{kind}
 use Rattle.numbers.specs.Range.{in_range}
 use Rattle.refusals.specs.Rows.{buffers_row, pairs_row, pair_label_row, pair_number_row}
-use Rattle.refusals.specs.Refusal.{or_else, first_bad}
-use Rattle.refusals.specs.declared.Verdict.{Verdict}
-use Rattle.refusals.specs.declared.Verdict.TheVariants.{Fine, Refused}
+use Rattle.refusals.specs.Refusal.{or_else, first_bad, Verdict, Fine, Refused}
 use Rattle.lines.specs.Lines.{labels, arithmetic_of}
 use Rattle.reading.specs.Read.{sheet_table, Reads}
 use Rattle.figures.specs.Figures.{result_cells}
 use Rattle.redoing.specs.Pairs.{pair_count, pair_label, pair_number, with_pairs}
 use Rattle.redoing.specs.Redone.{changes_of}
 use Rattle.calls.specs.Buffers.{run_buffers}
-use Rattle.calls.specs.Plan.{planned_bad, plan_of, answer_by, listed_by}
+use Rattle.calls.specs.Plan.{planned_bad, plan_of, answer_by, listed_by, PlanReply}
 use Rattle.calls.specs.Demand.{PlanKept}
-use Rattle.calls.specs.declared.PlanReply.{PlanReply}
 
 -- ---- refusals
 
@@ -37,8 +35,9 @@ unfoldable pub list_bad : List ℤ → Verdict
 list_bad ps = cond (whole_pairs ps) Fine (Refused pairs_row 0)
 
 -- "then pair by pair, place the pair from 1: 20, a label that is no N line; 21, a number out of range"
-unfoldable pub pair_bad : List ℤ → List ℤ → ℕ → ℕ
-pair_bad t ps k = cond (eqb (kind t (pair_label ps k)) number_code) (cond (in_range (pair_number ps k)) 0 pair_number_row) pair_label_row
+unfoldable pub pair_bad : List ℤ → List ℤ → ℕ → Option Row
+pair_bad t ps k =
+    cond (eqb (kind t (pair_label ps k)) number_code) (cond (in_range (pair_number ps k)) None (Some pair_number_row)) (Some pair_label_row)
 
 unfoldable pub pairs_bad : List ℤ → List ℤ → Verdict
 pairs_bad t ps = or_else (list_bad ps) (first_bad (pair_bad t ps) 1 (pair_count ps))
@@ -55,18 +54,18 @@ retouched s ps = with_pairs ps (pair_count ps) (sheet_table s)
 
 -- "table and plan are Run's, but cell a shows each new number"
 abbrev pub retouched_by : Verdict → List ℕ → List ℤ → ℕ → List ℤ
-retouched_by Fine s ps m = retouched s ps ++ zeros (m - 8 * labels s)
-retouched_by (Refused r l) s ps m = zeros m
+retouched_by (Ok _) s ps m = retouched s ps ++ zeros (m - 8 * labels s)
+retouched_by (Err e) s ps m = zeros m
 
 -- "the final results": those of Working out for that table, by the sheet's own arithmetic
 abbrev pub final_by : Verdict → List ℕ → List ℤ → ℕ → List ℤ
-final_by Fine s ps q = result_cells (arithmetic_of s) (retouched s ps) (labels s) q
-final_by (Refused r l) s ps q = zeros q
+final_by (Ok _) s ps q = result_cells (arithmetic_of s) (retouched s ps) (labels s) q
+final_by (Err e) s ps q = zeros q
 
 -- three cells a pair: redone, failing, steps
 abbrev pub changes_by : Verdict → List ℕ → List ℤ → ℕ → List ℤ
-changes_by Fine s ps w = changes_of (arithmetic_of s) (sheet_table s) (labels s) ps (pair_count ps) ++ zeros (w - 3 * pair_count ps)
-changes_by (Refused r l) s ps w = zeros w
+changes_by (Ok _) s ps w = changes_of (arithmetic_of s) (sheet_table s) (labels s) ps (pair_count ps) ++ zeros (w - 3 * pair_count ps)
+changes_by (Err e) s ps w = zeros w
 
 -- "It answers as Run does"
 unfoldable pub retouch_reply : List ℕ → List ℤ → ℕ → ℕ → ℕ → ℕ → PlanReply

@@ -1,17 +1,13 @@
 -- What the functions between the rows and Retouch promise. The text is s, the list of pairs ps.
-use Rattle.std.specs.Prelude.{◌≡◌, List, ◌++◌, ℕ, ◌-◌, ◌*◌, ℤ, length, drop}
+use Rattle.std.specs.Prelude.{◌≡◌, List, ◌++◌, ℕ, ◌-◌, ◌*◌, ℤ, length, drop, Ok, Err}
 use Rattle.cells.specs.Cells.{zeros}
 use Rattle.numbers.specs.declared.Arithmetic.{Arithmetic}
-use Rattle.refusals.specs.Refusal.{or_else}
-use Rattle.refusals.specs.declared.Verdict.{Verdict}
-use Rattle.refusals.specs.declared.Verdict.TheVariants.{Fine, Refused}
+use Rattle.refusals.specs.Refusal.{or_else, Verdict}
 use Rattle.figures.specs.Figures.{result_cells}
 use Rattle.redoing.specs.Pairs.{pair_count, with_pairs}
 use Rattle.redoing.specs.Redone.{changes_of}
-use Rattle.calls.specs.Plan.{plan_of, answer_by, listed_by}
+use Rattle.calls.specs.Plan.{plan_of, answer_by, listed_by, PlanReply}
 use Rattle.calls.specs.CallStages.{sheet_planned, kept_by, cells_to}
-use Rattle.calls.specs.declared.PlanReply.{PlanReply}
-use Rattle.calls.specs.declared.PlanReply.TheVariants as reply
 use Rattle.reading.specs.Read.{sheet_table}
 use Rattle.retouching.specs.Retouch.{pairs_bad, retouched_by, final_by, changes_by}
 
@@ -25,23 +21,18 @@ pub record RetouchBy (v : Verdict) (s : List ℕ) (ps : List ℤ) (m p q w : ℕ
 
 -- ---- rows 19 to 21 of n labels in a table t that has been run
 
--- a reply that stands unless a row refuses
-abbrev pub unless_refused : Verdict → PlanReply → PlanReply
-unless_refused Fine r = r
-unless_refused (Refused i l) r = reply.Refused i l
-
 -- what they leave of it where they find v, by an arithmetic α: the table, the results r in as many cells, and changes in w cells
 abbrev pub table_by : Verdict → ℕ → List ℤ → List ℤ → List ℤ
-table_by Fine n ps t = with_pairs ps (pair_count ps) (cells_to n t) ++ drop (8 * n) t
-table_by (Refused i l) n ps t = zeros (length t)
+table_by (Ok _) n ps t = with_pairs ps (pair_count ps) (cells_to n t) ++ drop (8 * n) t
+table_by (Err e) n ps t = zeros (length t)
 
 abbrev pub results_after : Arithmetic → Verdict → ℕ → List ℤ → List ℤ → ℕ → List ℤ
-results_after α Fine n ps t q = result_cells α (with_pairs ps (pair_count ps) (cells_to n t)) n q
-results_after α (Refused i l) n ps t q = zeros q
+results_after α (Ok _) n ps t q = result_cells α (with_pairs ps (pair_count ps) (cells_to n t)) n q
+results_after α (Err e) n ps t q = zeros q
 
 abbrev pub changes_after : Arithmetic → Verdict → ℕ → List ℤ → List ℤ → ℕ → List ℤ
-changes_after α Fine n ps t w = changes_of α (cells_to n t) n ps (pair_count ps) ++ zeros (w - 3 * pair_count ps)
-changes_after α (Refused i l) n ps t w = zeros w
+changes_after α (Ok _) n ps t w = changes_of α (cells_to n t) n ps (pair_count ps) ++ zeros (w - 3 * pair_count ps)
+changes_after α (Err e) n ps t w = zeros w
 
 pub record RunRetouches (α : Arithmetic) (n : ℕ) (ps t o : List ℤ) (q w : ℕ) (v : Verdict) (t' o' u c : List ℤ) : Type 0 where
   pub found : v ≡ pairs_bad (cells_to n t) ps

@@ -2,20 +2,22 @@
 
 #![tactic(auto)]
 
-ghost use Rattle.std.specs.Prelude.{◌≡◌, ◌*◌, ◌≤◌, length};
+ghost use Rattle.std.specs.Prelude.{◌≡◌, ◌==◌, ◌*◌, ◌≤◌, length};
+ghost use Rattle.kinds.specs.Kinds.{number_code};
 ghost use Rattle.cells.specs.Cells.{zeros};
+ghost use Rattle.cells.specs.Table.{kind};
 ghost use Rattle.reading.specs.ReadStages.{Passed};
 ghost use Rattle.refusals.specs.Refusal.{first_bad};
 ghost use Rattle.calls.specs.CallStages.{head_reply, cells_to};
 ghost use Rattle.redoing.specs.Pairs.{pair_count};
 ghost use Rattle.redoing.specs.RedoStages.{Standing};
 ghost use Rattle.retouching.specs.Retouch.{retouch_buffers, list_bad, pair_bad, pairs_bad, RetouchLeaves};
-ghost use Rattle.retouching.specs.RetouchStages.{unless_refused, RunRetouches, SheetRetouches};
+ghost use Rattle.retouching.specs.RetouchStages.{RunRetouches, SheetRetouches};
 
 use calls::PlanReply;
-use numbers::Arithmetic;
+use kinds::Kind;
 use redoing::Completed;
-use refusals::{Reply, Verdict};
+use refusals::{Reply, Row, Verdict};
 
 // ---- rows 1 to 4
 
@@ -30,10 +32,8 @@ fn head_retouch(
 ) -> Reply
     ensures { result ≡ head_reply text.now (retouch_buffers text.now pairs.now table plan results changes) }
 {
-    match calls::head_run(text, table, plan, results) {
-        Reply::Answered(n) => calls::with_room(n, changes, 3 * (pairs.len() / 2), 4),
-        Reply::Refused(row, place) => Reply::Refused(row, place),
-    }
+    let n = calls::head_run(text, table, plan, results)?;
+    calls::with_room(n, changes, 3 * (pairs.len() / 2), 4)
 }
 
 // ---- rows 19 to 21
@@ -42,53 +42,55 @@ fn head_retouch(
 fn check_list(pairs: &[i64]) -> Verdict
     ensures { result ≡ list_bad pairs.now }
 {
-    if pairs.len() % 2 != 0 {
-        return Verdict::Refused(refusals::PAIRS, 0);
+    if pairs.len() % 2 != 0 || cells::PAIR_LIMIT < pairs.len() / 2 {
+        return Err(Row::Pairs.at(0));
     }
-    if cells::PAIR_LIMIT < pairs.len() / 2 {
-        return Verdict::Refused(refusals::PAIRS, 0);
-    }
-    Verdict::Fine
+    Ok(())
 }
 
-// Rows 20 and 21 of pair k, from 1: the number of the row, or 0.
-fn check_pair(table: &[i64], pairs: &[i64], k: usize) -> u64
+// Whether the label is an N line's.
+fn is_number(table: &[i64], label: usize) -> bool
+    ensures { result ≡ (kind table.now label == number_code) }
+{
+    match cells::kind_at(table, label) {
+        Some(kind) => kind == Kind::Number,
+        None => false,
+    }
+}
+
+// Rows 20 and 21 of pair k, from 1: the row that refuses it.
+fn check_pair(table: &[i64], pairs: &[i64], k: usize) -> Option<Row>
     requires { (1 ≤ k) × (k ≤ pair_count pairs.now) }
     ensures { result ≡ pair_bad table.now pairs.now k }
 {
-    let label = cells::nat_at(pairs, 2 * (k - 1));
-    if cells::cell_at(table, label, cells::KIND) != kinds::NUMBER {
-        return refusals::PAIR_LABEL;
+    let pair = redoing::pair_at(pairs, k - 1);
+    if !is_number(table, pair.label) {
+        return Some(Row::PairLabel);
     }
-    if numbers::in_range(cells::int_at(pairs, 2 * (k - 1) + 1)) {
-        return 0;
+    if numbers::in_range(pair.number) {
+        return None;
     }
-    refusals::PAIR_NUMBER
+    Some(Row::PairNumber)
 }
 
 // Rows 19 to 21, all pairs before any is applied.
 fn check_pairs(table: &[i64], pairs: &[i64]) -> Verdict
     ensures { result ≡ pairs_bad table.now pairs.now }
 {
-    match check_list(pairs) {
-        Verdict::Fine => check_each(table, pairs),
-        Verdict::Refused(row, place) => Verdict::Refused(row, place),
-    }
+    check_list(pairs)?;
+    check_each(table, pairs)
 }
 
 // Rows 20 and 21 of all pairs, the first bad one's.
 fn check_each(table: &[i64], pairs: &[i64]) -> Verdict
     ensures { result ≡ first_bad (pair_bad table.now pairs.now) 1 (pair_count pairs.now) }
 {
-    let mut k = 1;
-    while k <= pairs.len() / 2 {
-        let row = check_pair(table, pairs, k);
-        if row != 0 {
-            return Verdict::Refused(row, k as u64);
+    for k in 1..pairs.len() / 2 + 1 {
+        if let Some(row) = check_pair(table, pairs, k) {
+            return Err(row.at(k as u64));
         }
-        k += 1;
     }
-    Verdict::Fine
+    Ok(())
 }
 
 // ---- the call
@@ -106,51 +108,35 @@ fn clear_all(table: &mut [i64], plan: &mut [i64], results: &mut [i64], changes: 
 
 // Rows 19 to 21 of a sheet that has been run, and the pairs applied to it, by the arithmetic that it was run by.
 fn retouch_run(
-    own: Arithmetic,
-    n: usize,
-    count: usize,
+    completed: Completed,
     pairs: &[i64],
     table: &mut [i64],
     plan: &mut [i64],
     results: &mut [i64],
     changes: &mut [i64],
 ) -> Verdict
-    requires { Standing own (cells_to n table.old) n plan.old count results.old × (8 * n ≤ length table.old) × (3 * pair_count pairs.now ≤ length changes.old) }
-    ensures { RunRetouches own n pairs.now table.old plan.old (length results.old) (length changes.old)
+    requires { Standing completed.arithmetic (cells_to completed.n table.old) completed.n plan.old completed.count results.old
+        × (8 * completed.n ≤ length table.old) × (3 * pair_count pairs.now ≤ length changes.old) }
+    ensures { RunRetouches completed.arithmetic completed.n pairs.now table.old plan.old (length results.old) (length changes.old)
         result table.new plan.new results.new changes.new }
 {
-    match check_pairs(&table[..8 * n], pairs) {
-        Verdict::Fine => {
+    match check_pairs(&table[..8 * completed.n], pairs) {
+        Ok(()) => {
             cells::clear_from(changes, 3 * (pairs.len() / 2));
-            let completed = Completed {
-                n: n,
-                count: count,
-                arithmetic: own,
-            };
             redoing::apply_pairs(
                 completed,
-                &mut table[..8 * n],
+                &mut table[..8 * completed.n],
                 plan,
                 pairs,
                 results,
                 changes,
             );
-            Verdict::Fine
+            Ok(())
         }
-        Verdict::Refused(row, place) => {
+        Err(refusal) => {
             clear_all(table, plan, results, changes);
-            Verdict::Refused(row, place)
+            Err(refusal)
         }
-    }
-}
-
-// A reply that stands unless a row refuses.
-fn reply_by(found: Verdict, reply: PlanReply) -> PlanReply
-    ensures { result ≡ unless_refused found reply }
-{
-    match found {
-        Verdict::Fine => reply,
-        Verdict::Refused(row, place) => PlanReply::Refused(row, place),
     }
 }
 
@@ -170,17 +156,18 @@ fn retouch_sheet(
 {
     let own = lines::arithmetic_of(text);
     match calls::run_sheet(text, n, table, plan, results) {
-        PlanReply::Whole(count) => {
-            let found = retouch_run(own, n, count as usize, pairs, table, plan, results, changes);
-            reply_by(found, PlanReply::Whole(count))
+        Ok(made) => {
+            let completed = Completed {
+                n,
+                count: made.count() as usize,
+                arithmetic: own,
+            };
+            retouch_run(completed, pairs, table, plan, results, changes)?;
+            Ok(made)
         }
-        PlanReply::Mixed(count) => {
-            let found = retouch_run(own, n, count as usize, pairs, table, plan, results, changes);
-            reply_by(found, PlanReply::Mixed(count))
-        }
-        PlanReply::Refused(row, label) => {
+        Err(refusal) => {
             cells::clear(changes);
-            PlanReply::Refused(row, label)
+            Err(refusal)
         }
     }
 }
@@ -206,10 +193,10 @@ pub fn retouch(
         results.len(),
         changes.len(),
     ) {
-        Reply::Answered(n) => retouch_sheet(text, n as usize, pairs, table, plan, results, changes),
-        Reply::Refused(row, place) => {
+        Ok(n) => retouch_sheet(text, n as usize, pairs, table, plan, results, changes),
+        Err(refusal) => {
             clear_all(table, plan, results, changes);
-            PlanReply::Refused(row, place)
+            Err(refusal)
         }
     }
 }

@@ -1,5 +1,6 @@
 -- A sample sheet with what document 01 says of it, and what the definitions of the calls give for it.
-use Rattle.std.specs.Prelude.{cond, List, [], ◌∷◌, ◌++◌, map, ℕ, zero, suc, ◌-◌, ◌*◌, ℤ, pos, eqb, length}
+use Rattle.std.specs.Prelude.{cond, List, [], ◌∷◌, ◌++◌, map, ℕ, zero, suc, ◌-◌, ◌*◌, ℤ, pos, eqb, length, Ok}
+use Rattle.refusals.specs.declared.Row.{Row}
 use Prim.Native.String.{String}
 use Rattle.kinds.specs.Kinds.{is_definition, has_body, has_path, wanted_by, takes}
 use Rattle.cells.specs.Quoted.{bytes_of, text_of}
@@ -8,17 +9,15 @@ use Rattle.cells.specs.Table.{kind, owner, target, line_number}
 use Rattle.numbers.specs.Rounding.{quotient}
 use Rattle.numbers.specs.declared.Tie.{Tie}
 use Rattle.numbers.specs.declared.Tie.TheVariants.{Away, Even}
-use Rattle.refusals.specs.declared.Reply.{Reply}
-use Rattle.refusals.specs.declared.Reply.TheVariants.{Answered, Refused}
+use Rattle.refusals.specs.Refusal.{Reply, Refused}
 use Rattle.lines.specs.Lines.{labels}
 use Rattle.evaluation.specs.Results.{store}
 use Rattle.reading.specs.Read.{read_reply, read_table}
 use Rattle.reading.specs.Name.{name_part}
-use Rattle.calls.specs.Plan.{plan_reply, plan_cells}
+use Rattle.calls.specs.Plan.{plan_reply, plan_cells, PlanReply}
 use Rattle.calls.specs.Run.{run_reply, run_plan, run_results}
 use Rattle.calls.specs.Follow.{follow_reply, follow_results}
-use Rattle.calls.specs.declared.PlanReply.{PlanReply}
-use Rattle.calls.specs.declared.PlanReply.TheVariants as planned
+use Rattle.planning.specs.declared.Plan.TheVariants as planned
 use Rattle.printing.specs.Print.{print_of}
 use Rattle.retouching.specs.Retouch.{retouch_reply, retouch_table, retouch_plan, retouch_results, retouch_changes}
 
@@ -42,9 +41,9 @@ pub record PrintLine : Type 0 where
   pub number : ℤ
   pub steps : ℕ
 
--- a refusal with its number and place; or a whole or a mixed plan, with a line for each value in plan order
+-- a refusal with its row and place; or a whole or a mixed plan, with a line for each value in plan order
 pub data Expected : Type 0 where
-  refusal : (number place : ℕ) → Expected
+  refusal : (row : Row) (place : ℕ) → Expected
   whole : List PrintLine → Expected
   mixed : List PrintLine → Expected
 
@@ -130,14 +129,14 @@ given x = given_for (text_of x.sheet) (labels (text_of x.sheet)) (print_lines_of
 -- ---- what the sample says that they give
 
 abbrev pub plan_reply_by : Expected → PlanReply
-plan_reply_by (refusal r p) = planned.Refused r p
-plan_reply_by (whole ls) = planned.Whole (length ls)
-plan_reply_by (mixed ls) = planned.Mixed (length ls)
+plan_reply_by (refusal r p) = Refused r p
+plan_reply_by (whole ls) = Ok (planned.Whole (length ls))
+plan_reply_by (mixed ls) = Ok (planned.Mixed (length ls))
 
 abbrev pub follow_reply_by : Expected → Reply
 follow_reply_by (refusal r p) = Refused r p
-follow_reply_by (whole ls) = Answered (length ls)
-follow_reply_by (mixed ls) = Answered (length ls)
+follow_reply_by (whole ls) = Ok (length ls)
+follow_reply_by (mixed ls) = Ok (length ls)
 
 -- n cells of a plan: the labels, then zeros
 abbrev pub plan_by : ℕ → List PrintLine → List ℤ

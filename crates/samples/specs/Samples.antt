@@ -1,8 +1,9 @@
 -- Document 01's starred sample sheets and the examples of document 02's orders, as one table. The sentences are the papers', and so are the
 -- figures in them; the others are counted by hand, as `sheets/README.md` says. The sheets are those of `sheets/`.
-use Rattle.std.specs.Prelude.{List, [], ◌∷◌, ℕ, ℤ, pos, neg_ℤ}
+use Rattle.std.specs.Prelude.{List, [], ◌∷◌, ℕ, ℤ, pos, neg_ℤ, Ok}
 use Prim.Native.String.{String}
-use Rattle.refusals.specs.declared.Reply.TheVariants.{Answered, Refused}
+use Rattle.refusals.specs.Rows.{uses_row, duplicate_row, cycle_row}
+use Rattle.refusals.specs.Refusal.{Refused}
 use Rattle.samples.specs.Sample.{group, value, function, reads, calls, PrintLine, refusal, whole, mixed, Fact, Sample, RetouchSample, QuotientSample}
 
 abbrev print_line : ℕ → String → ℕ → ℤ → ℕ → PrintLine
@@ -31,7 +32,7 @@ example = record {
       ∷ "N - 100 - -"
       ∷ "N - -325 - -"
       ∷ [];
-  read = Answered 14;
+  read = Ok 14;
   table = value 2 1 ∷ group 3 1 ∷ value 4 3 ∷ value 5 3 ∷ reads 2 4 ∷ reads 4 5 ∷ [];
   outcome = whole
       (print_line 5 "sphere" 1 (minus 325) 1
@@ -53,7 +54,7 @@ outermost_alone = record {
       "kind name a b c"
       ∷ "G - 0 - -"
       ∷ [];
-  read = Answered 1;
+  read = Ok 1;
   table = [];
   outcome = whole [];
   print =
@@ -78,7 +79,7 @@ mixed_order = record {
       ∷ "N - 30 - -"
       ∷ "R right.sphere - - -"
       ∷ [];
-  read = Answered 11;
+  read = Ok 11;
   table = group 2 1 ∷ group 3 1 ∷ value 4 2 ∷ value 5 2 ∷ value 6 3 ∷ value 7 3 ∷ reads 4 6 ∷ reads 7 5 ∷ [];
   outcome = mixed
       (print_line 5 "sphere" 1 (pos 20) 1
@@ -124,7 +125,7 @@ even_of argument number steps printed = record {
       ∷ "C first.even 22 - -"
       ∷ argument
       ∷ [];
-  read = Answered 22;
+  read = Ok 22;
   table = group 2 1 ∷ group 3 1 ∷ function 4 2 ∷ function 5 3 ∷ calls 4 5 ∷ calls 5 4 ∷ value 20 1 ∷ calls 20 4 ∷ [];
   outcome = whole (print_line 20 "answer" 1 number steps ∷ []);
   print = "label name order state number steps" ∷ printed ∷ [];
@@ -143,7 +144,7 @@ endless_calls = record {
       ∷ "C f 7 - -"
       ∷ "N - 1 - -"
       ∷ [];
-  read = Answered 7;
+  read = Ok 7;
   table = function 2 1 ∷ value 3 1 ∷ calls 2 2 ∷ calls 3 2 ∷ [];
   outcome = whole (print_line 3 "endless" 5 (pos 0) 130 ∷ []);
   print =
@@ -167,7 +168,7 @@ nearest_quotient = record {
       ∷ "N - 3249 - -"
       ∷ "N - 100 - -"
       ∷ [];
-  read = Answered 9;
+  read = Ok 9;
   table = value 2 1 ∷ value 3 1 ∷ [];
   outcome = whole (print_line 2 "up" 1 (minus 33) 3 ∷ print_line 3 "down" 1 (pos 32) 3 ∷ []);
   print =
@@ -186,9 +187,9 @@ reads_itself = record {
       ∷ "V sphere 1 3 -"
       ∷ "R sphere - - -"
       ∷ [];
-  read = Answered 3;
+  read = Ok 3;
   table = value 2 1 ∷ reads 2 2 ∷ [];
-  outcome = refusal 16 2;
+  outcome = refusal cycle_row 2;
   print =
       "refusal place"
       ∷ "16 2"
@@ -205,9 +206,9 @@ used_twice = record {
       ∷ "A - 4 4 -"
       ∷ "N - 7 - -"
       ∷ [];
-  read = Refused 9 4;
+  read = Refused uses_row 4;
   table = [];
-  outcome = refusal 9 4;
+  outcome = refusal uses_row 4;
   print =
       "refusal place"
       ∷ "9 4"
@@ -230,7 +231,7 @@ capital_path = record {
       ∷ "R RIGHT.LENS.SPHERE - - -"
       ∷ "N - 5 - -"
       ∷ [];
-  read = Answered 9;
+  read = Ok 9;
   table = group 2 1 ∷ group 3 2 ∷ value 4 3 ∷ value 6 1 ∷ reads 6 4 ∷ [];
   outcome = whole (print_line 4 "sphere" 1 (minus 325) 1 ∷ print_line 6 "Total" 1 (minus 320) 3 ∷ []);
   print =
@@ -249,9 +250,9 @@ capital_clash = record {
       ∷ "G right 1 - -"
       ∷ "G Right 1 - -"
       ∷ [];
-  read = Refused 12 3;
+  read = Refused duplicate_row 3;
   table = [];
-  outcome = refusal 12 3;
+  outcome = refusal duplicate_row 3;
   print =
       "refusal place"
       ∷ "12 3"
@@ -281,7 +282,7 @@ frame_and_left = record {
       ∷ "R frame.size - - -"
       ∷ "N - 3100 - -"
       ∷ [];
-  read = Answered 16;
+  read = Ok 16;
   table =
       group 2 1 ∷ group 3 1 ∷ group 4 1 ∷ value 5 4 ∷ value 6 2 ∷ value 7 3 ∷ value 8 2 ∷ value 9 4 ∷ value 10 3 ∷ reads 6 7 ∷ reads 7 8 ∷ reads 9 8 ∷ [];
   outcome = mixed
@@ -343,7 +344,7 @@ halves_table = value 2 1 ∷ value 3 1 ∷ value 4 1 ∷ value 5 1 ∷ value 6 1
 abbrev pub halves_away : Sample
 halves_away = record {
   sheet = "kind name a b c" ∷ halves_lines;
-  read = Answered 28;
+  read = Ok 28;
   table = halves_table;
   outcome = whole
       (print_line 2 "sphere" 1 (minus 33) 3
@@ -365,7 +366,7 @@ halves_away = record {
 abbrev pub halves_even : Sample
 halves_even = record {
   sheet = "kind2 name a b c" ∷ halves_lines;
-  read = Answered 28;
+  read = Ok 28;
   table = halves_table;
   outcome = whole
       (print_line 2 "sphere" 1 (minus 32) 3

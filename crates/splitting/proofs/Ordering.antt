@@ -2,7 +2,7 @@
 use mathlib.Core.Path.{◌≡◌, sym, ap, ◌∙◌, subst}
 use mathlib.Core.List.{List}
 use mathlib.Core.Bool.{Bool, true, ◌&&◌}
-use Prim.Native.Nat.{ℕ, ◌+◌, ◌-◌, ◌*◌, ◌≤◌, ◌<◌}
+use Prim.Native.Nat.{ℕ, ◌+◌, ◌*◌, ◌≤◌, ◌<◌}
 use native.Mathlib.Omega.{arith}
 use lib.IntN.{ℤ}
 use lib.ListN.{length, get_or, take}
@@ -19,16 +19,17 @@ use Rattle.order.proofs.BlockPlan.{ordered_lead}
 use Rattle.marks.specs.Marks.{mark}
 use Rattle.placing.specs.UnmetCounts.{Rising, AllBelow, needed, Fits, Placed, InRows}
 use Rattle.reach.specs.MarkRows.{width}
-use Rattle.blocks.specs.Found.{Room, Led}
+use Rattle.blocks.specs.Found.{Led}
+use Rattle.blocks.specs.Found as blocks
 use Rattle.blocks.specs.Merged.{Merged, Mergeable}
 use Rattle.blocks.specs.Merged as merged
 use Rattle.blocks.proofs.Merging.{led_item, led_head, led_same}
-use Rattle.groups.specs.Members.{Gathered, Items, NeedRowsFrom, NeedRowsOf, Scratch, MaskedBy}
+use Rattle.groups.specs.Members.{Gathered, Items, NeedRowsFrom, NeedRowsOf, MaskedBy}
 use Rattle.groups.proofs.Chains.{labels_few, rising_part, rising_filter}
 use Rattle.reach.proofs.Reading.{row_room}
-use Rattle.groups.proofs.Orders.{items_of, in_rows, fits, needed_is}
+use Rattle.groups.proofs.Orders.{in_rows, fits, needed_is}
 use Rattle.groups.specs.Opened.{expanded_block, expanded}
-use Rattle.splitting.specs.Leaders.{LedMembers, SearchRoom, Linkable, LeaderChains, Chains, Expanded}
+use Rattle.splitting.specs.Leaders.{Room, LedMembers, Linkable, LeaderChains, Chains, Expanded}
 use Rattle.groups.proofs.Expanded.{expanded_few, block_label}
 
 -- ---- the members of a Group
@@ -60,21 +61,25 @@ module _ (t : List ℤ) (n : ℕ) (ok : Accepted t n) (g : ℕ) where
 
   -- ---- what the search asks, and what it finds
 
-  search_room : (mask unmet ready list order stacked stack path lead : List ℕ) → Scratch n mask unmet ready order → SearchRoom n list stacked stack path lead
-      → Room (members t n g) ready stacked list stack unmet order path lead (width n)
-  search_room mask unmet ready list order stacked stack path lead s r =
-      let few = labels_few (is_member_of t g) n in
-      record {
-        few = omega (arith, few, ok.few);
-        fresh_room = s.readies;
-        stacked_room = r.stacked_room;
-        list_room = r.list_room;
-        stack_room = omega (arith, few, r.stack_room);
-        starts_room = omega (arith, few, s.orders);
-        path_room = omega (arith, few, r.path_room);
-        placed = λ p m. omega (arith, label p m, s.counts);
-        leads_room = λ p m. omega (arith, label p m, r.lead_room);
-      }
+  module _ (N W : ℕ) (r : Room n N W) (ready stacked stack unmet order path lead : List ℕ) (readies : length ready ≡ W) (rows : length stacked ≡ W)
+      (stacks : length stack ≡ N) (counts : length unmet ≡ N) (orders : length order ≡ N) (paths : length path ≡ N) (leads : length lead ≡ N) where
+    search_room : blocks.Room (members t n g) ready stacked stack unmet order path lead (width n)
+    search_room =
+        let few = labels_few (is_member_of t g) n in
+        record {
+          few = omega (arith, few, ok.few);
+          fresh_room = omega (arith, r.words, readies);
+          stacked_room = omega (arith, r.words, rows);
+          stack_room = omega (arith, few, r.labels, stacks);
+          starts_room = omega (arith, few, r.labels, orders);
+          path_room = omega (arith, few, r.labels, paths);
+          placed = λ p m. omega (arith, label p m, r.labels, counts);
+          leads_room = λ p m. omega (arith, label p m, r.labels, leads);
+        }
+
+    pub find_room : (items : List ℕ) (m : ℕ) → Gathered (members t n g) items m
+        → blocks.Room (take m items) ready stacked stack unmet order path lead (width n)
+    find_room items m ga = subst (λ (l : List ℕ). blocks.Room l ready stacked stack unmet order path lead (width n)) (sym ga.cells) search_room
 
   found_led : (square mask lead : List ℕ) → NeedRowsFrom t n g square → MaskedBy t n true (members t n g) mask → Led (needed square mask (width n)) (members t n g) lead
       → Led (needs t n) (members t n g) lead
@@ -82,20 +87,15 @@ module _ (t : List ℤ) (n : ℕ) (ok : Accepted t n) (g : ℕ) where
       led_same (needed square mask (width n)) R (members t n g) lead (needed_is t n ok (members t n g) all_items mask square masked (rows_of square rows))
 
   module _ (items : List ℕ) (m : ℕ) (ga : Gathered (members t n g) items m) where
-    is : take (m - 0) items ≡ members t n g
-    is = items_of (members t n g) items m ga
+    is : take m items ≡ members t n g
+    is = ga.cells
 
-    pub find_asks : (square mask : List ℕ) → (n + 1) * width n ≤ length square → width n ≤ length mask → MaskedBy t n true (take (m - 0) items) mask
-        → InRows (take (m - 0) items) square mask (width n)
-    find_asks square mask room wide masked = in_rows t n ok (take (m - 0) items) (subst (Items t) (sym is) all_items) mask square masked room wide
+    pub find_asks : (square mask : List ℕ) → (n + 1) * width n ≤ length square → width n ≤ length mask → MaskedBy t n true (take m items) mask
+        → InRows (take m items) square mask (width n)
+    find_asks square mask room wide masked = in_rows t n ok (take m items) (subst (Items t) (sym is) all_items) mask square masked room wide
 
-    pub find_room : (mask unmet ready list order stacked stack path lead : List ℕ) → Scratch n mask unmet ready order → SearchRoom n list stacked stack path lead
-        → Room (take (m - 0) items) ready stacked list stack unmet order path lead (width n)
-    find_room mask unmet ready list order stacked stack path lead s r =
-        subst (λ (l : List ℕ). Room l ready stacked list stack unmet order path lead (width n)) (sym is) (search_room mask unmet ready list order stacked stack path lead s r)
-
-    pub find_gives : (square mask lead : List ℕ) → NeedRowsFrom t n g square → MaskedBy t n true (take (m - 0) items) mask
-        → Led (needed square mask (width n)) (take (m - 0) items) lead → LedMembers t n g (take m items) lead
+    pub find_gives : (square mask lead : List ℕ) → NeedRowsFrom t n g square → MaskedBy t n true (take m items) mask
+        → Led (needed square mask (width n)) (take m items) lead → LedMembers t n g (take m items) lead
     find_gives square mask lead rows masked led =
         let k = subst (λ (l : List ℕ). MaskedBy t n true l mask) is masked in
         record {
@@ -104,11 +104,6 @@ module _ (t : List ℤ) (n : ℕ) (ok : Accepted t n) (g : ℕ) where
           mask = mask;
           masked = k;
         }
-
-  pub led_part : (items lead : List ℕ) (m : ℕ) → LedMembers t n g (take m items) lead → LedMembers t n g (take (m - 0) items) lead
-  led_part items lead m h =
-      let z : m ≡ m - 0 = omega arith in
-      subst (λ (k : ℕ). LedMembers t n g (take k items) lead) z h
 
   -- ---- the members and their leads, in a part of a buffer
 
@@ -141,22 +136,18 @@ module _ (t : List ℤ) (n : ℕ) (ok : Accepted t n) (g : ℕ) where
 
     -- ---- the leaders
 
-    leaders_are : (out : List ℕ) (k : ℕ) → merged.LeadersGathered L lead out k → take (k - 0) out ≡ leaders R (members t n g)
+    leaders_are : (out : List ℕ) (k : ℕ) → merged.LeadersGathered L lead out k → take k out ≡ leaders R (members t n g)
     leaders_are out k h =
-        let z : k - 0 ≡ k = omega arith in
-        ap (λ (j : ℕ). take j out) z ∙ h.cells R (subst (λ (l : List ℕ). Led R l lead) (sym m.are) m.led) ∙ ap (leaders R) m.are
+        h.cells R (subst (λ (l : List ℕ). Led R l lead) (sym m.are) m.led) ∙ ap (leaders R) m.are
 
     -- what placing them asks
     module _ (out : List ℕ) (k : ℕ) (h : merged.LeadersGathered L lead out k) where
-      pub heads_items : Items t (take (k - 0) out)
+      pub heads_items : Items t (take k out)
       heads_items = subst (Items t) (sym (leaders_are out k h)) leader_items
 
-      pub heads_few : length (take (k - 0) out) ≤ n
-      heads_few = omega (arith, ap length (leaders_are out k h), filter_le (is_leader R (members t n g)) (members t n g), labels_few (is_member_of t g) n)
-
-      pub heads_fit : (square mask unmet : List ℕ) → MaskedBy t n true (take (k - 0) out) mask → (n + 1) * width n ≤ length square → n < length unmet → width n ≤ length mask
-          → Fits (take (k - 0) out) square mask unmet (width n)
-      heads_fit square mask unmet masked room counts wide = fits t n ok (take (k - 0) out) heads_items mask square masked unmet room counts wide
+      pub heads_fit : (square mask unmet : List ℕ) → MaskedBy t n true (take k out) mask → (n + 1) * width n ≤ length square → n < length unmet → width n ≤ length mask
+          → Fits (take k out) square mask unmet (width n)
+      heads_fit square mask unmet masked room counts wide = fits t n ok (take k out) heads_items mask square masked unmet room counts wide
 
     module _ (s s' followers : List ℕ) (mg : Merged L lead s s' followers (width n)) (rows : NeedRowsFrom t n g s) where
       pub rows_after : NeedRowsFrom t n (g + 1) s'
@@ -196,8 +187,8 @@ module _ (t : List ℤ) (n : ℕ) (ok : Accepted t n) (g : ℕ) where
           within = omega (arith, pl.within, filter_le (is_leader R (members t n g)) (members t n g), labels_few (is_member_of t g) n);
         }
 
-      pub heads_placed : (out mask order : List ℕ) (k r : ℕ) → merged.LeadersGathered L lead out k → MaskedBy t n true (take (k - 0) out) mask → n < length order
-          → Placed (needed s' mask (width n)) (take (k - 0) out) order r → Gathered (ordered t n g) order r
+      pub heads_placed : (out mask order : List ℕ) (k r : ℕ) → merged.LeadersGathered L lead out k → MaskedBy t n true (take k out) mask → n < length order
+          → Placed (needed s' mask (width n)) (take k out) order r → Gathered (ordered t n g) order r
       heads_placed out mask order k r h masked room pl =
           let e = leaders_are out k h in
           blocks_placed mask (subst (λ (l : List ℕ). MaskedBy t n true l mask) e masked) order r room (subst (λ (l : List ℕ). Placed (needed s' mask (width n)) l order r) e pl)

@@ -3,12 +3,17 @@ use Rattle.std.specs.Prelude.{◌≡◌, List, Bool, true, not, ◌&&◌, eqb, �
 use Rattle.order.specs.LabelLists.{◌∈◌, joined}
 use Rattle.order.specs.Blocks.{block_of, leaders}
 use Rattle.order.specs.Order.{members, needs}
-use Rattle.reach.specs.MarkRows.{width}
 use Rattle.placing.specs.UnmetCounts.{Rising, AllBelow}
 use Rattle.blocks.specs.Found.{Led}
 use Rattle.blocks.specs.Merged.{heads}
 use Rattle.groups.specs.Members.{Chain, Gathered, MaskedBy}
 use Rattle.groups.specs.Opened.{expanded_block}
+use Rattle.reach.specs.MarkRows.{width}
+
+-- room for placing n labels, in scratch for labels below m and rows of w words
+pub record Room (n m w : ℕ) : Type 0 where
+  pub labels : 64 * width n ≤ m
+  pub words : width n ≤ w
 
 -- the items are g's members, each one's lead is the smallest label of its block, and there is a mask of those that hold values
 pub record LedMembers (t : List ℤ) (n g : ℕ) (items lead : List ℕ) : Type 0 where
@@ -16,14 +21,6 @@ pub record LedMembers (t : List ℤ) (n g : ℕ) (items lead : List ℕ) : Type 
   pub led : Led (needs t n) (members t n g) lead
   pub mask : List ℕ
   pub masked : MaskedBy t n true (members t n g) mask
-
--- what the search for blocks of n labels is lent beside the room for placing; the stack serves for a row of marks listed, too
-pub record SearchRoom (n : ℕ) (list stacked stack path lead : List ℕ) : Type 0 where
-  pub list_room : 64 * width n ≤ length list
-  pub stacked_room : width n ≤ length stacked
-  pub stack_room : 64 * width n ≤ length stack
-  pub path_room : n < length path
-  pub lead_room : n < length lead
 
 -- the items go upward and are labels with leads among them, and links
 pub record Linkable (n : ℕ) (items lead links : List ℕ) : Type 0 where

@@ -1,30 +1,33 @@
 -- Laws of tests over bytes: counts, and runs of bytes that pass a test, at the positions that a loop has.
 use mathlib.Core.Path.{◌≡◌, refl, ap, sym, ◌∙◌}
 use mathlib.Core.Bool.{Bool, true, false, not, ◌&&◌}
-use mathlib.Core.List.{List, [], ◌∷◌}
+use mathlib.Core.List.{List, [], ◌∷◌, ◌++◌}
 use Prim.Native.Nat.{ℕ, zero, suc, ◌+◌, ◌≤◌, ◌<◌}
 use native.Mathlib.Nat.{le_of_suc-le-suc, not-suc-le-zero}
 use native.Mathlib.Omega.{arith}
 use lib.Dec.{eqb, eqb-suc-suc, eqb-zero-suc}
-use lib.ListN.{length, get_or, drop}
-use lib.Seq.{slice}
+use lib.ListN.{length, get_or}
 use borrow.Author.Tests.{eq-eqb, ne_eqb, eqb-true}
 pub use Rattle.cells.proofs.Tests.{and_left, and_right}
+use Rattle.cells.proofs.Tests.{one_le}
+use Rattle.std.specs.Prelude.{nat_eq}
+use Rattle.std.specs.Cmp.Lexicographic.{pointwise}
 use Rattle.text.specs.Bytes.{all, one, count_by, same, is_allowed}
 use Rattle.text.specs.Scans.{run_end, one_more, run, is_bad}
-use Rattle.text.proofs.Slices.{at_drop, past_drop, slice_at, slice_none}
+use Rattle.text.proofs.Slices.{slice_at, slice_none}
 
 pub true_false : true ≡ false → ⊥
 true_false e = let z : ◌≡◌ {A = ℕ} 0 1 = cc in omega arith
 
 -- ---- counts
 
-module _ (p : ℕ → Bool) (s : List ℕ) (i : ℕ) where
-  pub count_step : i < length s → count_by p (drop i s) ≡ one (p (get_or s i 0)) + count_by p (drop (i + 1) s)
-  count_step h = rw (at_drop s i h)
+pub count_append : (p : ℕ → Bool) (xs ys : List ℕ) → count_by p (xs ++ ys) ≡ count_by p xs + count_by p ys
+count_append p [] ys = omega arith
+count_append p (x ∷ xs) ys = omega (arith, count_append p xs ys)
 
-  pub count_end : length s ≤ i → count_by p (drop i s) ≡ 0
-  count_end h = rw (past_drop s i h)
+pub count_most : (p : ℕ → Bool) (xs : List ℕ) → count_by p xs ≤ length xs
+count_most p [] = omega arith
+count_most p (x ∷ xs) = omega (arith, one_le (p x), count_most p xs)
 
 -- a byte that passes is counted
 some_go : (b : Bool) (n : ℕ) → 1 ≤ n → 1 ≤ one b + n
@@ -48,10 +51,6 @@ pub and-false : (a b : Bool) → b ≡ false → (a && b) ≡ false
 and-false true b e = e
 and-false false b e = refl
 
-pub and-true : (a b : Bool) → b ≡ true → (a && b) ≡ a
-and-true true b e = e
-and-true false b e = refl
-
 -- what passes at every byte passes at each
 pub all_at : (p : ℕ → Bool) (s : List ℕ) (i : ℕ) → all p s ≡ true → i < length s → p (get_or s i 0) ≡ true
 all_at p [] i e h = absurd (not-suc-le-zero h)
@@ -60,12 +59,12 @@ all_at p (x ∷ xs) (suc i) e h = all_at p xs i (and_right (p x) (all p xs) e) (
 
 -- ---- the same bytes
 
-module _ (s : List ℕ) (i t : ℕ) (w : List ℕ) (j : ℕ) (h : i < t) (k : t ≤ length s) (m : j < length w) where
-  pub same_hit : get_or s i 0 ≡ get_or w j 0 → same (slice i t s) (drop j w) ≡ same (slice (i + 1) t s) (drop (j + 1) w)
-  same_hit e = rw (slice_at s i t h k, at_drop w j m, eq-eqb (get_or s i 0) (get_or w j 0) e)
-
-  pub same_miss : (get_or s i 0 ≡ get_or w j 0 → ⊥) → same (slice i t s) (drop j w) ≡ false
-  same_miss e = rw (slice_at s i t h k, at_drop w j m, ne_eqb (get_or s i 0) (get_or w j 0) e)
+-- what `==` of two slices gives
+pub same_is : (xs ys : List ℕ) → pointwise nat_eq xs ys ≡ same xs ys
+same_is [] [] = refl
+same_is [] (y ∷ ys) = refl
+same_is (x ∷ xs) [] = refl
+same_is (x ∷ xs) (y ∷ ys) = rw (same_is xs ys)
 
 pub same_lengths : (xs ys : List ℕ) → (length xs ≡ length ys → ⊥) → same xs ys ≡ false
 same_lengths [] [] e = absurd (e refl)

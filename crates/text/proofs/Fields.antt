@@ -9,6 +9,8 @@ use lib.Dec.{eqb, ltb, leb}
 use lib.ListN.{length, get_or, drop, take, take-append-drop}
 use lib.Seq.{slice, length-slice}
 use borrow.Author.Tests.{eq-eqb, ne_eqb, eqb-true, eqb-false, leb-true, ltb-true, ltb-false, lt-ltb, le-ltb, not-false}
+use Rattle.std.proofs.lemmas.Option.{none-some, same_Some}
+use Rattle.std.specs.Prelude.{Some, None}
 use Rattle.cells.specs.Characters.{newline, space, last_printable}
 use Rattle.text.specs.Bytes.{all, is_allowed, ends_lines}
 use Rattle.text.specs.Pieces.{cut, first_of, fields_are}
@@ -174,14 +176,14 @@ module _ (s : List ℕ) (from : ℕ) (h : from < length s) (ends : ends_lines s)
   low = omega arith
 
   cases : (stop : ℕ)
-      → ((field_end s from stop ≡ from + r) × (0 < r) × (get_or s (from + r) 0 ≡ stop))
-      ⊎ ((field_end s from stop ≡ 0) × ((r ≡ 0) ⊎ (get_or s (from + r) 0 ≡ stop → ⊥)))
+      → ((field_end s from stop ≡ Some (from + r)) × (0 < r) × (get_or s (from + r) 0 ≡ stop))
+      ⊎ ((field_end s from stop ≡ None) × ((r ≡ 0) ⊎ (get_or s (from + r) 0 ≡ stop → ⊥)))
   unfolding field_end run_end
   cases stop = go (ltb from (from + r)) (eqb (get_or s (from + r) 0) stop) refl refl
     where
       go : (x y : Bool) → ltb from (from + r) ≡ x → eqb (get_or s (from + r) 0) stop ≡ y
-          → ((cond (x && y) (from + r) 0 ≡ from + r) × (0 < r) × (get_or s (from + r) 0 ≡ stop))
-          ⊎ ((cond (x && y) (from + r) 0 ≡ 0) × ((r ≡ 0) ⊎ (get_or s (from + r) 0 ≡ stop → ⊥)))
+          → ((cond (x && y) (Some (from + r)) None ≡ Some (from + r)) × (0 < r) × (get_or s (from + r) 0 ≡ stop))
+          ⊎ ((cond (x && y) (Some (from + r)) None ≡ None) × ((r ≡ 0) ⊎ (get_or s (from + r) 0 ≡ stop → ⊥)))
       go true true e f = inl (refl, omega (arith, ltb-true from (from + r) e), eqb-true (get_or s (from + r) 0) stop f)
       go true false e f = inr (refl, inr (eqb-false (get_or s (from + r) 0) stop f))
       go false y e f = inr (refl, inl (omega (arith, ltb-false from (from + r) e)))
@@ -190,24 +192,25 @@ module _ (s : List ℕ) (from : ℕ) (h : from < length s) (ends : ends_lines s)
   unfolding run_end
   end_inside = short'
 
-  pub end_empty : (stop : ℕ) → run_end is_graphic s from (length s) ≡ from → field_end s from stop ≡ 0
-  unfolding field_end
-  end_empty stop e = rw (le-ltb from (run_end is_graphic s from (length s)) (omega arith))
-
   pub end_found : (stop : ℕ) → (run_end is_graphic s from (length s) ≡ from → ⊥) → get_or s (run_end is_graphic s from (length s)) 0 ≡ stop
-      → field_end s from stop ≡ run_end is_graphic s from (length s)
+      → field_end s from stop ≡ Some (run_end is_graphic s from (length s))
   unfolding field_end
   end_found stop f e = rw (lt-ltb from (run_end is_graphic s from (length s)) (omega (arith, f, low)), eq-eqb (get_or s (run_end is_graphic s from (length s)) 0) stop e)
 
-  pub end_other : (stop : ℕ) → (get_or s (run_end is_graphic s from (length s)) 0 ≡ stop → ⊥) → field_end s from stop ≡ 0
+  pub end_other : (stop : ℕ)
+      → (from < run_end is_graphic s from (length s)) × (get_or s (run_end is_graphic s from (length s)) 0 ≡ stop → ⊥) ⊎ (run_end is_graphic s from (length s) ≤ from)
+      → field_end s from stop ≡ None
   unfolding field_end
-  end_other stop f = rw (ne_eqb (get_or s (run_end is_graphic s from (length s)) 0) stop f, and-false (ltb from (run_end is_graphic s from (length s))) false refl)
+  end_other stop (inl f) = rw (ne_eqb (get_or s (run_end is_graphic s from (length s)) 0) stop f.1, and-false (ltb from (run_end is_graphic s from (length s))) false refl)
+  end_other stop (inr e) = rw (le-ltb from (run_end is_graphic s from (length s)) e)
 
-  pub space_end : (field_end s from space ≡ 0 → ⊥) → Spaced s from (field_end s from space)
-  space_end f = ⊎_elim (λ w. rw w.0 (spaced w.1 w.2)) (λ w. absurd (f w.0)) (cases space)
+  pub space_end : {e : ℕ} → field_end s from space ≡ Some e → Spaced s from e
+  space_end {e} f =
+      ⊎_elim (λ w. let q : from + r ≡ e = same_Some _ _ (sym w.0 ∙ f) in rw (← q) (spaced w.1 w.2)) (λ w. absurd (none-some e (sym w.0 ∙ f))) (cases space)
 
-  pub last_end : (field_end s from newline ≡ 0 → ⊥) → Last s from (field_end s from newline)
-  last_end f = ⊎_elim (λ w. rw w.0 (last w.1 w.2)) (λ w. absurd (f w.0)) (cases newline)
+  pub last_end : {e : ℕ} → field_end s from newline ≡ Some e → Last s from e
+  last_end {e} f =
+      ⊎_elim (λ w. let q : from + r ≡ e = same_Some _ _ (sym w.0 ∙ f) in rw (← q) (last w.1 w.2)) (λ w. absurd (none-some e (sym w.0 ∙ f))) (cases newline)
 
   module _ (allowed : all is_allowed s ≡ true) where
     -- after row 1, what ends a run of graphic bytes is a space or the end of the line
@@ -227,15 +230,15 @@ module _ (s : List ℕ) (from : ℕ) (h : from < length s) (ends : ends_lines s)
         let t : take r l ≡ [] = ap (λ (n : ℕ). take n l) e in
         ⊎_elim (λ g. rw (by_newline g, t)) (λ g. rw (by_space g, t)) gap
 
-    pub space_none : (k : ℕ) → field_end s from space ≡ 0 → fields_are (suc (suc k)) (fields_from s from) ≡ false
+    pub space_none : (k : ℕ) → field_end s from space ≡ None → fields_are (suc (suc k)) (fields_from s from) ≡ false
     space_none k z =
-        ⊎_elim (λ w. absurd (omega (arith, w.0, w.1)))
+        ⊎_elim (λ w. absurd (none-some (from + r) (sym z ∙ w.0)))
         (λ w. ⊎_elim (empty (suc k)) (λ f. ⊎_elim (λ g. rw (by_newline g) (too_few k (take r l))) (λ g. absurd (f g)) gap) w.1)
         (cases space)
 
-    pub last_none : field_end s from newline ≡ 0 → fields_are 1 (fields_from s from) ≡ false
+    pub last_none : field_end s from newline ≡ None → fields_are 1 (fields_from s from) ≡ false
     last_none z =
-        ⊎_elim (λ w. absurd (omega (arith, w.0, w.1)))
+        ⊎_elim (λ w. absurd (none-some (from + r) (sym z ∙ w.0)))
         (λ w. ⊎_elim (empty 0) (λ f. ⊎_elim (λ g. absurd (f g)) (λ g. rw (by_space g)
         (too_many (take r l) (cut space (first_of (cut newline (drop (r + 1) l)))) (some space (first_of (cut newline (drop (r + 1) l)))))) gap) w.1)
         (cases newline)

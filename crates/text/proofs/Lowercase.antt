@@ -7,10 +7,12 @@ use Prim.Native.Nat.{ℕ, zero, suc, ◌%◌, ◌≤◌, ◌<◌}
 use native.Mathlib.Omega.{arith}
 use lib.Dec.{leb, eqb}
 use lib.ListN.{length, get_or}
-use borrow.Author.Tests.{leb-true, leb-false, le-leb, lt-leb, eqb-true, eq-eqb, ne_eqb}
+use borrow.Author.Tests.{leb-true, leb-false, le-leb, lt-leb, eqb-true, eq-eqb}
 use Rattle.cells.specs.Characters.{capital_a, capital_z}
+use Rattle.std.specs.Char.{to_ascii_lowercase}
+use Rattle.std.proofs.lemmas.Bool.Decides.{nat_tests}
 use Rattle.text.specs.Bytes.{lowercase_byte, lowercase, is_capital, small_of, is_two_cases, SameButCase}
-use Rattle.text.proofs.Bytes.{true_false, and_left, and_right}
+use Rattle.text.proofs.Bytes.{and_left, and_right}
 
 module _ (x : ℕ) where
   pub below_capitals : x < capital_a → lowercase_byte x ≡ x
@@ -72,32 +74,6 @@ module _ (x y : ℕ) where
       go (inr (h, k, p)) (inl q) = inr (inl (two_cases x y h k (omega (arith, e, p, q))))
       go (inr (h, k, p)) (inr (i, j, q)) = inl (omega (arith, e, p, q))
 
--- ---- of two bytes that differ, the smaller one would be the capital
-
-capital_smaller : (x y : ℕ) → is_two_cases x y ≡ true → x < y
-capital_smaller x y c = let e = eqb-true y (small_of x) (and_right (is_capital x) (eqb y (small_of x)) c) in omega arith
-
-decided : (x y : ℕ) (b : Bool) → (b ≡ true → x ≡ y) → (x ≡ y → b ≡ true) → b ≡ eqb x y
-decided x y true f g = sym (eq-eqb x y (f refl))
-decided x y false f g = sym (ne_eqb x y (λ e. true_false (sym (g e))))
-
-module _ (x y : ℕ) where
-  pub case_above : x < y → is_two_cases x y ≡ eqb (lowercase_byte x) (lowercase_byte y)
-  case_above h = decided (lowercase_byte x) (lowercase_byte y) (is_two_cases x y) (cases_same x y) (λ e. go (same_case x y e))
-    where
-      go : SameButCase x y → is_two_cases x y ≡ true
-      go (inl e) = absurd (omega arith)
-      go (inr (inl c)) = c
-      go (inr (inr c)) = let k = capital_smaller y x c in absurd (omega arith)
-
-  pub case_below : y < x → is_two_cases y x ≡ eqb (lowercase_byte x) (lowercase_byte y)
-  case_below h = decided (lowercase_byte x) (lowercase_byte y) (is_two_cases y x) (λ c. sym (cases_same y x c)) (λ e. go (same_case x y e))
-    where
-      go : SameButCase x y → is_two_cases y x ≡ true
-      go (inl e) = absurd (omega arith)
-      go (inr (inl c)) = let k = capital_smaller x y c in absurd (omega arith)
-      go (inr (inr c)) = c
-
 -- ---- bytes of a name
 
 pub lowercase_at : (w : List ℕ) (i : ℕ) → get_or (lowercase w) i 0 ≡ lowercase_byte (get_or w i 0)
@@ -108,3 +84,8 @@ lowercase_at (x ∷ w) (suc i) = lowercase_at w i
 pub lowercase_length : (w : List ℕ) → length (lowercase w) ≡ length w
 lowercase_length [] = refl
 lowercase_length (x ∷ w) = ap suc (lowercase_length w)
+
+-- the library's small letter
+pub small_is : (x : ℕ) → to_ascii_lowercase x ≡ lowercase_byte x
+unfolding lowercase_byte
+small_is x = grind (arith, nat_tests)

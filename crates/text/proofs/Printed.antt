@@ -11,10 +11,8 @@ use borrow.Author.Tests.{leb-true, le-leb, lt-ltb, eqb-true}
 use Rattle.cells.specs.Limits.{name_limit, path_limit, number_limit}
 use Rattle.cells.specs.Characters.{space, last_printable, dot, hyphen, digit_zero, digit_nine, capital_a, capital_z, small_a, small_z}
 use Rattle.cells.proofs.Tests.{and_left, and_right}
+use Rattle.std.specs.Prelude.{Option, Some, None}
 use Rattle.numbers.specs.Decimal.{is_digit, all_digits, decimal_of, signed_of, number_of}
-use Rattle.numbers.specs.declared.Decimal.{Decimal}
-use Rattle.numbers.specs.declared.Decimal.TheVariants as decimal
-use Rattle.numbers.specs.declared.Number.TheVariants as number
 use Rattle.numbers.proofs.Decimals.{written}
 use Rattle.text.specs.Bytes.{all, is_letter, is_alphanumeric}
 use Rattle.text.specs.Pieces.{cut, joined_with}
@@ -88,22 +86,22 @@ digits_printed [] e = refl
 digits_printed (c ∷ f) e =
     rw (digit_printed c (and_left (is_digit c) (all_digits f) e), digits_printed f (and_right (is_digit c) (all_digits f) e))
 
-pub decimal_printed : (max : ℕ) (f : List ℕ) (v : ℕ) → decimal_of max f ≡ decimal.Is v → all is_printed f ≡ true
+pub decimal_printed : (max : ℕ) (f : List ℕ) (v : ℕ) → decimal_of max f ≡ Some v → all is_printed f ≡ true
 decimal_printed max f v e = digits_printed f (written max f v e).digits
 
-signed_printed : (negative : Bool) (f : List ℕ) (z : ℤ) → signed_of negative (decimal_of number_limit f) ≡ number.Is z → all is_printed f ≡ true
+signed_printed : (negative : Bool) (f : List ℕ) (z : ℤ) → signed_of negative (decimal_of number_limit f) ≡ Some z → all is_printed f ≡ true
 signed_printed negative f z = go (decimal_of number_limit f) refl
   where
-    go : (d : Decimal) → decimal_of number_limit f ≡ d → signed_of negative d ≡ number.Is z → all is_printed f ≡ true
-    go (decimal.Is v) q e = decimal_printed number_limit f v q
-    go decimal.Not q e = let y : ◌≡◌ {A = ℕ} 0 1 = cc in absurd (omega arith)
+    go : (d : Option ℕ) → decimal_of number_limit f ≡ d → signed_of negative d ≡ Some z → all is_printed f ≡ true
+    go (Some v) q e = decimal_printed number_limit f v q
+    go None q e = absurd cc
 
-pub number_printed : (f : List ℕ) (z : ℤ) → number_of f ≡ number.Is z → all is_printed f ≡ true
+pub number_printed : (f : List ℕ) (z : ℤ) → number_of f ≡ Some z → all is_printed f ≡ true
 unfolding number_of
 number_printed [] z e = refl
 number_printed (c ∷ f) z e = go (eqb c hyphen) refl e
   where
-    go : (b : Bool) → eqb c hyphen ≡ b → cond b (signed_of true (decimal_of number_limit f)) (signed_of false (decimal_of number_limit (c ∷ f))) ≡ number.Is z
+    go : (b : Bool) → eqb c hyphen ≡ b → cond b (signed_of true (decimal_of number_limit f)) (signed_of false (decimal_of number_limit (c ∷ f))) ≡ Some z
         → all is_printed (c ∷ f) ≡ true
     go true q g = rw (eqb-true c hyphen q, signed_printed true f z g)
     go false q g = signed_printed false (c ∷ f) z g

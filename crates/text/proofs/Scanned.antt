@@ -1,13 +1,15 @@
 -- Names, paths and digits read in one scan: what its loops keep, and what they end with.
 use mathlib.Core.Path.{◌≡◌, refl, ap, sym, ◌∙◌}
-use mathlib.Core.Bool.{Bool, true, false}
-use mathlib.Core.List.{List, ◌∷◌}
+use mathlib.Core.Bool.{Bool, true, false, ◌&&◌}
+use mathlib.Core.List.{List, [], ◌∷◌, ◌++◌}
 use Prim.Native.Nat.{ℕ, zero, suc, ◌+◌, ◌-◌, ◌*◌, ◌≤◌, ◌<◌}
 use native.Mathlib.Omega.{arith}
 use lib.Dec.{ltb, leb}
-use lib.ListN.{length, get_or}
-use lib.Seq.{slice}
-use borrow.Author.Tests.{eq-eqb, ltb-true, ltb-false, le-leb}
+use lib.ListN.{length, get_or, take, drop}
+use lib.Seq.{slice, length-slice}
+use Rattle.std.proofs.lemmas.List.{get_or-take, get_or-drop}
+use borrow.Author.Tests.{eq-eqb, ne_eqb, ltb-true, ltb-false, le-leb}
+use Rattle.std.specs.Prelude.{Some}
 use Rattle.cells.specs.Limits.{name_limit, path_limit}
 use Rattle.cells.specs.Characters.{newline, space, last_printable, dot, digit_zero}
 use Rattle.numbers.specs.Decimal.{is_digit, digits_of}
@@ -15,12 +17,13 @@ use Rattle.numbers.proofs.Decimals.{digits_step, digits_end}
 use Rattle.text.specs.Bytes.{all, is_letter, is_alphanumeric, ends_lines}
 use Rattle.text.specs.Pieces.{cut}
 use Rattle.text.specs.Forms.{is_name, all_names, is_path}
-use Rattle.text.specs.Scans.{is_graphic, run_end, field_end, name_end, EndsAt, LettersTo, NameTo, DigitsTo}
+use Rattle.text.specs.Scans.{is_graphic, run, run_end, field_end, EndsAt, LettersTo, NameTo, DigitsTo}
 use Rattle.text.proofs.Slices.{slice_at, slice_none}
-use Rattle.text.proofs.Bytes.{run_more, run_stop, run_end_lem, true_false, and_left, and_right}
-use Rattle.text.proofs.Printed.{is_printed}
-use Rattle.text.proofs.Fields.{end_found}
-use Rattle.text.proofs.Names.{letter_run, name_whole, path_by, path_last, path_last_name, path_step, Named}
+use Rattle.text.proofs.Bytes.{run_more, run_stop, run_end_lem, all_run, true_false, and_left, and_right}
+use Rattle.text.proofs.Printed.{is_printed, all_so}
+use Rattle.text.proofs.Fields.{end_found, slice_join}
+use Rattle.text.proofs.Names.{dot_stops, letter_alphanumeric, name_by}
+use Rattle.text.proofs.Joined.{apart, cut_piece, cut_only}
 
 -- the newline that ends the text stands after any other byte
 pub inside_next : (s : List ℕ) (i : ℕ) → i < length s → ends_lines s → (get_or s i 0 ≡ newline → ⊥) → i + 1 < length s
@@ -30,6 +33,10 @@ inside_next s i h ends f =
 
 pub after_space : (s : List ℕ) (from e : ℕ) → ends_lines s → EndsAt s from space e → e + 1 < length s
 after_space s from e ends a = inside_next s e a.inside ends (λ q. omega (arith, sym a.by ∙ q))
+
+-- a byte of the part from `from` on
+pub byte_behind : (s : List ℕ) (from size : ℕ) → from + size < length s → get_or (take (length s - from) (drop from s)) size 0 ≡ get_or s (from + size) 0
+byte_behind s from size h = get_or-take (length s - from) (drop from s) size 0 (omega arith) ∙ get_or-drop from s size 0
 
 -- ---- a field of printed bytes is found by its end
 
@@ -46,11 +53,11 @@ run_printed s e (suc k) i q h a b =
     sym (run_more is_graphic s i (length s) (omega arith) (omega arith) g) ∙ run_printed s e k (i + 1) (omega arith) h (and_right (is_printed x) (all is_printed l) w) b
 
 pub field_found : (s : List ℕ) (from stop e : ℕ) → ends_lines s → EndsAt s from stop e → all is_printed (slice from e s) ≡ true
-    → is_graphic stop ≡ false → e ≡ field_end s from stop
+    → is_graphic stop ≡ false → field_end s from stop ≡ Some e
 field_found s from stop e ends f a g =
     let w = f.wide in
     let r : run_end is_graphic s from (length s) ≡ e = run_printed s e (e - from) from (omega arith) f.inside a (ap is_graphic f.by ∙ g) in
-    sym (end_found s from (omega (arith, f.inside)) ends stop (λ q. omega arith) (ap (λ (n : ℕ). get_or s n 0) r ∙ f.by) ∙ r)
+    end_found s from (omega (arith, f.inside)) ends stop (λ q. omega arith) (ap (λ (n : ℕ). get_or s n 0) r ∙ f.by) ∙ ap (λ (n : ℕ). Some n) r
 
 -- ---- letters and digits: what is left of them from i on
 
@@ -64,8 +71,8 @@ unfolding is_alphanumeric is_letter
 newline_stops = refl
 
 module _ (s : List ℕ) (from : ℕ) where
-  pub letters_start : from < length s → LettersLeft s from from
-  letters_start h = record { low = omega arith; inside = h; same = λ t g k. refl }
+  letters_whole : from < length s → LettersLeft s from from
+  letters_whole h = record { low = omega arith; inside = h; same = λ t g k. refl }
 
   module _ (i : ℕ) (l : LettersLeft s from i) where
     pub letters_turn : ends_lines s → is_alphanumeric (get_or s i 0) ≡ true → LettersLeft s from (i + 1)
@@ -82,23 +89,47 @@ module _ (s : List ℕ) (from : ℕ) where
         go t k g true q = run_stop is_alphanumeric s i t (ltb-true i t q) k e
         go t k g false q = run_end_lem is_alphanumeric s i t (omega (arith, ltb-false i t q))
 
+-- those behind the letter that a name begins with
+pub letters_first : (s : List ℕ) (from : ℕ) → from < length s → ends_lines s → is_letter (get_or s from 0) ≡ true → LettersLeft s from (from + 1)
+letters_first s from h ends g = letters_turn s from from (letters_whole s from h) ends (letter_alphanumeric (get_or s from 0) g)
+
 -- ---- a name
 
 module _ (s : List ℕ) (from e : ℕ) (h : from < length s) (g : is_letter (get_or s from 0) ≡ true) (l : LettersTo s from e) where
-  first_letter : from < e
+  abbrev f : List ℕ
+  f = slice from e s
+
+  wide : from < e
   unfolding run_end
-  first_letter = omega (arith, letter_run s from (length s) h (omega arith) g, l.ends (length s) (omega (arith, l.inside)) (omega arith))
+  wide =
+      let m : run_end is_alphanumeric s (from + 1) (length s) ≡ run_end is_alphanumeric s from (length s) =
+      run_more is_alphanumeric s from (length s) h (omega arith) (letter_alphanumeric (get_or s from 0) g) in
+      omega (arith, m, l.ends (length s) (omega (arith, l.inside)) (omega arith))
+
+  long : length f ≡ e - from
+  long = length-slice from e s (omega (arith, l.inside))
+
+  all_of_them : all is_alphanumeric f ≡ true
+  unfolding run_end
+  all_of_them =
+      all_run is_alphanumeric f ∙ eq-eqb (run is_alphanumeric f) (length f) (omega (arith, l.ends e (omega arith) (omega (arith, l.inside)), long))
 
   pub name_to : e - from ≤ name_limit → NameTo s from e
-  unfolding name_end
-  name_to m = record { wide = first_letter; inside = l.inside; ends = λ t a b. rw (g, l.ends t a b, le-leb (e - from) name_limit m) }
+  name_to m =
+      let first : get_or f 0 0 ≡ get_or s from 0 = ap (λ (r : List ℕ). get_or r 0 0) (slice_at s from e wide (omega (arith, l.inside))) in
+      record {
+        wide = wide;
+        letters = l;
+        name = name_by f (omega (arith, long, wide)) (omega (arith, long)) (ap is_letter first ∙ g) ∙ all_of_them;
+      }
 
-module _ (s : List ℕ) (from e : ℕ) (n : NameTo s from e) where
-  ends_there : name_end s from e ≡ e
-  ends_there = n.ends e (omega arith) (omega (arith, n.inside))
-
-  pub name_is : is_name (slice from e s) ≡ true
-  name_is = sym (name_whole s from e n.wide (omega (arith, n.inside))) ∙ eq-eqb (name_end s from e) e ends_there
+-- a name has no dot
+name_apart : (f : List ℕ) → is_name f ≡ true → all (apart dot) f ≡ true
+unfolding is_name
+name_apart f e = all_so is_alphanumeric (apart dot) dots f (and_right (leb 1 (length f) && leb (length f) name_limit && is_letter (get_or f 0 0)) (all is_alphanumeric f) e)
+  where
+    dots : (x : ℕ) → is_alphanumeric x ≡ true → apart dot x ≡ true
+    dots x h = rw (ne_eqb x dot (λ q. true_false (sym h ∙ ap is_alphanumeric q ∙ dot_stops)))
 
 -- ---- a path: k names are found, and those from `at` on are left
 
@@ -109,29 +140,34 @@ pub record NamesLeft (s : List ℕ) (from at k : ℕ) : Type 0 where
   pub fewer : (t : ℕ) → at < t → t ≤ length s → length (cut dot (slice from t s)) ≡ k + length (cut dot (slice at t s))
 
 module _ (s : List ℕ) (from : ℕ) where
-  pub names_start : from < length s → NamesLeft s from from 0
-  names_start h = record { low = omega arith; inside = h; same = λ t g k. refl; fewer = λ t g k. omega arith }
-
   module _ (at k e : ℕ) (l : NamesLeft s from at k) (n : NameTo s at e) where
+    inside : e < length s
+    inside = n.letters.inside
+
+    abbrev piece : List ℕ
+    piece = slice at e s
+
     pub names_turn : ends_lines s → get_or s e 0 ≡ dot → NamesLeft s from (e + 1) (k + 1)
     names_turn ends d = record {
       low = omega (arith, l.low, n.wide);
-      inside = inside_next s e n.inside ends (λ q. omega (arith, sym d ∙ q));
-      same = λ t g m. l.same t (omega (arith, n.wide)) m ∙ (step t g m).names;
-      fewer = λ t g m. let h : at < t = omega (arith, n.wide) in omega (arith, l.fewer t h m, (step t g m).fewer);
+      inside = inside_next s e inside ends (λ q. omega (arith, sym d ∙ q));
+      same = λ t g m. l.same t (omega (arith, n.wide)) m ∙ ap all_names (step t g m) ∙ rw n.name;
+      fewer = λ t g m. let h : at < t = omega (arith, n.wide) in omega (arith, l.fewer t h m, ap length (step t g m));
     }
       where
-        step : (t : ℕ) → e + 1 < t → t ≤ length s → Named s at t e
+        step : (t : ℕ) → e + 1 < t → t ≤ length s → cut dot (slice at t s) ≡ piece ∷ cut dot (slice (e + 1) t s)
         step t g m =
-            path_step s at t (omega (arith, n.wide)) m e (sym (n.ends t (omega arith) m)) (λ q. omega arith) (λ q. omega (arith, n.wide)) d
+            ap (cut dot) (sym (slice_join at e t s (omega (arith, n.wide)) (omega arith))
+            ∙ ap (λ (r : List ℕ). piece ++ r) (slice_at s e t (omega arith) m ∙ ap (λ (x : ℕ). x ∷ slice (e + 1) t s) d))
+            ∙ cut_piece dot piece (slice (e + 1) t s) (name_apart piece n.name)
 
     pub names_done : k < path_limit → is_path (slice from e s) ≡ true
+    unfolding is_path
     names_done h =
-        let m : e ≤ length s = omega (arith, n.inside) in
-        let t = ends_there s at e n in
-        let one : length (cut dot (slice at e s)) ≡ 1 = ap length (path_last s at e n.wide m t) in
-        path_by (slice from e s) (l.same e n.wide m ∙ path_last_name s at e n.wide m t)
-        ∙ le-leb (length (cut dot (slice from e s))) path_limit (omega (arith, l.fewer e n.wide m))
+        let m : e ≤ length s = omega (arith, inside) in
+        let one : cut dot piece ≡ piece ∷ [] = cut_only dot piece (name_apart piece n.name) in
+        let few : length (cut dot (slice from e s)) ≤ path_limit = omega (arith, l.fewer e n.wide m, ap length one) in
+        rw (le-leb (length (cut dot (slice from e s))) path_limit few) (l.same e n.wide m ∙ ap all_names one ∙ rw n.name)
 
 -- ---- digits: v is the value of those before i, and what stands from i on is left
 
@@ -142,9 +178,6 @@ pub record DigitsLeft (max : ℕ) (s : List ℕ) (from i v : ℕ) : Type 0 where
   pub same : (t : ℕ) → i ≤ t → t ≤ length s → digits_of max 0 (slice from t s) ≡ digits_of max v (slice i t s)
 
 module _ (max : ℕ) (s : List ℕ) (from : ℕ) where
-  pub digits_start : from < length s → DigitsLeft max s from from 0
-  digits_start h = record { low = omega arith; inside = h; most = omega arith; same = λ t g k. refl }
-
   module _ (i v : ℕ) (l : DigitsLeft max s from i v) where
     pub digits_turn : ends_lines s → is_digit (get_or s i 0) ≡ true → 10 * v + (get_or s i 0 - digit_zero) ≤ max
         → DigitsLeft max s from (i + 1) (10 * v + (get_or s i 0 - digit_zero))

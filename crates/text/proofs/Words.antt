@@ -1,71 +1,38 @@
 -- Words: their bytes joined, what equal bytes say of two words, and small letters for capitals in all bytes at once.
 use mathlib.Core.Path.{◌≡◌, refl, ap, sym, subst, ◌∙◌}
 use mathlib.Core.Bool.{Bool, true, false, ◌&&◌}
-use mathlib.Core.List.{List, ◌∷◌, ◌++◌}
+use mathlib.Core.List.{List, ◌∷◌}
 use Prim.Native.Nat.{ℕ, zero, suc, ◌+◌, ◌-◌, ◌*◌, ◌/◌, ◌%◌, ◌^◌, ◌≤◌, ◌<◌}
-use native.Mathlib.Nat.{suc-add, pow-suc, mul_comm, mul_assoc}
+use native.Mathlib.Nat.{pow-suc}
+use Rattle.std.proofs.Math.Nat.{div-div-eq-div-mul}
 use native.Mathlib.Decide.{ℕ_discrete}
 use native.Mathlib.Omega.{arith}
 use lib.Bits.{bit_and, and_block, and_le_l, and_le_r}
+use Rattle.std.specs.Int.{w64, byte_at, bytes_low_first, from_le_bytes}
+use Rattle.std.proofs.lemmas.Nat.{le_bytes_8}
 use lib.Dec.{leb, eqb}
-use lib.ListN.{get_or, drop}
-use lib.Seq.{slice}
-use borrow.Author.Tests.{leb-true, eqb-true, eq-eqb, ne_eqb}
+use lib.ListN.{length, get_or, drop}
+use borrow.Author.Tests.{leb-true, eqb-true}
 use Rattle.text.specs.Bytes.{same, lowercase_byte, lowercase}
 use Rattle.text.specs.Words.{bytes_in}
-use Rattle.text.proofs.Bytes.{and_left, and_right, same_eq, same_itself}
-use Rattle.text.proofs.Fields.{slice_join}
+use Rattle.text.proofs.Bytes.{and_left, and_right, same_eq}
 
--- ---- the bytes of two numbers, one behind the other
+-- ---- the library's bytes of a word
 
-shifted : (j high : ℕ) → 256 ^ suc j * high ≡ 256 * (256 ^ j * high)
-shifted j high = ap (λ (p : ℕ). p * high) (pow-suc 256 j ∙ mul_comm (256 ^ j) 256) ∙ mul_assoc 256 (256 ^ j) high
+byte_is : (i n : ℕ) → byte_at i n ≡ n / 256 ^ i % 256
+byte_is zero n = let e : n / 256 ^ 0 ≡ n = omega arith in rw e
+byte_is (suc i) n = refl
 
-bytes_join : (j k low high : ℕ) → low < 256 ^ j → bytes_in (j + k) (low + 256 ^ j * high) ≡ bytes_in j low ++ bytes_in k high
-bytes_join zero k low high h = let e : low + 256 ^ 0 * high ≡ high = omega arith in let z : 0 + k ≡ k = omega arith in rw (z, e)
-bytes_join (suc j) k low high h =
-    let below : low / 256 < 256 ^ j = omega (arith, pow-suc 256 j) in
-    let first : (low + 256 ^ suc j * high) % 256 ≡ low % 256 = omega (arith, shifted j high) in
-    let rest : (low + 256 ^ suc j * high) / 256 ≡ low / 256 + 256 ^ j * high = omega (arith, shifted j high) in
-    rw (suc-add j k, first, rest) (ap (λ (l : List ℕ). low % 256 ∷ l) (bytes_join j k (low / 256) high below))
+low_first : (k i n : ℕ) → bytes_low_first i k n ≡ bytes_in k (n / 256 ^ i)
+low_first zero i n = refl
+low_first (suc k) i n =
+    let rest : n / 256 ^ i / 256 ≡ n / 256 ^ suc i = div-div-eq-div-mul n (256 ^ i) 256 ∙ ap (λ (p : ℕ). n / p) (sym (pow-suc 256 i)) in
+    rw (byte_is i n, rest, low_first k (suc i) n)
 
--- bytes of a text that stand one behind the other
-pub parts_join : (s : List ℕ) (i j k low high : ℕ) → low < 256 ^ j → bytes_in j low ≡ slice i (i + j) s → bytes_in k high ≡ slice (i + j) (i + j + k) s
-    → bytes_in (j + k) (low + 256 ^ j * high) ≡ slice i (i + (j + k)) s
-parts_join s i j k low high h e f =
-    let end : i + (j + k) ≡ i + j + k = omega arith in
-    rw end
-    (bytes_join j k low high h
-    ∙ ap (λ (l : List ℕ). l ++ bytes_in k high) e
-    ∙ ap (λ (l : List ℕ). slice i (i + j) s ++ l) f
-    ∙ slice_join i (i + j) (i + j + k) s (omega arith) (omega arith))
+pub word_bytes : (n : ℕ) (bs : List ℕ) → length bs ≡ 8 → ((i : ℕ) → get_or bs i 0 < 256) → n ≡ from_le_bytes w64 bs → bytes_in 8 n ≡ bs
+word_bytes n bs h g e = let one : n / 256 ^ 0 ≡ n = omega arith in sym (low_first 8 0 n ∙ ap (bytes_in 8) one) ∙ le_bytes_8 bs n h g e
 
 -- ---- words with the same bytes are equal
-
-pub bytes_word : (k x y : ℕ) → x < 256 ^ k → y < 256 ^ k → bytes_in k x ≡ bytes_in k y → x ≡ y
-bytes_word zero x y h g e = omega arith
-bytes_word (suc k) x y h g e =
-    let first : x % 256 ≡ y % 256 = ap (λ (l : List ℕ). get_or l 0 0) e in
-    let rest = bytes_word k (x / 256) (y / 256) (omega (arith, pow-suc 256 k)) (omega (arith, pow-suc 256 k)) (ap (drop 1) e) in
-    omega (arith, first, rest)
-
-words_decide : (k x y : ℕ) → x < 256 ^ k → y < 256 ^ k → eqb x y ≡ same (bytes_in k x) (bytes_in k y)
-words_decide k x y h g = go (ℕ_discrete x y)
-  where
-    apart : (b : Bool) → same (bytes_in k x) (bytes_in k y) ≡ b → (x ≡ y → ⊥) → false ≡ b
-    apart true e f = absurd (f (bytes_word k x y h g (same_eq (bytes_in k x) (bytes_in k y) e)))
-    apart false e f = refl
-
-    go : Dec (x ≡ y) → eqb x y ≡ same (bytes_in k x) (bytes_in k y)
-    go (yes e) = eq-eqb x y e ∙ sym (rw e (same_itself (bytes_in k y)))
-    go (no f) = ne_eqb x y f ∙ apart (same (bytes_in k x) (bytes_in k y)) refl f
-
-pub words_same : (k x y : ℕ) {v w : List ℕ} → x < 256 ^ k → y < 256 ^ k → bytes_in k x ≡ v → bytes_in k y ≡ w → eqb x y ≡ same v w
-words_same k x y {v} {w} h g e f = words_decide k x y h g ∙ ap (λ (l : List ℕ). same l (bytes_in k y)) e ∙ ap (λ (l : List ℕ). same v l) f
-
--- equal words say that the bytes are the same, and so are small letters for them
-pub words_equal : (k x y : ℕ) → x ≡ y → true ≡ same (lowercase (bytes_in k x)) (lowercase (bytes_in k y))
-words_equal k x y q = sym (rw q (same_itself (lowercase (bytes_in k y))))
 
 -- ---- small letters for capitals, in one byte
 

@@ -1,10 +1,8 @@
 -- The forms of a field that document 01, "The sheet", defines: name, path and label field. Its numbers are those of the crate `numbers`.
-use Rattle.std.specs.Prelude.{Bool, true, ◌&&◌, List, [], ◌∷◌, ℕ, zero, suc, leb, length, get_or}
+use Rattle.std.specs.Prelude.{Bool, true, ◌&&◌, List, [], ◌∷◌, Option, Some, None, ℕ, zero, suc, leb, length, get_or}
 use Rattle.cells.specs.Limits.{name_limit, path_limit}
 use Rattle.cells.specs.Characters.{dot}
 use Rattle.numbers.specs.Decimal.{decimal_of}
-use Rattle.numbers.specs.declared.Decimal.{Decimal}
-use Rattle.numbers.specs.declared.Decimal.TheVariants.{Is, Not}
 use Rattle.text.specs.Bytes.{all, is_letter, is_alphanumeric}
 use Rattle.text.specs.Pieces.{cut}
 
@@ -20,11 +18,11 @@ all_names (f ∷ fs) = is_name f && all_names fs
 unfoldable pub is_path : List ℕ → Bool
 is_path f = leb (length (cut dot f)) path_limit && all_names (cut dot f)
 
-abbrev pub from_one : Decimal → Decimal
-from_one (Is zero) = Not
-from_one (Is (suc v)) = Is (suc v)
-from_one Not = Not
+abbrev pub from_one : Option ℕ → Option ℕ
+from_one (Some zero) = None
+from_one (Some (suc v)) = Some (suc v)
+from_one None = None
 
 -- a label field is decimal, 1 to n, no leading zero
-unfoldable pub label_of : ℕ → List ℕ → Decimal
+unfoldable pub label_of : ℕ → List ℕ → Option ℕ
 label_of n f = from_one (decimal_of n f)

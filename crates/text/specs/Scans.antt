@@ -1,11 +1,10 @@
 -- What the scanners look for and find, as positions of the text s.
-use Rattle.std.specs.Prelude.{◌≡◌, Bool, true, false, cond, not, ◌&&◌, List, [], ◌∷◌, ℕ, suc, ◌+◌, ◌-◌, ◌≤◌, ◌<◌, leb, ltb, eqb, length, get_or, drop}
+use Rattle.std.specs.Prelude.{◌≡◌, Bool, true, false, cond, not, ◌&&◌, List, [], ◌∷◌, Option, Some, None, ℕ, suc, ◌+◌, ◌≤◌, ◌<◌, ltb, eqb, length, get_or}
 use Rattle.std.proofs.Math.Seq.{slice}
-use Rattle.cells.specs.Limits.{name_limit}
 use Rattle.cells.specs.Characters.{newline, space}
 use Rattle.numbers.specs.Decimal.{digits_of}
-use Rattle.numbers.specs.declared.Decimal.TheVariants as decimal
-use Rattle.text.specs.Bytes.{count_by, is_allowed, is_letter, is_alphanumeric}
+use Rattle.text.specs.Bytes.{is_allowed, is_alphanumeric}
+use Rattle.text.specs.Forms.{is_name}
 use Rattle.text.specs.Pieces.{cut, first_of}
 
 -- ---- bytes
@@ -23,11 +22,6 @@ is_graphic x = ltb space x
 abbrev pub block_size : ℕ
 block_size = 128
 
--- n bytes of s, from `from` on and before `to`, pass the test p
-pub record Counted (p : ℕ → Bool) (s : List ℕ) (from to n : ℕ) : Type 0 where
-  pub more : n + count_by p (drop to s) ≡ count_by p (drop from s)
-  pub few : n ≤ to - from
-
 -- ---- runs
 
 -- one more than n where a test passes, else 0
@@ -44,7 +38,7 @@ run p (x ∷ xs) = one_more (p x) (run p xs)
 unfoldable pub run_end : (ℕ → Bool) → List ℕ → ℕ → ℕ → ℕ
 run_end p s from to = from + run p (slice from to s)
 
--- ---- fields and names
+-- ---- fields
 
 -- what a text holds from position i on, and the fields of the line that begins there
 abbrev pub rest : List ℕ → ℕ → List ℕ
@@ -53,17 +47,11 @@ rest s i = slice i (length s) s
 abbrev pub fields_from : List ℕ → ℕ → List (List ℕ)
 fields_from s i = cut space (first_of (cut newline (rest s i)))
 
--- where the field that begins at `from` ends, if it is not empty and the byte `stop` ends it; else 0
-unfoldable pub field_end : List ℕ → ℕ → ℕ → ℕ
+-- where the field that begins at `from` ends, if it is not empty and the byte `stop` ends it
+unfoldable pub field_end : List ℕ → ℕ → ℕ → Option ℕ
 field_end s from stop =
     let end = run_end is_graphic s from (length s) in
-    cond (ltb from end && eqb (get_or s end 0) stop) end 0
-
--- where the letters and digits end that begin at `from`, if they are a name; else 0
-unfoldable pub name_end : List ℕ → ℕ → ℕ → ℕ
-name_end s from to =
-    let end = run_end is_alphanumeric s from to in
-    cond (is_letter (get_or s from 0) && leb (end - from) name_limit) end 0
+    cond (ltb from end && eqb (get_or s end 0) stop) (Some end) None
 
 -- ---- what one scan finds from `from` on, up to e
 
@@ -79,14 +67,14 @@ pub record LettersTo (s : List ℕ) (from e : ℕ) : Type 0 where
   pub inside : e < length s
   pub ends : (t : ℕ) → e ≤ t → t ≤ length s → run_end is_alphanumeric s from t ≡ e
 
--- a name
+-- letters and digits that are a name
 pub record NameTo (s : List ℕ) (from e : ℕ) : Type 0 where
   pub wide : from < e
-  pub inside : e < length s
-  pub ends : (t : ℕ) → e ≤ t → t ≤ length s → name_end s from t ≡ e
+  pub letters : LettersTo s from e
+  pub name : is_name (slice from e s) ≡ true
 
 -- digits of the value v, or none, which have the value 0
 pub record DigitsTo (max : ℕ) (s : List ℕ) (from e v : ℕ) : Type 0 where
   pub low : from ≤ e
   pub inside : e < length s
-  pub value : digits_of max 0 (slice from e s) ≡ decimal.Is v
+  pub value : digits_of max 0 (slice from e s) ≡ Some v

@@ -7,7 +7,7 @@ use native.Mathlib.Omega.{arith}
 use borrow.Author.Tests.{leb-true, leb-false}
 use lib.Dec.{leb}
 use lib.IntN.{ℤ}
-use Rattle.kinds.specs.Kinds.{Kind, kind_at, fields_at, is_kind, is_operand_form, has_body, clause_of, argument_place}
+use Rattle.kinds.specs.Kinds.{KindColumns, kind_at, fields_at, is_kind, is_operand_form, has_body, clause_of, argument_place}
 use Rattle.kinds.proofs.Laws.{no_kind_lem, kind_low, definition_a, definition_c}
 use Rattle.kinds.proofs.Laws as law
 use Rattle.cells.specs.Lists.{count}
@@ -23,7 +23,7 @@ module _ (t : List ℤ) (l : ℕ) where
   no_parts : is_kind (kind t l) ≡ false → parts t l ≡ []
   unfolding parts
   no_parts e =
-      ap (λ (k : Kind). operand_in k.fields.a (field_a t l) ++ operand_in k.fields.b (field_b t l) ++ operand_in k.fields.c (field_c t l)) (no_kind_lem (kind t l) e)
+      ap (λ (k : KindColumns). operand_in k.fields.a (field_a t l) ++ operand_in k.fields.b (field_b t l) ++ operand_in k.fields.c (field_c t l)) (no_kind_lem (kind t l) e)
 
   pub part_kind : (x : ℕ) → IsPart t l x → is_kind (kind t l) ≡ true
   part_kind x p = go (is_kind (kind t l)) refl

@@ -13,27 +13,26 @@ use lib.ListN.{length, set}
 use lib.Seq.{ext_get_or}
 use Rattle.cells.specs.Limits.{label_limit}
 use Rattle.cells.specs.Cells.{nat_of, int_at}
-use Rattle.cells.specs.Lists.{count, or_if_zero}
+use Rattle.cells.specs.Lists.{count}
 use Rattle.cells.specs.Table.{cell, kind, is_definition, is_expression, field_a, owner, target, with_column}
 use Rattle.cells.proofs.Columns.{column_length, column_keeps, column_has}
 use Rattle.cells.proofs.Signed.{clash}
 use Rattle.cells.proofs.Table.{cell_other}
 use Rattle.kinds.proofs.Laws.{not_definition, either}
 use Rattle.kinds.proofs.Tests.{and_left, and_right}
-use Rattle.refusals.specs.Refusal.{first_bad, or_else, found_at}
-use Rattle.refusals.specs.Rows.{uses_row, argument_row, level_row}
+use Rattle.std.specs.Prelude.{Some, None, Ok, Err}
+use Rattle.refusals.specs.declared.Refusal.{Refusal}
+use Rattle.refusals.specs.Refusal.{Verdict, Fine, Refused, hit, first_bad, or_else}
+use Rattle.refusals.specs.Rows.{uses_row}
 use Rattle.refusals.proofs.FirstBad.{first_start, first_fine, first_bad_lem, first_end, first_same}
-use Rattle.refusals.specs.declared.Verdict.{Verdict}
-use Rattle.refusals.specs.declared.Verdict.TheVariants.{Fine, Refused}
-use Rattle.tree.specs.Tree.{parts, structure_right, structure_bad, uses, uses_bad, IsPart, user_of, owner_of, argument_bad, level_bad, tree_bad}
+use Rattle.tree.specs.Tree.{parts, structure_right, structure_bad, uses, uses_bad, IsPart, user_of, owner_of, argument_in, argument_bad, above_levels, level_bad, tree_bad}
 use Rattle.tree.specs.Treed.{Formed, Plain, Written}
-use Rattle.tree.specs.TreeSteps.{node_at, Readable, twice, owned_once, used_right, argument_wrong, level_wrong, assigned, claimed_all, propagated, Propagable}
+use Rattle.tree.specs.TreeSteps.{HasCells, Node, node_at, Known, twice, owned_once, used_right, assigned, claimed_all, propagated, Propagable}
 use Rattle.tree.specs.TreeSteps.{Structured, UsedOnce, Over, turn_of, Propagated}
-use Rattle.tree.specs.declared.Node.{Node}
 use Rattle.tree.proofs.Codes.{expression_kind, label_high}
 use Rattle.tree.proofs.Parts.{like, right_group, right_part, right_line, structured}
 use Rattle.tree.proofs.Users.{uses_still, uses_grow, tree}
-use Rattle.tree.proofs.Labels.{known, readable, node_definition, structure_number, propagated_definition, propagated_expression}
+use Rattle.tree.proofs.Labels.{known, node_definition, structure_found, propagated_definition, propagated_expression}
 use Rattle.tree.proofs.Likes.{right_like, structure_like}
 use Rattle.tree.proofs.Owners as own
 use Rattle.tree.proofs.Writes.{plain_natural, over_start, over_alike, over_set, assigned_other, over_assigned, Claimed, claimed_once}
@@ -47,16 +46,16 @@ pub record Claims (t : List ℤ) (n k : ℕ) (w : List ℤ) : Type 0 where
   pub low : (x : ℕ) → k < x → x ≤ n → target w x ≤ k
 
 -- the labels below l pass rows 8 and 9, and what they use is claimed; in a table that passes the two, owners and levels are written, and
--- a and v are the first labels that rows 10 and 11 refuse
-pub record Going (t : List ℤ) (n l : ℕ) (w : List ℤ) (a v : ℕ) : Type 0 where
+-- a and v are what rows 10 and 11 find
+pub record Going (t : List ℤ) (n l : ℕ) (w : List ℤ) (a v : Verdict) : Type 0 where
   pub claims : Claims t n (l - 1) w
   pub row8 : first_bad (structure_bad t) l (n + 1 - l) ≡ first_bad (structure_bad t) 1 n
   pub row9 : Structured t n → first_bad (uses_bad t n) l (n + 1 - l) ≡ first_bad (uses_bad t n) 1 n
   pub written : UsedOnce t n → Propagated t n (l - 1) (l - 1) w
-  pub row10 : UsedOnce t n → Told (argument_bad t n) argument_row n l a
-  pub row11 : UsedOnce t n → Told (level_bad t n) level_row n l v
+  pub row10 : UsedOnce t n → Told (argument_bad t n) n l a
+  pub row11 : UsedOnce t n → Told (level_bad t n) n l v
 
-pub going_start : (t : List ℤ) (n : ℕ) → Plain t n → Going t n 1 t 0 0
+pub going_start : (t : List ℤ) (n : ℕ) → Plain t n → Going t n 1 t Fine Fine
 going_start t n p = record {
   claims = record {
     over = over_start t n (plain_natural t n p);
@@ -66,8 +65,8 @@ going_start t n p = record {
   row8 = first_start (structure_bad t) n;
   row9 = λ s. first_start (uses_bad t n) n;
   written = λ s. propagate_start t n s (plain_natural t n p);
-  row10 = λ s. told_start (argument_bad t n) argument_row n;
-  row11 = λ s. told_start (level_bad t n) level_row n;
+  row10 = λ s. told_start (argument_bad t n) n;
+  row11 = λ s. told_start (level_bad t n) n;
 }
   where
     blank : (x j : ℕ) → 1 ≤ x → x ≤ n → 6 ≤ j → j < 8 → cell t x j ≡ 0
@@ -89,10 +88,10 @@ uses_final t n s x h g = uses_still t x (x - 1) n (omega arith) (λ l a b. none 
 once_in : (d : ℕ) → 1 ≤ d → d ≤ label_limit → owned_once d ≡ true
 once_in d h g = rw (lt-ltb 0 d h, lt-ltb d twice (omega arith))
 
-once_out : (d : ℕ) → owned_once d ≡ true → (1 ≤ d) × (d ≤ label_limit)
+pub once_out : (d : ℕ) → owned_once d ≡ true → (1 ≤ d) × (d ≤ label_limit)
 once_out d e = (ltb-true 0 d (and_left (ltb 0 d) (ltb d twice) e), omega (arith, ltb-true d twice (and_right (ltb 0 d) (ltb d twice) e)))
 
-module _ (t : List ℤ) (n : ℕ) (p : Formed t n) (w : List ℤ) (l a v : ℕ) (h : 1 ≤ l) (g : l ≤ n) (r : Going t n l w a v) where
+module _ (t : List ℤ) (n : ℕ) (p : Formed t n) (w : List ℤ) (l : ℕ) (a v : Verdict) (h : 1 ≤ l) (g : l ≤ n) (r : Going t n l w a v) where
   right_over : structure_right w l ≡ structure_right t l
   right_over = right_like t w (like t w (over_alike t w n r.claims.over)) l
 
@@ -104,10 +103,10 @@ module _ (t : List ℤ) (n : ℕ) (p : Formed t n) (w : List ℤ) (l a v : ℕ) 
 
   -- ---- what the step asks
 
-  pub going_ready : Readable w l × (structure_right w l ≡ true → Propagable w l)
+  pub going_ready : Known w l × (structure_right w l ≡ true → Propagable w l)
   going_ready =
       let q = over_formed t n w r.claims.over p in (
-        readable w n l q h g,
+        known w n l q h g,
         λ e. record {
           line = known w n l q h g;
           inside = inside w n q l (λ x i. (right_part w l e x i).1) w refl;
@@ -141,24 +140,19 @@ module _ (t : List ℤ) (n : ℕ) (p : Formed t n) (w : List ℤ) (l a v : ℕ) 
           let c = (r.claims.owners l (omega arith) g x).once (sym (uses_final t n s l h g) ∙ q) in
           clash (sym (once_in (owner w l) c.0 c.1) ∙ f)
 
-      row : Structured t n → structure_right t l ≡ true → uses_bad t n l ≡ uses_row
+      row : Structured t n → structure_right t l ≡ true → uses_bad t n l ≡ Some uses_row
       row s f =
           let z = wrong f in
           let x = expression_else z.0 in
           rw (x, ne_eqb (uses t n l) 1 (not_one s x z.1))
 
       found : Structured t n → structure_right t l ≡ true → first_bad (uses_bad t n) 1 n ≡ Refused uses_row l
-      found s f =
-          let z = row s f in
-          sym (r.row9 s) ∙ first_bad_lem (uses_bad t n) n l g (λ y. absurd (never (sym z ∙ y))) ∙ ap (λ k. Refused k l) z
-        where
-          never : uses_row ≡ 0 → ⊥
-          never q = omega arith
+      found s f = sym (r.row9 s) ∙ first_bad_lem (uses_bad t n) n l uses_row g (row s f)
 
       go : (b : Verdict) → first_bad (structure_bad t) 1 n ≡ b
           → or_else b (Refused uses_row l) ≡ or_else b (or_else (first_bad (uses_bad t n) 1 n) (or_else (first_bad (argument_bad t n) 1 n) (first_bad (level_bad t n) 1 n)))
-      go Fine q = rw (found (structured t n p q) (right_line t n p q l h g))
-      go (Refused k m) q = refl
+      go (Ok u) q = rw (found (structured t n p q) (right_line t n p q l h g))
+      go (Err e) q = refl
 
   -- ---- a label that passes
 
@@ -177,21 +171,21 @@ module _ (t : List ℤ) (n : ℕ) (p : Formed t n) (w : List ℤ) (l a v : ℕ) 
         over = parts_over t n p l expressions d k u o;
         owners = λ x b c e.
             let q = r.claims.owners x (omega arith) c e in
-            rw (uses_step t l x h) (parts_claims t n p l expressions d k u o x (uses t (l - 1) x) (omega arith) i j (rw (owners x b) q));
-        low = λ x b c. parts_low t n p l expressions d k u o x l (omega arith) (omega (arith, targets x b, r.claims.low x (omega arith) c)) m;
+            rw (uses_step t l x h) (parts_claims t n p l expressions d k u o x (uses t (l - 1) x) i j (rw (owners x b) q));
+        low = λ x b c. parts_low t n p l expressions d k u o x l (omega (arith, targets x b, r.claims.low x (omega arith) c)) m;
       }
 
     claims_turn : Claims t n l (propagated l w)
     claims_turn = go (is_definition t l) refl
       where
-        room : 8 * l ≤ length w
-        room = omega (arith, r.claims.over.size, p.room)
+        has : HasCells w l
+        has = (h, omega (arith, r.claims.over.size, p.room))
 
         group_over : field_a w l ≡ field_a t l
         group_over = over_alike t w n r.claims.over l 3 (omega arith)
 
         other : (j : ℕ) → j < 8 → (x : ℕ) → l < x → cell (assigned l (field_a t l) 0 w) x j ≡ cell w x j
-        other j b x c = assigned_other l (field_a t l) 0 w room x j b (λ e. omega arith)
+        other j b x c = assigned_other l (field_a t l) 0 w has x j b (λ e. omega arith)
 
         level : target w l + 1 ≤ l
         level = omega (arith, r.claims.low l (omega arith) g)
@@ -199,7 +193,7 @@ module _ (t : List ℤ) (n : ℕ) (p : Formed t n) (w : List ℤ) (l a v : ℕ) 
         go : (b : Bool) → is_definition t l ≡ b → Claims t n l (propagated l w)
         go true d =
             rw (propagated_definition l w (definition_over ∙ d), node_over t n w r.claims.over l, group_over)
-            (claims_so l 1 h (omega (arith, p.few)) h (assigned l (field_a t l) 0 w) (over_assigned t w n p.room r.claims.over l (field_a t l) 0 g)
+            (claims_so l 1 h (omega (arith, p.few)) h (assigned l (field_a t l) 0 w) (over_assigned t w n p.room r.claims.over l (field_a t l) 0 h g)
             (other 6 (omega arith)) (other 7 (omega arith)))
         go false d =
             let b = once_out (owner w l) (rw (definition_over ∙ d) at once) in
@@ -217,7 +211,7 @@ module _ (t : List ℤ) (n : ℕ) (p : Formed t n) (w : List ℤ) (l a v : ℕ) 
         other j b x c = cell_other (propagated l w) l 7 x j (pos 0) h (omega arith) b (λ e f. omega arith)
 
     -- row 9: the uses are final
-    used : Structured t n → uses_bad t n l ≡ 0
+    used : Structured t n → uses_bad t n l ≡ None
     used s = go (is_expression t l) refl
       where
         single : is_expression t l ≡ true → uses t n l ≡ 1
@@ -225,7 +219,7 @@ module _ (t : List ℤ) (n : ℕ) (p : Formed t n) (w : List ℤ) (l a v : ℕ) 
             let b = once_out (owner w l) (rw (definition_over ∙ not_definition (kind t l) e) at once) in
             uses_final t n s l h g ∙ claimed_once (uses t (l - 1) l) (owner w l) (r.claims.owners l (omega arith) g e) b.0 b.1
 
-        go : (b : Bool) → is_expression t l ≡ b → uses_bad t n l ≡ 0
+        go : (b : Bool) → is_expression t l ≡ b → uses_bad t n l ≡ None
         go true e = rw (e, eq-eqb (uses t n l) 1 (single e))
         go false e = rw e
 
@@ -245,23 +239,24 @@ module _ (t : List ℤ) (n : ℕ) (p : Formed t n) (w : List ℤ) (l a v : ℕ) 
       kinds_here : (x : ℕ) → kind (propagated l w) x ≡ kind t x
       kinds_here x = over_alike t (propagated l w) n here.over x 0 (omega arith)
 
-      argument_here : argument_bad t n l ≡ cond (argument_wrong (propagated l w) l) argument_row 0
+      argument_here : argument_bad t n l ≡ argument_in (kind (propagated l w) l) (kind (propagated l w) (owner (propagated l w) l))
       argument_here = rw (owner_own t n s (propagated l w) l (l - 1) h g here, kinds_here l, kinds_here (owner_of t n l))
 
-      level_here : level_bad t n l ≡ cond (level_wrong (propagated l w) l) level_row 0
+      level_here : level_bad t n l ≡ above_levels (target (propagated l w) l)
       level_here = rw (level_own t n s (propagated l w) l (l - 1) h g here (omega arith))
 
     pub going_turn : Going t n (l + 1) (set (propagated l w) (8 * (l - 1) + 7) (pos 0))
-        (or_if_zero a (cond (argument_wrong (propagated l w) l) l 0)) (or_if_zero v (cond (level_wrong (propagated l w) l) l 0))
+        (or_else a (hit (argument_in (kind (propagated l w) l) (kind (propagated l w) (owner (propagated l w) l))) l Fine))
+        (or_else v (hit (above_levels (target (propagated l w) l)) l Fine))
     going_turn =
         let q : l + 1 - 1 ≡ l = omega arith in
         record {
           claims = rw q claims_clear;
-          row8 = sym (first_fine (structure_bad t) n l g (structure_number t l true right_here)) ∙ r.row8;
+          row8 = sym (first_fine (structure_bad t) n l g (structure_found t l true right_here)) ∙ r.row8;
           row9 = λ s. sym (first_fine (uses_bad t n) n l g (used s)) ∙ r.row9 s;
           written = λ s. rw q (clear_turn t n p.room (propagated l w) l h g (here s));
-          row10 = λ s. told_turn (argument_bad t n) argument_row n l a (argument_wrong (propagated l w) l) (omega arith) h g (argument_here s) (r.row10 s);
-          row11 = λ s. told_turn (level_bad t n) level_row n l v (level_wrong (propagated l w) l) (omega arith) h g (level_here s) (r.row11 s);
+          row10 = λ s. told_turn (argument_bad t n) n l a _ g (argument_here s) (r.row10 s);
+          row11 = λ s. told_turn (level_bad t n) n l v _ g (level_here s) (r.row11 s);
         }
 
 -- ---- the table in the end
@@ -299,7 +294,7 @@ module _ (t : List ℤ) (n : ℕ) (p : Plain t n) (w : List ℤ) (o : Over t n w
 
 -- ---- every label has passed
 
-module _ (t : List ℤ) (n : ℕ) (p : Plain t n) (w : List ℤ) (l a v : ℕ) (h : l ≤ n + 1) (g : n < l) (r : Going t n l w a v) where
+module _ (t : List ℤ) (n : ℕ) (p : Plain t n) (w : List ℤ) (l : ℕ) (a v : Verdict) (h : l ≤ n + 1) (g : n < l) (r : Going t n l w a v) where
   fine8 : first_bad (structure_bad t) 1 n ≡ Fine
   fine8 = sym r.row8 ∙ first_end (structure_bad t) n l g
 
@@ -312,10 +307,10 @@ module _ (t : List ℤ) (n : ℕ) (p : Plain t n) (w : List ℤ) (l a v : ℕ) (
   passed9 : UsedOnce t n
   passed9 = tree t n passed8 fine9
 
-  pub going_done : or_else (found_at argument_row a) (found_at level_row v) ≡ tree_bad t n
+  pub going_done : or_else a v ≡ tree_bad t n
   unfolding tree_bad
   going_done =
-      rw (fine8, fine9, told_end (argument_bad t n) argument_row n l a g (r.row10 passed9), told_end (level_bad t n) level_row n l v g (r.row11 passed9))
+      rw (fine8, fine9, sym (told_end (argument_bad t n) n l a g (r.row10 passed9)), sym (told_end (level_bad t n) n l v g (r.row11 passed9)))
 
   turn_most : (x : ℕ) → x ≤ n → turn_of t n x ≤ n
   turn_most x b = go (is_expression t x) refl
@@ -331,9 +326,9 @@ module _ (t : List ℤ) (n : ℕ) (p : Plain t n) (w : List ℤ) (l a v : ℕ) (
       table_is t n p w z.over (λ x b c. z.owners x b c (turn_most x c)) (λ x b c. z.levels x b c (turn_most x c) ∙ rw (le-leb x n c))
 
 pub written : (v : Verdict) (t : List ℤ) (n : ℕ) (w : List ℤ) → w ≡ with_column 6 (owner_of t n) n t → Written v t n w
-written Fine t n w e = e
-written (Refused r p) t n w e = ap length e ∙ column_length 6 (owner_of t n) n t
+written (Ok u) t n w e = e
+written (Err r) t n w e = ap length e ∙ column_length 6 (owner_of t n) n t
 
-pub not_written : (u v : Verdict) (r p : ℕ) (t : List ℤ) (n : ℕ) (w : List ℤ) → v ≡ or_else u (Refused r p) → length w ≡ length t → Written v t n w
-not_written Fine v r p t n w e h = rw e h
-not_written (Refused k m) v r p t n w e h = rw e h
+pub not_written : (u v : Verdict) (r : Refusal) (t : List ℤ) (n : ℕ) (w : List ℤ) → v ≡ or_else u (Err r) → length w ≡ length t → Written v t n w
+not_written (Ok u) v r t n w e h = rw e h
+not_written (Err f) v r t n w e h = rw e h

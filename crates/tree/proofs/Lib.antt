@@ -1,4 +1,4 @@
-pub mod Forms
+pub mod Coded
 pub mod Codes
 pub mod Parts
 pub mod Users

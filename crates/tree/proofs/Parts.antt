@@ -16,8 +16,9 @@ use Rattle.kinds.proofs.Laws.{kind_low}
 use Rattle.kinds.proofs.Codes.{number_operand}
 use Rattle.cells.specs.Table.{cell, kind, is_definition, is_expression, field_a, field_b, field_c}
 use Rattle.refusals.specs.Rows.{structure_row}
-use Rattle.refusals.specs.declared.Verdict.TheVariants.{Fine}
-use Rattle.refusals.specs.Refusal.{first_bad}
+use Rattle.refusals.specs.declared.Row.{Row}
+use Rattle.std.specs.Prelude.{Option, Some, None}
+use Rattle.refusals.specs.Refusal.{Fine, first_bad}
 use Rattle.refusals.proofs.FirstBad.{first_none}
 use Rattle.tree.specs.Tree.{operand_in, parts, group_right, part_right, structure_right, structure_bad, IsPart}
 use Rattle.tree.specs.Treed.{Formed}
@@ -103,9 +104,9 @@ module _ (t : List ℤ) (n : ℕ) (s : Formed t n) (fine : first_bad (structure_
   unfolding structure_bad
   right_line l h g = go (structure_right t l) (first_none (structure_bad t) n 1 fine l h (omega arith))
     where
-      go : (b : Bool) → ◌≡◌ {A = ℕ} (cond b 0 structure_row) 0 → b ≡ true
+      go : (b : Bool) → ◌≡◌ {A = Option Row} (cond b None (Some structure_row)) None → b ≡ true
       go true e = refl
-      go false e = absurd (omega arith)
+      go false e = absurd cc
 
   pub structured : Structured t n
   structured = record {

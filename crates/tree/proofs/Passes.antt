@@ -13,19 +13,19 @@ use lib.ListN.{length, set}
 use Rattle.cells.specs.Limits.{label_limit}
 use Rattle.kinds.proofs.Laws.{not_expression, either}
 use Rattle.cells.specs.Lists.{one, count}
-use Rattle.cells.specs.Table.{kind, is_definition, is_expression, field_a, owner, target}
+use Rattle.cells.specs.Table.{cell, kind, is_definition, is_expression, field_a, owner, target}
 use Rattle.cells.proofs.Signed.{clash}
 use Rattle.cells.proofs.Table.{cell_put, cell_other}
 use Rattle.tree.specs.Tree.{parts, IsPart, user_of, owner_of, level_of}
 use Rattle.tree.specs.Treed.{Formed}
-use Rattle.tree.specs.TreeSteps.{node_at, assigned, claimed, claimed_all, propagated, Inside, UsedOnce, Natural, Over, turn_of, level_left, Propagated}
-use Rattle.tree.specs.declared.Node.{Node}
-use Rattle.tree.proofs.Codes.{expression_kind, label_high}
+use Rattle.std.specs.Prelude.{Option, Some, None}
+use Rattle.tree.specs.TreeSteps.{HasCells, Node, node_at, assigned, claimed, claimed_all, propagated, Placed, Inside, UsedOnce, Natural, Over, turn_of, level_left, Propagated}
+use Rattle.tree.proofs.Codes.{expression_kind, label_low, label_high}
 use Rattle.tree.proofs.Users.{user_some}
-use Rattle.tree.proofs.Labels.{node_definition, node_count, claimed_first, propagated_definition, propagated_expression}
+use Rattle.tree.proofs.Labels.{node_definition, counted, node_count, claimed_first, propagated_definition, propagated_expression}
 use Rattle.tree.proofs.Owners as own
-use Rattle.tree.proofs.Writes.{over_start, over_alike, alike_node, alike_formed, none_or_some, over_set, assigned_length, assigned_other, assigned_owner, assigned_level, over_assigned}
-use Rattle.tree.proofs.Writes.{Claimed, claimed_length, claimed_low, claimed_claims, over_claimed}
+use Rattle.tree.proofs.Writes.{over_start, over_alike, alike_node, alike_formed, over_set, assigned_length, assigned_other, assigned_owner, assigned_level, over_assigned}
+use Rattle.tree.proofs.Writes.{Claimed, Within, within_placed, claimed_length, claimed_low, claimed_claims, over_claimed}
 
 module _ (t : List ℤ) (n : ℕ) (w : List ℤ) (o : Over t n w) where
   pub over_formed : Formed t n → Formed w n
@@ -34,34 +34,59 @@ module _ (t : List ℤ) (n : ℕ) (w : List ℤ) (o : Over t n w) where
   pub node_over : (l : ℕ) → node_at w l ≡ node_at t l
   node_over l = alike_node t w (over_alike t w n o) l
 
+-- ---- a part's owner and level
+
+abbrev pub part_assigned : Option ℕ → ℕ → ℕ → List ℤ → List ℤ
+part_assigned None d v t = t
+part_assigned (Some x) d v t = assigned x d v t
+
+module _ (d v : ℕ) (w : List ℤ) where
+  part_length : (p : Option ℕ) → length (part_assigned p d v w) ≡ length w
+  part_length None = refl
+  part_length (Some x) = assigned_length x d v w
+
+  part_other : (p : Option ℕ) → Placed w p → (y j : ℕ) → j < 8 → (p ≡ Some y → ⊥) → cell (part_assigned p d v w) y j ≡ cell w y j
+  part_other None has y j h g = refl
+  part_other (Some x) has y j h g = assigned_other x d v w has y j h (λ e. g (ap Some (sym e)))
+
+  -- a first use
+  part_first : (p : Option ℕ) → ((x : ℕ) → p ≡ Some x → owner w x ≡ 0) → claimed p d v w ≡ part_assigned p d v w
+  part_first None h = refl
+  part_first (Some x) h = claimed_first x w d v (h x refl)
+
 -- ---- the parts of a line are labels
 
 module _ (t : List ℤ) (l : ℕ) where
   own_one : (x : ℕ) → one (eqb x x) ≡ 1
   own_one x = rw (eq-eqb x x refl)
 
-  node_a : 1 ≤ (node_at t l).a → IsPart t l (node_at t l).a
-  node_a h = omega (arith, node_count t l (node_at t l).a h, own_one (node_at t l).a)
+  part_here : (x : ℕ) (p : Option ℕ) → p ≡ Some x → counted x p ≡ 1
+  part_here x p e = rw e (own_one x)
 
-  node_b : 1 ≤ (node_at t l).b → IsPart t l (node_at t l).b
-  node_b h = omega (arith, node_count t l (node_at t l).b h, own_one (node_at t l).b)
+  node_a : (x : ℕ) → (node_at t l).a ≡ Some x → IsPart t l x
+  node_a x e = omega (arith, node_count t l x, part_here x (node_at t l).a e)
 
-  node_c : 1 ≤ (node_at t l).c → IsPart t l (node_at t l).c
-  node_c h = omega (arith, node_count t l (node_at t l).c h, own_one (node_at t l).c)
+  node_b : (x : ℕ) → (node_at t l).b ≡ Some x → IsPart t l x
+  node_b x e = omega (arith, node_count t l x, part_here x (node_at t l).b e)
+
+  node_c : (x : ℕ) → (node_at t l).c ≡ Some x → IsPart t l x
+  node_c x e = omega (arith, node_count t l x, part_here x (node_at t l).c e)
 
 module _ (t : List ℤ) (n : ℕ) (s : Formed t n) (l : ℕ) (part : (x : ℕ) → IsPart t l x → is_expression t x ≡ true) where
-  part_most : (x : ℕ) → (1 ≤ x → IsPart t l x) → x ≤ n
-  part_most x p =
-      ⊎_elim (λ e. omega arith) (λ h. label_high t x n s (expression_kind t x (part x (p h)))) (none_or_some x)
+  part_within : (p : Option ℕ) → ((x : ℕ) → p ≡ Some x → IsPart t l x) → Within n p
+  part_within None h = tt
+  part_within (Some x) h = let k = expression_kind t x (part x (h x refl)) in (label_low t x n s k, label_high t x n s k)
 
-  node_most : ((node_at t l).a ≤ n) × ((node_at t l).b ≤ n) × ((node_at t l).c ≤ n)
-  node_most = (part_most (node_at t l).a (node_a t l), part_most (node_at t l).b (node_b t l), part_most (node_at t l).c (node_c t l))
+  node_within : Within n (node_at t l).a × Within n (node_at t l).b × Within n (node_at t l).c
+  node_within = (part_within (node_at t l).a (node_a t l), part_within (node_at t l).b (node_b t l), part_within (node_at t l).c (node_c t l))
+
+  pub placed : (w : List ℤ) → length w ≡ length t → (p : Option ℕ) → Within n p → Placed w p
+  placed w e p h = within_placed n w p (omega (arith, s.room)) h
 
   pub inside : (w : List ℤ) → length w ≡ length t → Inside w (node_at t l)
   inside w e =
-      let m = node_most in
-      let r : 8 * n ≤ length w = omega (arith, s.room) in
-      record { a = omega (arith, m.0); b = omega (arith, m.1); c = omega (arith, m.2) }
+      let m = node_within in
+      record { a = placed w e (node_at t l).a m.0; b = placed w e (node_at t l).b m.1; c = placed w e (node_at t l).c m.2 }
 
   -- ---- they are used, from a table u in which their rows stand
 
@@ -75,71 +100,65 @@ module _ (t : List ℤ) (n : ℕ) (s : Formed t n) (l : ℕ) (part : (x : ℕ) �
     abbrev two_claimed : List ℤ
     two_claimed = claimed p.b d v one_claimed
 
-    room_a : 8 * p.a ≤ length u
-    room_a = (inside u o.size).a
+    has_a : Placed u p.a
+    has_a = (inside u o.size).a
 
-    room_b : 8 * p.b ≤ length one_claimed
-    room_b = omega (arith, claimed_length p.a d v u room_a, (inside u o.size).b)
+    has_b : Placed one_claimed p.b
+    has_b = (inside one_claimed (claimed_length d v u p.a ∙ o.size)).b
 
-    room_c : 8 * p.c ≤ length two_claimed
-    room_c = omega (arith, claimed_length p.b d v one_claimed room_b, claimed_length p.a d v u room_a, (inside u o.size).c)
+    has_c : Placed two_claimed p.c
+    has_c = (inside two_claimed (claimed_length d v one_claimed p.b ∙ claimed_length d v u p.a ∙ o.size)).c
 
     pub parts_over : Over t n (claimed_all p d v u)
     parts_over =
-        let m = node_most in
+        let m = node_within in
         over_claimed t two_claimed n s.room (over_claimed t one_claimed n s.room (over_claimed t u n s.room o p.a d v m.0) p.b d v m.1) p.c d v m.2
 
-    pub parts_low : (y m : ℕ) → 1 ≤ y → target u y ≤ m → v ≤ m → target (claimed_all p d v u) y ≤ m
-    parts_low y m a h g =
-        claimed_low p.c d v two_claimed room_c y m a (claimed_low p.b d v one_claimed room_b y m a (claimed_low p.a d v u room_a y m a h g) g) g
+    pub parts_low : (y m : ℕ) → target u y ≤ m → v ≤ m → target (claimed_all p d v u) y ≤ m
+    parts_low y m h g = claimed_low d v two_claimed p.c has_c y m (claimed_low d v one_claimed p.b has_b y m (claimed_low d v u p.a has_a y m h g) g) g
 
-    pub parts_claims : (y k : ℕ) → 1 ≤ y → 1 ≤ d → d ≤ label_limit → Claimed k (owner u y) → Claimed (k + count y (parts t l)) (owner (claimed_all p d v u) y)
-    parts_claims y k a h g c =
-        let e : k + count y (parts t l) ≡ k + one (eqb y p.a) + one (eqb y p.b) + one (eqb y p.c) = omega (arith, node_count t l y a) in
-        let ka = k + one (eqb y p.a) in
-        let kb = ka + one (eqb y p.b) in
-        rw e (claimed_claims p.c d v two_claimed room_c y kb a h g (claimed_claims p.b d v one_claimed room_b y ka a h g (claimed_claims p.a d v u room_a y k a h g c)))
+    pub parts_claims : (y k : ℕ) → 1 ≤ d → d ≤ label_limit → Claimed k (owner u y) → Claimed (k + count y (parts t l)) (owner (claimed_all p d v u) y)
+    parts_claims y k h g c =
+        let e : k + count y (parts t l) ≡ k + counted y p.a + counted y p.b + counted y p.c = omega (arith, node_count t l y) in
+        let ka = k + counted y p.a in
+        let kb = ka + counted y p.b in
+        rw e (claimed_claims d v two_claimed p.c has_c y kb h g (claimed_claims d v one_claimed p.b has_b y ka h g (claimed_claims d v u p.a has_a y k h g c)))
 
     -- ---- for the first time
 
     module _ (fresh : (y : ℕ) → IsPart t l y → (owner u y ≡ 0) × (count y (parts t l) ≡ 1)) where
       abbrev one_assigned : List ℤ
-      one_assigned = assigned p.a d v u
+      one_assigned = part_assigned p.a d v u
 
       abbrev two_assigned : List ℤ
-      two_assigned = assigned p.b d v one_assigned
+      two_assigned = part_assigned p.b d v one_assigned
 
-      pub assigned_b : 8 * p.b ≤ length one_assigned
-      assigned_b = omega (arith, assigned_length p.a d v u room_a, (inside u o.size).b)
+      pub assigned_b : Placed one_assigned p.b
+      assigned_b = (inside one_assigned (part_length d v u p.a ∙ o.size)).b
 
-      pub assigned_c : 8 * p.c ≤ length two_assigned
-      assigned_c = omega (arith, assigned_length p.b d v one_assigned assigned_b, assigned_length p.a d v u room_a, (inside u o.size).c)
+      pub assigned_c : Placed two_assigned p.c
+      assigned_c = (inside two_assigned (part_length d v one_assigned p.b ∙ part_length d v u p.a ∙ o.size)).c
 
       -- no label stands in two fields
-      apart : (x y : ℕ) → (1 ≤ x → IsPart t l x) → (1 ≤ x → x ≡ y → 2 ≤ count x (parts t l)) → 1 ≤ x → x ≡ y → ⊥
-      apart x y q both h e = omega (arith, (fresh x (q h)).1, both h e)
+      apart : (x : ℕ) → IsPart t l x → 2 ≤ count x (parts t l) → ⊥
+      apart x i h = omega (arith, (fresh x i).1, h)
 
-      free : (x : ℕ) (w : List ℤ) → (1 ≤ x → IsPart t l x) → (1 ≤ x → owner w x ≡ owner u x) → owner w x ≡ 0
-      free x w q same = ⊎_elim (λ e. rw e) (λ h. same h ∙ (fresh x (q h)).0) (none_or_some x)
+      a_b : (x : ℕ) → p.b ≡ Some x → p.a ≡ Some x → ⊥
+      a_b x e f = apart x (node_b t l x e) (omega (arith, node_count t l x, part_here t l x p.a f, part_here t l x p.b e))
 
-      b_a : 1 ≤ p.b → p.b ≡ p.a → 2 ≤ count p.b (parts t l)
-      b_a h e = omega (arith, node_count t l p.b h, own_one t l p.b, ap one (eq-eqb p.b p.a e))
+      a_c : (x : ℕ) → p.c ≡ Some x → p.a ≡ Some x → ⊥
+      a_c x e f = apart x (node_c t l x e) (omega (arith, node_count t l x, part_here t l x p.a f, part_here t l x p.c e))
 
-      c_a : 1 ≤ p.c → p.c ≡ p.a → 2 ≤ count p.c (parts t l)
-      c_a h e = omega (arith, node_count t l p.c h, own_one t l p.c, ap one (eq-eqb p.c p.a e))
+      b_c : (x : ℕ) → p.c ≡ Some x → p.b ≡ Some x → ⊥
+      b_c x e f = apart x (node_c t l x e) (omega (arith, node_count t l x, part_here t l x p.b f, part_here t l x p.c e))
 
-      c_b : 1 ≤ p.c → p.c ≡ p.b → 2 ≤ count p.c (parts t l)
-      c_b h e = omega (arith, node_count t l p.c h, own_one t l p.c, ap one (eq-eqb p.c p.b e))
-
-      pub parts_first : claimed_all p d v u ≡ assigned p.c d v two_assigned
+      pub parts_first : claimed_all p d v u ≡ part_assigned p.c d v two_assigned
       parts_first =
-          let fa = free p.a u (node_a t l) (λ h. refl) in
-          let fb = free p.b one_assigned (node_b t l) (λ h. assigned_other p.a d v u room_a p.b 6 (omega arith) (apart p.b p.a (node_b t l) b_a h)) in
-          let fc = free p.c two_assigned (node_c t l) (λ h.
-          assigned_other p.b d v one_assigned assigned_b p.c 6 (omega arith) (apart p.c p.b (node_c t l) c_b h)
-          ∙ assigned_other p.a d v u room_a p.c 6 (omega arith) (apart p.c p.a (node_c t l) c_a h)) in
-          ap (λ (w : List ℤ). claimed p.c d v (claimed p.b d v w)) (claimed_first p.a u d v fa)
-          ∙ ap (λ (w : List ℤ). claimed p.c d v w) (claimed_first p.b one_assigned d v fb) ∙ claimed_first p.c two_assigned d v fc
+          let fa = part_first d v u p.a (λ x e. (fresh x (node_a t l x e)).0) in
+          let fb = part_first d v one_assigned p.b (λ x e. part_other d v u p.a has_a x 6 (omega arith) (a_b x e) ∙ (fresh x (node_b t l x e)).0) in
+          let fc = part_first d v two_assigned p.c (λ x e.
+          part_other d v one_assigned p.b assigned_b x 6 (omega arith) (b_c x e) ∙ part_other d v u p.a has_a x 6 (omega arith) (a_c x e) ∙ (fresh x (node_c t l x e)).0) in
+          ap (λ (w : List ℤ). claimed p.c d v (claimed p.b d v w)) fa ∙ ap (λ (w : List ℤ). claimed p.c d v w) fb ∙ fc
 
 -- ---- owners and levels
 
@@ -151,18 +170,17 @@ left_above t n j x h = rw (lt-leb x j h)
 
 -- a label that gets its owner and level has them, and no label that had them loses them
 module _ (t : List ℤ) (n j : ℕ) where
-  assigned_right : (w : List ℤ) (x d v y m : ℕ) → 8 * x ≤ length w → (1 ≤ x → (d ≡ owner_of t n x) × (v ≡ level_left t n j x)) → 1 ≤ y
-      → Right t n j w y ⊎ (1 ≤ one (eqb y x) + m) → Right t n j (assigned x d v w) y ⊎ (1 ≤ m)
-  assigned_right w x d v y m room right h c = go (eqb y x) refl c
+  assigned_right : (w : List ℤ) (p : Option ℕ) (d v y m : ℕ) → Placed w p → ((x : ℕ) → p ≡ Some x → (d ≡ owner_of t n x) × (v ≡ level_left t n j x))
+      → Right t n j w y ⊎ (1 ≤ counted y p + m) → Right t n j (part_assigned p d v w) y ⊎ (1 ≤ m)
+  assigned_right w None d v y m has right c = ⊎_elim (λ z. inl z) (λ z. inr (omega arith)) c
+  assigned_right w (Some x) d v y m has right c = go (eqb y x) refl c
     where
       here : x ≡ y → Right t n j (assigned x d v w) y
-      here e =
-          let p : 1 ≤ x = omega arith in
-          rw (sym e) (assigned_owner x d v w room p ∙ (right p).0, assigned_level x d v w room p ∙ (right p).1)
+      here e = rw (sym e) (assigned_owner x d v w has ∙ (right x refl).0, assigned_level x d v w has ∙ (right x refl).1)
 
       there : (x ≡ y → ⊥) → Right t n j w y → Right t n j (assigned x d v w) y
       there e q =
-          (assigned_other x d v w room y 6 (omega arith) (λ z. e (sym z)) ∙ q.0, assigned_other x d v w room y 7 (omega arith) (λ z. e (sym z)) ∙ q.1)
+          (assigned_other x d v w has y 6 (omega arith) (λ z. e (sym z)) ∙ q.0, assigned_other x d v w has y 7 (omega arith) (λ z. e (sym z)) ∙ q.1)
 
       go : (b : Bool) → eqb y x ≡ b → Right t n j w y ⊎ (1 ≤ one b + m) → Right t n j (assigned x d v w) y ⊎ (1 ≤ m)
       go true e q = inl (here (sym (eqb-true y x e)))
@@ -229,15 +247,15 @@ module _ (t : List ℤ) (n : ℕ) (s : UsedOnce t n) (w : List ℤ) (l : ℕ) (h
     right_left : (x : ℕ) → IsPart t l x → (d ≡ owner_of t n x) × (v ≡ level_left t n (l - 1) x)
     right_left x p = ((right x p).0, (right x p).1 ∙ sym (left_above t n (l - 1) x (omega (arith, (s.structure.part l x p).0))))
 
-    parts_right : (y : ℕ) → 1 ≤ y → Right t n (l - 1) u y ⊎ IsPart t l y → Right t n (l - 1) (claimed_all q d v u) y
-    parts_right y a c =
-        let ua = assigned q.a d v u in
-        let ub = assigned q.b d v ua in
-        let c0 : Right t n (l - 1) u y ⊎ (1 ≤ one (eqb y q.a) + (one (eqb y q.b) + (one (eqb y q.c) + 0))) = ⊎_elim (λ z. inl z) (λ z. inr (omega (arith, node_count t l y a))) c in
+    parts_right : (y : ℕ) → Right t n (l - 1) u y ⊎ IsPart t l y → Right t n (l - 1) (claimed_all q d v u) y
+    parts_right y c =
+        let ua = part_assigned q.a d v u in
+        let ub = part_assigned q.b d v ua in
+        let c0 : Right t n (l - 1) u y ⊎ (1 ≤ counted y q.a + (counted y q.b + (counted y q.c + 0))) = ⊎_elim (λ z. inl z) (λ z. inr (omega (arith, node_count t l y))) c in
         let i = inside t n formed l expressions u o.size in
-        let c1 = assigned_right t n (l - 1) u q.a d v y (one (eqb y q.b) + (one (eqb y q.c) + 0)) i.a (λ z. right_left q.a (node_a t l z)) a c0 in
-        let c2 = assigned_right t n (l - 1) ua q.b d v y (one (eqb y q.c) + 0) (assigned_b t n formed l expressions d v u o fresh_here) (λ z. right_left q.b (node_b t l z)) a c1 in
-        let c3 = assigned_right t n (l - 1) ub q.c d v y 0 (assigned_c t n formed l expressions d v u o fresh_here) (λ z. right_left q.c (node_c t l z)) a c2 in
+        let c1 = assigned_right t n (l - 1) u q.a d v y (counted y q.b + (counted y q.c + 0)) i.a (λ x z. right_left x (node_a t l x z)) c0 in
+        let c2 = assigned_right t n (l - 1) ua q.b d v y (counted y q.c + 0) (assigned_b t n formed l expressions d v u o fresh_here) (λ x z. right_left x (node_b t l x z)) c1 in
+        let c3 = assigned_right t n (l - 1) ub q.c d v y 0 (assigned_c t n formed l expressions d v u o fresh_here) (λ x z. right_left x (node_c t l x z)) c2 in
         rw (parts_first t n formed l expressions d v u o fresh_here) (⊎_elim (λ z. z) (λ z. absurd (omega arith)) c3)
 
     propagated_so : ((y : ℕ) → 1 ≤ y → y ≤ n → (turn_of t n y ≤ l - 1) ⊎ ((y ≡ l) × (is_expression t y ≡ false)) → Right t n (l - 1) u y)
@@ -250,8 +268,8 @@ module _ (t : List ℤ) (n : ℕ) (s : UsedOnce t n) (w : List ℤ) (l : ℕ) (h
       where
         all : (y : ℕ) → 1 ≤ y → y ≤ n → turn_of t n y ≤ l → Right t n (l - 1) (claimed_all q d v u) y
         all y a b q =
-            ⊎_elim (λ z. parts_right y a (inl (before y a b (inl z))))
-            (λ z. ⊎_elim (λ f. parts_right y a (inl (before y a b (inr f)))) (λ f. parts_right y a (inr f)) z) (due y q)
+            ⊎_elim (λ z. parts_right y (inl (before y a b (inl z))))
+            (λ z. ⊎_elim (λ f. parts_right y (inl (before y a b (inr f)))) (λ f. parts_right y (inr f)) z) (due y q)
 
   before_right : (y : ℕ) → 1 ≤ y → y ≤ n → turn_of t n y ≤ l - 1 → Right t n (l - 1) w y
   before_right y a b q = (r.owners y a b q, r.levels y a b q)
@@ -259,17 +277,18 @@ module _ (t : List ℤ) (n : ℕ) (s : UsedOnce t n) (w : List ℤ) (l : ℕ) (h
   turn_definition : is_definition t l ≡ true → Propagated t n l (l - 1) (claimed_all (node_at t l) l 1 (assigned l (field_a t l) 0 w))
   turn_definition d =
       propagated_so l 1 (λ x q. (sym (own.body_owner t n s l x d q), sym (own.body_level t n s l x d q))) (assigned l (field_a t l) 0 w)
-      (over_assigned t w n formed.room r.over l (field_a t l) 0 g)
-      (λ y q. assigned_other l (field_a t l) 0 w room y 6 (omega arith) (λ e. omega (arith, (s.structure.part l y q).0)))
+      (over_assigned t w n formed.room r.over l (field_a t l) 0 h g)
+      (λ y q. assigned_other l (field_a t l) 0 w has y 6 (omega arith) (λ e. omega (arith, (s.structure.part l y q).0)))
       settled
     where
-      room : 8 * l ≤ length w
-      room = omega (arith, r.over.size, formed.room)
+      has : HasCells w l
+      has = (h, omega (arith, r.over.size, formed.room))
 
-      right : (1 ≤ l → (field_a t l ≡ owner_of t n l) × (0 ≡ level_left t n (l - 1) l))
-      right z =
+      right : (x : ℕ) → Some l ≡ Some x → (field_a t l ≡ owner_of t n x) × (0 ≡ level_left t n (l - 1) x)
+      right x z =
+          let e : l ≡ x = cc in
           let f = not_expression (kind t l) d in
-          (sym (own.owner_group t n l f), sym (left_above t n (l - 1) l (omega arith) ∙ own.level_own t n l f))
+          rw (sym e) (sym (own.owner_group t n l f), sym (left_above t n (l - 1) l (omega arith) ∙ own.level_own t n l f))
 
       this : (y : ℕ) → (y ≡ l) × (is_expression t y ≡ false) → 1 ≤ one (eqb y l) + 0
       this y z = rw (eq-eqb y l z.0) (omega arith)
@@ -277,7 +296,7 @@ module _ (t : List ℤ) (n : ℕ) (s : UsedOnce t n) (w : List ℤ) (l : ℕ) (h
       settled : (y : ℕ) → 1 ≤ y → y ≤ n → (turn_of t n y ≤ l - 1) ⊎ ((y ≡ l) × (is_expression t y ≡ false)) → Right t n (l - 1) (assigned l (field_a t l) 0 w) y
       settled y a b c =
           ⊎_elim (λ z. z) (λ z. absurd (omega arith))
-          (assigned_right t n (l - 1) w l (field_a t l) 0 y 0 room right a (⊎_elim (λ z. inl (before_right y a b z)) (λ z. inr (this y z)) c))
+          (assigned_right t n (l - 1) w (Some l) (field_a t l) 0 y 0 has right (⊎_elim (λ z. inl (before_right y a b z)) (λ z. inr (this y z)) c))
 
   turn_expression : is_expression t l ≡ true → Propagated t n l (l - 1) (claimed_all (node_at t l) (owner w l) (target w l + 1) w)
   turn_expression e =

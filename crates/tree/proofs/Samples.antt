@@ -5,8 +5,8 @@ use Prim.Native.Nat.{ℕ, zero, suc}
 use Prim.Native.Char.{code}
 use lib.IntN.{ℤ, pos}
 use Rattle.kinds.specs.Kinds.{kinds, kind_at, code_of, is_kind, is_definition, is_expression, takes, clause_of}
-use Rattle.refusals.specs.declared.Verdict.{Verdict}
-use Rattle.refusals.specs.declared.Verdict.TheVariants.{Fine, Refused}
+use Rattle.refusals.specs.Refusal.{Verdict, Fine, Refused}
+use Rattle.refusals.specs.Rows.{structure_row, uses_row, argument_row, level_row}
 use Rattle.tree.specs.Tree.{parts, structure_bad, definition_of, owner_of, level_of, tree_bad}
 
 -- a line's cells, of the kind with this letter: kind code, start and length of the name, a, b, c; owner and target are not written yet
@@ -39,12 +39,12 @@ tables =
     ∷ (row (code "F") 0 0 (pos 1) 3 0 ++ row (code "C") 0 1 (pos 4) 0 0 ++ row (code "P") 0 0 (pos 0) 0 0)
     ∷ []
 
-tables_found : map found tables ≡ Refused 9 3
-    ∷ Refused 8 2
-    ∷ Refused 8 3
-    ∷ Refused 8 3
-    ∷ Refused 8 2
-    ∷ Refused 10 4
+tables_found : map found tables ≡ Refused uses_row 3
+    ∷ Refused structure_row 2
+    ∷ Refused structure_row 3
+    ∷ Refused structure_row 3
+    ∷ Refused structure_row 2
+    ∷ Refused argument_row 4
     ∷ Fine
     ∷ []
 unfolding tables tree_bad structure_bad parts definition_of owner_of level_of kinds kind_at code_of is_kind is_definition is_expression takes clause_of
@@ -63,6 +63,6 @@ level_32 : tree_bad (deep 31) 34 ≡ Fine
 unfolding tree_bad structure_bad parts definition_of owner_of level_of kinds kind_at code_of is_kind is_definition is_expression takes clause_of
 level_32 = refl
 
-level_33 : tree_bad (deep 32) 35 ≡ Refused 11 35
+level_33 : tree_bad (deep 32) 35 ≡ Refused level_row 35
 unfolding tree_bad structure_bad parts definition_of owner_of level_of kinds kind_at code_of is_kind is_definition is_expression takes clause_of
 level_33 = refl

@@ -1,47 +1,34 @@
--- A row whose verdict is told by the first label that fails it, 0 for none, and a pass that looks for that label.
+-- A row's verdict as a pass finds it, label by label.
 use mathlib.Core.Path.{◌≡◌, refl, ap, sym, ◌∙◌}
-use mathlib.Core.Bool.{Bool, true, false, cond}
-use Prim.Native.Nat.{ℕ, zero, suc, ◌+◌, ◌-◌, ◌≤◌, ◌<◌}
+use Prim.Native.Nat.{ℕ, suc, ◌+◌, ◌-◌, ◌≤◌, ◌<◌}
 use native.Mathlib.Numerals.{add-one}
 use native.Mathlib.Omega.{arith}
-use Rattle.cells.specs.Lists.{or_if_zero}
-use Rattle.refusals.specs.Refusal.{or_else, hit, first_bad, found_at}
-use Rattle.refusals.specs.declared.Verdict.{Verdict}
-use Rattle.refusals.specs.declared.Verdict.TheVariants.{Fine, Refused}
+use Rattle.std.specs.Prelude.{Option, Some, None, Ok, Err}
+use Rattle.std.specs.Result.{result_and}
+use Rattle.refusals.specs.declared.Row.{Row}
+use Rattle.refusals.specs.Refusal.{Verdict, Fine, or_else, hit, first_bad}
 use Rattle.refusals.proofs.FirstBad.{first_start, first_end}
 
-pub or_kept : (a b : ℕ) → (a ≡ 0 → ⊥) → a ≡ or_if_zero a b
-or_kept zero b h = absurd (h refl)
-or_kept (suc a) b h = refl
-
-module _ (r a : ℕ) (h : a ≡ 0 → ⊥) where
-  pub found_some : Refused r a ≡ found_at r a
-  found_some = go a h
-    where
-      go : (a : ℕ) → (a ≡ 0 → ⊥) → Refused r a ≡ found_at r a
-      go zero h = absurd (h refl)
-      go (suc a) h = refl
-
-  pub found_first : (v : Verdict) → Refused r a ≡ or_else (found_at r a) v
-  found_first v = rw (sym found_some)
-
 -- what is found up to l and what is left give the row's verdict
-abbrev pub Told : (ℕ → ℕ) → ℕ → ℕ → ℕ → ℕ → Type 0
-Told check r n l a = or_else (found_at r a) (first_bad check l (n + 1 - l)) ≡ first_bad check 1 n
+abbrev pub Told : (ℕ → Option Row) → ℕ → ℕ → Verdict → Type 0
+Told check n l v = or_else v (first_bad check l (n + 1 - l)) ≡ first_bad check 1 n
 
-step : (r a l : ℕ) (b : Bool) (v : Verdict) → 1 ≤ r → 1 ≤ l → or_else (found_at r (or_if_zero a (cond b l 0))) v ≡ or_else (found_at r a) (hit (cond b r 0) l v)
-step zero a l b v h g = absurd (omega arith)
-step (suc r) (suc a) l b v h g = refl
-step (suc r) zero l false v h g = refl
-step (suc r) zero zero true v h g = absurd (omega arith)
-step (suc r) zero (suc l) true v h g = refl
+step : (v : Verdict) (r : Option Row) (l : ℕ) (rest : Verdict) → or_else (or_else v (hit r l Fine)) rest ≡ or_else v (hit r l rest)
+step (Ok u) None l rest = refl
+step (Ok u) (Some r) l rest = refl
+step (Err e) r l rest = refl
 
 or_fine : (v : Verdict) → or_else v Fine ≡ v
-or_fine Fine = refl
-or_fine (Refused r p) = refl
+or_fine (Ok u) = refl
+or_fine (Err e) = refl
 
-module _ (check : ℕ → ℕ) (r n : ℕ) where
-  pub told_start : Told check r n 1 0
+-- the library's word for one verdict and then another
+pub and_else : (u v : Verdict) → result_and u v ≡ or_else u v
+and_else (Ok x) v = refl
+and_else (Err e) v = refl
+
+module _ (check : ℕ → Option Row) (n : ℕ) where
+  pub told_start : Told check n 1 Fine
   told_start = first_start check n
 
   unrolled : (l : ℕ) → l ≤ n → first_bad check l (n + 1 - l) ≡ hit (check l) l (first_bad check (l + 1) (n + 1 - (l + 1)))
@@ -50,10 +37,10 @@ module _ (check : ℕ → ℕ) (r n : ℕ) where
       let p : n + 1 - (l + 1) ≡ n - l = omega arith in
       rw (q, p, add-one l)
 
-  pub told_turn : (l a : ℕ) (b : Bool) → 1 ≤ r → 1 ≤ l → l ≤ n → check l ≡ cond b r 0 → Told check r n l a → Told check r n (l + 1) (or_if_zero a (cond b l 0))
-  told_turn l a b k h g e t =
+  pub told_turn : (l : ℕ) (v : Verdict) (r : Option Row) → l ≤ n → check l ≡ r → Told check n l v → Told check n (l + 1) (or_else v (hit r l Fine))
+  told_turn l v r g e t =
       let rest = first_bad check (l + 1) (n + 1 - (l + 1)) in
-      step r a l b rest k h ∙ ap (λ (x : ℕ). or_else (found_at r a) (hit x l rest)) (sym e) ∙ ap (or_else (found_at r a)) (sym (unrolled l g)) ∙ t
+      step v r l rest ∙ ap (λ (x : Option Row). or_else v (hit x l rest)) (sym e) ∙ ap (or_else v) (sym (unrolled l g)) ∙ t
 
-  pub told_end : (l a : ℕ) → n < l → Told check r n l a → found_at r a ≡ first_bad check 1 n
-  told_end l a h t = sym (or_fine (found_at r a)) ∙ ap (or_else (found_at r a)) (sym (first_end check n l h)) ∙ t
+  pub told_end : (l : ℕ) (v : Verdict) → n < l → Told check n l v → v ≡ first_bad check 1 n
+  told_end l v h t = sym (or_fine v) ∙ ap (or_else v) (sym (first_end check n l h)) ∙ t

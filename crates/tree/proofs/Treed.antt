@@ -18,9 +18,10 @@ use Rattle.cells.specs.Table.{kind, is_definition, is_expression, field_a, field
 use Rattle.cells.specs.Accepted.{HasBody, Part}
 use Rattle.cells.proofs.Columns.{column_own, column_other}
 use Rattle.refusals.specs.Rows.{argument_row, level_row}
-use Rattle.refusals.specs.declared.Verdict.TheVariants.{Fine}
+use Rattle.refusals.specs.declared.Row.{Row}
 use Rattle.refusals.proofs.OrElse.{both_fine}
-use Rattle.refusals.specs.Refusal.{first_bad}
+use Rattle.std.specs.Prelude.{Option, Some, None}
+use Rattle.refusals.specs.Refusal.{Fine, first_bad}
 use Rattle.refusals.proofs.FirstBad.{first_none}
 use Rattle.tree.specs.Tree.{IsPart, uses_bad, definition_of, owner_of, level_of, argument_in, argument_bad, level_bad, structure_bad, tree_bad}
 use Rattle.tree.specs.Treed.{Formed, PartOf, Treed}
@@ -71,14 +72,14 @@ module _ (t : List ℤ) (n : ℕ) (s : Formed t n) (fine : tree_bad t n ≡ Fine
   argument_in_lem : (x : ℕ) → argument_place (kind t x) ≤ takes (kind t (owner_of t n x))
   argument_in_lem x = go (leb 1 (kind t x)) refl
     where
-      given : (k d : ℕ) → argument_in k d ≡ 0 → (b : Bool) → ltb (takes d) (argument_place k) ≡ b → argument_place k ≤ takes d
-      given k d z true q = let y : ◌≡◌ {A = ℕ} argument_row 0 = rw q at z in absurd (omega arith)
+      given : (k d : ℕ) → argument_in k d ≡ None → (b : Bool) → ltb (takes d) (argument_place k) ≡ b → argument_place k ≤ takes d
+      given k d z true q = let y : ◌≡◌ {A = Option Row} (Some argument_row) None = rw q at z in absurd cc
       given k d z false q = ltb-false (takes d) (argument_place k) q
 
       go : (b : Bool) → leb 1 (kind t x) ≡ b → argument_place (kind t x) ≤ takes (kind t (owner_of t n x))
       go true q =
           let h = leb-true 1 (kind t x) q in
-          let z : argument_bad t n x ≡ 0 = first_none (argument_bad t n) n 1 rows.2 x (label_low t x n s h) (omega (arith, label_high t x n s h)) in
+          let z : argument_bad t n x ≡ None = first_none (argument_bad t n) n 1 rows.2 x (label_low t x n s h) (omega (arith, label_high t x n s h)) in
           given (kind t x) (kind t (owner_of t n x)) z (ltb (takes (kind t (owner_of t n x))) (argument_place (kind t x))) refl
       go false q =
           let z : kind t x ≡ 0 = omega (arith, leb-false 1 (kind t x) q) in
@@ -87,8 +88,8 @@ module _ (t : List ℤ) (n : ℕ) (s : Formed t n) (fine : tree_bad t n ≡ Fine
   low_level : (x : ℕ) → 1 ≤ x → x ≤ n → level_of t n x ≤ level_limit
   low_level x h g = go (ltb level_limit (level_of t n x)) refl (first_none (level_bad t n) n 1 rows.3 x h (omega arith))
     where
-      go : (b : Bool) → ltb level_limit (level_of t n x) ≡ b → level_bad t n x ≡ 0 → level_of t n x ≤ level_limit
-      go true q z = let y : ◌≡◌ {A = ℕ} level_row 0 = rw q at z in absurd (omega arith)
+      go : (b : Bool) → ltb level_limit (level_of t n x) ≡ b → level_bad t n x ≡ None → level_of t n x ≤ level_limit
+      go true q z = let y : ◌≡◌ {A = Option Row} (Some level_row) None = rw q at z in absurd cc
       go false q z = ltb-false level_limit (level_of t n x) q
 
   pub treed : Treed t n

@@ -12,8 +12,9 @@ use lib.IntN.{ℤ}
 use Rattle.cells.specs.Lists.{count}
 use Rattle.cells.specs.Table.{kind, is_expression}
 use Rattle.refusals.specs.Rows.{uses_row}
-use Rattle.refusals.specs.declared.Verdict.TheVariants.{Fine}
-use Rattle.refusals.specs.Refusal.{first_bad}
+use Rattle.refusals.specs.declared.Row.{Row}
+use Rattle.std.specs.Prelude.{Option, Some, None}
+use Rattle.refusals.specs.Refusal.{Fine, first_bad}
 use Rattle.refusals.proofs.FirstBad.{first_none}
 use Rattle.tree.specs.Tree.{parts, uses, uses_bad, IsPart, user_of}
 use Rattle.tree.specs.TreeSteps.{Structured, UsedOnce}
@@ -85,14 +86,14 @@ module _ (t : List ℤ) (x : ℕ) where
 -- ---- row 9
 
 pub tree : (t : List ℤ) (n : ℕ) → Structured t n → first_bad (uses_bad t n) 1 n ≡ Fine → UsedOnce t n
-tree t n s fine = record { structure = s; once = λ x e. go x e (eqb (uses t n x) 1) refl (zero_at x (expression_kind t x e)) }
+tree t n s fine = record { structure = s; once = λ x e. go x e (eqb (uses t n x) 1) refl (none_at x (expression_kind t x e)) }
   where
-    zero_at : (x : ℕ) → 1 ≤ kind t x → uses_bad t n x ≡ 0
-    zero_at x k = first_none (uses_bad t n) n 1 fine x (label_low t x n s.formed k) (omega (arith, label_high t x n s.formed k))
+    none_at : (x : ℕ) → 1 ≤ kind t x → uses_bad t n x ≡ None
+    none_at x k = first_none (uses_bad t n) n 1 fine x (label_low t x n s.formed k) (omega (arith, label_high t x n s.formed k))
 
-    go : (x : ℕ) → is_expression t x ≡ true → (b : Bool) → eqb (uses t n x) 1 ≡ b → uses_bad t n x ≡ 0 → uses t n x ≡ 1
+    go : (x : ℕ) → is_expression t x ≡ true → (b : Bool) → eqb (uses t n x) 1 ≡ b → uses_bad t n x ≡ None → uses t n x ≡ 1
     go x e true q z = eqb-true (uses t n x) 1 q
-    go x e false q z = let y : ◌≡◌ {A = ℕ} uses_row 0 = rw (e, q) at z in absurd (omega arith)
+    go x e false q z = let y : ◌≡◌ {A = Option Row} (Some uses_row) None = rw (e, q) at z in absurd cc
 
 -- ---- the tree reads the cells before the owner only
 

@@ -1,13 +1,13 @@
 -- The tree of a table: what a line is made of, who uses an expression, who owns it and at what level; rows 8 to 11 of document 01's table
 -- "Where each refusal is found". Which fields are a Group, a body or an operand is read off the table of kinds.
-use Rattle.std.specs.Prelude.{◌≡◌, Bool, true, not, cond, ◌&&◌, List, [], ◌∷◌, ◌++◌, ℕ, zero, suc, ◌+◌, ◌≤◌, leb, ltb, eqb, ℤ, length}
+use Rattle.std.specs.Prelude.{◌≡◌, Bool, true, not, cond, ◌&&◌, Option, Some, None, List, [], ◌∷◌, ◌++◌, ℕ, zero, suc, ◌+◌, ◌≤◌, leb, ltb, eqb, ℤ, length}
 use Rattle.cells.specs.Limits.{level_limit}
 use Rattle.cells.specs.Lists.{count, all}
 use Rattle.cells.specs.Table.{kind, is_definition, is_expression, field_a, field_b, field_c}
 use Rattle.kinds.specs.Kinds.{group_code, fields_at, is_operand_form, takes, argument_place}
 use Rattle.kinds.specs.declared.Form.{Form}
-use Rattle.refusals.specs.Refusal.{first_bad, or_else}
-use Rattle.refusals.specs.declared.Verdict.{Verdict}
+use Rattle.refusals.specs.declared.Row.{Row}
+use Rattle.refusals.specs.Refusal.{Verdict, first_bad, or_else}
 use Rattle.refusals.specs.Rows.{structure_row, uses_row, argument_row, level_row}
 
 -- ---- the parts of a line
@@ -35,8 +35,8 @@ part_right t l x = ltb l x && is_expression t x
 abbrev pub structure_right : List ℤ → ℕ → Bool
 structure_right t l = cond (leb 2 l && is_definition t l) (group_right t l (field_a t l)) true && all (part_right t l) (parts t l)
 
-unfoldable pub structure_bad : List ℤ → ℕ → ℕ
-structure_bad t l = cond (structure_right t l) 0 structure_row
+unfoldable pub structure_bad : List ℤ → ℕ → Option Row
+structure_bad t l = cond (structure_right t l) None (Some structure_row)
 
 -- ---- row 9
 
@@ -46,10 +46,10 @@ uses t zero x = 0
 uses t (suc k) x = uses t k x + count x (parts t (suc k))
 
 -- an expression used u times
-abbrev pub not_once : Bool → ℕ → ℕ
-not_once expression u = cond (expression && not (eqb u 1)) uses_row 0
+abbrev pub not_once : Bool → ℕ → Option Row
+not_once expression u = cond (expression && not (eqb u 1)) (Some uses_row) None
 
-abbrev pub uses_bad : List ℤ → ℕ → ℕ → ℕ
+abbrev pub uses_bad : List ℤ → ℕ → ℕ → Option Row
 uses_bad t n x = not_once (is_expression t x) (uses t n x)
 
 -- ---- owners and levels
@@ -102,16 +102,16 @@ level_of t n x = length (climb t n x x)
 
 -- "P owned by a V": an argument that the body of its owner is not given. A V's body is given none, and P stands for the first of an F's; k
 -- and d are the codes of the two
-abbrev pub argument_in : ℕ → ℕ → ℕ
-argument_in k d = cond (ltb (takes d) (argument_place k)) argument_row 0
+abbrev pub argument_in : ℕ → ℕ → Option Row
+argument_in k d = cond (ltb (takes d) (argument_place k)) (Some argument_row) None
 
-abbrev pub argument_bad : List ℤ → ℕ → ℕ → ℕ
+abbrev pub argument_bad : List ℤ → ℕ → ℕ → Option Row
 argument_bad t n x = argument_in (kind t x) (kind t (owner_of t n x))
 
-abbrev pub above_levels : ℕ → ℕ
-above_levels level = cond (ltb level_limit level) level_row 0
+abbrev pub above_levels : ℕ → Option Row
+above_levels level = cond (ltb level_limit level) (Some level_row) None
 
-abbrev pub level_bad : List ℤ → ℕ → ℕ → ℕ
+abbrev pub level_bad : List ℤ → ℕ → ℕ → Option Row
 level_bad t n x = above_levels (level_of t n x)
 
 -- ---- rows 8 to 11, each its own pass upward through the labels

@@ -1,15 +1,16 @@
 -- What the code reads and writes at one label, and what its pass has done. Until the pass has cleared it, the target cell of a label holds its
 -- level.
-use Rattle.std.specs.Prelude.{◌≡◌, Bool, true, false, cond, ◌&&◌, List, ℕ, suc, ◌+◌, ◌-◌, ◌*◌, ◌%◌, ◌≤◌, ◌<◌, leb, ltb, eqb, ℤ, pos, length, set}
-use Rattle.cells.specs.Limits.{label_limit, level_limit}
+use Rattle.std.specs.Prelude.{◌≡◌, Bool, true, false, cond, ◌&&◌, Option, Some, None, List, length, set}
+use Rattle.std.specs.Prelude.{ℕ, suc, ◌+◌, ◌-◌, ◌*◌, ◌%◌, ◌≤◌, ◌<◌, leb, ltb, eqb, ℤ, pos}
+use Rattle.cells.specs.Limits.{label_limit}
 use Rattle.cells.specs.Cells.{int_at}
-use Rattle.cells.specs.Lists.{count}
 use Rattle.cells.specs.Table.{cell, kind, is_definition, is_expression, field_a, field_b, field_c, owner, target}
-use Rattle.kinds.specs.Kinds.{group_code, fields_at, is_kind, is_operand_form, takes, argument_place}
+use Rattle.kinds.specs.Kinds.{group_code, fields_at, is_kind, is_operand_form}
+use Rattle.kinds.specs.Coded.{own_code}
 use Rattle.kinds.specs.declared.Form.{Form}
-use Rattle.tree.specs.Tree.{parts, group_right, part_right, uses, IsPart, user_of, owner_of, level_of}
+use Rattle.kinds.specs.declared.Kind.{Kind}
+use Rattle.tree.specs.Tree.{group_right, part_right, uses, IsPart, user_of, owner_of, level_of}
 use Rattle.tree.specs.Treed.{Formed}
-use Rattle.tree.specs.declared.Node.{Node}
 
 -- ---- one label
 
@@ -17,10 +18,18 @@ use Rattle.tree.specs.declared.Node.{Node}
 abbrev pub HasCells : List ℤ → ℕ → Type 0
 HasCells t l = (1 ≤ l) × (8 * l ≤ length t)
 
--- what a field holds as a body or operand, else 0
-abbrev pub part_in : Form → ℕ → ℕ
-part_in f x = cond (is_operand_form f) x 0
+-- what a field holds as a body or operand
+abbrev pub part_in : Form → ℕ → Option ℕ
+part_in f x = cond (is_operand_form f) (Some x) None
 
+-- what a line is in the tree: whether it is a definition, and what its fields a, b and c hold as its body or operands
+pub record Node : Type 0 where
+  pub definition : Bool
+  pub a : Option ℕ
+  pub b : Option ℕ
+  pub c : Option ℕ
+
+-- the line, by the table of kinds
 unfoldable pub node_at : List ℤ → ℕ → Node
 node_at t l = record {
   definition = is_definition t l;
@@ -34,17 +43,17 @@ pub record Known (t : List ℤ) (l : ℕ) : Type 0 where
   pub cells : HasCells t l
   pub known : is_kind (kind t l) ≡ true
 
--- whose body or operands are labels
-pub record Readable (t : List ℤ) (l : ℕ) : Type 0 where
-  pub line : Known t l
-  pub labels : count 0 (parts t l) ≡ 0
+-- a line of kind k
+abbrev pub OfKind : List ℤ → ℕ → Kind → Type 0
+OfKind t l k = (1 ≤ l) × (8 * l ≤ length t) × (own_code k ≡ kind t l)
 
 -- row 8 by the node: a definition's Group, from label 2, and what may be a body or operand
 abbrev pub group_fits : List ℤ → ℕ → Bool → Bool
 group_fits t l definition = cond (leb 2 l && definition) (group_right t l (field_a t l)) true
 
-abbrev pub part_fits : List ℤ → ℕ → ℕ → Bool
-part_fits t l x = cond (eqb x 0) true (part_right t l x)
+abbrev pub part_fits : List ℤ → ℕ → Option ℕ → Bool
+part_fits t l None = true
+part_fits t l (Some x) = part_right t l x
 
 -- row 9 by the owner cell, which is 0 of an expression that is not used, and no label where it is used more than once
 abbrev pub twice : ℕ
@@ -56,20 +65,14 @@ owned_once d = ltb 0 d && ltb d twice
 abbrev pub used_right : List ℤ → ℕ → Bool
 used_right t l = cond (node_at t l).definition true (owned_once (owner t l))
 
--- rows 10 and 11 by the cells
-abbrev pub argument_wrong : List ℤ → ℕ → Bool
-argument_wrong t l = ltb (takes (kind t (owner t l))) (argument_place (kind t l))
-
-abbrev pub level_wrong : List ℤ → ℕ → Bool
-level_wrong t l = ltb level_limit (target t l)
-
--- the table in which x, if it is a label, has this owner and level
+-- the table in which label x has this owner and level
 abbrev pub assigned : ℕ → ℕ → ℕ → List ℤ → List ℤ
-assigned x d v t = cond (eqb x 0) t (set (set t (8 * (x - 1) + 6) (pos d)) (8 * (x - 1) + 7) (pos v))
+assigned x d v t = set (set t (8 * (x - 1) + 6) (pos d)) (8 * (x - 1) + 7) (pos v)
 
--- the table in which x, if it is a label, is used once more, by a line that gives it this owner and level
-unfoldable pub claimed : ℕ → ℕ → ℕ → List ℤ → List ℤ
-claimed x d v t = cond (eqb (owner t x) 0) (assigned x d v t) (set t (8 * (x - 1) + 6) (pos twice))
+-- the table in which a part is used once more, by a line that gives it this owner and level
+abbrev pub claimed : Option ℕ → ℕ → ℕ → List ℤ → List ℤ
+claimed None d v t = t
+claimed (Some x) d v t = cond (eqb (owner t x) 0) (assigned x d v t) (set t (8 * (x - 1) + 6) (pos twice))
 
 abbrev pub claimed_all : Node → ℕ → ℕ → List ℤ → List ℤ
 claimed_all p d v t = claimed p.c d v (claimed p.b d v (claimed p.a d v t))
@@ -82,10 +85,14 @@ propagated l t =
     (claimed_all (node_at t l) (owner t l) (target t l + 1) t)
 
 -- what these writes ask: the parts have cells in the table, and what is written fits
+abbrev pub Placed : List ℤ → Option ℕ → Type 0
+Placed t None = Unit {0}
+Placed t (Some x) = HasCells t x
+
 pub record Inside (t : List ℤ) (p : Node) : Type 0 where
-  pub a : 8 * p.a ≤ length t
-  pub b : 8 * p.b ≤ length t
-  pub c : 8 * p.c ≤ length t
+  pub a : Placed t p.a
+  pub b : Placed t p.b
+  pub c : Placed t p.c
 
 pub record Propagable (t : List ℤ) (l : ℕ) : Type 0 where
   pub line : Known t l

@@ -1,13 +1,12 @@
 -- What the tree's rows ask of a table, and what they give.
-use Rattle.std.specs.Prelude.{◌≡◌, true, List, ℕ, ◌+◌, ◌*◌, ◌≤◌, ◌<◌, ℤ, pos, length}
+use Rattle.std.specs.Prelude.{◌≡◌, true, List, ℕ, ◌+◌, ◌*◌, ◌≤◌, ◌<◌, ℤ, pos, length, Ok, Err}
 use Rattle.cells.specs.Limits.{label_limit, level_limit}
 use Rattle.cells.specs.Cells.{int_at}
 use Rattle.cells.specs.Lists.{count}
 use Rattle.cells.specs.Table.{kind, is_definition, is_expression, field_a, with_column}
 use Rattle.cells.specs.Accepted.{HasBody}
 use Rattle.kinds.specs.Kinds.{group_code, is_kind, takes, argument_place}
-use Rattle.refusals.specs.declared.Verdict.{Verdict}
-use Rattle.refusals.specs.declared.Verdict.TheVariants.{Fine, Refused}
+use Rattle.refusals.specs.Refusal.{Verdict}
 use Rattle.tree.specs.Tree.{parts, uses, IsPart, Owned, Level, definition_of, owner_of, level_of}
 
 -- the lines of a table of n labels that passed rows 1 to 7
@@ -27,8 +26,8 @@ pub record Plain (t : List ℤ) (n : ℕ) : Type 0 where
 
 -- the table that is left: with each label's owner where nothing is refused; else of its length only
 abbrev pub Written : Verdict → List ℤ → ℕ → List ℤ → Type 0
-Written Fine t n w = w ≡ with_column 6 (owner_of t n) n t
-Written (Refused r p) t n w = length w ≡ length t
+Written (Ok u) t n w = w ≡ with_column 6 (owner_of t n) n t
+Written (Err e) t n w = length w ≡ length t
 
 -- x is a body or operand of line l, in a table that passes rows 8 to 11
 pub record PartOf (t : List ℤ) (n l x : ℕ) : Type 0 where

@@ -281,7 +281,8 @@ fn what_edits_fail_at_is_there() {
     assert_eq!(rows.len(), edits().len());
     for row in rows {
         for (name, _) in quoted(row[3]) {
-            let is_function = code.contains(&format!("fn {name}("));
+            let heads = [format!("fn {name}("), format!("fn {name}<")];
+            let is_function = heads.iter().any(|head| code.contains(head));
             assert!(is_function || declares(&proofs, name), "{name}: {}", row[1]);
         }
     }

@@ -113,21 +113,39 @@ fn version() {
     assert!(own.contains(&format!("\nversion = \"{version}\"\n")));
 }
 
+/// A variant's name as the header has it.
+fn upper(variant: &str) -> String {
+    let word = |(at, c): (usize, char)| match c.is_ascii_uppercase() && at > 0 {
+        true => format!("_{c}"),
+        false => c.to_ascii_uppercase().to_string(),
+    };
+    variant.char_indices().map(word).collect()
+}
+
+/// A definition in a crate's specs that gives each variant a number: `name Variant = 1`.
+fn numbered(of: &str, name: &str) -> BTreeMap<String, i64> {
+    let equation = |line: &str| {
+        let (variant, number) = line.strip_prefix(name)?.split_once(" = ")?;
+        Some((upper(variant.trim()), number.parse().ok()?))
+    };
+    definition(of, name).lines().filter_map(equation).collect()
+}
+
 #[test]
 fn refusals() {
-    assert_eq!(header_of("REFUSAL_"), code("refusals", "u64"));
-    let rows = read("crates/refusals/specs/Rows.antt");
-    let numbers = rows.lines().filter_map(|line| line.split_once("row = "));
-    let numbers: Vec<i64> = numbers.map(|(_, number)| number.parse().unwrap()).collect();
+    let rows = numbered("refusals", "row_number");
+    assert_eq!(header_of("REFUSAL_"), rows);
+    let mut numbers: Vec<i64> = rows.into_values().collect();
+    numbers.sort_unstable();
     assert_eq!(numbers, (1..=21).collect::<Vec<i64>>());
 }
 
 #[test]
 fn states() {
-    let mut named = code("evaluation", "u32");
+    assert_eq!(header_of("STATE_"), code("evaluation", "i64"));
     let limits = header();
-    assert_eq!(named.remove("STEPS"), Some(limits["STEPS_MOST"]));
-    assert_eq!(header_of("STATE_"), named);
+    let steps = code("evaluation", "u32");
+    assert_eq!(steps.get("STEPS"), Some(&limits["STEPS_MOST"]));
     let depth = code("evaluation", "u16");
     assert_eq!(depth.get("DEPTH"), Some(&limits["DEPTH_MOST"]));
 }

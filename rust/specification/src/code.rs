@@ -12,7 +12,7 @@ pub enum Form {
     Constant,
 }
 
-/// A `requires` or an `ensures`.
+/// A `requires`, an `ensures` or a ghost member.
 #[derive(Clone, Debug)]
 pub struct Contract {
     pub keyword: String,
@@ -37,6 +37,8 @@ pub struct Item {
     pub comment: Vec<String>,
     pub parameters: Vec<String>,
     pub contracts: Vec<Contract>,
+    /// What its marks name: what its proof may cite.
+    pub cited: Vec<Word>,
     /// What its head names: parameters, results, the types of fields; and its body.
     pub head: Vec<Word>,
     pub body: Vec<Word>,
@@ -47,6 +49,8 @@ pub struct Item {
 pub struct Code {
     /// What contracts may name.
     pub ghosts: Vec<Use>,
+    /// The ghost members of impls.
+    pub members: Vec<Contract>,
     /// What code may name: the path and the line.
     pub uses: Vec<(Vec<String>, usize)>,
     pub items: Vec<Item>,
@@ -155,12 +159,13 @@ fn texts(lexemes: &[Lexeme], places: &[usize]) -> Vec<String> {
     words.map(str::to_string).collect()
 }
 
-const FORMS: [(&str, Form); 5] = [
+const FORMS: [(&str, Form); 6] = [
     ("fn", Form::Function),
     ("struct", Form::Type),
     ("enum", Form::Type),
     ("type", Form::Type),
     ("const", Form::Constant),
+    ("static", Form::Constant),
 ];
 
 impl Reader {
@@ -171,13 +176,23 @@ impl Reader {
             let rest = &lexemes[at..];
             let form = FORMS.iter().find(|(word, _)| rest[0].word() == Some(word));
             at += match (&rest[0].sort, form) {
+                (Sort::Contract(keyword, text), _) => {
+                    self.code.members.push(Contract {
+                        keyword: keyword.clone(),
+                        tokens: tokens(text, rest[0].line).0,
+                    });
+                    1
+                }
                 (Sort::Ghost(text), _) => {
                     let (tokens, _) = tokens(text, rest[0].line);
                     self.code.ghosts.push(import(&tokens, false));
                     1
                 }
+                // what an impl calls the type of a trait
+                (_, Some((_, Form::Type))) if of.is_some() => end(rest).1 + 1,
                 (_, Some((_, form))) => self.item(&lexemes[start..], at - start, *form, of),
                 _ => match rest[0].word() {
+                    Some("use") if lexemes[start].word() == Some("pub") => end(rest).1 + 1,
                     Some("use") => self.import(rest),
                     Some("impl") => self.methods(rest),
                     Some("mod") => end(rest).1 + 1,
@@ -211,7 +226,11 @@ impl Reader {
 
     fn methods(&mut self, lexemes: &[Lexeme]) -> usize {
         let (open, close) = end(lexemes);
-        let of = lexemes[1].word().unwrap_or_default().to_string();
+        let named = outside(&lexemes[..open], |lexeme| lexeme.word() == Some("for"));
+        let from = named.map_or(&lexemes[1..open], |at| &lexemes[at + 1..open]);
+        let is_name = |word: &&str| word.starts_with(char::is_uppercase);
+        let of = from.iter().filter_map(Lexeme::word).find(is_name);
+        let of = of.unwrap_or_default().to_string();
         self.items(&lexemes[open + 1..close], Some(&of));
         close + 1
     }
@@ -243,6 +262,7 @@ impl Reader {
         } else {
             close + 1
         };
+        let stated = if form == Form::Type { close } else { open };
         self.code.items.push(Item {
             name: rest[1].word().unwrap_or_default().to_string(),
             form,
@@ -255,7 +275,8 @@ impl Reader {
             last: rest[close].line,
             comment: self.above(first),
             parameters: texts(rest, &labels(&rest[..open], '(', &[':'])),
-            contracts: rest[..open].iter().filter_map(contract).collect(),
+            contracts: rest[..stated].iter().filter_map(contract).collect(),
+            cited: words(marks.iter()),
             head: named(2, headed),
             body: named(headed, close + 1),
             variants: texts(rest, &variants),

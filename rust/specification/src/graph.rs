@@ -132,7 +132,15 @@ impl Graph {
                 ..Meant::default()
             };
             made.nodes.extend(index.proofs(package, item));
+            made.nodes.extend(index.cited(package, item));
             edges.push((node, stated, made));
+        }
+        let members = code.members.iter();
+        let paths = members.flat_map(|of| scope::contract(&names, &[], &of.tokens));
+        let paths: Vec<scope::Path> = paths.collect();
+        let told = names.meant(&paths, &mut used);
+        if let Some((_, _, made)) = edges.last_mut() {
+            made.nodes.extend(told.nodes);
         }
         let unused = names::unused(&code.ghosts, &used);
         (edges, [unused, words.unused(&spoken)].concat())

@@ -106,6 +106,32 @@ impl Index {
         nodes.flatten().copied().collect()
     }
 
+    /// What the marks of an item name, as `crate::proofs::File::law`.
+    pub fn cited(&self, package: &str, item: &Item) -> Vec<usize> {
+        let law = |path: &[String]| {
+            let [at, folder, module @ .., name] = path else {
+                return None;
+            };
+            let folder = match &folder[..] {
+                "proofs" => Folder::Proofs,
+                "specs" => Folder::Specs,
+                _ => return None,
+            };
+            let of = if at == "crate" { package } else { at };
+            let file = self
+                .modules
+                .get(&(of.to_string(), folder, module.join(".")))?;
+            match self.declared.get(&(*file, key(name).to_string()))? {
+                Target::Node(node) => Some(*node),
+                _ => None,
+            }
+        };
+        item.cited
+            .iter()
+            .filter_map(|word| law(&word.path))
+            .collect()
+    }
+
     pub fn items(&self, package: &str, name: &str) -> &[usize] {
         let place = (package.to_string(), name.to_string());
         self.items.get(&place).map_or(&[], |nodes| nodes)

@@ -14,8 +14,8 @@ pub struct Word {
 pub enum Sort {
     Word(Word),
     Sign(char),
-    /// `requires` or `ensures`, and the text between its braces, a name between them
-    /// left out.
+    /// `requires`, `ensures` or a `ghost` member, and the text between its braces, a
+    /// name between them left out.
     Contract(String, String),
     /// `ghost use ..`, the first word left out.
     Ghost(String),
@@ -126,6 +126,9 @@ impl<'a> Lexer<'a> {
             let length = rest.find(';').unwrap_or(rest.len() - 1) + 1;
             let text = self.skip(length)["ghost ".len()..length - 1].to_string();
             self.push(line, Sort::Ghost(text));
+        } else if let Some(text) = rest.strip_prefix("ghost ") {
+            self.skip(rest.len() - text.len());
+            self.contract(line, "ghost");
         } else if rest.starts_with("b'") || rest.starts_with("b\"") {
             let quote = rest.chars().nth(1).unwrap_or('"');
             self.skip(1 + quoted(&rest[1..], quote));
@@ -149,6 +152,7 @@ impl<'a> Lexer<'a> {
             let rest = self.rest();
             let length = rest.find(|c| !is_word_part(c)).unwrap_or(rest.len());
             path.push(self.skip(length).to_string());
+            self.arguments();
             let after = self.rest().strip_prefix("::");
             if !after.is_some_and(|text| text.starts_with(is_word_part)) {
                 break;
@@ -169,6 +173,20 @@ impl<'a> Lexer<'a> {
         );
     }
 
+    /// `::<..>` behind a name: what it names stands before it.
+    fn arguments(&mut self) {
+        let Some(text) = self.rest().strip_prefix("::<") else {
+            return;
+        };
+        let length = text.find('>').unwrap_or(text.len());
+        let line = self.line;
+        let (words, _) = lexemes(&text[..length]);
+        self.skip("::<".len() + length + 1);
+        let words = words.into_iter();
+        self.lexemes
+            .extend(words.map(|word| Lexeme { line, ..word }));
+    }
+
     fn contract(&mut self, line: usize, keyword: &str) {
         let open = self.rest().find('{').unwrap_or(0);
         self.skip(open);
@@ -185,7 +203,7 @@ mod tests {
 
     #[test]
     fn words_contracts_and_signs() {
-        let text = "// c\nghost use A.{b};\nfn f(x: u8) -> T\n    ensures same { result ≡ g {x = 1} }\n{ a::b(x.len(), b'{', b\"}\") }\n";
+        let text = "// c\nghost use A.{b};\nstruct S { ghost is: { y } }\nfn f(x: u8) -> T\n    ensures same { result ≡ g {x = 1} }\n{ a::b::<N>(x.len(), b'{', b\"}\") }\n";
         let (lexemes, comments) = lexemes(text);
         assert_eq!(comments, [(1, "c".to_string())]);
         assert_eq!(lexemes[0].sort, Sort::Ghost("use A.{b}".to_string()));
@@ -193,7 +211,12 @@ mod tests {
             Sort::Contract(keyword, text) => Some((lexeme.line, &keyword[..], &text[..])),
             _ => None,
         });
-        assert_eq!(contract, Some((4, "ensures", " result ≡ g {x = 1} ")));
+        assert_eq!(contract, Some((3, "ghost", " y ")));
+        let contract = lexemes.iter().rev().find_map(|lexeme| match &lexeme.sort {
+            Sort::Contract(keyword, text) => Some((lexeme.line, &keyword[..], &text[..])),
+            _ => None,
+        });
+        assert_eq!(contract, Some((5, "ensures", " result ≡ g {x = 1} ")));
         let words = lexemes.iter().filter_map(|lexeme| match &lexeme.sort {
             Sort::Word(word) => Some((word.path.join("::"), word.called, word.member)),
             _ => None,

@@ -6,29 +6,39 @@ use crate::code::Form;
 use crate::files::Folder;
 use crate::graph::Graph;
 
-/// What `kinds` asks of a code, and `cells` of the line that has it.
-const SHARED: [&str; 4] = ["has_body", "has_path", "is_definition", "is_expression"];
+/// What `kinds` asks of a code, and `cells` of the line that has it; and the types
+/// that code and definitions have under one name, by an alias each.
+const SHARED: [&str; 7] = [
+    "has_body",
+    "has_path",
+    "is_definition",
+    "is_expression",
+    "PlanReply",
+    "Reply",
+    "Verdict",
+];
+
+/// What two crates say of their own matter, most of it how far each has come and what
+/// it is lent for that. No file brings in both.
+const APART: [&str; 6] = ["Chains", "Evaluation", "Placed", "Room", "Search", "State"];
 
 /// A type beside the definition that has its words with small letters: what that
 /// gives, the relation that it computes, or what is told of it.
-const PAIRED: [&str; 21] = [
+const PAIRED: [&str; 18] = [
     "answer",
-    "calculated",
-    "decimal",
     "early",
     "evaluated",
-    "field",
     "first_position",
     "given",
     "has_body",
     "has_path",
-    "kind",
     "line",
     "mentions",
     "missing",
     "not_new",
     "number_put",
     "outcome",
+    "plan",
     "plan_reply",
     "print_line",
     "reaches",
@@ -48,7 +58,7 @@ pub fn twice(graph: &Graph, believed: &HashSet<usize>) -> Vec<String> {
     let same = same.filter(|nodes| nodes.len() > 1).collect();
     let cases = groups(graph, believed, letters).into_iter();
     let cases = cases.filter(|nodes| differ(graph, nodes)).collect();
-    let mut found = others(graph, same, &SHARED);
+    let mut found = others(graph, same, &[&SHARED[..], &APART].concat());
     found.extend(others(graph, cases, &PAIRED));
     found.extend(files(graph));
     found

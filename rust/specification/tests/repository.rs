@@ -159,10 +159,10 @@ fn a_word_for_two_things_is_found() {
     copy.plant("crates/order/specs/Order.antt", &text("planted"));
     copy.plant("crates/text/specs/Bytes.antt", &text("planted"));
     // a type of the code counts, and a file
-    copy.plant("crates/text/specs/Bytes.antt", &text("PlanReply"));
+    copy.plant("crates/text/specs/Bytes.antt", &text("Completed"));
     fs::write(copy.root.join("crates/text/specs/Order.antt"), "").expect("a file");
     let found = copy.read().twice();
-    assert!(found[0].starts_with("`PlanReply`: crates/calls/src/lib.rt:"));
+    assert!(found[0].starts_with("`Completed`: crates/redoing/src/lib.rt:"));
     assert!(found[1].starts_with("`planted`: crates/order/specs/Order.antt:"));
     let files = "crates/order/specs/Order.antt, crates/text/specs/Order.antt";
     assert_eq!(found[2..], [files]);

@@ -1,13 +1,6 @@
-use mathlib.Core.Path.{◌≡◌}
-use Prim.Native.Nat.{◌-◌, ◌≤◌}
-use lib.ListN.{length, take}
+use Rattle.std.proofs.Common.{take}
 use Rattle.blocks.specs.Merged.{ClosedRows}
 use Rattle.blocks.proofs.close_rows.Given as goal
 
-abbrev pub invariant-loop-i : goal.invariant-loop-i
-invariant-loop-i l =
-    (length l.square ≡ length l.initial.square) × (length l.list ≡ length l.initial.list) × (l.i ≤ length l.items)
-    × ClosedRows (take l.i l.items) l.lead l.initial.square l.square l.followers l.w
-
-abbrev pub decreases-loop-i : goal.decreases-loop-i
-decreases-loop-i l = length l.items - l.i
+abbrev pub invariant-loop-x : goal.invariant-loop-x
+invariant-loop-x l = ClosedRows (take l.x-index l.items) l.lead l.initial.square l.square l.followers l.w

@@ -3,8 +3,8 @@ use Rattle.blocks.proofs.finish.Goals as goal
 
 pub leave-requires : goal.leave-requires
 leave-requires c =
-    let i = c.smallest-least.ensures.is in record {
-      s_le_n = (omega (arith, c.requires.s_lt_n), c.requires.s_lt_n.1, c.requires.s_lt_n.2, omega (arith, c.type_inv.stack i.0, i.3));
+    record {
+      s_le_n = (omega (arith, c.requires.s_lt_n), c.requires.s_lt_n.1, c.requires.s_lt_n.2);
       by_index = c.requires.by_index;
       by_index_2 = c.requires.by_index_2;
     }

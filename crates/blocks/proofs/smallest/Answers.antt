@@ -1,20 +1,17 @@
-use mathlib.Core.Path.{◌≡◌, subst}
-use Prim.Native.Nat.{ℕ}
+use mathlib.Core.Path.{◌≡◌, refl, subst}
+use Prim.Native.Nat.{ℕ, ◌+◌, ◌-◌}
 use native.Mathlib.Omega.{arith}
-use native.Mathlib.Nat.{le_antisymm}
+use lib.ListN.{get_or}
 use Rattle.blocks.specs.Search.{Smallest}
-use Rattle.blocks.proofs.Parts.{smallest_one, smallest_turn}
+use Rattle.blocks.proofs.Parts.{LowerOf, smallest_turn, min_lower, part_at}
 use Rattle.blocks.proofs.smallest.Goals as goal
 
-pub loop-i-init : goal.loop-i-init
-loop-i-init c = (omega arith, omega (arith, c.requires), smallest_one _ _ _ c.widen-least.ensures)
-
-pub loop-i-preserved : goal.loop-i-preserved
-loop-i-preserved c =
-    let taken = c.loop-i-test.true in
-    (omega (arith, c.loop-i.invariant.0), omega (arith, taken), smallest_turn _ _ _ _ _ _ (omega (arith, c.loop-i.invariant.0)) c.loop-i.invariant.2 c.widen.ensures c.lower_of-least.ensures)
-
-pub returns : goal.returns
-returns c =
-    let e : c.loop-i.i ≡ c.args.n = le_antisymm c.loop-i.invariant.1 (omega (arith, c.loop-i-test.false)) in
-    subst (λ (k : ℕ). Smallest c.args.stack.now c.args.s k c.loop-i.least) e c.loop-i.invariant.2
+pub loop-x-preserved : goal.loop-x-preserved
+loop-x-preserved c =
+    let s = c.args.s in
+    let i = c.loop-x.x-index in
+    let stack = c.args.stack.now in
+    let part = part_at stack (s + 1) (c.args.n - (s + 1)) i c.loop-x-test.true in
+    let lower : LowerOf c.loop-x.least (get_or stack (s + 1 + i) 0) c.min-least.result = rw (c.min-least.ensures, part.0) (min_lower c.loop-x.least (get_or stack (s + 1 + i) 0)) in
+    let e : s + 1 + i + 1 ≡ s + 1 + (i + 1) = omega arith in
+    subst (λ (n : ℕ). Smallest stack s n c.min-least.result) e (smallest_turn stack s (s + 1 + i) c.loop-x.least _ c.min-least.result (omega arith) c.loop-x.invariant refl lower)

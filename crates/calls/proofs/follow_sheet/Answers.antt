@@ -11,21 +11,25 @@ use Rattle.calls.proofs.follow_sheet.Goals as goal
 pub arithmetic_of-own-requires : goal.arithmetic_of-own-requires
 arithmetic_of-own-requires c = c.requires.0.head
 
-pub slice_bounds-run_down-end-in-Fine : goal.slice_bounds-run_down-end-in-Fine
-slice_bounds-run_down-end-in-Fine c = sym (length-take-le (8 * c.args.n) c.follow_rows.new.table (omega (arith, c.requires.1, c.follow_rows.auto.table)))
+pub slice_bounds-sheet-end-in-Ok : goal.slice_bounds-sheet-end-in-Ok
+slice_bounds-sheet-end-in-Ok c = sym (length-take-le (8 * c.args.n) c.follow_rows.new.table (omega (arith, c.requires.1, c.follow_rows.auto.table)))
+
+pub invariant_of-sheet : goal.invariant_of-sheet
+invariant_of-sheet c = record {
+  accepted = (list_ready _ c.args.order.now (length c.args.table.now) _ c.requires.0 _ _ c.follow_rows.ensures c.in-Ok.is).0;
+}
 
 pub run_down-requires : goal.run_down-requires
 run_down-requires c =
-    let w = list_ready _ c.args.order.now (length c.args.table.now) _ c.requires.0 _ _ c.follow_rows.ensures c.in-Fine.is in
-    (w.0, omega arith, c.requires.2, w.1)
+    (c.requires.2, (list_ready _ c.args.order.now (length c.args.table.now) _ c.requires.0 _ _ c.follow_rows.ensures c.in-Ok.is).1)
 
-pub returns-in-Fine : goal.returns-in-Fine
-returns-in-Fine c =
+pub returns-in-Ok : goal.returns-in-Ok
+returns-in-Ok c =
     list_follows _ c.args.order.now (length c.args.table.now) _ c.requires.0 _ _ c.follow_rows.ensures c.arithmetic_of-own.ensures _ _
-    c.in-Fine.is c.run_down.ensures
+    c.in-Ok.is c.run_down.ensures
 
-pub returns-in-Refused : goal.returns-in-Refused
-returns-in-Refused c =
+pub returns-in-Err : goal.returns-in-Err
+returns-in-Err c =
     let zeroed = c.clear_both.ensures in
-    list_refused _ c.args.order.now (length c.args.table.now) _ c.requires.0 _ _ c.follow_rows.ensures _ _ _ _ _
-    c.in-Refused.is (zeroed.first_after ∙ ap zeros c.follow_rows.auto.table) zeroed.second_after
+    list_refused _ c.args.order.now (length c.args.table.now) _ c.requires.0 _ _ c.follow_rows.ensures _ _ _ _
+    c.in-Err.is (zeroed.first_after ∙ ap zeros c.follow_rows.auto.table) zeroed.second_after

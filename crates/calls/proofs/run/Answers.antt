@@ -6,15 +6,15 @@ use Rattle.calls.proofs.run.Goals as goal
 pub run_sheet-requires : goal.run_sheet-requires
 run_sheet-requires c =
     run_ready c.args.text.now (length c.args.table.now) (length c.args.plan.now) (length c.args.results.now) _
-    c.head_run.ensures _ c.in-Answered.is
+    c.head_run.ensures _ c.in-Ok.is
 
-pub returns-in-Answered : goal.returns-in-Answered
-returns-in-Answered c =
+pub returns-in-Ok : goal.returns-in-Ok
+returns-in-Ok c =
     run_answered c.args.text.now (length c.args.table.now) (length c.args.plan.now) (length c.args.results.now) _
-    c.head_run.ensures _ _ _ _ _ c.in-Answered.is c.run_sheet.ensures
+    c.head_run.ensures _ _ _ _ _ c.in-Ok.is c.run_sheet.ensures
 
-pub returns-in-Refused : goal.returns-in-Refused
-returns-in-Refused c =
+pub returns-in-Err : goal.returns-in-Err
+returns-in-Err c =
     let zeroed = c.clear_both.ensures in
     run_refused c.args.text.now (length c.args.table.now) (length c.args.plan.now) (length c.args.results.now) _
-    c.head_run.ensures _ _ _ _ _ c.in-Refused.is zeroed.first_after zeroed.second_after c.clear.ensures
+    c.head_run.ensures _ _ _ _ c.in-Err.is zeroed.first_after zeroed.second_after c.clear.ensures

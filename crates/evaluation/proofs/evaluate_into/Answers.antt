@@ -7,4 +7,4 @@ pub put_value-requires : goal.put_value-requires
 put_value-requires c = value_room c.requires
 
 pub returns : goal.returns
-returns c = c.put_value.ensures ∙ ap (λ v. store c.args.results.now c.args.label v) c.evaluate-v.ensures
+returns c = c.put_value.ensures ∙ ap (λ v. store c.args.results.now c.args.label v) c.evaluate-value.ensures

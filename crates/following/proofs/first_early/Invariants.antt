@@ -1,6 +1,6 @@
 use mathlib.Core.Path.{◌≡◌}
 use mathlib.Core.List.{[]}
-use Prim.Native.Nat.{◌-◌, ◌≤◌}
+use Prim.Native.Nat.{◌≤◌}
 use lib.ListN.{length, take}
 use Rattle.order.specs.Following.{labels_of, first_position}
 use Rattle.following.specs.Left.{Left, lacks, awaits}
@@ -12,6 +12,3 @@ invariant-loop-k l =
     (length l.left ≡ length l.initial.left) × (l.k ≤ length l.order) × Left l.initial.left l.w (take l.k (labels_of l.order)) l.left
     × (onward (lacks l.initial.left l.w) (labels_of l.order) l.k ≡ 0)
     × (onward (awaits l.square l.initial.left l.w) (labels_of l.order) l.k ≡ first_position (awaits l.square l.initial.left l.w) [] 1 (labels_of l.order))
-
-abbrev pub decreases-loop-k : goal.decreases-loop-k
-decreases-loop-k l = length l.order - l.k

@@ -1,17 +1,19 @@
-use native.Mathlib.Omega.{arith}
+use mathlib.Core.Path.{◌∙◌}
 use Rattle.following.proofs.Places.{place_wrong, place_past, place_full}
 use Rattle.following.proofs.listed_place.Goals as goal
 
-pub returns-then-p-ne0 : goal.returns-then-p-ne0
-returns-then-p-ne0 c = place_wrong _ _ c.requires.accepted _ c.mark_values.ensures c.args.order.now _ c.first_wrong-p.ensures.value c.if-p-ne0.true
+pub returns-in-Some : goal.returns-in-Some
+returns-in-Some c = place_wrong _ _ c.args.sheet.accepted _ c.mark_values.ensures c.args.order.now _ c.first_wrong.ensures.value _ c.in-Some.is
 
-pub returns-then-first_mark-w : goal.returns-then-first_mark-w
-returns-then-first_mark-w c =
-    let z = c.if-p-ne0.false in
-    place_past _ _ c.requires.accepted _ c.mark_values.ensures c.args.order.now _ c.first_wrong-p.ensures.value z _ (c.first_wrong-p.ensures.left z) _ c.first_mark.ensures c.if-first_mark-w.true
+pub returns-in_err-first_mark : goal.returns-in_err-first_mark
+returns-in_err-first_mark c =
+    let z = c.in_default.is in
+    c.from_residual.ensures
+    ∙ place_full _ _ c.args.sheet.accepted _ c.mark_values.ensures c.args.order.now _ c.first_wrong.ensures.value z
+    _ (c.first_wrong.ensures.left z) c.in_err-first_mark.ensures
 
 pub returns : goal.returns
 returns c =
-    let left = c.if-p-ne0.false in
-    place_full _ _ c.requires.accepted _ c.mark_values.ensures c.args.order.now _ c.first_wrong-p.ensures.value left
-    _ (c.first_wrong-p.ensures.left left) _ c.first_mark.ensures (omega (arith, c.if-first_mark-w.false))
+    let z = c.in_default.is in
+    place_past _ _ c.args.sheet.accepted _ c.mark_values.ensures c.args.order.now _ c.first_wrong.ensures.value z
+    _ (c.first_wrong.ensures.left z) _ c.in_ok-first_mark.ensures

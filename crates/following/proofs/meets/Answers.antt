@@ -8,9 +8,6 @@ use Rattle.order.proofs.Tests.{both_ways}
 use Rattle.following.proofs.Words.{apart_turn, meets_here, meets_none}
 use Rattle.following.proofs.meets.Goals as goal
 
-pub loop-j-init : goal.loop-j-init
-loop-j-init c = (omega arith, λ q h. absurd (omega arith))
-
 pub returns-then-square-a-ne0 : goal.returns-then-square-a-ne0
 returns-then-square-a-ne0 c =
     let args = c.args in

@@ -1,69 +1,46 @@
-use mathlib.Core.Path.{refl, sym, ◌∙◌, subst}
-use mathlib.Core.List.{List}
+use mathlib.Core.Path.{sym, ◌∙◌, subst}
 use Prim.Native.Nat.{ℕ, ◌≤◌}
 use native.Mathlib.Omega.{arith}
 use Rattle.order.specs.LabelLists.{◌∈◌}
-use lib.Seq.{take_all}
-use Rattle.order.proofs.Tests.{both_ways}
 use Rattle.order.proofs.Tables.{def_label}
 use Rattle.placing.proofs.Lists.{in_at}
-use Rattle.groups.specs.Members.{MaskedBy}
 use Rattle.groups.proofs.Orders.{mask_put, mask_skip}
 use Rattle.groups.proofs.mask_items.Goals as goal
-use Rattle.groups.proofs.mask_items.Goals.{After-widen-p, else-is_masked, then-is_masked}
+use Rattle.groups.proofs.mask_items.Goals.{After-from-p, else-is_masked, then-is_masked}
 
-module _ (c : After-widen-p) where
+module _ (c : After-from-p) where
   here :
-      c.widen-p.result ∈ c.args.items.now
+      c.from-p.result ∈ c.args.items.now
   here =
-      subst (λ (x : ℕ). x ∈ c.args.items.now) (sym c.widen-p.ensures) (in_at c.args.items.now c.loop-i.i c.loop-i-test.true)
+      subst (λ (x : ℕ). x ∈ c.args.items.now) (sym c.from-p.ensures) (in_at c.args.items.now c.loop-x.x-index c.loop-x-test.true)
 
   label :
-      (1 ≤ c.widen-p.result) × (c.widen-p.result ≤ c.args.n)
+      (1 ≤ c.from-p.result) × (c.from-p.result ≤ c.args.sheet.n)
   label =
-      def_label _ _ c.requires.accepted c.widen-p.result (c.requires.by_index.0 c.widen-p.result here)
-
-pub clear_marks-requires : goal.clear_marks-requires
-clear_marks-requires c = c.requires.by_index.1
-
-pub loop-i-init : goal.loop-i-init
-loop-i-init c = (refl, omega arith, λ p. (λ m. both_ways _ m (c.clear_marks.ensures p), λ y. absurd (omega (arith, y.0))))
+      def_label _ _ c.args.sheet.accepted c.from-p.result (c.requires.0 c.from-p.result here)
 
 pub is_masked-requires : goal.is_masked-requires
-is_masked-requires c = record {
-  accepted = c.requires.accepted;
-  le_p = label (goal.at.is_masked-requires c).After-widen-p;
-}
+is_masked-requires c = label (goal.at.is_masked-requires c).After-from-p
 
 pub put_mark-requires : goal.put_mark-requires
 put_mark-requires c =
-    let inv = c.loop-i.invariant in
-    (omega (arith, label (goal.at.put_mark-requires c).After-widen-p), omega (arith, c.requires.by_index.1, inv.0, c.clear_marks.auto.s))
+    let inv = c.loop-x.invariant in
+    (omega (arith, label (goal.at.put_mark-requires c).After-from-p), omega (arith, c.requires.1, inv.0, c.clear_marks.auto.s))
 
-pub loop-i-preserved : goal.loop-i-preserved
-loop-i-preserved c =
+pub loop-x-preserved : goal.loop-x-preserved
+loop-x-preserved c =
     let a = c.args in
-    let taken = c.loop-i-test.true in
-    let b = label (goal.at.loop-i-preserved c).After-widen-p in
+    let taken = c.loop-x-test.true in
+    let b = label (goal.at.loop-x-preserved c).After-from-p in
     elim c.if-is_masked.branch [
       | then-is_masked w ↦ rw w.mask-is (
-        w.put_mark.auto.s ∙ c.loop-i.invariant.0,
-        omega arith,
-        mask_put a.table.now a.n a.groups a.items.now c.loop-i.mask c.loop-i.i _ c.widen-p.ensures taken c.loop-i.invariant.2 (omega (arith, b))
+        w.put_mark.auto.s ∙ c.loop-x.invariant.0,
+        mask_put a.sheet.cells.now a.sheet.n a.groups a.items.now c.loop-x.mask c.loop-x.x-index _ c.from-p.ensures taken c.loop-x.invariant.1 (omega (arith, b))
             (sym c.is_masked.ensures ∙ w.if-is_masked.true) _ w.put_mark.ensures,
       )
       | else-is_masked w ↦ rw w.mask-is (
-        c.loop-i.invariant.0,
-        omega arith,
-        mask_skip a.table.now a.n a.groups a.items.now c.loop-i.mask c.loop-i.i _ c.widen-p.ensures taken c.loop-i.invariant.2
+        c.loop-x.invariant.0,
+        mask_skip a.sheet.cells.now a.sheet.n a.groups a.items.now c.loop-x.mask c.loop-x.x-index _ c.from-p.ensures taken c.loop-x.invariant.1
             (sym c.is_masked.ensures ∙ w.if-is_masked.false),
       )
     ]
-
-pub shape_of-mask : goal.shape_of-mask
-shape_of-mask c = c.loop-i.invariant.0 ∙ c.clear_marks.auto.s
-
-pub returns : goal.returns
-returns c =
-    let e = take_all c.loop-i.i c.args.items.now (omega (arith, c.loop-i-test.false)) in
-    subst (λ (k : List ℕ). MaskedBy c.args.table.now c.args.n c.args.groups k c.loop-i.mask) e c.loop-i.invariant.2

@@ -1,38 +1,18 @@
-use native.Mathlib.Omega.{arith}
+use Rattle.std.proofs.Common.{arith}
 use Rattle.groups.proofs.Orders.{fits, items_few, placed_needs}
 use Rattle.groups.proofs.place_items.Goals as goal
 
-pub mask_items-requires : goal.mask_items-requires
-mask_items-requires c =
-    let pre = c.requires in record {
-      accepted = pre.accepted;
-      by_index = (pre.items.defs, pre.scratch.masks);
-    }
-
-pub overflow_add-n : goal.overflow_add-n
-overflow_add-n c = omega (arith, c.requires.accepted.few)
-
-pub place-requires : goal.place-requires
-place-requires c =
+pub place-requires-clause-fits : goal.place-requires-clause-fits
+place-requires-clause-fits c =
     let p = c.requires in
-    let s = p.scratch in record {
-      fits = fits _ _ p.accepted _ p.items _ _ c.mask_items.ensures _ p.n_in_bounds.0 s.counts (omega (arith, s.masks, c.mask_items.auto.mask));
-      w_in_bounds = (s.readies, omega (arith, items_few _ _ p.accepted c.args.items.now p.items, s.orders));
-    }
+    fits _ _ c.args.sheet.accepted _ p.items _ _ c.mask_items.ensures _ p.n_in_bounds.0 p.scratch.counts (omega (arith, p.scratch.masks, c.mask_items.auto.mask))
 
-pub shape_of-mask : goal.shape_of-mask
-shape_of-mask c = c.mask_items.auto.mask
-
-pub shape_of-unmet : goal.shape_of-unmet
-shape_of-unmet c = c.place.auto.unmet
-
-pub shape_of-ready : goal.shape_of-ready
-shape_of-ready c = c.place.auto.ready
-
-pub shape_of-order : goal.shape_of-order
-shape_of-order c = c.place.auto.order
+pub place-requires-clause-w_in_bounds : goal.place-requires-clause-w_in_bounds
+place-requires-clause-w_in_bounds c =
+    let p = c.requires in
+    (p.scratch.readies, omega (arith, items_few _ _ c.args.sheet.accepted c.args.items.now p.items, p.scratch.orders))
 
 pub returns : goal.returns
 returns c =
     let p = c.requires in
-    placed_needs _ _ p.accepted _ p.items _ _ c.mask_items.ensures p.n_in_bounds.1 _ _ c.place.ensures
+    placed_needs _ _ c.args.sheet.accepted _ p.items _ _ c.mask_items.ensures p.n_in_bounds.1 _ _ c.place.ensures

@@ -1,27 +1,18 @@
-use mathlib.Core.Path.{◌≡◌, refl, ◌∙◌}
-use Prim.Native.Nat.{ℕ}
+use mathlib.Core.Path.{◌≡◌, ap, ◌∙◌}
+use mathlib.Core.List.{List}
+use Prim.Native.Nat.{ℕ, ◌<◌}
 use native.Mathlib.Omega.{arith}
-use lib.ListN.{get_or, set, length-set}
-use lib.Seq.{get_or-set_same, get_or-set_other}
-use borrow.Author.Count.{below_more}
+use borrow.Author.Rules.{rules}
+use lib.ListN.{length, get_or, take, drop, replicate, get_or-append}
+use lib.Seq.{length-take-le}
+use Rattle.std.proofs.lemmas.List.{get_or-replicate}
 use Rattle.marks.proofs.Squares.{marks_clear}
 use Rattle.marks.proofs.clear_marks.Goals as goal
 
-pub loop-j-init : goal.loop-j-init
-loop-j-init c = (refl, omega arith, λ i h. absurd (omega arith))
-
-pub loop-j-preserved : goal.loop-j-preserved
-loop-j-preserved c =
-    let r = c.loop-j.s in
-    let j = c.loop-j.j in (
-      length-set r j 0 ∙ c.loop-j.invariant.0,
-      omega (arith, c.loop-j-test.true),
-      below_more (λ (i : ℕ). get_or (set r j 0) i 0 ≡ 0) j (λ i h. get_or-set_other r j i 0 0 (λ z. omega arith) ∙ c.loop-j.invariant.2 i h)
-          (get_or-set_same r j 0 0 (omega (arith, c.loop-j-test.true, c.loop-j.invariant.0, c.requires))),
-    )
-
-pub shape_of-s : goal.shape_of-s
-shape_of-s c = c.loop-j.invariant.0
-
 pub returns : goal.returns
-returns c = marks_clear _ _ (λ i h. c.loop-j.invariant.2 i (omega (arith, c.loop-j-test.false)))
+returns c =
+    let n : length (take c.args.w c.args.s.now) ≡ c.args.w = length-take-le _ _ c.requires in
+    let e : c.fill.new.self ≡ replicate (length (take c.args.w c.args.s.now)) 0 = c.fill.ensures.after (search rules) in
+    marks_clear _ _ (λ i h.
+    let l : i < length c.fill.new.self = omega (arith, c.fill.ensures.len) in
+    get_or-append c.fill.new.self (drop c.args.w c.args.s.now) 0 i l ∙ ap (λ (l : List ℕ). get_or l i 0) e ∙ get_or-replicate _ i 0 0 (omega arith))

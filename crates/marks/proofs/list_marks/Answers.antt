@@ -1,36 +1,47 @@
-use mathlib.Core.Path.{◌≡◌, refl, ap, ◌∙◌}
+use mathlib.Core.Path.{◌≡◌, sym, ap, ◌∙◌, subst}
+use mathlib.Core.List.{List, [], ◌∷◌, ◌++◌, append_assoc, append-nil}
 use mathlib.Core.Bool.{◌&&◌}
-use Prim.Native.Nat.{ℕ, ◌*◌}
+use Prim.Native.Nat.{ℕ, ◌+◌, ◌*◌, ◌<◌}
 use native.Mathlib.Omega.{arith}
-use native.Mathlib.Nat.{le_antisymm}
-use lib.Dec.{ltb}
-use lib.ListN.{take}
-use Rattle.order.specs.LabelLists.{one}
-use Rattle.marks.specs.Marks.{mark}
-use Rattle.marks.proofs.Squares.{listing_none, listing_turn, listing_rising, listing_end}
+use native.Mathlib.Numerals.{add-one}
+use lib.ListN.{length, take, set}
+use lib.Seq.{take-suc-set}
+use Rattle.order.specs.LabelLists.{count, ◌∈◌}
+use Rattle.order.proofs.Tests.{and_left, one_in}
+use Rattle.order.proofs.Lists.{in_here, in_right}
+use Rattle.marks.specs.Marks.{mark, Rising}
+use Rattle.marks.specs.Walk.{marks_left}
+use Rattle.marks.proofs.Squares.{mark_in}
 use Rattle.marks.proofs.list_marks.Goals as goal
+use Rattle.marks.proofs.list_marks.Goals.{In-Some}
 
-pub loop-j-init : goal.loop-j-init
-loop-j-init c = (refl, omega arith, omega arith, listing_none _ _ _ _, tt)
+listed : (l : List ℕ) (m v : ℕ) (r : List ℕ) → m < length l → take (m + 1) (set l m v) ++ r ≡ take m l ++ v ∷ r
+listed l m v r h = rw (add-one, take-suc-set l m v) (append_assoc (take m l) (v ∷ []) r)
 
-pub loop-j-preserved : goal.loop-j-preserved
-loop-j-preserved c = (
-  c.list_word-m.auto.list ∙ c.loop-j.invariant.0,
-  omega arith,
-  omega (arith, c.list_word-m.ensures.1, c.loop-j.invariant.2),
-  listing_turn _ _ _ _ _ c.loop-j-test.true (take c.loop-j.m c.loop-j.list) _ c.loop-j.invariant.3 c.list_word-m.ensures.0,
-  listing_rising _ _ _ _ _ c.loop-j-test.true (take c.loop-j.m c.loop-j.list) _ c.loop-j.invariant.3 c.list_word-m.ensures.0 c.loop-j.invariant.4,
-)
+-- the mark at hand is one of the row's
+below : (c : In-Some) → c.in-Some.q < 64 * c.args.w
+below c =
+    let all = take c.loop-q.m c.loop-q.list in
+    let i : c.in-Some.q ∈ all ++ marks_left c.loop-q.q-iterator =
+    in_right c.in-Some.q all (marks_left c.loop-q.q-iterator) (subst (λ (l : List ℕ). c.in-Some.q ∈ l) (sym c.in-Some.ensures.steps) (in_here _ _)) in
+    let args = c.args in
+    let own = mark args.s.now args.w args.p c.in-Some.q in
+    let masked = mark args.mask.now args.w 0 c.in-Some.q in
+    mark_in _ _ _ _ (and_left own masked (one_in (own && masked) (omega (arith, i, c.loop-q.invariant.3 c.in-Some.q))))
 
-pub shape_of-list : goal.shape_of-list
-shape_of-list c = c.loop-j.invariant.0
+pub overflow_cast-list : goal.overflow_cast-list
+overflow_cast-list c = omega (arith, below (goal.at.overflow_cast-list c).In-Some)
+
+pub loop-q-preserved : goal.loop-q-preserved
+loop-q-preserved c =
+    let inv = c.loop-q.invariant in
+    let step = ap (λ (l : List ℕ). take c.loop-q.m c.loop-q.list ++ l) c.in-Some.ensures.steps in
+    let room : c.loop-q.m < length c.loop-q.list = omega (arith, ap length c.in-Some.ensures.steps, inv.2) in
+    let e = listed c.loop-q.list c.loop-q.m c.in-Some.q (marks_left c.next.new.self) room ∙ sym step in
+    (tt, tt, omega (arith, ap length c.in-Some.ensures.steps, inv.2), λ q. ap (count q) e ∙ inv.3 q, subst Rising (sym e) inv.4)
 
 pub returns : goal.returns
 returns c =
-    let args = c.args in
-    let e : c.loop-j.j ≡ args.w = le_antisymm c.loop-j.invariant.1 (omega arith) in (
-      λ q. c.loop-j.invariant.3 q ∙ ap (λ (j : ℕ). one (ltb q (64 * j) && mark args.s.now args.w args.p q && mark args.mask.now args.w 0 q)) e
-          ∙ listing_end args.s.now args.mask.now args.w args.p q,
-      omega (arith, c.loop-j.invariant.2),
-      c.loop-j.invariant.4,
-    )
+    let inv = c.loop-q.invariant in
+    let e = ap (λ (l : List ℕ). take c.loop-q.m c.loop-q.list ++ l) c.in-None.ensures.steps.0 ∙ append-nil (take c.loop-q.m c.loop-q.list) in
+    (λ q. ap (count q) (sym e) ∙ inv.3 q, omega (arith, inv.2), subst Rising e inv.4)

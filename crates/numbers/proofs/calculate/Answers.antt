@@ -4,42 +4,22 @@ use mathlib.Core.Bool.{false}
 use native.Mathlib.Omega.{arith}
 use mir.Facts.{to_z-of_z}
 use mir.Syntax.{w64}
-use mir.Val.{SFits, to_z, of_z}
-use borrow.Author.Rules.{sfits_of, rules}
-use Rattle.cells.proofs.Signed.{equal, unequal, nonzero_size}
+use mir.Val.{to_z, of_z}
+use borrow.Author.Rules.{sfits_of}
+use Rattle.cells.proofs.Signed.{equal, unequal}
 use Rattle.numbers.specs.Arithmetic.{ranged_of, divides_by_zero, result, calculated}
 use Rattle.kinds.specs.declared.Operation.{Operation}
 use Rattle.kinds.specs.declared.Operation.TheVariants.{Sum, Difference, Product, Quotient}
-use Rattle.numbers.specs.declared.Calculated.{Calculated}
-use Rattle.numbers.proofs.Operations.{arm_fits, arm_is, calculated_by}
+use Rattle.std.specs.Prelude.{ℤ, Result}
+use Rattle.numbers.specs.declared.Failure.{Failure}
+use Rattle.numbers.proofs.Operations.{arm_is, calculated_by}
 use Rattle.numbers.proofs.calculate.Goals as goal
 use Rattle.numbers.proofs.calculate.Goals.{Start}
 
-fits : (s : Start) (arm : Operation) → SFits w64 (result s.args.arithmetic arm (to_z w64 (of_z w64 s.args.a)) (to_z w64 (of_z w64 s.args.b)))
-fits s arm = arm_fits s.args.arithmetic arm s.args.a s.args.b s.ranges.a s.ranges.b s.requires.0 s.requires.1
-
-is : (s : Start) (arm : Operation) → divides_by_zero arm s.args.b ≡ false → {r : Calculated} → s.args.op ≡ arm
+is : (s : Start) (arm : Operation) → divides_by_zero arm s.args.b ≡ false → {r : Result ℤ Failure} → s.args.op ≡ arm
     → r ≡ ranged_of (to_z w64 (of_z w64 (result s.args.arithmetic arm (to_z w64 (of_z w64 s.args.a)) (to_z w64 (of_z w64 s.args.b)))))
     → r ≡ calculated s.args.arithmetic s.args.op s.args.a s.args.b
 is s arm q p e = arm_is s.args.arithmetic arm s.args.a s.args.b s.ranges.a s.ranges.b s.requires.0 s.requires.1 s.args.op p q e
-
-pub enum_told-1 : goal.enum_told-1
-enum_told-1 c = search rules
-
-pub overflow_add-a : goal.overflow_add-a
-unfolding result
-overflow_add-a c = fits (goal.at.overflow_add-a c).Start Sum
-
-pub overflow_sub-a : goal.overflow_sub-a
-unfolding result
-overflow_sub-a c = fits (goal.at.overflow_sub-a c).Start Difference
-
-pub overflow_mul-a : goal.overflow_mul-a
-unfolding result
-overflow_mul-a c = fits (goal.at.overflow_mul-a c).Start Product
-
-pub nearest-requires : goal.nearest-requires
-nearest-requires c = rw (to_z-of_z {w = w64} c.ranges.a, to_z-of_z {w = w64} c.ranges.b) (c.requires.0, c.requires.1, nonzero_size c.args.b (unequal c.args.b 0 c.if-b-eq0.false))
 
 pub returns-in-Sum : goal.returns-in-Sum
 unfolding result

@@ -1,42 +1,39 @@
-use mathlib.Core.Path.{◌≡◌, refl, sym, ◌∙◌, ap}
-use Prim.Native.Nat.{◌+◌}
+use mathlib.Core.Path.{◌≡◌, sym, ◌∙◌, ap}
+use Prim.Native.Nat.{◌+◌, ◌<◌}
 use mathlib.Core.List.{◌∷◌}
 use native.Mathlib.Omega.{arith}
-use lib.ListN.{get_or}
-use lib.Seq.{slice}
+use native.Mathlib.Numerals.{add-one}
+use lib.ListN.{length, get_or, drop, drop_of_length-le}
+use lib.Seq.{drop-cons}
 use Rattle.numbers.specs.Decimal.{digits_of}
-use Rattle.numbers.proofs.Decimals.{slice_next, slice_none, digit_is, digit_low, digit_high, digits_step, digits_bad, digits_over, digits_end}
+use Rattle.numbers.proofs.Decimals.{digits_step, digits_bad, digits_over, digits_end}
 use Rattle.numbers.proofs.digits.Goals as goal
-use Rattle.numbers.proofs.digits.Goals.{In-loop-i}
+use Rattle.numbers.proofs.digits.Goals.{In-loop-b}
 
--- in a turn, what is left to read begins with the byte at i
-turn : (c : In-loop-i)
-    → (let s = c.args in
-    digits_of s.max 0 (slice s.from s.to s.text.now)
-    ≡ digits_of s.max c.loop-i.v (get_or s.text.now c.loop-i.i 0 ∷ slice (c.loop-i.i + 1) s.to s.text.now))
+-- in a turn, what is left to read begins with the byte at hand
+turn : (c : In-loop-b) → (let s = c.args in
+    digits_of s.max 0 s.field.now ≡ digits_of s.max c.loop-b.v (get_or s.field.now c.loop-b.b-index 0 ∷ drop (c.loop-b.b-index + 1) s.field.now))
 turn c =
-    c.loop-i.invariant.2 ∙ ap (digits_of c.args.max c.loop-i.v) (slice_next c.loop-i.i c.args.to c.args.text.now c.loop-i-test.true c.requires.1)
+    let h : c.loop-b.b-index < length c.args.field.now = omega arith in
+    c.loop-b.invariant.1 ∙ ap (digits_of c.args.max c.loop-b.v) (rw (add-one, drop-cons c.args.field.now c.loop-b.b-index 0))
 
-pub loop-i-init : goal.loop-i-init
-loop-i-init c = (omega arith, omega arith, refl)
-
-pub returns-then-c-lt48 : goal.returns-then-c-lt48
-returns-then-c-lt48 c = sym (turn (goal.at.returns-then-c-lt48 c).In-loop-i ∙ digits_bad _ _ _ _ (digit_low _ c.if-c-lt48.true))
-
-pub returns-then-c-gt57 : goal.returns-then-c-gt57
-returns-then-c-gt57 c = sym (turn (goal.at.returns-then-c-gt57 c).In-loop-i ∙ digits_bad _ _ _ _ (digit_high _ c.if-c-gt57.true))
+pub returns-then-not-is_ascii_digit : goal.returns-then-not-is_ascii_digit
+returns-then-not-is_ascii_digit c =
+    sym (turn (goal.at.returns-then-not-is_ascii_digit c).In-loop-b ∙ digits_bad _ _ _ _ (sym c.is_ascii_digit.ensures.value ∙ c.if-not-is_ascii_digit.true))
 
 pub returns-then-max-v : goal.returns-then-max-v
 returns-then-max-v c =
-    let d = digit_is _ c.if-c-lt48.false c.if-c-gt57.false in
-    sym (turn (goal.at.returns-then-max-v c).In-loop-i ∙ digits_step _ _ _ _ d ∙ digits_over _ _ _ c.if-max-v.true)
+    sym (turn (goal.at.returns-then-max-v c).In-loop-b
+    ∙ digits_step _ _ _ _ (sym c.is_ascii_digit.ensures.value ∙ c.if-not-is_ascii_digit.false) ∙ digits_over _ _ _ (rw c.from.ensures at c.if-max-v.true))
 
-pub loop-i-preserved : goal.loop-i-preserved
-loop-i-preserved c =
-    let d = digit_is _ c.if-c-lt48.false c.if-c-gt57.false in
-    (omega arith, c.if-max-v.false, turn (goal.at.loop-i-preserved c).In-loop-i ∙ digits_step _ _ _ _ d)
+pub loop-b-preserved : goal.loop-b-preserved
+loop-b-preserved c = (
+  c.if-max-v.false,
+  rw c.from.ensures
+      (turn (goal.at.loop-b-preserved c).In-loop-b ∙ digits_step _ _ _ _ (sym c.is_ascii_digit.ensures.value ∙ c.if-not-is_ascii_digit.false)),
+)
 
 pub returns : goal.returns
 returns c =
-    let args = c.args in
-    sym (c.loop-i.invariant.2 ∙ ap (digits_of args.max c.loop-i.v) (slice_none c.loop-i.i args.to args.text.now (omega arith)) ∙ digits_end args.max c.loop-i.v c.loop-i.invariant.1)
+    let a = c.args in
+    sym (c.loop-b.invariant.1 ∙ ap (digits_of a.max c.loop-b.v) (drop_of_length-le a.field.now (omega arith)) ∙ digits_end a.max c.loop-b.v c.loop-b.invariant.0)

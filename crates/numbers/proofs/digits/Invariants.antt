@@ -1,11 +1,8 @@
 use mathlib.Core.Path.{◌≡◌}
-use Prim.Native.Nat.{◌≤◌, ◌-◌}
-use lib.Seq.{slice}
+use Prim.Native.Nat.{◌≤◌}
+use lib.ListN.{drop}
 use Rattle.numbers.specs.Decimal.{digits_of}
 use Rattle.numbers.proofs.digits.Given as goal
 
-abbrev pub invariant-loop-i : goal.invariant-loop-i
-invariant-loop-i l = (l.i ≤ l.to) × (l.v ≤ l.max) × (digits_of l.max 0 (slice l.from l.to l.text) ≡ digits_of l.max l.v (slice l.i l.to l.text))
-
-abbrev pub decreases-loop-i : goal.decreases-loop-i
-decreases-loop-i l = l.to - l.i
+abbrev pub invariant-loop-b : goal.invariant-loop-b
+invariant-loop-b l = (l.v ≤ l.max) × (digits_of l.max 0 l.field ≡ digits_of l.max l.v (drop l.b-index l.field))

@@ -1,57 +1,53 @@
-use Prim.Native.Nat.{◌+◌, ◌*◌, ◌≤◌, ◌<◌}
+use Rattle.std.proofs.Common.{rules}
+use Prim.Native.Nat.{◌≤◌, ◌<◌}
 use native.Mathlib.Omega.{arith}
 use lib.ListN.{length}
-use Rattle.reach.specs.MarkRows.{width}
-use Rattle.splitting.proofs.Ordering.{mergeable, leading, few_items, heads_items, heads_few, heads_fit, heads_placed, rows_after}
+use Rattle.splitting.proofs.Ordering.{mergeable, leading, few_items, heads_items, heads_fit, heads_placed, rows_after}
+use Rattle.opening.proofs.order_blocks.Given.{Over}
 use Rattle.opening.proofs.order_blocks.Goals as goal
+use Rattle.opening.proofs.order_blocks.Goals.{Start}
 
-pub merge_blocks-requires : goal.merge_blocks-requires
-merge_blocks-requires c =
-    let p = c.requires in record {
-      mergeable = mergeable _ _ p.accepted _ _ _ p.led_members _ p.n_in_bounds.0 p.n_in_bounds_2.0;
-      w_in_bounds = (p.n_in_bounds.1, p.n_in_bounds.3);
-    }
+leads : (g : Over) → (c : Start g) → c.args.sheet.n < length c.args.search.now.lead
+leads g c = omega (arith, c.requires.room.labels, c.args.search.now.labels.3)
+
+few : (g : Over) → (c : Start g) → length c.args.items.now ≤ c.args.sheet.n
+few g c = few_items c.args.sheet.cells.now c.args.sheet.n c.args.sheet.accepted c.args.group c.args.items.now c.args.search.now.lead c.requires.led_members
+
+pub merge_blocks-requires-clause-mergeable : goal.merge_blocks-requires-clause-mergeable
+merge_blocks-requires-clause-mergeable g c =
+    let p = c.requires in
+    mergeable _ _ c.args.sheet.accepted _ _ _ p.led_members _ (leads g (goal.at.merge_blocks-requires-clause-mergeable g c).Start) p.n_in_bounds.0
 
 pub gather_leaders-k-requires : goal.gather_leaders-k-requires
-gather_leaders-k-requires c =
+gather_leaders-k-requires g c =
     let p = c.requires in
-    let few = few_items c.args.table.now c.args.n p.accepted c.args.group c.args.items.now c.args.lead.now p.led_members in
-    (leading _ _ p.accepted _ _ _ p.led_members p.n_in_bounds.0, omega (arith, few, p.n_in_bounds.2))
+    let s = (goal.at.gather_leaders-k-requires g c).Start in
+    (leading _ _ c.args.sheet.accepted _ _ _ p.led_members (leads g s), omega (arith, few g s, p.room.labels, c.args.search.now.labels.2))
 
-pub slice_bounds-mask_items-end : goal.slice_bounds-mask_items-end
-slice_bounds-mask_items-end c =
+pub shared_whole_as_front-leaders : goal.shared_whole_as_front-leaders
+shared_whole_as_front-leaders g c =
     let p = c.requires in
-    let few = few_items c.args.table.now c.args.n p.accepted c.args.group c.args.items.now c.args.lead.now p.led_members in
-    omega (arith, few, p.n_in_bounds.2, c.gather_leaders-k.ensures.within, c.gather_leaders-k.auto.out)
+    let f = few g (goal.at.shared_whole_as_front-leaders g c).Start in
+    (omega (arith, f, p.room.labels, c.gather_leaders-k.ensures.within), search rules)
 
 pub mask_items-requires : goal.mask_items-requires
-mask_items-requires c =
-    let p = c.requires in record {
-      accepted = p.accepted;
-      by_index = ((heads_items _ _ p.accepted _ _ _ p.led_members _ _ c.gather_leaders-k.ensures).defs, p.scratch.masks);
-    }
-
-pub slice_bounds-place-end : goal.slice_bounds-place-end
-slice_bounds-place-end c =
+mask_items-requires g c =
     let p = c.requires in
-    let few = few_items c.args.table.now c.args.n p.accepted c.args.group c.args.items.now c.args.lead.now p.led_members in
-    omega (arith, few, p.n_in_bounds.2, c.gather_leaders-k.ensures.within, c.gather_leaders-k.auto.out)
+    ((heads_items _ _ c.args.sheet.accepted _ _ _ p.led_members _ _ c.gather_leaders-k.ensures).defs, omega (arith, p.room.words))
 
-pub place-requires : goal.place-requires
-place-requires c =
+pub place-requires-clause-fits : goal.place-requires-clause-fits
+place-requires-clause-fits g c =
     let p = c.requires in
-    let s = p.scratch in
-    let room : (c.args.n + 1) * width c.args.n ≤ length c.merge_blocks.new.square = omega (arith, p.n_in_bounds_2.0, c.merge_blocks.auto.square) in
-    let wide : width c.args.n ≤ length c.mask_items.new.mask = omega (arith, s.masks, c.mask_items.auto.mask) in
-    let few = heads_few c.args.table.now c.args.n p.accepted c.args.group c.args.items.now c.args.lead.now p.led_members _ _ c.gather_leaders-k.ensures in record {
-      fits = heads_fit _ _ p.accepted _ _ _ p.led_members _ _ c.gather_leaders-k.ensures _ _ _ c.mask_items.ensures room s.counts wide;
-      w_in_bounds = (s.readies, omega (arith, few, s.orders));
-    }
+    heads_fit _ _ c.args.sheet.accepted _ _ _ p.led_members _ _ c.gather_leaders-k.ensures _ _ _ c.mask_items.ensures
+    (omega (arith, p.n_in_bounds.0, c.merge_blocks.auto.square)) (omega (arith, p.room.labels)) (omega (arith, p.room.words, c.mask_items.auto.mask))
 
-pub returns : goal.returns
-returns c =
+pub returns-clause-gathered : goal.returns-clause-gathered
+returns-clause-gathered g c =
     let p = c.requires in
-    let room : c.args.n < length c.place.new.order = omega (arith, p.scratch.orders, c.place.auto.order) in record {
-      gathered = heads_placed _ _ p.accepted _ _ _ p.led_members _ _ _ c.merge_blocks.ensures p.n_in_bounds_2.1 _ _ _ _ _ c.gather_leaders-k.ensures c.mask_items.ensures room c.place.ensures;
-      need_rows_from = rows_after _ _ p.accepted _ _ _ p.led_members _ _ _ c.merge_blocks.ensures p.n_in_bounds_2.1;
-    }
+    heads_placed _ _ c.args.sheet.accepted _ _ _ p.led_members _ _ _ c.merge_blocks.ensures p.n_in_bounds.1 _ _ _ _ _ c.gather_leaders-k.ensures c.mask_items.ensures
+    (omega (arith, p.room.labels, c.place.auto.order)) c.place.ensures
+
+pub returns-clause-need_rows_from : goal.returns-clause-need_rows_from
+returns-clause-need_rows_from g c =
+    let p = c.requires in
+    rows_after _ _ c.args.sheet.accepted _ _ _ p.led_members _ _ _ c.merge_blocks.ensures p.n_in_bounds.1

@@ -42,16 +42,6 @@ bounds-starts-group-in-loop-group-2 c =
     let p = c.requires in
     omega (arith, p.0, c.loop-group.invariant.1.long)
 
-pub overflow_add-group : goal.overflow_add-group
-overflow_add-group c =
-    let p = c.requires in
-    omega (arith, p.0, c.loop-group.invariant.1.long)
-
-pub loop-group-smaller : goal.loop-group-smaller
-loop-group-smaller c =
-    let p = c.requires in
-    omega (arith, p.0, c.loop-group.invariant.1.long)
-
 pub loop-group-preserved : goal.loop-group-preserved
 loop-group-preserved c =
     let a = c.args in
@@ -63,3 +53,6 @@ shape_of-starts c = c.loop-group.invariant.1.long
 
 pub returns : goal.returns
 returns c = λ g h. c.loop-group.invariant.1.done g (omega arith)
+
+pub overflow_add-group-end : goal.overflow_add-group-end
+overflow_add-group-end c = record { fits = omega (arith, c.requires.0) }

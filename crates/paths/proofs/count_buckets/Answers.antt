@@ -12,8 +12,8 @@ count_label-requires c =
     let falls = p.1 c.loop-label.label h.low (omega arith) in
     (count_room _ _ h.counts (omega arith) falls, count_small _ _ h.counts (omega arith) falls p.0, h.low, omega (arith, p.3))
 
-pub overflow_add-label : goal.overflow_add-label
-overflow_add-label c =
+pub overflow_add-label-end : goal.overflow_add-label-end
+overflow_add-label-end c =
     let p = c.requires in
     omega (arith, p.0)
 

@@ -1,9 +1,5 @@
-use Prim.Native.Nat.{◌+◌, ◌-◌}
 use Rattle.paths.proofs.Allotting.{Counting}
 use Rattle.paths.proofs.count_buckets.Given as goal
 
 abbrev pub invariant-loop-label : goal.invariant-loop-label
 invariant-loop-label l = Counting l.table l.n l.initial.starts l.starts l.label
-
-abbrev pub decreases-loop-label : goal.decreases-loop-label
-decreases-loop-label l = l.n + 1 - l.label

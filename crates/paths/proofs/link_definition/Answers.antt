@@ -1,6 +1,8 @@
 -- What is found is the last with the name among those linked before it; then the definition is linked.
+use mathlib.Core.Path.{◌∙◌, ap}
 use Prim.Native.Nat.{◌+◌, ◌≤◌}
 use lib.ListN.{length}
+use Rattle.paths.specs.Buckets.{some_label}
 use Rattle.paths.proofs.Hashes.{hash_small}
 use Rattle.paths.proofs.Chains.{stretch, walkable, Own, own_read, own_group, own_found, own_room, own_linked}
 use native.Mathlib.Omega.{arith}
@@ -26,14 +28,17 @@ overflow_add-to c = omega (arith, inside (goal.at.overflow_add-to c).After-label
 pub hash_name-hash-requires : goal.hash_name-hash-requires
 hash_name-hash-requires c = (omega arith, inside (goal.at.hash_name-hash-requires c).After-label_cell)
 
+pub invariant_of-member_in : goal.invariant_of-member_in
+invariant_of-member_in c =
+    let p = c.requires in record { names = p.searchable.0.names; walks = λ g h. walkable p.searchable.0 p.searchable.1 p.le_label.0 g h }
+
 pub member_in-found-requires : goal.member_in-found-requires
 member_in-found-requires c =
     let p = c.requires in
     let o = own (goal.at.member_in-found-requires c).After-label_cell-group in
-    let group = own_group p.searchable.0 p.searchable.1 p.le_label.0 p.le_label.1 o in
-    let walks = walkable p.searchable.0 p.searchable.1 p.le_label.0 c.label_cell-group.result group in record {
-      walkable = (walks, rw o.hashed (hash_small _));
-      from_le_to = (omega arith, inside (goal.at.member_in-found-requires c).After-label_cell, p.searchable.0.names);
+    let group = own_group p.searchable.0 p.searchable.1 p.le_label.0 p.le_label.1 o in record {
+      in_table = (group, rw o.hashed (hash_small _));
+      in_text = (omega arith, inside (goal.at.member_in-found-requires c).After-label_cell);
     }
 
 pub bucket-requires : goal.bucket-requires
@@ -57,6 +62,6 @@ returns c =
     let r = p.searchable.0 in
     let h = p.searchable.1 in
     let linked = own_linked r h p.le_label.0 p.le_label.1 (own (goal.at.returns c).After-label_cell-group) p.le_label.2 c.bucket.ensures c.push.ensures in record {
-      value = own_found r h p.le_label.0 p.le_label.1 (own (goal.at.returns c).After-label_cell-group) c.member_in-found.ensures;
+      value = c.member_in-found.ensures ∙ ap some_label (own_found r h p.le_label.0 p.le_label.1 (own (goal.at.returns c).After-label_cell-group));
       linked_below = linked;
     }

@@ -7,21 +7,21 @@ pub link_definition-found-requires : goal.link_definition-found-requires
 link_definition-found-requires c =
     let p = c.requires in record { searchable = p.searchable; le_label = (p.le_label.0, p.le_label.1, sym c.is_definition.ensures ∙ c.if-is_definition.true) }
 
-pub returns-then-found-ne0 : goal.returns-then-found-ne0
-returns-then-found-ne0 c =
+pub returns-then-is_some : goal.returns-then-is_some
+returns-then-is_some c =
     let a = c.args in
     let d = sym c.is_definition.ensures ∙ c.if-is_definition.true in
     let linked = c.link_definition-found.ensures in record {
-      value = duplicate_some a.text.now a.table.now a.n a.label d linked.value c.if-found-ne0.true;
+      value = duplicate_some a.text.now a.table.now a.n a.label d linked.value (sym c.is_some.ensures ∙ c.if-is_some.true);
       linked_below = linked.linked_below;
     }
 
-pub returns-else-found-ne0 : goal.returns-else-found-ne0
-returns-else-found-ne0 c =
+pub returns-else-is_some : goal.returns-else-is_some
+returns-else-is_some c =
     let a = c.args in
     let d = sym c.is_definition.ensures ∙ c.if-is_definition.true in
     let linked = c.link_definition-found.ensures in record {
-      value = duplicate_none a.text.now a.table.now a.n a.label d linked.value c.if-found-ne0.false;
+      value = duplicate_none a.text.now a.table.now a.n a.label d linked.value (sym c.is_some.ensures ∙ c.if-is_some.false);
       linked_below = linked.linked_below;
     }
 

@@ -1,29 +1,19 @@
-use mathlib.Core.Path.{◌∙◌, sym}
-use Rattle.refusals.proofs.OrElse.{refused_first, or_next}
+use Rattle.refusals.proofs.OrElse.{or_next}
 use Rattle.paths.specs.Paths.{paths_bad}
-use Rattle.paths.proofs.Passes.{not_fine}
 use borrow.Author.Rules.{rules}
 use Rattle.paths.proofs.resolve.Goals as goal
 
-pub enum_told-1 : goal.enum_told-1
-enum_told-1 c = search rules
-
 pub resolve_heads-requires : goal.resolve_heads-requires
-resolve_heads-requires c =
-    let p = c.requires in
-    (p.0, c.link.ensures.all_linked c.in-Fine.is)
+resolve_heads-requires c = (c.requires.0, c.link.ensures.all_linked c.in_ok-link.was)
 
-pub returns-in-Fine : goal.returns-in-Fine
+pub returns-in_err-link-clause-value : goal.returns-in_err-link-clause-value
 unfolding paths_bad
-returns-in-Fine c =
+returns-in_err-link-clause-value c = search rules
+
+pub returns : goal.returns
+unfolding paths_bad
+returns c =
     let r = c.resolve_heads.ensures in record {
-      value = or_next _ _ _ _ c.link.ensures.value c.in-Fine.is r.value;
+      value = or_next _ _ _ _ c.link.ensures.value c.in_ok-link.was r.value;
       table_after = r.table_after;
     }
-
-pub returns-in-Refused : goal.returns-in-Refused
-unfolding paths_bad
-returns-in-Refused c = record {
-  value = refused_first _ _ c.in-Refused.row c.in-Refused.label (sym c.link.ensures.value ∙ c.in-Refused.is);
-  table_after = λ z. not_fine z;
-}

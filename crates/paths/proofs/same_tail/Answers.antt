@@ -21,10 +21,10 @@ loop-i-init c =
     compare_start a.text.now a.a a.b a.size c.requires.0 c.requires.1
 
 pub loop-i-preserved : goal.loop-i-preserved
-loop-i-preserved c = compare_turn c.loop-i.invariant 1 (omega arith) (one_compared (goal.at.loop-i-preserved c).After-same_but_case) c.if-same_but_case.true
+loop-i-preserved c = compare_turn c.loop-i.invariant 1 (omega arith) (one_compared (goal.at.loop-i-preserved c).After-same_but_case) c.if-not-same_but_case.false
 
-pub returns-else-same_but_case : goal.returns-else-same_but_case
-returns-else-same_but_case c = compare_miss c.loop-i.invariant 1 (omega arith) (one_compared (goal.at.returns-else-same_but_case c).After-same_but_case) c.if-same_but_case.false
+pub returns-then-not-same_but_case : goal.returns-then-not-same_but_case
+returns-then-not-same_but_case c = compare_miss c.loop-i.invariant 1 (omega arith) (one_compared (goal.at.returns-then-not-same_but_case c).After-same_but_case) c.if-not-same_but_case.true
 
 pub returns : goal.returns
 returns c = compare_done c.loop-i.invariant (omega arith)

@@ -1,68 +1,89 @@
 use mathlib.Core.Path.{◌≡◌, ◌∙◌}
+use Prim.Native.Nat.{◌≤◌}
+use borrow.Author.Rules.{rules}
+use Rattle.std.specs.Prelude.{Err}
 use Rattle.refusals.specs.Rows.{later_row}
-use Rattle.cells.specs.Table.{target}
 use Rattle.paths.specs.Paths.{target_cell, later_bad}
-use Rattle.paths.specs.TargetCells.{target_by}
+use Rattle.paths.specs.TargetCells.{head_cell, target_by}
+use Rattle.paths.proofs.SomeLabel.{or_found}
 use Rattle.paths.proofs.Alike.{rows_alike, linked_alike}
 use Rattle.paths.proofs.Passes.{settle_start, settle_size, settle_alike, settle_later, settle_all, settle_kept}
-use Rattle.paths.proofs.Passes.{settle_turn, settle_stop, pass_done, later_rule, head_cell_high, target_now, not_fine}
+use Rattle.paths.proofs.Passes.{settle_turn, settle_stop, pass_done, later_rule, head_cell_high, target_by_high, target_now}
 use native.Mathlib.Omega.{arith}
 use Rattle.paths.proofs.settle_targets.Goals as goal
-use Rattle.paths.proofs.settle_targets.Goals.{In-loop-label}
+use Rattle.paths.proofs.settle_targets.Goals.{After-label_cell-head}
 
--- what the head in the label's cell leads to is the target
-same : (c : In-loop-label) → let a = c.args in target_by a.text.now c.loop-label.table a.n c.loop-label.label (target c.loop-label.table c.loop-label.label)
-    ≡ target_cell a.text.now a.table.now a.n c.loop-label.label
+-- the head stands in the label's cell
+head : (c : After-label_cell-head) → let a = c.args in c.label_cell-head.result ≡ head_cell a.index.text.now a.table.now a.index.n c.loop-label.label
+head c =
+    let g = c.loop-label.invariant in
+    c.label_cell-head.ensures ∙ settle_later g ∙ c.requires.by_index c.loop-label.label g.pass.low (omega arith)
+
+head_high : (c : After-label_cell-head) → c.label_cell-head.result ≤ c.args.index.n
+head_high c =
+    let a = c.args in
+    omega (arith, head c, head_cell_high a.index.text.now a.table.now a.index.n c.loop-label.label)
+
+-- what it leads to is the target
+same : (c : After-label_cell-head) → let a = c.args in target_by a.index.text.now c.loop-label.table a.index.n c.loop-label.label c.label_cell-head.result
+    ≡ target_cell a.index.text.now a.table.now a.index.n c.loop-label.label
 same c =
     let a = c.args in
-    let g = c.loop-label.invariant in
-    let head = settle_later g ∙ c.requires.by_index c.loop-label.label g.pass.low (omega arith) in
-    target_now a.text.now a.table.now a.n c.loop-label.label c.loop-label.table (settle_alike g) head
+    target_now a.index.text.now a.table.now a.index.n c.loop-label.label c.loop-label.table (settle_alike c.loop-label.invariant) (head c)
+
+pub overflow_add-label-end : goal.overflow_add-label-end
+overflow_add-label-end c = omega (arith, c.requires.searchable.0.few)
 
 pub loop-label-init : goal.loop-label-init
 loop-label-init c =
     let a = c.args in
-    settle_start (later_bad a.text.now a.table.now a.n) (target_cell a.text.now a.table.now a.n) a.n a.table.now
+    settle_start (later_bad a.index.text.now a.table.now a.index.n) (target_cell a.index.text.now a.table.now a.index.n) a.index.n a.table.now
 
-pub settle_target-end-requires : goal.settle_target-end-requires
-settle_target-end-requires c =
+pub label_cell-head-requires : goal.label_cell-head-requires
+label_cell-head-requires c =
+    let g = c.loop-label.invariant in
+    (g.pass.low, omega (arith, settle_size g, c.requires.searchable.0.room), omega arith)
+
+pub invariant_of-target_at : goal.invariant_of-target_at
+invariant_of-target_at c =
     let a = c.args in
     let g = c.loop-label.invariant in
-    let al = settle_alike g in
-    let rows = rows_alike a.text.now a.table.now c.loop-label.table al a.n (settle_size g) c.requires.searchable.0 in
-    let head = settle_later g ∙ c.requires.by_index c.loop-label.label g.pass.low (omega arith) in
-    let high = head_cell_high a.text.now a.table.now a.n c.loop-label.label in record {
-      searchable = (rows, linked_alike a.text.now a.table.now c.loop-label.table al c.requires.searchable.1);
-      le_label = (g.pass.low, omega arith, omega (arith, head));
+    let al = settle_alike g in record {
+      rows = rows_alike a.index.text.now a.table.now c.loop-label.table al a.index.n (settle_size g) c.requires.searchable.0;
+      all = linked_alike a.index.text.now a.table.now c.loop-label.table al c.requires.searchable.1;
     }
 
-pub is_unresolved-requires : goal.is_unresolved-requires
-is_unresolved-requires c = (c.loop-label.invariant.pass.low, omega (arith, c.settle_target-end.auto.table, settle_size c.loop-label.invariant, c.requires.searchable.0.room))
+pub target_at-end-requires : goal.target_at-end-requires
+target_at-end-requires c = (c.loop-label.invariant.pass.low, omega arith, head_high (goal.at.target_at-end-requires c).After-label_cell-head)
 
-pub shape_of-table-then-is_unresolved : goal.shape_of-table-then-is_unresolved
-shape_of-table-then-is_unresolved c = settle_kept c.loop-label.invariant (same (goal.at.shape_of-table-then-is_unresolved c).In-loop-label) c.settle_target-end.ensures.table_after
-
-pub returns-then-is_unresolved : goal.returns-then-is_unresolved
-returns-then-is_unresolved c =
+pub settle-requires : goal.settle-requires
+settle-requires c =
     let a = c.args in
-    let h = c.settle_target-end.ensures in
-    let rule = later_rule a.text.now a.table.now a.n in
-    let stop = settle_stop c.loop-label.invariant (same (goal.at.returns-then-is_unresolved c).In-loop-label) h.table_after later_row rule h.value c.is_unresolved.ensures in record {
-      value = stop (omega arith) c.if-is_unresolved.true (λ z. omega arith);
-      table_after = λ z. not_fine z;
-    }
+    let r = c.requires.searchable.0 in
+    let high = target_by_high a.index.text.now c.loop-label.table a.index.n c.loop-label.label c.label_cell-head.result (head_high (goal.at.settle-requires c).After-label_cell-head) in
+    (c.loop-label.invariant.pass.low, omega (arith, settle_size c.loop-label.invariant, r.room), omega (arith, or_found c.target_at-end.ensures, r.few))
 
-pub overflow_add-label : goal.overflow_add-label
-overflow_add-label c =
-    let p = c.requires in
-    omega (arith, p.searchable.0.few)
+pub shape_of-table-in_err-settle : goal.shape_of-table-in_err-settle
+shape_of-table-in_err-settle c =
+    settle_kept c.loop-label.invariant (same (goal.at.shape_of-table-in_err-settle c).After-label_cell-head) c.target_at-end.ensures c.settle.ensures.table_after
+
+pub returns-in_err-settle-clause-value : goal.returns-in_err-settle-clause-value
+returns-in_err-settle-clause-value c =
+    let a = c.args in
+    let told : c.from_residual.result ≡ Err c.in_err-settle.field-0.0 = search rules in
+    let h = c.settle.ensures in
+    let rule = later_rule a.index.text.now a.table.now a.index.n in
+    let found = same (goal.at.returns-in_err-settle-clause-value c).After-label_cell-head in
+    let stop = settle_stop c.loop-label.invariant found c.target_at-end.ensures h.table_after later_row rule h.value (omega arith) in
+    told ∙ stop c.in_err-settle.was
 
 pub loop-label-preserved : goal.loop-label-preserved
 loop-label-preserved c =
     let a = c.args in
-    let h = c.settle_target-end.ensures in
-    let rule = later_rule a.text.now a.table.now a.n in
-    settle_turn c.loop-label.invariant (same (goal.at.loop-label-preserved c).In-loop-label) h.table_after later_row rule h.value c.is_unresolved.ensures (omega arith) c.if-is_unresolved.false
+    let h = c.settle.ensures in
+    let rule = later_rule a.index.text.now a.table.now a.index.n in
+    let found = same (goal.at.loop-label-preserved c).After-label_cell-head in
+    settle_turn c.loop-label.invariant found c.target_at-end.ensures h.table_after later_row rule h.value (omega arith) c.in_ok-settle.was
 
 pub shape_of-table : goal.shape_of-table
 shape_of-table c = settle_size c.loop-label.invariant

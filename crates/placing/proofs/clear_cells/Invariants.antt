@@ -1,11 +1,6 @@
-use mathlib.Core.Path.{◌≡◌}
-use Prim.Native.Nat.{ℕ, ◌-◌, ◌≤◌}
-use lib.ListN.{length, get_or, take}
+use Rattle.std.proofs.Common.{◌≡◌, ℕ, get_or, take}
 use Rattle.order.specs.LabelLists.{◌∈◌}
 use Rattle.placing.proofs.clear_cells.Given as goal
 
-abbrev pub invariant-loop-i : goal.invariant-loop-i
-invariant-loop-i l = (length l.cells ≡ length l.initial.cells) × (l.i ≤ length l.items) × ((p : ℕ) → p ∈ take l.i l.items → get_or l.cells p 0 ≡ 0)
-
-abbrev pub decreases-loop-i : goal.decreases-loop-i
-decreases-loop-i l = length l.items - l.i
+abbrev pub invariant-loop-x : goal.invariant-loop-x
+invariant-loop-x l = (p : ℕ) → p ∈ take l.x-index l.items → get_or l.cells p 0 ≡ 0

@@ -1,14 +1,10 @@
-use mathlib.Core.Path.{◌≡◌}
-use Prim.Native.Nat.{ℕ, ◌+◌, ◌^◌, ◌≤◌, ◌<◌}
-use lib.ListN.{length, get_or}
+use Rattle.std.proofs.Common.{◌≡◌, ℕ, ◌+◌, ◌≤◌, get_or}
 use Rattle.order.specs.LabelLists.{count}
-use Rattle.marks.specs.Marks.{places}
+use Rattle.marks.specs.Walk.{word_left}
 use Rattle.placing.proofs.raise_word.Given as goal
 
-abbrev pub invariant-loop-x : goal.invariant-loop-x
-invariant-loop-x l =
-    (length l.unmet ≡ length l.initial.unmet) × (l.x < 2 ^ 64) × ((p : ℕ) → count p (places 64 l.base l.x) ≤ count p (places 64 l.base l.word))
-    × ((p : ℕ) → get_or l.unmet p 0 + count p (places 64 l.base l.x) ≡ get_or l.initial.unmet p 0 + count p (places 64 l.base l.word))
-
-abbrev pub decreases-loop-x : goal.decreases-loop-x
-decreases-loop-x l = l.x
+abbrev pub invariant-loop-p : goal.invariant-loop-p
+invariant-loop-p l =
+    (goal.iterator-loop-p).can_next l.p-iterator × (goal.iterator-loop-p).is_finite l.p-iterator
+    × ((x : ℕ) → count x (word_left l.p-iterator) ≤ count x (word_left l.fn.word))
+    × ((x : ℕ) → get_or l.unmet x 0 + count x (word_left l.p-iterator) ≡ get_or l.initial.unmet x 0 + count x (word_left l.fn.word))

@@ -6,11 +6,11 @@ use lib.ListN.{length}
 use Rattle.reading.proofs.Named.{part_answered, part_refused}
 use Rattle.reading.proofs.name_part.Goals as goal
 
-pub returns-in-Answered : goal.returns-in-Answered
-returns-in-Answered c =
+pub returns-in-Ok : goal.returns-in-Ok
+returns-in-Ok c =
     let leaves = c.read.ensures in
-    part_answered c.args.text.now (length c.args.table.now) c.args.label _ _ _ _ (rw c.in-Answered.is at leaves)
-    (rw (to_z-of_z {w = w64} c.ranges.label) at c.label_in-l.ensures) c.cell_at.ensures c.cell_at-in-Answered.ensures
+    part_answered c.args.text.now (length c.args.table.now) c.args.label _ _ _ _ (rw c.in-Ok.is at leaves)
+    (rw (to_z-of_z {w = w64} c.ranges.label) at c.label_in-l.ensures) c.cell_at.ensures c.cell_at-in-Ok.ensures
 
-pub returns-in-Refused : goal.returns-in-Refused
-returns-in-Refused c = part_refused c.args.text.now (length c.args.table.now) c.args.label _ _ _ _ (rw c.in-Refused.is at c.read.ensures) refl refl
+pub returns-in-Err : goal.returns-in-Err
+returns-in-Err c = part_refused c.args.text.now (length c.args.table.now) c.args.label _ _ _ (rw c.in-Err.is at c.read.ensures) refl refl

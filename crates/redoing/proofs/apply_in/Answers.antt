@@ -1,23 +1,21 @@
 use native.Mathlib.Omega.{arith}
-use Rattle.reach.proofs.Scratch.{long, zero_at}
-use Rattle.redoing.proofs.Applied.{plan_few, plan_labels}
+use Rattle.cells.proofs.Scratch.{long}
+use Rattle.reach.proofs.Scratch.{zero_square}
+use Rattle.redoing.proofs.Applied.{standing_cut, plan_few, plan_labels}
+use Rattle.redoing.proofs.Windows.{none_at}
 use Rattle.redoing.proofs.apply_in.Goals as goal
 
-pub find_windows-requires : goal.find_windows-requires
-find_windows-requires c =
-    let pre = c.requires in
-    let st = pre.appliable.0 in
-    let few = st.accepted.few in record {
-      accepted = (st.accepted, pre.appliable.1);
-      count_le_n = (plan_few _ _ _ _ _ _ st, plan_labels _ _ _ _ _ _ st, omega (arith, pre.n_in_bounds.0, c.mark_pairs.auto.square));
-      n_in_bounds = (omega (arith, long 2050, few), zero_at 2050);
+pub mark_pairs-requires-clause-blank : goal.mark_pairs-requires-clause-blank
+mark_pairs-requires-clause-blank g c = (zero_square _ g.row.N c.requires.room).1
+
+pub invariant_of-marked : goal.invariant_of-marked
+invariant_of-marked g c =
+    let st = standing_cut _ _ _ _ _ _ c.requires.appliable.0 in record {
+      few = st.accepted.few;
+      rows = omega (arith, c.requires.room, long g.row.N, c.mark_pairs.auto.square);
+      short = plan_few _ _ _ _ _ st;
+      labels = plan_labels _ _ _ _ _ st;
     }
 
-pub apply-requires : goal.apply-requires
-apply-requires c =
-    let pre = c.requires in
-    let few = pre.appliable.0.accepted.few in record {
-      standing = pre.appliable;
-      n_in_bounds = (omega (arith, pre.n_in_bounds.0, c.mark_pairs.auto.square), c.mark_pairs.ensures);
-      n_in_bounds_2 = (omega (arith, long 2050, few, c.find_windows.auto.windows), c.find_windows.ensures);
-    }
+pub find_windows-requires-clause-blank : goal.find_windows-requires-clause-blank
+find_windows-requires-clause-blank g c = (omega (arith, c.requires.appliable.0.accepted.few), none_at 1025)

@@ -1,17 +1,11 @@
 use Prim.Native.Nat.{◌+◌}
 use native.Mathlib.Omega.{arith}
 use Rattle.evaluation.specs.Results.{stored}
-use Rattle.redoing.proofs.Sums.{failing_few, steps_few, counting_none, counting_next, counted}
+use Rattle.redoing.proofs.Sums.{failing_few, steps_few, counting_none, counting_next}
 use Rattle.redoing.proofs.tally.Goals as goal
 
 pub loop-l-init : goal.loop-l-init
 loop-l-init c = counting_none _ _
-
-pub overflow_add-l : goal.overflow_add-l
-overflow_add-l c = omega (arith, c.loop-l-test.true, c.requires.n_in_bounds.1)
-
-pub failed-failing-requires : goal.failed-failing-requires
-failed-failing-requires c = record { low = omega arith; room = omega (arith, c.loop-l-test.true, c.requires.n_in_bounds.0) }
 
 pub overflow_add-failing : goal.overflow_add-failing
 overflow_add-failing c =
@@ -23,12 +17,6 @@ overflow_add-failing c =
       failing_few (stored c.args.results.now) c.loop-l.l,
       c.failed-failing.ensures.1,
     )
-
-pub overflow_add-l-in-loop-l : goal.overflow_add-l-in-loop-l
-overflow_add-l-in-loop-l c = omega (arith, c.loop-l-test.true, c.requires.n_in_bounds.1)
-
-pub steps_of-steps-requires : goal.steps_of-steps-requires
-steps_of-steps-requires c = record { low = omega arith; room = omega (arith, c.loop-l-test.true, c.requires.n_in_bounds.0) }
 
 pub overflow_add-steps : goal.overflow_add-steps
 overflow_add-steps c =
@@ -42,14 +30,5 @@ overflow_add-steps c =
       c.requires.by_index (c.loop-l.l + 1),
     )
 
-pub overflow_add-l-in-loop-l-2 : goal.overflow_add-l-in-loop-l-2
-overflow_add-l-in-loop-l-2 c = omega (arith, c.loop-l-test.true, c.requires.n_in_bounds.1)
-
-pub loop-l-smaller : goal.loop-l-smaller
-loop-l-smaller c = omega (arith, c.loop-l-test.true)
-
 pub loop-l-preserved : goal.loop-l-preserved
 loop-l-preserved c = counting_next _ _ c.loop-l.invariant c.loop-l-test.true c.failed-failing.ensures.0 c.steps_of-steps.ensures
-
-pub returns : goal.returns
-returns c = counted _ _ c.loop-l.invariant c.loop-l-test.false c.requires.by_index

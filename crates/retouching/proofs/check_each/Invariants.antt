@@ -9,6 +9,3 @@ abbrev pub invariant-loop-k : goal.invariant-loop-k
 invariant-loop-k l =
     (1 ≤ l.k) × (l.k ≤ pair_count l.pairs + 1)
     × (first_bad (pair_bad l.table l.pairs) l.k (pair_count l.pairs + 1 - l.k) ≡ first_bad (pair_bad l.table l.pairs) 1 (pair_count l.pairs))
-
-abbrev pub decreases-loop-k : goal.decreases-loop-k
-decreases-loop-k l = pair_count l.pairs + 1 - l.k

@@ -1,17 +1,21 @@
-use mathlib.Core.Path.{◌∙◌}
-use Rattle.cells.proofs.Signed.{whole}
+use mathlib.Core.Path.{◌≡◌}
+use mir.Syntax.{w64}
+use mir.Val.{to_z, of_z}
+use Rattle.std.proofs.Common.{rules}
 use Rattle.retouching.proofs.Rows.{label_bad, number_fine, number_bad}
 use Rattle.retouching.proofs.check_pair.Goals as goal
 
-pub returns-then-cell_at-ne-NUMBER : goal.returns-then-cell_at-ne-NUMBER
-returns-then-cell_at-ne-NUMBER c = label_bad _ c.args.pairs.now c.args.k c.requires.0 c.nat_at-label.ensures c.cell_at.ensures c.if-cell_at-ne-NUMBER.true
+pub returns-then-not-is_number : goal.returns-then-not-is_number
+returns-then-not-is_number c = label_bad _ c.args.pairs.now c.args.k c.requires.0 c.pair_at-pair.ensures c.is_number.ensures c.if-not-is_number.true
 
 pub returns-then-in_range : goal.returns-then-in_range
 returns-then-in_range c =
-    number_fine _ c.args.pairs.now c.args.k c.requires.0 c.nat_at-label.ensures c.cell_at.ensures
-    (whole c.int_at.result c.int_at.type_inv ∙ c.int_at.ensures) c.in_range.ensures c.if-cell_at-ne-NUMBER.false c.if-in_range.true
+    let z = c.pair_at-pair.result.number in
+    let whole : to_z w64 (of_z w64 z) ≡ z = search rules in
+    number_fine _ c.args.pairs.now c.args.k c.requires.0 c.pair_at-pair.ensures c.is_number.ensures whole c.in_range.ensures c.if-not-is_number.false c.if-in_range.true
 
 pub returns : goal.returns
 returns c =
-    number_bad _ c.args.pairs.now c.args.k c.requires.0 c.nat_at-label.ensures c.cell_at.ensures
-    (whole c.int_at.result c.int_at.type_inv ∙ c.int_at.ensures) c.in_range.ensures c.if-cell_at-ne-NUMBER.false c.if-in_range.false
+    let z = c.pair_at-pair.result.number in
+    let whole : to_z w64 (of_z w64 z) ≡ z = search rules in
+    number_bad _ c.args.pairs.now c.args.k c.requires.0 c.pair_at-pair.ensures c.is_number.ensures whole c.in_range.ensures c.if-not-is_number.false c.if-in_range.false

@@ -1,49 +1,41 @@
 use native.Mathlib.Omega.{arith}
-use Prim.Native.Nat.{◌≤◌}
-use lib.ListN.{length}
-use Rattle.reach.specs.MarkRows.{width}
 use Rattle.order.specs.Order.{is_member_of, members}
+use Rattle.groups.specs.Members.{Gathered}
 use Rattle.groups.proofs.Chains.{labels_few}
 use Rattle.groups.proofs.Orders.{member_walk, member_items}
 use Rattle.splitting.proofs.Ordering.{find_asks, find_room, find_gives}
+use Rattle.splitting.proofs.find_leads.Given.{Over}
 use Rattle.splitting.proofs.find_leads.Goals as goal
+use Rattle.splitting.proofs.find_leads.Goals.{After-append_chain-m}
 
-pub append_chain-m-requires : goal.append_chain-m-requires
-append_chain-m-requires c =
-    let a = c.args in
-    let p = c.requires in record {
-      n_le_label_limit = (p.accepted.few, p.group_le_n.0.0, p.group_le_n.0.1, omega (arith, p.group_le_n.0.2));
-      walkable_chain = member_walk _ _ p.accepted a.group _ _ _ p.chain (omega (arith, p.group_le_n.0.2, labels_few (is_member_of a.table.now a.group) a.n));
-    }
+gathered : (g : Over) → (c : After-append_chain-m g) → Gathered (members c.args.sheet.cells.now c.args.sheet.n c.args.group) c.append_chain-m.new.items c.append_chain-m.result
+gathered g c = c.append_chain-m.ensures (members c.args.sheet.cells.now c.args.sheet.n c.args.group) c.requires.chain
 
-pub slice_bounds-mask_items-end : goal.slice_bounds-mask_items-end
-slice_bounds-mask_items-end c = (c.append_chain-m.ensures (members c.args.table.now c.args.n c.args.group) c.requires.chain).within
+pub append_chain-m-requires-clause-walkable_chain : goal.append_chain-m-requires-clause-walkable_chain
+append_chain-m-requires-clause-walkable_chain g c =
+    let p = c.requires in
+    member_walk _ _ c.args.sheet.accepted c.args.group _ _ _ p.chain (omega (arith, p.group_le_n.2, labels_few (is_member_of c.args.sheet.cells.now c.args.group) c.args.sheet.n))
 
 pub mask_items-requires : goal.mask_items-requires
-mask_items-requires c =
-    let a = c.args in
-    let p = c.requires in
-    let g = c.append_chain-m.ensures (members a.table.now a.n a.group) p.chain in record {
-      accepted = p.accepted;
-      by_index = ((member_items _ _ p.accepted _ _ _ g).defs, p.group_le_n.1.masks);
-    }
+mask_items-requires g c =
+    ((member_items _ _ c.args.sheet.accepted _ _ _ (gathered g (goal.at.mask_items-requires g c).After-append_chain-m)).defs, omega (arith, c.requires.room.words))
 
-pub slice_bounds-find_blocks-end : goal.slice_bounds-find_blocks-end
-slice_bounds-find_blocks-end c = (c.append_chain-m.ensures (members c.args.table.now c.args.n c.args.group) c.requires.chain).within
-
-pub find_blocks-requires : goal.find_blocks-requires
-find_blocks-requires c =
-    let a = c.args in
+pub find_blocks-requires-clause-in_rows : goal.find_blocks-requires-clause-in_rows
+find_blocks-requires-clause-in_rows g c =
     let p = c.requires in
-    let g = c.append_chain-m.ensures (members a.table.now a.n a.group) p.chain in
-    let wide : width a.n ≤ length c.mask_items.new.mask = omega (arith, p.group_le_n.1.masks, c.mask_items.auto.mask) in record {
-      in_rows = find_asks _ _ p.accepted _ _ _ g _ _ p.n_in_bounds.0 wide c.mask_items.ensures;
-      room = find_room _ _ p.accepted _ _ _ g _ _ _ _ _ _ _ _ _ p.group_le_n.1 p.search_room;
-    }
+    find_asks _ _ c.args.sheet.accepted _ _ _ (gathered g (goal.at.find_blocks-requires-clause-in_rows g c).After-append_chain-m) _ _ p.n_in_bounds.0
+    (omega (arith, p.room.words, c.mask_items.auto.mask)) c.mask_items.ensures
+
+pub find_blocks-requires-clause-room : goal.find_blocks-requires-clause-room
+find_blocks-requires-clause-room g c =
+    let p = c.requires in
+    let s = c.args.scratch.now.sizes in
+    let l = c.args.search.now.labels in
+    find_room _ _ c.args.sheet.accepted _ _ _ p.room _ _ _ _ _ _ _ s.3 c.args.search.now.rows l.1 s.0 s.1 l.2 l.3 _ _
+    (gathered g (goal.at.find_blocks-requires-clause-room g c).After-append_chain-m)
 
 pub returns : goal.returns
-returns c =
-    let a = c.args in
+returns g c =
     let p = c.requires in
-    let g = c.append_chain-m.ensures (members a.table.now a.n a.group) p.chain in
-    (g.within, find_gives _ _ p.accepted _ _ _ g _ _ _ p.n_in_bounds.1 c.mask_items.ensures c.find_blocks.ensures)
+    let k = gathered g (goal.at.returns g c).After-append_chain-m in
+    (k.within, find_gives _ _ c.args.sheet.accepted _ _ _ k _ _ _ p.n_in_bounds.1 c.mask_items.ensures c.find_blocks.ensures)

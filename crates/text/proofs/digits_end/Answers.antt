@@ -1,46 +1,21 @@
 -- What is left of the digits.
-use mathlib.Core.Path.{refl}
+use mathlib.Core.Path.{◌≡◌, sym, ap, ◌∙◌}
+use Prim.Native.Nat.{◌+◌}
 use native.Mathlib.Omega.{arith}
-use Rattle.numbers.proofs.Decimals.{digit_is}
-use Rattle.text.proofs.Scanned.{digits_start, digits_turn, digits_done}
+use Rattle.numbers.specs.Decimal.{is_digit}
+use Rattle.text.proofs.Scanned.{byte_behind, digits_turn, digits_done}
 use Rattle.text.proofs.digits_end.Goals as goal
 
-pub loop-from-init : goal.loop-from-init
-loop-from-init c = digits_start c.args.max c.args.text.now c.args.from c.requires.0
+pub loop-size-preserved : goal.loop-size-preserved
+loop-size-preserved c =
+    let s = c.args.text.now in
+    let i = c.args.from + c.loop-size.size in
+    let e : c.args.from + (c.loop-size.size + 1) ≡ i + 1 = omega arith in
+    let b = byte_behind s c.args.from c.loop-size.size c.loop-size.invariant.inside in
+    rw (e, c.from.ensures, b)
+    (digits_turn c.args.max s c.args.from i c.loop-size.value c.loop-size.invariant c.requires.1
+    (ap is_digit (sym b) ∙ sym c.is_ascii_digit.ensures.value ∙ c.if-not-is_ascii_digit.false) (rw (c.from.ensures, b) at c.if-max-value.false))
 
-pub bounds-text-i : goal.bounds-text-i
-bounds-text-i c = c.loop-from.invariant.inside
-
-pub returns-then-c-lt48 : goal.returns-then-c-lt48
-returns-then-c-lt48 c =
-    let args = c.args in record {
-      value_le_max = c.loop-from.invariant.most;
-      digits_to = λ h. digits_done args.max args.text.now args.from c.loop-from.i c.loop-from.v c.loop-from.invariant;
-    }
-
-pub returns-then-c-gt57 : goal.returns-then-c-gt57
-returns-then-c-gt57 c =
-    let args = c.args in record {
-      value_le_max = c.loop-from.invariant.most;
-      digits_to = λ h. digits_done args.max args.text.now args.from c.loop-from.i c.loop-from.v c.loop-from.invariant;
-    }
-
-pub overflow_mul-more : goal.overflow_mul-more
-overflow_mul-more c = omega (arith, c.loop-from.invariant.most)
-
-pub overflow_add-more : goal.overflow_add-more
-overflow_add-more c = omega (arith, c.loop-from.invariant.most)
-
-pub returns-then-max-more : goal.returns-then-max-more
-returns-then-max-more c = record {
-  value_le_max = omega arith;
-  digits_to = λ h. absurd (h refl);
-}
-
-pub loop-from-smaller : goal.loop-from-smaller
-loop-from-smaller c = omega (arith, c.loop-from.invariant.inside)
-
-pub loop-from-preserved : goal.loop-from-preserved
-loop-from-preserved c =
-    digits_turn c.args.max c.args.text.now c.args.from c.loop-from.i c.loop-from.v c.loop-from.invariant c.requires.1
-    (digit_is _ c.if-c-lt48.false c.if-c-gt57.false) c.if-max-more.false
+pub returns-then-not-is_ascii_digit : goal.returns-then-not-is_ascii_digit
+returns-then-not-is_ascii_digit c =
+    (c.loop-size.invariant.most, digits_done c.args.max c.args.text.now c.args.from (c.args.from + c.loop-size.size) c.loop-size.value c.loop-size.invariant)

@@ -1,69 +1,32 @@
--- The names from `at` on are what is left of the path's names, and `names` counts those before with the one that begins at `at`.
-use mathlib.Core.Path.{◌∙◌, sym, ap, ◌≡◌}
+-- The pieces between dots are counted, and each is asked for a name.
+use mathlib.Core.Path.{◌≡◌}
 use native.Mathlib.Omega.{arith}
-use lib.Dec.{leb}
-use lib.ListN.{get_or, length}
-use lib.Seq.{slice}
-use Rattle.cells.specs.Limits.{path_limit}
+use lib.Dec.{eqb}
+use borrow.Author.Tests.{lt-leb}
+use lib.ListN.{length}
+use Rattle.std.specs.List.{slice_split}
+use Rattle.std.proofs.Common.{rules, tests}
+use Rattle.std.proofs.lemmas.Iterator.Consumers.{count_from_yields_List}
+use Rattle.std.proofs.lemmas.Iterator.Search.{all_from_yields_List}
+use Rattle.std.proofs.lemmas.Iterator.Splits.{YieldsList-from_slice_split}
 use Rattle.cells.specs.Characters.{dot}
-use Rattle.text.proofs.Slices.{slice_none}
-use Rattle.text.proofs.Names.{path_fails, path_last, path_last_name, path_inside, path_other, Named, path_step, path_false, path_by, path_empty}
-use Rattle.text.specs.Pieces.{cut}
+use Rattle.text.specs.Forms.{is_name}
+use Rattle.text.proofs.Names.{path_by, path_long}
 use Rattle.text.proofs.is_path.Goals as goal
-use Rattle.text.proofs.is_path.Goals.{Else-text-end-ne46}
+use Rattle.text.proofs.is_path.Goals.{After-count}
 
-pub returns-then-end-to : goal.returns-then-end-to
-returns-then-end-to c =
-    let a = c.args in
-    let e = sym c.name_end-end.ensures ∙ c.if-end-to.true in
-    let q : c.loop-at.names ≡ length (cut dot (slice a.from a.to a.text.now)) = omega (arith, ap length (path_last a.text.now c.loop-at.at a.to (omega arith) (omega arith) e)) in
-    ap (λ m. leb m path_limit) q ∙ sym (path_by (slice a.from a.to a.text.now) (sym c.loop-at.invariant.4 ∙ path_last_name a.text.now c.loop-at.at a.to (omega arith) (omega arith) e))
+pieces : (c : After-count) → c.count.result ≡ length (slice_split (λ x. eqb x dot) c.args.field.now)
+pieces c =
+    let s = c.split.ensures in
+    count_from_yields_List _ _ c.count.ensures.ran (YieldsList-from_slice_split _ (λ x. eqb x dot) c.args.field.now s.rest s.done s.closure (λ x b q k. search (rules, tests)))
 
-pub returns-then-end-eq0 : goal.returns-then-end-eq0
-returns-then-end-eq0 c =
-    let a = c.args in
-    path_false (slice a.from a.to a.text.now) (sym c.loop-at.invariant.4
-    ∙ path_fails a.text.now c.loop-at.at a.to (omega arith) (omega arith) (sym c.name_end-end.ensures ∙ c.if-end-eq0.true))
+pub returns-then-count-le-PATH_LIMIT : goal.returns-then-count-le-PATH_LIMIT
+returns-then-count-le-PATH_LIMIT c =
+    let f = c.args.field.now in
+    let t = c.split-then-count-le-PATH_LIMIT.ensures in
+    path_by f (omega (arith, pieces (goal.at.returns-then-count-le-PATH_LIMIT c).After-count))
+    (all_from_yields_List is_name _ _ _ c.all.ensures.ran (YieldsList-from_slice_split _ (λ x. eqb x dot) f t.rest t.done t.closure (λ x b q k. search (rules, tests)))
+    (λ x b q k. search (rules, tests)))
 
-pub bounds-text-end : goal.bounds-text-end
-bounds-text-end c =
-    let a = c.args in
-    let e = c.name_end-end.ensures in
-    omega (arith, e, path_inside a.text.now c.loop-at.at a.to (omega arith) (omega arith) (λ q. c.if-end-to.false (e ∙ q)) (λ q. c.if-end-eq0.false (e ∙ q)))
-
-pub returns-then-text-end-ne46 : goal.returns-then-text-end-ne46
-returns-then-text-end-ne46 c =
-    let a = c.args in
-    let e = c.name_end-end.ensures in
-    path_false (slice a.from a.to a.text.now)
-    (sym c.loop-at.invariant.4 ∙ path_other a.text.now c.loop-at.at a.to (omega arith) (omega arith) (λ q. c.if-end-to.false (e ∙ q)) (λ q. c.if-end-eq0.false (e ∙ q))
-    (λ q. c.if-text-end-ne46.true (ap (λ n. get_or a.text.now n 0) e ∙ q)))
-
--- one name more, which a dot ends
-stepped : (c : Else-text-end-ne46) →
-    Named c.args.text.now c.loop-at.at c.args.to c.name_end-end.result
-stepped c =
-    path_step c.args.text.now c.loop-at.at c.args.to (omega arith) (omega arith)
-    c.name_end-end.result c.name_end-end.ensures c.if-end-to.false c.if-end-eq0.false c.if-text-end-ne46.false
-
-pub overflow_add-at : goal.overflow_add-at
-overflow_add-at c = omega (arith, (stepped (goal.at.overflow_add-at c).Else-text-end-ne46).inside)
-
-pub loop-at-smaller : goal.loop-at-smaller
-loop-at-smaller c = omega (arith, (stepped (goal.at.loop-at-smaller c).Else-text-end-ne46).wide, (stepped (goal.at.loop-at-smaller c).Else-text-end-ne46).inside)
-
-pub loop-at-preserved : goal.loop-at-preserved
-loop-at-preserved c =
-    let inv = c.loop-at.invariant in
-    let n = stepped (goal.at.loop-at-preserved c).Else-text-end-ne46 in (
-      omega (arith, n.wide),
-      omega (arith, n.inside),
-      omega (arith, n.wide),
-      omega (arith, n.fewer),
-      sym n.names ∙ inv.4,
-    )
-
-pub returns : goal.returns
-returns c =
-    let a = c.args in
-    path_false (slice a.from a.to a.text.now) (sym c.loop-at.invariant.4 ∙ (rw (slice_none a.text.now c.loop-at.at a.to (omega arith)) path_empty))
+pub returns-else-count-le-PATH_LIMIT : goal.returns-else-count-le-PATH_LIMIT
+returns-else-count-le-PATH_LIMIT c = rw (lt-leb _ _ c.if-count-le-PATH_LIMIT.false) (path_long c.args.field.now (omega (arith, pieces (goal.at.returns-else-count-le-PATH_LIMIT c).After-count)))

@@ -1,18 +1,26 @@
--- Each answer by the tests that led to it.
-use mathlib.Core.Path.{refl, sym, ◌∙◌}
-use Rattle.text.proofs.Scanned.{name_to}
+-- What is left of the letters and digits, after the letter that they begin with.
+use mathlib.Core.Path.{◌≡◌, sym, ◌∙◌}
+use Prim.Native.Nat.{◌+◌}
+use native.Mathlib.Omega.{arith}
+use Rattle.text.proofs.Names.{letter_is, alphanumeric_is}
+use Rattle.text.proofs.Scanned.{letters_first, letters_turn, letters_done, name_to}
 use Rattle.text.proofs.next_name.Goals as goal
 
-pub overflow_sub-end : goal.overflow_sub-end
-overflow_sub-end c = c.letters_end-end.ensures.low
+pub loop-size-init : goal.loop-size-init
+loop-size-init c =
+    letters_first c.args.text.now c.args.from c.requires.0 c.requires.1 (sym (letter_is _) ∙ sym c.is_ascii_alphabetic.ensures.value ∙ c.if-not-is_ascii_alphabetic.false)
 
-pub returns-then-end-from-gt-NAME_LIMIT : goal.returns-then-end-from-gt-NAME_LIMIT
-returns-then-end-from-gt-NAME_LIMIT c = λ h. absurd (h refl)
+pub loop-size-preserved : goal.loop-size-preserved
+loop-size-preserved c =
+    let i = c.args.from + c.loop-size.size in
+    let e : c.args.from + (c.loop-size.size + 1) ≡ i + 1 = omega arith in
+    rw e (letters_turn c.args.text.now c.args.from i c.loop-size.invariant c.requires.1
+    (sym (alphanumeric_is _) ∙ sym c.is_ascii_alphanumeric.ensures.value ∙ c.if-not-is_ascii_alphanumeric.false))
 
-pub returns-then-is_letter : goal.returns-then-is_letter
-returns-then-is_letter c =
-    λ h. name_to c.args.text.now c.args.from c.letters_end-end.result c.requires.0
-    (sym c.is_letter.ensures ∙ c.if-is_letter.true) c.letters_end-end.ensures c.if-end-from-gt-NAME_LIMIT.false
-
-pub returns : goal.returns
-returns c = λ h. absurd (h refl)
+pub returns-then-not-is_ascii_alphanumeric : goal.returns-then-not-is_ascii_alphanumeric
+returns-then-not-is_ascii_alphanumeric c =
+    name_to c.args.text.now c.args.from (c.args.from + c.loop-size.size) c.requires.0
+    (sym (letter_is _) ∙ sym c.is_ascii_alphabetic.ensures.value ∙ c.if-not-is_ascii_alphabetic.false)
+    (letters_done c.args.text.now c.args.from (c.args.from + c.loop-size.size) c.loop-size.invariant
+    (sym (alphanumeric_is _) ∙ sym c.is_ascii_alphanumeric.ensures.value ∙ c.if-not-is_ascii_alphanumeric.true))
+    (omega arith)

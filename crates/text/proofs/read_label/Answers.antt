@@ -1,22 +1,16 @@
--- Each answer by what the decimal is.
-use mathlib.Core.Path.{◌≡◌, refl, ◌∙◌, sym}
-use Prim.Native.Nat.{ℕ, zero, suc}
-use Rattle.numbers.specs.declared.Decimal.TheVariants.{Is}
-use Rattle.text.specs.Forms.{from_one, label_of}
+use mathlib.Core.Path.{sym, ◌∙◌, ap}
+use mathlib.Core.Logic.{inl, inr}
+use native.Mathlib.Omega.{arith}
+use Rattle.std.specs.Prelude.{ℕ, Some}
+use Rattle.text.proofs.Labels.{label_is, label_none}
 use Rattle.text.proofs.read_label.Goals as goal
 
-from_one_lem : (v : ℕ) → (v ≡ 0 → ⊥) → Is v ≡ from_one (Is v)
-from_one_lem zero f = absurd (f refl)
-from_one_lem (suc v) f = refl
-
-pub returns-in_default : goal.returns-in_default
-unfolding label_of
-returns-in_default c = rw (sym c.read_decimal.ensures ∙ c.in_default.is)
+pub returns-in_err-v : goal.returns-in_err-v
+returns-in_err-v c = c.from_residual.ensures ∙ sym (label_none c.args.n c.args.field.now (inl (sym c.read_decimal.ensures ∙ c.in_err-v.was)))
 
 pub returns-then-v-eq0 : goal.returns-then-v-eq0
-unfolding label_of
-returns-then-v-eq0 c = rw (sym c.read_decimal.ensures ∙ c.in-Is.is, c.if-v-eq0.true)
+returns-then-v-eq0 c =
+    sym (label_none c.args.n c.args.field.now (inr (sym c.read_decimal.ensures ∙ c.in_ok-v.was ∙ ap (λ (v : ℕ). Some v) c.if-v-eq0.true)))
 
 pub returns : goal.returns
-unfolding label_of
-returns c = rw (sym c.read_decimal.ensures ∙ c.in-Is.is) (from_one_lem c.in-Is.v c.if-v-eq0.false)
+returns c = sym (label_is c.args.n c.args.field.now c.in_ok-v.v (sym c.read_decimal.ensures ∙ c.in_ok-v.was) (omega arith))

@@ -1,50 +1,26 @@
 -- What is counted so far, and what is left to count, make the whole count.
+use mathlib.Core.Path.{ap, ◌∙◌}
 use native.Mathlib.Omega.{arith}
-use lib.ListN.{length}
-use Rattle.text.specs.Bytes.{is_newline}
+use lib.ListN.{length, length-append}
+use Rattle.std.specs.Slice.Iter.{chunks_rest}
+use Rattle.text.specs.Bytes.{count_by, is_newline}
 use Rattle.text.specs.Scans.{is_bad}
-use Rattle.text.proofs.Bytes.{count_end}
+use Rattle.text.proofs.Bytes.{count_append, count_most}
 use Rattle.text.proofs.survey.Goals as goal
 
-pub survey_block-block-requires : goal.survey_block-block-requires
-survey_block-block-requires c = (omega arith, omega arith, omega arith)
-
-pub overflow_cast-bad : goal.overflow_cast-bad
-overflow_cast-bad c = record { fits = omega (arith, c.survey_block-block.ensures.0.few) }
-
-pub overflow_add-bad : goal.overflow_add-bad
-overflow_add-bad c = record { fits = omega (arith, c.survey_block-block.ensures.0.few) }
-
-pub overflow_cast-lines : goal.overflow_cast-lines
-overflow_cast-lines c = record { fits = omega (arith, c.survey_block-block.ensures.1.few) }
-
-pub overflow_add-lines : goal.overflow_add-lines
-overflow_add-lines c = record { fits = omega (arith, c.survey_block-block.ensures.1.few) }
-
-pub loop-i-preserved : goal.loop-i-preserved
-loop-i-preserved c =
-    let bad = c.survey_block-block.ensures.0 in
-    let lines = c.survey_block-block.ensures.1 in
-    (omega arith, omega (arith, bad.few), omega (arith, lines.few), omega (arith, bad.more), omega (arith, lines.more))
-
-pub survey_block-rest-requires : goal.survey_block-rest-requires
-survey_block-rest-requires c = (omega arith, omega arith, omega arith)
-
-pub overflow_cast-bad-2 : goal.overflow_cast-bad-2
-overflow_cast-bad-2 c = record { fits = omega (arith, c.survey_block-rest.ensures.0.few) }
-
-pub overflow_add-bad-2 : goal.overflow_add-bad-2
-overflow_add-bad-2 c = record { fits = omega (arith, c.survey_block-rest.ensures.0.few) }
-
-pub overflow_cast-lines-2 : goal.overflow_cast-lines-2
-overflow_cast-lines-2 c = record { fits = omega (arith, c.survey_block-rest.ensures.1.few) }
-
-pub overflow_add-lines-2 : goal.overflow_add-lines-2
-overflow_add-lines-2 c = record { fits = omega (arith, c.survey_block-rest.ensures.1.few) }
-
-pub returns : goal.returns
-returns c =
-    let s = c.args.text.now in
-    let bad = c.survey_block-rest.ensures.0 in
-    let lines = c.survey_block-rest.ensures.1 in
-    (omega (arith, bad.more, count_end is_bad s (length s) (omega arith)), omega (arith, lines.more, count_end is_newline s (length s) (omega arith)))
+pub loop-block-preserved : goal.loop-block-preserved
+loop-block-preserved c =
+    let block = c.in-Some.block.now in
+    let rest = chunks_rest c.next.new.self in
+    let step = c.in-Some.ensures.steps in
+    let counts = c.survey_block-block.ensures in
+    let size = ap length step.1.0 ∙ length-append block rest in
+    let bad = ap (count_by is_bad) step.1.0 ∙ count_append is_bad block rest in
+    let lines = ap (count_by is_newline) step.1.0 ∙ count_append is_newline block rest in
+    record {
+      size = step.0 ∙ c.loop-block.invariant.size;
+      few_bad = omega (arith, counts, c.from-bad.ensures, count_most is_bad block, size);
+      few_lines = omega (arith, counts, c.from-lines.ensures, count_most is_newline block, size);
+      bad = omega (arith, counts, c.from-bad.ensures, bad);
+      lines = omega (arith, counts, c.from-lines.ensures, lines);
+    }

@@ -6,6 +6,3 @@ use Rattle.tree.proofs.first_bad.Given as goal
 
 abbrev pub invariant-loop-label : goal.invariant-loop-label
 invariant-loop-label l = (1 ≤ l.label) × (l.label ≤ l.n + 1) × (first_bad (structure_bad l.table) l.label (l.n + 1 - l.label) ≡ first_bad (structure_bad l.table) 1 l.n)
-
-abbrev pub decreases-loop-label : goal.decreases-loop-label
-decreases-loop-label l = l.n + 1 - l.label

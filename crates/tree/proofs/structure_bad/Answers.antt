@@ -1,10 +1,13 @@
 -- The row, by its test.
-use mathlib.Core.Path.{◌∙◌, sym}
-use Rattle.tree.proofs.Labels.{structure_number}
+use Rattle.std.proofs.lemmas.Grind.{common_steps}
+use native.Mathlib.Omega.{arith}
+use Rattle.tree.specs.Tree.{structure_bad}
 use Rattle.tree.proofs.structure_bad.Goals as goal
 
 pub returns-then-structure_right : goal.returns-then-structure_right
-returns-then-structure_right c = sym (structure_number c.args.table.now c.args.label _ (sym c.structure_right.ensures ∙ c.if-structure_right.true))
+unfolding structure_bad
+returns-then-structure_right c = grind (arith, common_steps)
 
-pub returns : goal.returns
-returns c = sym (structure_number c.args.table.now c.args.label _ (sym c.structure_right.ensures ∙ c.if-structure_right.false))
+pub returns-else-structure_right : goal.returns-else-structure_right
+unfolding structure_bad
+returns-else-structure_right c = grind (arith, common_steps)

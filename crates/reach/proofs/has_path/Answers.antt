@@ -1,6 +1,0 @@
-use mathlib.Core.Path.{ap, ◌∙◌}
-use Rattle.kinds.specs.Kinds as kinds
-use Rattle.reach.proofs.has_path.Goals as goal
-
-pub returns : goal.returns
-returns c = c.has_path.ensures ∙ ap kinds.has_path c.kind_of.ensures

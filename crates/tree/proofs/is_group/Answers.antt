@@ -1,0 +1,10 @@
+-- By the kind of its code.
+use mathlib.Core.Path.{◌∙◌, sym}
+use Rattle.tree.proofs.Coded.{group_some, group_none}
+use Rattle.tree.proofs.is_group.Goals as goal
+
+pub returns-in-Some : goal.returns-in-Some
+returns-in-Some c = c.eq.ensures ∙ group_some _ _ (sym c.kind_at.ensures ∙ c.in-Some.is)
+
+pub returns-in-None : goal.returns-in-None
+returns-in-None c = sym (group_none _ (sym c.kind_at.ensures ∙ c.in-None.is))

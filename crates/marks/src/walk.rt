@@ -2,8 +2,8 @@
 
 ghost use Rattle.std.specs.Prelude.{◌≡◌, ◌∷◌, ◌+◌, ◌*◌, ◌≤◌, ◌<◌, length};
 
-// Those of one word, the one at `index`: the places of the bits that are left of it. A loop over words with one over these inside is the
-// quickest walk along a row, since in the inner loop the index stays as it is.
+// Those of one word, the one at `index`: the places of the bits that are left of it. A loop over words with one over these inside is
+// quicker than one loop over both, since in the inner loop the index stays as it is.
 #[derive(Drop)]
 pub struct WordMarks {
     index: usize,

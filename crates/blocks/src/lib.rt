@@ -28,6 +28,16 @@ struct Needs<'a> {
     mask: &'a [u64],
 }
 
+// The first w words of the mask, by a loop: the library's `copy_from_slice` would have the archive for C call `memmove`.
+fn copy_marks(mask: &[u64], w: usize, fresh: &mut [u64])
+    requires { (w ≤ length mask.now) × (w ≤ length fresh.old) }
+    ensures { (q : ℕ) → mark fresh.new w 0 q ≡ mark mask.now w 0 q }
+{
+    for j in 0..w {
+        fresh[j] = mask[j];
+    }
+}
+
 // Each item leads itself.
 fn lead_selves(items: &[u16], lead: &mut [u16])
     requires { AllBelow items.now (length lead.old) }
@@ -244,7 +254,7 @@ pub fn find_blocks(
     requires room { Room items.now fresh.old stacked.old stack.old place.old starts.old path.old lead.old w }
     ensures { Led (needed square.now mask.now w) items.now lead.new }
 {
-    fresh[..w].copy_from_slice(&mask[..w]);
+    copy_marks(mask, w, fresh);
     marks::clear_marks(stacked, w);
     lead_selves(items, lead);
     let needs = Needs {

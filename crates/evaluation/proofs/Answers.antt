@@ -17,16 +17,16 @@ use Rattle.evaluation.specs.Evaluation.{entered_by, step_by, outcome, nothing, s
 use Rattle.evaluation.specs.Shown.{state_of, shown}
 use Rattle.evaluation.specs.declared.Arguments.{Arguments}
 use Rattle.kinds.specs.declared.Clause.{Clause}
-use Rattle.evaluation.specs.declared.State.{State}
-use Rattle.evaluation.specs.declared.State.TheVariants.{Number, OutOfRange, ZeroDivisor, OutOfSteps, TooDeep}
+use Rattle.evaluation.specs.declared.ResultState.{ResultState}
+use Rattle.evaluation.specs.declared.ResultState.TheVariants.{Number, OutOfRange, ZeroDivisor, OutOfSteps, TooDeep}
 use Rattle.evaluation.specs.States.{has_number, out_of_steps, too_deep}
 use Rattle.evaluation.proofs.Entries.{given}
-use Rattle.evaluation.specs.declared.Evaluation.{Evaluation}
+use Rattle.evaluation.specs.declared.Computed.{Computed}
 use Rattle.evaluation.proofs.Steps.{unrolled, left_most}
 
 -- ---- after an operand, evaluated as e
 
-no_number : (s : State) → (s ≡ Number → ⊥) → eqb (state_of s) has_number ≡ false
+no_number : (s : ResultState) → (s ≡ Number → ⊥) → eqb (state_of s) has_number ≡ false
 no_number Number f = absurd (f refl)
 no_number OutOfRange f = refl
 no_number ZeroDivisor f = refl
@@ -34,17 +34,17 @@ no_number OutOfSteps f = refl
 no_number TooDeep f = refl
 
 -- a failure ends what it is an operand of
-stops : (e : Evaluation) {w u : Outcome} (k : ℤ → ℕ → Outcome) → shown e ≡ w → (e.state ≡ Number → ⊥) → u ≡ fails (state_of e.state) e.left → u ≡ unless_failed w k
+stops : (e : Computed) {w u : Outcome} (k : ℤ → ℕ → Outcome) → shown e ≡ w → (e.state ≡ Number → ⊥) → u ≡ fails (state_of e.state) e.left → u ≡ unless_failed w k
 unfolding on_number
 stops e k p f i =
     let is : unless_failed (shown e) k ≡ fails (state_of e.state) e.left = rw (no_number e.state f) refl in
     i ∙ sym is ∙ ap (λ o. unless_failed o k) p
 
-goes : (e : Evaluation) {w u : Outcome} (k : ℤ → ℕ → Outcome) → shown e ≡ w → e.state ≡ Number → u ≡ k e.number e.left → u ≡ unless_failed w k
+goes : (e : Computed) {w u : Outcome} (k : ℤ → ℕ → Outcome) → shown e ≡ w → e.state ≡ Number → u ≡ k e.number e.left → u ≡ unless_failed w k
 unfolding on_number
 goes e k p q h = h ∙ ap (λ o. unless_failed o k) (sym (given e q) ∙ p)
 
-module _ (α : Arithmetic) (t r : List ℤ) (l : ℕ) (g : Arguments) (s d : ℕ) {x : ℕ} (e : Evaluation) (ex : x ≡ field_a t l) (p : shown e ≡ outcome α t r x g s d) where
+module _ (α : Arithmetic) (t r : List ℤ) (l : ℕ) (g : Arguments) (s d : ℕ) {x : ℕ} (e : Computed) (ex : x ≡ field_a t l) (p : shown e ≡ outcome α t r x g s d) where
   at : shown e ≡ outcome α t r (field_a t l) g s d
   at = p ∙ ap (λ x. outcome α t r x g s d) ex
 
@@ -67,7 +67,7 @@ module _ (α : Arithmetic) (t r : List ℤ) (l : ℕ) (g : Arguments) (s d : ℕ
   after : Operation → ℤ → ℕ → Outcome
   after op a s' = unless_failed (outcome α t r (field_b t l) g s' d) (λ b s''. outcome_of (calculated α op a b) s'')
 
-  module _ {x' s' d' : ℕ} {α' : Arithmetic} (e' : Evaluation) (q : e.state ≡ Number) (ex' : x' ≡ field_b t l) (es : s' ≡ e.left) (ed : d' ≡ d) (ea : α' ≡ α)
+  module _ {x' s' d' : ℕ} {α' : Arithmetic} (e' : Computed) (q : e.state ≡ Number) (ex' : x' ≡ field_b t l) (es : s' ≡ e.left) (ed : d' ≡ d) (ea : α' ≡ α)
       (p' : shown e' ≡ outcome α' t r x' g s' d') (op : Operation) where
     at' : shown e' ≡ outcome α t r (field_b t l) g e.left d
     at' = rw es at (rw ed at (rw ea at (rw ex' at p')))
@@ -108,10 +108,10 @@ pub value_is : (α : Arithmetic) (t r : List ℤ) (v : ℕ) {x s d : ℕ} {α' :
 unfolding value_outcome
 value_is α t r v ex es ed ea p = rw es at (rw ed at (rw ea at (rw ex at p)))
 
-pub value_left : (α : Arithmetic) (t r : List ℤ) (v : ℕ) (e : Evaluation) → shown e ≡ value_outcome α t r v → e.left ≤ step_limit
+pub value_left : (α : Arithmetic) (t r : List ℤ) (v : ℕ) (e : Computed) → shown e ≡ value_outcome α t r v → e.left ≤ step_limit
 value_left α t r v e p =
     subst (λ (n : ℕ). n ≤ step_limit) (ap (λ (u : Outcome). u.left) (sym p)) (left_most α t r v)
 
-pub value_stored : (α : Arithmetic) (t r : List ℤ) (v : ℕ) (e : Evaluation) → shown e ≡ value_outcome α t r v
+pub value_stored : (α : Arithmetic) (t r : List ℤ) (v : ℕ) (e : Computed) → shown e ≡ value_outcome α t r v
     → record { number = e.number; state = state_of e.state; steps = step_limit - e.left } ≡ evaluated α t r v
 value_stored α t r v e p = ap value_of p

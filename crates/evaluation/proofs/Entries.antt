@@ -25,8 +25,8 @@ use Rattle.cells.specs.Limits.{number_limit}
 use Rattle.numbers.specs.declared.Arithmetic.{Arithmetic}
 use Rattle.evaluation.specs.Evaluation.{Outcome, gives, branch_of, depth_limit, one_argument, outcome, nothing}
 use Rattle.evaluation.specs.Shown.{state_of, shown}
-use Rattle.evaluation.specs.declared.Evaluation.{Evaluation}
-use Rattle.evaluation.specs.declared.State.TheVariants.{Number}
+use Rattle.evaluation.specs.declared.Computed.{Computed}
+use Rattle.evaluation.specs.declared.ResultState.TheVariants.{Number}
 use Rattle.evaluation.specs.Ready.{Ready, ReachedEvaluated, ExpressionAt, Entry, Entered, Cell, ResultsRoom, Evaluable}
 use Rattle.evaluation.specs.Results.{Recorded}
 use Rattle.evaluation.specs.declared.Arguments.{Arguments}
@@ -162,10 +162,10 @@ pub ranged_whole : {y : ℤ} → nat_abs y ≤ number_limit → to_z w64 (of_z w
 ranged_whole {y} h = to_z-of_z {w = w64} (fits_by y number_limit h tt)
 
 -- a number is given, or a failure
-pub given : (o : Evaluation) → o.state ≡ Number → shown o ≡ gives o.number o.left
+pub given : (o : Computed) → o.state ≡ Number → shown o ≡ gives o.number o.left
 given o q = ap (λ s. record { number = o.number; state = state_of s; left = o.left }) q
 
-module _ (α : Arithmetic) (t r : List ℤ) (x : ℕ) (g : Arguments) (s d : ℕ) (o : Evaluation) (p : shown o ≡ outcome α t r x g s d) where
+module _ (α : Arithmetic) (t r : List ℤ) (x : ℕ) (g : Arguments) (s d : ℕ) (o : Computed) (p : shown o ≡ outcome α t r x g s d) where
   pub number_ranged : Entry t r x g d → o.state ≡ Number → nat_abs o.number ≤ number_limit
   number_ranged e q =
       let is : outcome α t r x g s d ≡ gives o.number o.left = sym p ∙ given o q in

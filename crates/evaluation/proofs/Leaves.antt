@@ -15,7 +15,7 @@ use Rattle.numbers.specs.declared.Failure.{Failure}
 use Rattle.numbers.specs.declared.Failure.TheVariants as calculation
 use Rattle.std.specs.Prelude.{Ok, Err}
 use Rattle.evaluation.specs.States.{has_number, last_state}
-use Rattle.evaluation.specs.declared.State.{State}
+use Rattle.evaluation.specs.declared.ResultState.{ResultState}
 use Rattle.evaluation.specs.Results.{state_at, number_at, Recorded}
 use Rattle.evaluation.specs.Evaluation.{gives, fails, answer_at, outcome_of}
 use Rattle.evaluation.specs.Shown.{state_of, failure_state}
@@ -50,7 +50,7 @@ module _ (r : List ℤ) (l s : ℕ) (h : Recorded 1 r l) (low : 1 ≤ l) where
       rw (eq-eqb (state_at r l) has_number is)
       (ap (λ y. gives y s) (rw (number_at_lem r l low) (to_z-of_z {w = w64} (fits_by (number_at r l) number_limit (h.ranged is) tt))))
 
-  pub answer_failed : has_number < state_at r l → (f : State) → pos (state_of f) ≡ to_z w64 (of_z w64 (int_at r (3 * (l - 1)))) → fails (state_of f) s ≡ answer_at r l s
+  pub answer_failed : has_number < state_at r l → (f : ResultState) → pos (state_of f) ≡ to_z w64 (of_z w64 (int_at r (3 * (l - 1)))) → fails (state_of f) s ≡ answer_at r l s
   unfolding answer_at
   answer_failed more f p =
       let none : state_at r l ≡ has_number → ⊥ = λ e. omega arith in

@@ -18,20 +18,20 @@ use numbers::{Arithmetic, Failure};
 
 // ---- what evaluation carries
 
-// Document 01's states of a result, as the results' cells have them.
-pub const NUMBER: i64 = 1;
+// Document 01's states of a result.
+pub const NUMBER: u32 = 1;
 
-const OUT_OF_RANGE: i64 = 2;
+pub const OUT_OF_RANGE: u32 = 2;
 
-const ZERO_DIVISOR: i64 = 3;
+pub const ZERO_DIVISOR: u32 = 3;
 
-const OUT_OF_STEPS: i64 = 4;
+pub const OUT_OF_STEPS: u32 = 4;
 
-const TOO_DEEP: i64 = 5;
+pub const TOO_DEEP: u32 = 5;
 
 // Whether an expression has a number, or why it has none.
 #[derive(Clone, Copy)]
-pub enum State {
+pub enum ResultState {
     Number,
     OutOfRange,
     ZeroDivisor,
@@ -39,17 +39,17 @@ pub enum State {
     TooDeep,
 }
 
-impl State {
-    // As the results' cells have it.
-    fn cell(self) -> i64
-        ensures { result ≡ pos (state_of self) }
+impl ResultState {
+    // Its number.
+    fn number(self) -> u32
+        ensures { result ≡ state_of self }
     {
         match self {
-            State::Number => NUMBER,
-            State::OutOfRange => OUT_OF_RANGE,
-            State::ZeroDivisor => ZERO_DIVISOR,
-            State::OutOfSteps => OUT_OF_STEPS,
-            State::TooDeep => TOO_DEEP,
+            ResultState::Number => NUMBER,
+            ResultState::OutOfRange => OUT_OF_RANGE,
+            ResultState::ZeroDivisor => ZERO_DIVISOR,
+            ResultState::OutOfSteps => OUT_OF_STEPS,
+            ResultState::TooDeep => TOO_DEEP,
         }
     }
 
@@ -58,22 +58,22 @@ impl State {
         requires { IsFailureState cell }
         ensures { pos (state_of result) ≡ cell }
     {
-        match cell {
-            OUT_OF_RANGE => State::OutOfRange,
-            ZERO_DIVISOR => State::ZeroDivisor,
-            OUT_OF_STEPS => State::OutOfSteps,
-            _ => State::TooDeep,
+        match cell as u32 {
+            OUT_OF_RANGE => ResultState::OutOfRange,
+            ZERO_DIVISOR => ResultState::ZeroDivisor,
+            OUT_OF_STEPS => ResultState::OutOfSteps,
+            _ => ResultState::TooDeep,
         }
     }
 }
 
-impl From<Failure> for State {
+impl From<Failure> for ResultState {
     ghost from_gives = { λ f s. s ≡ failure_state f };
 
-    fn from(failure: Failure) -> State {
+    fn from(failure: Failure) -> ResultState {
         match failure {
-            Failure::OutOfRange => State::OutOfRange,
-            Failure::ZeroDivisor => State::ZeroDivisor,
+            Failure::OutOfRange => ResultState::OutOfRange,
+            Failure::ZeroDivisor => ResultState::ZeroDivisor,
         }
     }
 }
@@ -81,29 +81,41 @@ impl From<Failure> for State {
 // What an expression comes to, and the steps left; on a failure the number is 0. It comes back in memory at each entry, so its size counts: a
 // Result whose error is an enum makes it 24 bytes in place of 16, and the deepest calls took 1.14 times as long.
 #[derive(Clone, Copy)]
-pub struct Evaluation {
+pub struct Computed {
     pub number: i64,
-    pub state: State,
+    pub state: ResultState,
     pub left: u32,
 }
 
-impl Evaluation {
+impl Computed {
     // A number.
     fn gives(number: i64, left: u32) -> Self
         ensures { shown result ≡ gives number left }
     {
-        Evaluation {
+        Computed {
             number,
-            state: State::Number,
+            state: ResultState::Number,
             left,
         }
     }
 
+    // The same, field by field. Copied whole, bytes that no field has are stored in parts and loaded at once, which waits for the stores at
+    // each entry that a failure comes back through: values that fail deep in their calls took up to twice the time.
+    fn by_field(self) -> Self
+        ensures { shown result ≡ shown self }
+    {
+        Computed {
+            number: self.number,
+            state: self.state,
+            left: self.left,
+        }
+    }
+
     // No number.
-    fn fails(state: State, left: u32) -> Self
+    fn fails(state: ResultState, left: u32) -> Self
         ensures { shown result ≡ fails (state_of state) left }
     {
-        Evaluation {
+        Computed {
             number: 0,
             state,
             left,
@@ -212,21 +224,21 @@ fn branch_of(table: &[i64], label: usize, test: i64) -> usize
 }
 
 // The stored answer of a label that has been evaluated.
-fn answer_at(results: &[i64], label: usize, left: u32) -> Evaluation
+fn answer_at(results: &[i64], label: usize, left: u32) -> Computed
     requires { ResultsRoom results.now label × Recorded 1 results.now label }
     ensures { shown result ≡ answer_at results.now label left }
 {
     let at = 3 * (label - 1);
     let state = results[at];
     // a comparison by order keeps the tests of the failures off the way of a number
-    if NUMBER < state {
-        return Evaluation::fails(State::of_cell(state), left);
+    if i64::from(NUMBER) < state {
+        return Computed::fails(ResultState::of_cell(state), left);
     }
-    Evaluation::gives(results[at + 1], left)
+    Computed::gives(results[at + 1], left)
 }
 
 // "R the target's stored answer, failures too." The target has been evaluated.
-fn read(table: &[i64], results: &[i64], label: usize, left: u32) -> Evaluation
+fn read(table: &[i64], results: &[i64], label: usize, left: u32) -> Computed
     requires { Cell table.now label 7 × ResultsRoom results.now (target table.now label)
         × Recorded 1 results.now (target table.now label) }
     ensures { shown result ≡ answer_at results.now (target table.now label) left }
@@ -235,13 +247,13 @@ fn read(table: &[i64], results: &[i64], label: usize, left: u32) -> Evaluation
 }
 
 // Two operands under A, S, M or D.
-fn combine(arithmetic: Arithmetic, op: Operation, a: i64, b: i64, left: u32) -> Evaluation
+fn combine(arithmetic: Arithmetic, op: Operation, a: i64, b: i64, left: u32) -> Computed
     requires { (nat_abs a ≤ number_limit) × (nat_abs b ≤ number_limit) }
     ensures { shown result ≡ outcome_of (calculated arithmetic op a b) left }
 {
     match numbers::calculate(arithmetic, op, a, b) {
-        Ok(number) => Evaluation::gives(number, left),
-        Err(failure) => Evaluation::fails(State::from(failure), left),
+        Ok(number) => Computed::gives(number, left),
+        Err(failure) => Computed::fails(ResultState::from(failure), left),
     }
 }
 
@@ -253,19 +265,19 @@ fn expression(
     label: usize,
     given: Arguments,
     allowance: Allowance,
-) -> Evaluation
+) -> Computed
     requires { Entry table.now results.now label given allowance.depth }
     ensures { shown result ≡ outcome allowance.arithmetic table.now results.now
         label given allowance.left allowance.depth }
 {
     if allowance.left == 0 {
-        return Evaluation::fails(State::OutOfSteps, 0);
+        return Computed::fails(ResultState::OutOfSteps, 0);
     }
     let rest = allowance.step();
     let left = rest.left;
     match clause(table, label) {
-        Clause::Number => Evaluation::gives(number_of(table, label), left),
-        Clause::Argument(_) => Evaluation::gives(given.first, left),
+        Clause::Number => Computed::gives(number_of(table, label), left),
+        Clause::Argument(_) => Computed::gives(given.first, left),
         Clause::Read => read(table, results, label, left),
         Clause::Call(_) => call(table, results, label, given, rest),
         Clause::Operation(op) => operation(table, results, op, label, given, rest),
@@ -276,31 +288,25 @@ fn expression(
 
 // A call: its argument, then the body of its target one deeper.
 #[cycle(call_choice_expression_operation)]
-fn call(
-    table: &[i64],
-    results: &[i64],
-    label: usize,
-    given: Arguments,
-    rest: Allowance,
-) -> Evaluation
+fn call(table: &[i64], results: &[i64], label: usize, given: Arguments, rest: Allowance) -> Computed
     requires { EnteredCall table.now results.now label given rest.depth }
     ensures { shown result ≡ call_by (outcome rest.arithmetic table.now results.now)
         table.now label given rest.left rest.depth }
 {
     let argument = field(table, label, cells::A);
     let evaluated = expression(table, results, argument, given, rest);
-    let State::Number = evaluated.state else {
-        return Evaluation::fails(evaluated.state, evaluated.left);
+    let ResultState::Number = evaluated.state else {
+        return Computed::fails(evaluated.state, evaluated.left);
     };
     if rest.depth == Allowance::DEPTH {
-        return Evaluation::fails(State::TooDeep, evaluated.left);
+        return Computed::fails(ResultState::TooDeep, evaluated.left);
     }
     let target = field(table, label, cells::TARGET);
     let body = field(table, target, cells::B);
     let passed = Arguments {
         first: evaluated.number,
     };
-    expression(table, results, body, passed, rest.deeper(evaluated.left))
+    expression(table, results, body, passed, rest.deeper(evaluated.left)).by_field()
 }
 
 // A sum, difference, product or quotient: a, then b.
@@ -312,20 +318,20 @@ fn operation(
     label: usize,
     given: Arguments,
     rest: Allowance,
-) -> Evaluation
+) -> Computed
     requires { Entered (Clause.Operation op) table.now results.now label given rest.depth }
     ensures { shown result ≡ operation_by rest.arithmetic (outcome rest.arithmetic table.now results.now)
         table.now op label given rest.left rest.depth }
 {
     let a = field(table, label, cells::A);
     let first = expression(table, results, a, given, rest);
-    let State::Number = first.state else {
-        return Evaluation::fails(first.state, first.left);
+    let ResultState::Number = first.state else {
+        return Computed::fails(first.state, first.left);
     };
     let b = field(table, label, cells::B);
     let second = expression(table, results, b, given, rest.with_left(first.left));
-    let State::Number = second.state else {
-        return Evaluation::fails(second.state, second.left);
+    let ResultState::Number = second.state else {
+        return Computed::fails(second.state, second.left);
     };
     combine(
         rest.arithmetic,
@@ -344,15 +350,15 @@ fn choice(
     label: usize,
     given: Arguments,
     rest: Allowance,
-) -> Evaluation
+) -> Computed
     requires { Entered Clause.Choice table.now results.now label given rest.depth }
     ensures { shown result ≡ choice_by (outcome rest.arithmetic table.now results.now)
         table.now label given rest.left rest.depth }
 {
     let tested = field(table, label, cells::A);
     let evaluated = expression(table, results, tested, given, rest);
-    let State::Number = evaluated.state else {
-        return Evaluation::fails(evaluated.state, evaluated.left);
+    let ResultState::Number = evaluated.state else {
+        return Computed::fails(evaluated.state, evaluated.left);
     };
     let branch = branch_of(table, label, evaluated.number);
     expression(
@@ -362,6 +368,7 @@ fn choice(
         given,
         rest.with_left(evaluated.left),
     )
+    .by_field()
 }
 
 // ---- a value
@@ -389,7 +396,7 @@ pub fn evaluate(arithmetic: Arithmetic, table: &[i64], results: &[i64], label: u
     );
     Value {
         number: outcome.number,
-        state: outcome.state.cell() as u32,
+        state: outcome.state.number(),
         steps: Allowance::STEPS - outcome.left,
     }
 }

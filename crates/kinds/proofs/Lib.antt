@@ -5,3 +5,4 @@ pub mod Clauses
 pub mod Codes
 pub mod Plans
 pub mod Enumerated
+pub mod ByCode

@@ -53,21 +53,21 @@ pub enum Clause {
     Choice,
 }
 
-// A kind of line. In a table's cell it stands by its code, the place of its row, from 1.
+// A kind of line, with its code: the place of its row, from 1. By it a kind stands in a table's cell.
 #[derive(Clone, Copy, PartialEq, Eq)]
 pub enum Kind {
-    Group,
-    Value,
-    Function,
-    Number,
-    Argument,
-    Read,
-    Call,
-    Sum,
-    Difference,
-    Product,
-    Quotient,
-    Choice,
+    Group = 1,
+    Value = 2,
+    Function = 3,
+    Number = 4,
+    Argument = 5,
+    Read = 6,
+    Call = 7,
+    Sum = 8,
+    Difference = 9,
+    Product = 10,
+    Quotient = 11,
+    Choice = 12,
 }
 
 // ---- the table
@@ -161,11 +161,11 @@ static KINDS: [Fields; 12] = [
 ];
 
 impl Kind {
-    // The place of its row, from 1.
+    // Its code.
     pub fn code(self) -> usize
         ensures { result ≡ own_code self }
     {
-        self as usize + 1
+        self as usize
     }
 
     // The kind that has this code.
@@ -291,4 +291,66 @@ impl Kind {
     {
         self.is_definition() && self.takes() == 0
     }
+}
+
+// ---- by a code
+
+// The same, by a code: of a code that no kind has, what the table's definitions say of it.
+
+// The code of the kind with this letter, or 0.
+pub fn code_of(letter: u8) -> usize
+    ensures { result ≡ code_of letter }
+{
+    Kind::of_letter(letter).map_or(0, Kind::code)
+}
+
+pub fn is_definition(code: usize) -> bool
+    ensures { result ≡ is_definition code }
+{
+    Kind::of_code(code).is_some_and(Kind::is_definition)
+}
+
+pub fn is_expression(code: usize) -> bool
+    ensures { result ≡ is_expression code }
+{
+    Kind::of_code(code).is_some_and(Kind::is_expression)
+}
+
+// The code of the kind that their path must end at; 0 where they have no path.
+pub fn wanted_by(code: usize) -> usize
+    ensures { result ≡ wanted_by code }
+{
+    Kind::of_code(code)
+        .and_then(Kind::wants)
+        .map_or(0, Kind::code)
+}
+
+pub fn has_path(code: usize) -> bool
+    ensures { result ≡ has_path code }
+{
+    Kind::of_code(code).is_some_and(Kind::has_path)
+}
+
+pub fn takes(code: usize) -> usize
+    ensures { result ≡ takes code }
+{
+    Kind::of_code(code).map_or(0, Kind::takes)
+}
+
+pub fn clause_of(code: usize) -> Clause
+    ensures { result ≡ clause_of code }
+{
+    Kind::of_code(code).map_or(Clause::None, Kind::clause)
+}
+
+pub fn argument_place(code: usize) -> usize
+    ensures { result ≡ argument_place code }
+{
+    Kind::of_code(code).map_or(0, Kind::argument_place)
+}
+
+pub fn gives_values(code: usize) -> bool
+    ensures { result ≡ gives_values code }
+{
+    Kind::of_code(code).is_some_and(Kind::gives_values)
 }

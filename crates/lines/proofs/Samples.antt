@@ -1,10 +1,10 @@
 -- Small sheets about each of rows 1 to 3 and 5 to 7, as facts that the checker computes.
-use mathlib.Core.Path.{◌≡◌, refl}
+use mathlib.Core.Path.{◌≡◌, refl, ap}
 use mathlib.Core.List.{List, [], ◌∷◌, ◌++◌, map}
 use Prim.Native.Nat.{ℕ}
 use Rattle.numbers.specs.Decimal.{all_digits, digits_value, digits_of, decimal_of, number_of}
 use Rattle.numbers.specs.declared.Tie.TheVariants.{Away, Even}
-use Rattle.refusals.specs.Refusal.{Verdict, Fine, Refused, or_else}
+use Rattle.refusals.specs.Refusal.{Verdict, Fine, Refused, refusal_of, reply_of, or_else}
 use Rattle.refusals.specs.declared.Row.TheVariants as row
 use Rattle.text.specs.Bytes.{is_allowed, is_letter, is_alphanumeric}
 use Rattle.text.specs.Forms.{is_name, is_path, label_of}
@@ -86,6 +86,13 @@ found : map text_bad sheets ≡ Refused row.Text 0
 unfolding sheets head_bad is_text is_allowed labels line first_line lines_bad line_bad root_line kinds kind_at code_of field_of is_name is_path is_letter
     is_alphanumeric label_of number_of decimal_of digits_of digits_value all_digits
 found = refl
+
+-- in the paper's numbers, 0 for nothing
+abbrev numbered : Verdict → ℕ
+numbered v = refusal_of (reply_of v 0)
+
+found_numbered : map numbered (map text_bad sheets) ≡ 1 ∷ 1 ∷ 2 ∷ 2 ∷ 0 ∷ 6 ∷ 2 ∷ 3 ∷ 0 ∷ 7 ∷ 5 ∷ 6 ∷ 7 ∷ 7 ∷ 7 ∷ 0 ∷ 7 ∷ 7 ∷ 7 ∷ 0 ∷ []
+found_numbered = ap (map numbered) found
 
 -- the rule goes by the first line alone
 tie_rules : map tie_of

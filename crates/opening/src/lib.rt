@@ -8,10 +8,10 @@ ghost use Rattle.order.specs.Order.{ordered, place16};
 ghost use Rattle.reach.specs.MarkRows.{width};
 ghost use Rattle.groups.specs.Members.{Gathered, NeedRowsFrom, Relinked};
 ghost use Rattle.groups.specs.Opened.{expanded, Progress, Openable, Stopped};
-ghost use Rattle.splitting.specs.Leaders.{Room, LedMembers, LeaderChains, Chains, Expanded};
+ghost use Rattle.splitting.specs.Leaders.{ScratchRoom, LedMembers, LeaderChains, Chains, Expanded};
 
 use cells::ReadTable;
-use splitting::{PlacingScratch, Search};
+use splitting::{PlacingScratch, SearchScratch};
 
 // Puts the chains of what the order has one after the other. Answers where they end.
 fn expand(n: usize, links: &[u16], order: &[u16], out: &mut [u16]) -> usize
@@ -33,9 +33,9 @@ fn order_blocks<const N: usize, const W: usize, const L: usize>(
     group: usize,
     items: &[u16],
     scratch: &mut PlacingScratch<N, W>,
-    search: &mut Search<N, W, L>,
+    search: &mut SearchScratch<N, W, L>,
 ) -> usize
-    requires room { Room sheet.n N W }
+    requires room { ScratchRoom sheet.n N W }
     requires n_in_bounds { ((sheet.n + 1) * width sheet.n ≤ length square.old) × NeedRowsFrom sheet.cells.now sheet.n group square.old }
     requires led_members { LedMembers sheet.cells.now sheet.n group items.now search.old.lead }
     ensures gathered { Gathered (ordered sheet.entry.cells.now sheet.entry.n group) scratch.new.order result }
@@ -73,10 +73,10 @@ fn join_group<const N: usize, const W: usize, const L: usize>(
     group: usize,
     items: &[u16],
     scratch: &mut PlacingScratch<N, W>,
-    search: &mut Search<N, W, L>,
+    search: &mut SearchScratch<N, W, L>,
 )
     requires group_le_n { (group ≤ sheet.n) × (2 * sheet.n < length next.old) }
-    requires room { Room sheet.n N W × (2 * sheet.n < L) }
+    requires room { ScratchRoom sheet.n N W × (2 * sheet.n < L) }
     requires n_in_bounds { ((sheet.n + 1) * width sheet.n ≤ length square.old) × NeedRowsFrom sheet.cells.now sheet.n group square.old }
     requires led_members { LedMembers sheet.cells.now sheet.n group items.now search.old.lead × LeaderChains sheet.cells.now sheet.n group search.old.links }
     ensures relinked { Relinked sheet.entry.n group (expanded sheet.entry.cells.now sheet.entry.n group) next.old next.new }
@@ -101,11 +101,11 @@ fn open_group<const N: usize, const W: usize, const L: usize>(
     group: usize,
     items: &mut [u16],
     scratch: &mut PlacingScratch<N, W>,
-    search: &mut Search<N, W, L>,
+    search: &mut SearchScratch<N, W, L>,
 )
     requires no_cycle { place16 sheet.cells.now sheet.n ≡ 0 }
     requires n_in_bounds { (2 * sheet.n < length next.old) × (sheet.n < length items.old) }
-    requires room { Room sheet.n N W × (2 * sheet.n < L) }
+    requires room { ScratchRoom sheet.n N W × (2 * sheet.n < L) }
     requires n_in_bounds_2 { ((sheet.n + 1) * width sheet.n ≤ length square.old) × NeedRowsFrom sheet.cells.now sheet.n group square.old }
     requires openable { Openable sheet.cells.now sheet.n group next.old }
     ensures { Progress sheet.entry.cells.now sheet.entry.n (group + 1) next.new × NeedRowsFrom sheet.entry.cells.now sheet.entry.n (group + 1) square.new }
@@ -122,11 +122,11 @@ pub fn open_groups<const N: usize, const W: usize, const L: usize>(
     first: Option<usize>,
     items: &mut [u16],
     scratch: &mut PlacingScratch<N, W>,
-    search: &mut Search<N, W, L>,
+    search: &mut SearchScratch<N, W, L>,
 )
     requires no_cycle { place16 sheet.cells.now sheet.n ≡ 0 }
     requires n_in_bounds { (2 * sheet.n < length next.old) × (sheet.n < length items.old) }
-    requires room { Room sheet.n N W × (2 * sheet.n < L) }
+    requires room { ScratchRoom sheet.n N W × (2 * sheet.n < L) }
     requires n_in_bounds_2 { ((sheet.n + 1) * width sheet.n ≤ length square.old) × Stopped sheet.cells.now sheet.n first next.old square.old }
     ensures { Progress sheet.entry.cells.now sheet.entry.n (sheet.entry.n + 1) next.new }
 {

@@ -4,7 +4,7 @@
 
 #![tactic(auto)]
 
-ghost use Rattle.std.specs.Prelude.{◌≡◌, true, false, [], ◌↔◌, ℕ, ◌+◌, ◌*◌, ◌≤◌, ◌<◌, length, get_or, MatchOption};
+ghost use Rattle.std.specs.Prelude.{◌≡◌, true, false, [], ◌↔◌, ℕ, ◌+◌, ◌*◌, ◌≤◌, ◌<◌, length, get_or, take, MatchOption};
 ghost use Rattle.order.specs.LabelLists.{one, count, ◌∈◌, filter};
 ghost use Rattle.marks.specs.Marks.{mark};
 ghost use Rattle.marks.specs.Walk.{word_left};
@@ -175,6 +175,16 @@ fn are_in_order(items: &[u16], square: &[u64], w: usize, mask: &[u64]) -> bool
     true
 }
 
+// The items as they stand, by a loop: the library's `copy_from_slice` would have the archive for C call `memmove`.
+fn copy_items(items: &[u16], order: &mut [u16])
+    requires { length items.now ≤ length order.old }
+    ensures { take (length items.now) order.new ≡ items.now }
+{
+    for (k, &item) in items.iter().enumerate() {
+        order[k] = item;
+    }
+}
+
 // Places the items in the order. Answers how many; fewer than there are if it gets stuck. In most sheets items need only earlier ones:
 // then nothing is counted.
 pub fn place(
@@ -191,7 +201,7 @@ pub fn place(
     ensures { Placed (needed square.now mask.now w) items.now order.new result }
 {
     if are_in_order(items, square, w, mask) {
-        order[..items.len()].copy_from_slice(items);
+        copy_items(items, order);
         return items.len();
     }
     place_counted(items, square, w, mask, unmet, ready, order)

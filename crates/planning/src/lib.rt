@@ -10,14 +10,14 @@ ghost use Rattle.order.specs.Order as Order;
 ghost use Rattle.reach.specs.MarkRows.{width};
 ghost use Rattle.needs.specs.Needs.{NeedRows};
 ghost use Rattle.groups.specs.Opened.{Opened, Progress, Stopped};
-ghost use Rattle.splitting.specs.Leaders.{Room};
+ghost use Rattle.splitting.specs.Leaders.{ScratchRoom};
 ghost use Rattle.planning.specs.Listing.{list_of, PutAt};
 ghost use Rattle.planning.specs.PlanLength.{plan_length};
 ghost use Rattle.planning.specs.Plans.{PlanIs};
 
 use cells::ReadTable;
 use kinds::Kind;
-use splitting::{PlacingScratch, Search};
+use splitting::{PlacingScratch, SearchScratch};
 
 // What planning finds: the length of a whole or a mixed plan.
 #[derive(Clone, Copy)]
@@ -79,12 +79,12 @@ fn open_stuck<const N: usize, const W: usize, const L: usize>(
 )
     requires no_cycle { place16 sheet.cells.now sheet.n ≡ 0 }
     requires n_in_bounds { (2 * sheet.n < length next.old) × (sheet.n < length items.old) }
-    requires room { Room sheet.n N W × (2 * sheet.n < L) }
+    requires room { ScratchRoom sheet.n N W × (2 * sheet.n < L) }
     requires small { (N < 2 ^ 32) × (W < 2 ^ 32) × (L < 2 ^ 32) }
     requires n_in_bounds_2 { ((sheet.n + 1) * width sheet.n ≤ length square.old) × Stopped sheet.cells.now sheet.n stuck next.old square.old }
     ensures { Progress sheet.entry.cells.now sheet.entry.n (sheet.entry.n + 1) next.new }
 {
-    let mut search = Search {
+    let mut search = SearchScratch {
         list: [0; N],
         stacked: [0; W],
         stack: [0; N],
@@ -104,7 +104,7 @@ fn list_plan<const N: usize, const W: usize, const L: usize>(
     square: &mut [u64],
 ) -> Plan
     requires n_in_bounds { (sheet.n ≤ length plan.old) × (place16 sheet.cells.now sheet.n ≡ 0) }
-    requires room { Room sheet.n N W × (2 * sheet.n < L) }
+    requires room { ScratchRoom sheet.n N W × (2 * sheet.n < L) }
     requires small { (N < 2 ^ 32) × (W < 2 ^ 32) × (L < 2 ^ 32) }
     requires n_in_bounds_2 { ((sheet.n + 1) * width sheet.n ≤ length square.old) × NeedRows sheet.cells.now sheet.n square.old }
     ensures { PlanIs (Order.plan sheet.entry.cells.now sheet.entry.n) plan.old plan.new (Ok result) }
@@ -132,7 +132,7 @@ fn plan_in<const S: usize, const N: usize, const W: usize, const L: usize>(
     plan: &mut [i64],
 ) -> Result<Plan, Cycle>
     requires n_in_bounds { sheet.n ≤ length plan.old }
-    requires room { ((sheet.n + 1) * width sheet.n ≤ S) × Room sheet.n N W × (2 * sheet.n < L) }
+    requires room { ((sheet.n + 1) * width sheet.n ≤ S) × ScratchRoom sheet.n N W × (2 * sheet.n < L) }
     requires small { (S < 2 ^ 32) × (N < 2 ^ 32) × (W < 2 ^ 32) × (L < 2 ^ 32) }
     ensures { PlanIs (Order.plan sheet.entry.cells.now sheet.entry.n) plan.old plan.new result }
 {

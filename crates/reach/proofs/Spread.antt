@@ -19,8 +19,8 @@ use Rattle.order.proofs.Tests.{both_ways, one_le, one_in}
 use Rattle.order.proofs.Lists.{count_append, count_here, count_there, in_append, in_single, in_left, in_right, in_here, length_mono, length_up_from, filter_le, tally_lt, zero_or_in}
 use Rattle.order.proofs.Tables.{in_labels}
 use Rattle.marks.specs.Marks.{mark, Added}
-use Rattle.reach.specs.declared.State.{State}
-use Rattle.reach.specs.declared.State.TheVariants.{New, Made}
+use Rattle.reach.specs.declared.RowState.{RowState}
+use Rattle.reach.specs.declared.RowState.TheVariants.{New, Made}
 use Rattle.reach.specs.Links.{Column, Link, Links, once, then, Around, Touches}
 use Rattle.reach.specs.MarkRows.{width, MarkRow, Blank}
 use Rattle.reach.specs.Chains.{Hangs, Last}
@@ -253,7 +253,7 @@ module _ (t : List ℤ) (n : ℕ) (ok : Accepted t n) (j : ℕ) (col : Column j)
           met l a p (no z) (yes b) = up (cell t l j) (g.met l b p)
           met l a p (no z) (no b) = absurd (last.none l a (omega arith) p)
 
-      module _ (state : List State) (stack : List ℕ) (top : ℕ) (is : S ≡ take top stack) (room : top < length stack)
+      module _ (state : List RowState) (stack : List ℕ) (top : ℕ) (is : S ≡ take top stack) (room : top < length stack)
           (way : Links t j d (cell t x j)) (rows : get_or state (cell t x j) New ≡ Made → MarkRow t n j s (cell t x j)) (s' stack' : List ℕ) (r : ℕ) where
         f_label : (1 ≤ cell t x j) × (cell t x j ≤ n)
         f_label = body_label t n ok (cell t x j) (links_body t n ok j col way)
@@ -323,7 +323,7 @@ module _ (t : List ℤ) (n : ℕ) (ok : Accepted t n) (j : ℕ) (col : Column j)
   row_above f s row g k m h = (row (owner t g)).1 (touch_owner t n ok j col ((row g).0 m) k h)
 
   -- rows that are made stay so while row d grows
-  pub rows_kept : (d : ℕ) (state : List State) (s s' : List ℕ) → (get_or state d New ≡ Made → ⊥) → ((f : ℕ) → get_or state f New ≡ Made → MarkRow t n j s f)
+  pub rows_kept : (d : ℕ) (state : List RowState) (s s' : List ℕ) → (get_or state d New ≡ Made → ⊥) → ((f : ℕ) → get_or state f New ≡ Made → MarkRow t n j s f)
       → ((a q : ℕ) → (a ≡ d → ⊥) → mark s' (width n) a q ≡ mark s (width n) a q) → (f : ℕ) → get_or state f New ≡ Made → MarkRow t n j s' f
   rows_kept d state s s' not_made rows same f made q =
       let e = same f q (λ z. not_made (subst (λ (x : ℕ). get_or state x New ≡ Made) z made)) in

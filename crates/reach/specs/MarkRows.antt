@@ -5,8 +5,8 @@ use Rattle.cells.specs.Table.{kind}
 use Rattle.cells.specs.Accepted.{HasBody}
 use Rattle.marks.specs.Marks.{mark}
 use Rattle.reach.specs.Links.{Touches}
-use Rattle.reach.specs.declared.State.{State}
-use Rattle.reach.specs.declared.State.TheVariants.{New, Made}
+use Rattle.reach.specs.declared.RowState.{RowState}
+use Rattle.reach.specs.declared.RowState.TheVariants.{New, Made}
 
 -- words in a row
 abbrev pub width : ℕ → ℕ
@@ -24,7 +24,7 @@ pub record AllMarkRows (t : List ℤ) (n j : ℕ) (square : List ℕ) : Type 0 w
   pub groups : (g : ℕ) → kind t g ≡ group_code → Blank n square g
 
 -- What the states say: a row that is made is so, every other is blank, and only what has a body is begun.
-pub record MarkRows (t : List ℤ) (n j : ℕ) (state : List State) (square : List ℕ) : Type 0 where
+pub record MarkRows (t : List ℤ) (n j : ℕ) (state : List RowState) (square : List ℕ) : Type 0 where
   pub begun : (d : ℕ) → (get_or state d New ≡ New → ⊥) → HasBody t d
   pub made : (d : ℕ) → get_or state d New ≡ Made → MarkRow t n j square d
   pub blank : (d : ℕ) → (get_or state d New ≡ Made → ⊥) → Blank n square d
@@ -34,7 +34,7 @@ abbrev pub RowsRoom : ℕ → List ℕ → Type 0
 RowsRoom n square = (n + 1) * width n ≤ length square
 
 -- room for the rows, the states and the stack of n labels
-pub record MarksRoom (n : ℕ) (state : List State) (square stack : List ℕ) : Type 0 where
+pub record MarksRoom (n : ℕ) (state : List RowState) (square stack : List ℕ) : Type 0 where
   pub states : n < length state
   pub rows : RowsRoom n square
   pub heights : n < length stack

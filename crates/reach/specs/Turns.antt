@@ -8,8 +8,8 @@ use Rattle.order.specs.Order.{all_labels}
 use Rattle.marks.specs.Marks.{mark, Added}
 use Rattle.reach.specs.Links.{Link, Around, Touches}
 use Rattle.reach.specs.MarkRows.{width, MarkRows}
-use Rattle.reach.specs.declared.State.{State}
-use Rattle.reach.specs.declared.State.TheVariants.{New, Begun, Made}
+use Rattle.reach.specs.declared.RowState.{RowState}
+use Rattle.reach.specs.declared.RowState.TheVariants.{New, Begun, Made}
 
 -- with a Group, the Groups around it are marked
 abbrev pub Raised : List ℤ → (ℕ → Bool) → Type 0
@@ -17,7 +17,7 @@ Raised t M = (g : ℕ) → kind t g ≡ group_code → M g ≡ true → 1 ≤ ow
 
 -- What becomes of row d and the stack where a link leads to f: it was marked already; or it is marked now with what is around it, and its
 -- row is added if that is made, or else f is put on the stack.
-pub data Met (t : List ℤ) (n : ℕ) (state : List State) (d f : ℕ) (s stack : List ℕ) (top : ℕ) (s' stack' : List ℕ) (r : ℕ) : Type 0 where
+pub data Met (t : List ℤ) (n : ℕ) (state : List RowState) (d f : ℕ) (s stack : List ℕ) (top : ℕ) (s' stack' : List ℕ) (r : ℕ) : Type 0 where
   marked : mark s (width n) d f ≡ true → s' ≡ s → stack' ≡ stack → r ≡ top → Met t n state d f s stack top s' stack' r
   added : mark s (width n) d f ≡ false → get_or state f New ≡ Made → stack' ≡ stack → r ≡ top
       → Added (λ (q : ℕ). Around t f q ⊎ (mark s (width n) f q ≡ true)) s s' (width n) d → Met t n state d f s stack top s' stack' r
@@ -53,18 +53,18 @@ pub record Filled (t : List ℤ) (n j d : ℕ) (s s' : List ℕ) : Type 0 where
   pub others : (a q : ℕ) → (a ≡ d → ⊥) → mark s' (width n) a q ≡ mark s (width n) a q
 
 -- row d has become row e, which by its state `here` is made, and has d; or nothing changed
-abbrev pub Shared : ℕ → State → ℕ → ℕ → List ℕ → List ℕ → Bool → Type 0
+abbrev pub Shared : ℕ → RowState → ℕ → ℕ → List ℕ → List ℕ → Bool → Type 0
 Shared n here d e s s' true = (here ≡ Made) × (mark s (width n) e d ≡ true) × Added (λ (q : ℕ). mark s (width n) e q ≡ true) s s' (width n) d
 Shared n here d e s s' false = s' ≡ s
 
 -- What was begun is so still, and what is begun and not made was and is so on both sides.
-pub record Since (state state' : List State) : Type 0 where
+pub record Since (state state' : List RowState) : Type 0 where
   pub kept : (e : ℕ) → (get_or state e New ≡ New → ⊥) → get_or state' e New ≡ New → ⊥
   pub held : (e : ℕ) → get_or state e New ≡ Begun → get_or state' e New ≡ Begun
   pub unmade : (e : ℕ) → get_or state' e New ≡ Begun → get_or state e New ≡ Begun
 
 -- d is begun
-pub record Visited (t : List ℤ) (n j d : ℕ) (state state' : List State) (square' : List ℕ) : Type 0 where
+pub record Visited (t : List ℤ) (n j d : ℕ) (state state' : List RowState) (square' : List ℕ) : Type 0 where
   pub rows : MarkRows t n j state' square'
   pub here : get_or state' d New ≡ New → ⊥
   pub since : Since state state'

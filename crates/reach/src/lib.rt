@@ -11,7 +11,7 @@ ghost use Rattle.cells.specs.Reaches.{HasPath};
 ghost use Rattle.cells.specs.Accepted.{HasBody};
 ghost use Rattle.order.specs.Order.{Within, place16};
 ghost use Rattle.marks.specs.Marks.{mark, Added};
-ghost use Rattle.reach.specs.declared.State.TheVariants.{New, Made};
+ghost use Rattle.reach.specs.declared.RowState.TheVariants.{New, Made};
 ghost use Rattle.reach.specs.Links.{Column, Links, Around};
 ghost use Rattle.reach.specs.MarkRows.{width, MarkRow, Blank, AllMarkRows, MarkRows, RowsRoom, MarksRoom};
 ghost use Rattle.reach.specs.Chains.{ChainedTo, Empty};
@@ -25,7 +25,7 @@ use kinds::Kind;
 
 // How far the row of a definition is.
 #[derive(Clone, Copy, PartialEq, Eq)]
-pub enum State {
+pub enum RowState {
     New,
     Begun,
     Made,
@@ -33,7 +33,7 @@ pub enum State {
 
 // The lines of a table whose links by a column are followed, each in the chain of the definition from which its link leads, as `link` makes them.
 #[derive(Clone, Copy)]
-pub struct Chains<'a> {
+pub struct LinkChains<'a> {
     pub sheet: ReadTable<'a>,
     pub column: usize,
     pub links: &'a [u16],
@@ -96,12 +96,12 @@ fn mark_around(sheet: ReadTable, square: &mut [u64], d: usize, e: usize)
 }
 
 // If row e is made and has d, which links to e, both reach the same: d has the same row. Answers whether it is so.
-fn share_row(n: usize, state: State, square: &mut [u64], d: usize, e: usize) -> bool
+fn share_row(n: usize, state: RowState, square: &mut [u64], d: usize, e: usize) -> bool
     requires { (n ≤ label_limit) × (d ≤ n) × (e ≤ n) × RowsRoom n square.old }
     ensures { Shared n state d e square.old square.new result }
 {
     let w = n / 64 + 1;
-    if state == State::Made && marks::has_mark(square, w, e, d) {
+    if state == RowState::Made && marks::has_mark(square, w, e, d) {
         marks::merge_row(square, w, e, d);
         return true;
     }
@@ -109,7 +109,7 @@ fn share_row(n: usize, state: State, square: &mut [u64], d: usize, e: usize) -> 
 }
 
 // States and stack are lent apart, since what makes a row reads the states and writes none.
-impl Chains<'_> {
+impl LinkChains<'_> {
     // Where the link of a line leads.
     fn end(&self, line: usize) -> usize
         requires { HasPath self.now.sheet.cells.now line }
@@ -130,7 +130,7 @@ impl Chains<'_> {
     // A link leads to f: if f is not in row d yet, it is marked, and its row is added if that is made, or else it waits on the stack.
     fn meet(
         &self,
-        state: &[State],
+        state: &[RowState],
         square: &mut [u64],
         stack: &mut [u16],
         d: usize,
@@ -148,7 +148,7 @@ impl Chains<'_> {
         if marks::has_mark(square, w, d, f) {
             return top;
         }
-        if state[f] == State::Made {
+        if state[f] == RowState::Made {
             // its row first: above a Group that it has, all are marked
             marks::merge_row(square, w, f, d);
             mark_around(self.sheet, square, d, f);
@@ -162,7 +162,7 @@ impl Chains<'_> {
     // Row d of the marks meets all that e links to. Answers the stack's height.
     fn grow(
         &self,
-        state: &[State],
+        state: &[RowState],
         square: &mut [u64],
         stack: &mut [u16],
         d: usize,
@@ -191,7 +191,7 @@ impl Chains<'_> {
     }
 
     // Makes row d, which is blank. Only those whose own rows are not made are visited, each once.
-    fn fill(&self, state: &[State], square: &mut [u64], stack: &mut [u16], d: usize)
+    fn fill(&self, state: &[RowState], square: &mut [u64], stack: &mut [u16], d: usize)
         requires room { MarksRoom self.now.sheet.n state.now square.old stack.old }
         requires fact { (get_or state.now d New ≡ Made → ⊥) × HasBody self.now.sheet.cells.now d }
         requires by_index { (f : ℕ) → get_or state.now f New ≡ Made → MarkRow self.now.sheet.cells.now self.now.sheet.n self.now.column square.old f }
@@ -206,33 +206,33 @@ impl Chains<'_> {
     }
 
     // Makes row d after the rows of what d links to, unless d is begun.
-    pub fn visit(&self, state: &mut [State], square: &mut [u64], stack: &mut [u16], d: usize)
+    pub fn visit(&self, state: &mut [RowState], square: &mut [u64], stack: &mut [u16], d: usize)
         requires room { MarksRoom self.now.sheet.n state.old square.old stack.old }
         requires mark_rows { MarkRows self.now.sheet.cells.now self.now.sheet.n self.now.column state.old square.old × HasBody self.now.sheet.cells.now d }
         ensures { Visited self.now.sheet.cells.now self.now.sheet.n self.now.column d state.old state.new square.new }
     {
-        let State::New = state[d] else {
+        let RowState::New = state[d] else {
             return;
         };
-        state[d] = State::Begun;
+        state[d] = RowState::Begun;
         let mut x = usize::from(self.links[d]);
         while x != 0 {
             let e = self.end(x);
-            if let State::New = state[e] {
+            if let RowState::New = state[e] {
                 self.visit(state, square, stack, e);
             }
             if share_row(self.sheet.n, state[e], square, d, e) {
-                state[d] = State::Made;
+                state[d] = RowState::Made;
                 return;
             }
             x = self.before(x);
         }
         self.fill(state, square, stack, d);
-        state[d] = State::Made;
+        state[d] = RowState::Made;
     }
 
     // The row of every V, in a blank square.
-    fn reach_rows(&self, state: &mut [State], square: &mut [u64], stack: &mut [u16])
+    fn reach_rows(&self, state: &mut [RowState], square: &mut [u64], stack: &mut [u16])
         requires room { MarksRoom self.now.sheet.n state.old square.old stack.old }
         requires new { (d : ℕ) → get_or state.old d New ≡ New }
         requires blank { (d : ℕ) → Blank self.now.sheet.n square.old d }
@@ -279,12 +279,12 @@ fn cycle_in<const C: usize, const N: usize>(
 {
     let mut links = [0; C];
     link(sheet, column, &mut links);
-    let chains = Chains {
+    let chains = LinkChains {
         sheet,
         column,
         links: &links,
     };
-    let mut state = [State::New; N];
+    let mut state = [RowState::New; N];
     let mut stack = [0; N];
     chains.reach_rows(&mut state, square, &mut stack);
     first_cycle(sheet, column, square)

@@ -10,7 +10,7 @@ ghost use Rattle.cells.specs.Limits.{size_limit, label_limit, pair_limit};
 ghost use Rattle.cells.specs.Table.{owner, with_number};
 ghost use Rattle.order.specs.LabelLists.{one};
 ghost use Rattle.order.specs.Following.{labels_of};
-ghost use Rattle.reach.specs.declared.State.TheVariants.{New};
+ghost use Rattle.reach.specs.declared.RowState.TheVariants.{New};
 ghost use Rattle.reach.specs.MarkRows.{width, Blank, MarkRow, RowsRoom, MarksRoom};
 ghost use Rattle.evaluation.specs.Results.{steps_at, stored};
 ghost use Rattle.evaluation.specs.Evaluation.{step_limit};
@@ -23,7 +23,7 @@ ghost use Rattle.redoing.specs.RedoStages.{OwnersMarked, OwnersWindows, Standing
 
 use cells::ReadTable;
 use numbers::Arithmetic;
-use reach::{Chains, State};
+use reach::{LinkChains, RowState};
 
 // "For each pair, how many values were redone, how many now fail, and the sum of all step counts."
 #[derive(Clone, Copy)]
@@ -40,7 +40,7 @@ fn failed(results: &[i64], label: usize) -> u64
     requires { ResultsRoom results.now label }
     ensures { (result ≡ one (is_failure (stored results.now label))) × (result ≤ 1) }
 {
-    u64::from(evaluation::NUMBER < results[3 * (label - 1)])
+    u64::from(i64::from(evaluation::NUMBER) < results[3 * (label - 1)])
 }
 
 // The steps of the label.
@@ -342,9 +342,9 @@ impl<'a> Retoucher<'a> {
 
 // The rows of the owners of the pairs' lines: what reaches each.
 fn mark_owners(
-    chains: &Chains,
+    chains: &LinkChains,
     pairs: &[i64],
-    state: &mut [State],
+    state: &mut [RowState],
     square: &mut [u64],
     stack: &mut [u16],
 )
@@ -372,12 +372,12 @@ fn mark_in<const C: usize, const N: usize>(sheet: ReadTable, pairs: &[i64], squa
 {
     let mut links = [0; C];
     reach::link(sheet, cells::OWNER, &mut links);
-    let chains = Chains {
+    let chains = LinkChains {
         sheet,
         column: cells::OWNER,
         links: &links,
     };
-    let mut state = [State::New; N];
+    let mut state = [RowState::New; N];
     let mut stack = [0; N];
     mark_owners(&chains, pairs, &mut state, square, &mut stack);
 }

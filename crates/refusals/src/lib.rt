@@ -5,39 +5,39 @@
 ghost use Rattle.std.specs.Prelude.{◌≡◌};
 ghost use Rattle.refusals.specs.Rows.{row_number};
 
-// A row of the table. The paper's words and numbers stand in specs/Rows.antt.
+// A row of the table, with the number that the paper gives it. The paper's words stand in specs/Rows.antt.
 #[derive(Clone, Copy)]
 pub enum Row {
-    Text,
-    FirstLine,
-    Labels,
-    Buffers,
-    Fields,
-    Kind,
-    Form,
-    Structure,
-    Uses,
-    Argument,
-    Level,
-    Duplicate,
-    Head,
-    Later,
-    Target,
-    Cycle,
-    Listed,
-    Early,
+    Text = 1,
+    FirstLine = 2,
+    Labels = 3,
+    Buffers = 4,
+    Fields = 5,
+    Kind = 6,
+    Form = 7,
+    Structure = 8,
+    Uses = 9,
+    Argument = 10,
+    Level = 11,
+    Duplicate = 12,
+    Head = 13,
+    Later = 14,
+    Target = 15,
+    Cycle = 16,
+    Listed = 17,
+    Early = 18,
     // Order 4's: a list of pairs, the label of one, its number.
-    Pairs,
-    PairLabel,
-    PairNumber,
+    Pairs = 19,
+    PairLabel = 20,
+    PairNumber = 21,
 }
 
 impl Row {
-    // The number that the paper gives it: its place in the table.
+    // Its number.
     pub fn number(self) -> u64
         ensures { result ≡ row_number self }
     {
-        self as u64 + 1
+        self as u64
     }
 
     // The refusal by this row at a place.

@@ -106,7 +106,9 @@ fn clear_all(table: &mut [i64], plan: &mut [i64], results: &mut [i64], changes: 
     calls::clear_both(results, changes);
 }
 
-// Rows 19 to 21 of a sheet that has been run, and the pairs applied to it, by the arithmetic that it was run by.
+// Rows 19 to 21 of a sheet that has been run, and the pairs applied to it, by the arithmetic that it was run by. Not inlined: a sheet that
+// is refused before does not pay for the scratch of the pairs.
+#[inline(never)]
 fn retouch_run(
     completed: Completed,
     pairs: &[i64],

@@ -29,7 +29,7 @@ use Rattle.groups.proofs.Chains.{labels_few, rising_part, rising_filter}
 use Rattle.reach.proofs.Reading.{row_room}
 use Rattle.groups.proofs.Orders.{in_rows, fits, needed_is}
 use Rattle.groups.specs.Opened.{expanded_block, expanded}
-use Rattle.splitting.specs.Leaders.{Room, LedMembers, Linkable, LeaderChains, Chains, Expanded}
+use Rattle.splitting.specs.Leaders.{ScratchRoom, LedMembers, Linkable, LeaderChains, Chains, Expanded}
 use Rattle.groups.proofs.Expanded.{expanded_few, block_label}
 
 -- ---- the members of a Group
@@ -61,7 +61,7 @@ module _ (t : List ℤ) (n : ℕ) (ok : Accepted t n) (g : ℕ) where
 
   -- ---- what the search asks, and what it finds
 
-  module _ (N W : ℕ) (r : Room n N W) (ready stacked stack unmet order path lead : List ℕ) (readies : length ready ≡ W) (rows : length stacked ≡ W)
+  module _ (N W : ℕ) (r : ScratchRoom n N W) (ready stacked stack unmet order path lead : List ℕ) (readies : length ready ≡ W) (rows : length stacked ≡ W)
       (stacks : length stack ≡ N) (counts : length unmet ≡ N) (orders : length order ≡ N) (paths : length path ≡ N) (leads : length lead ≡ N) where
     search_room : blocks.Room (members t n g) ready stacked stack unmet order path lead (width n)
     search_room =

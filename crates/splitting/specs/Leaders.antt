@@ -11,7 +11,7 @@ use Rattle.groups.specs.Opened.{expanded_block}
 use Rattle.reach.specs.MarkRows.{width}
 
 -- room for placing n labels, in scratch for labels below m and rows of w words
-pub record Room (n m w : ℕ) : Type 0 where
+pub record ScratchRoom (n m w : ℕ) : Type 0 where
   pub labels : 64 * width n ≤ m
   pub words : width n ≤ w
 

@@ -9,7 +9,7 @@ ghost use Rattle.reach.specs.MarkRows.{width};
 ghost use Rattle.groups.specs.Members.{Chain, NeedRowsFrom, Relinked};
 ghost use Rattle.groups.specs.Opened.{tangled_members, Progress, Openable, GroupOrders};
 ghost use Rattle.groups.specs.Opening.{MemberChains, ChainsCleared};
-ghost use Rattle.splitting.specs.Leaders.{Room, LedMembers, Linkable, BlockChains, leads_several, LeaderChains};
+ghost use Rattle.splitting.specs.Leaders.{ScratchRoom, LedMembers, Linkable, BlockChains, leads_several, LeaderChains};
 
 use cells::ReadTable;
 
@@ -34,7 +34,7 @@ impl<const N: usize, const W: usize> PlacingScratch<N, W> {
         items: &mut [u16],
     ) -> Option<usize>
         requires le_from { (1 ≤ from) × (from ≤ sheet.n + 1) × (2 * sheet.n < length next.old) × (sheet.n < length items.old) }
-        requires room { Room sheet.n N W }
+        requires room { ScratchRoom sheet.n N W }
         requires n_in_bounds { ((sheet.n + 1) * width sheet.n ≤ length square.now) × NeedRowsFrom sheet.cells.now sheet.n from square.now }
         requires progress { Progress sheet.cells.now sheet.n from next.old }
         ensures { GroupOrders sheet.entry.cells.now sheet.entry.n from next.new result }
@@ -56,7 +56,7 @@ impl<const N: usize, const W: usize> PlacingScratch<N, W> {
 // What the search for blocks is lent beside what placing is lent, for labels below N, rows of W words, and chains of L cells. Where it is
 // done, its stacks serve the steps after it.
 #[derive(Drop)]
-pub struct Search<const N: usize, const W: usize, const L: usize> {
+pub struct SearchScratch<const N: usize, const W: usize, const L: usize> {
     pub list: [u16; N],
     pub stacked: [u64; W],
     pub stack: [u16; N],
@@ -76,10 +76,10 @@ fn find_leads<const N: usize, const W: usize, const L: usize>(
     group: usize,
     items: &mut [u16],
     scratch: &mut PlacingScratch<N, W>,
-    search: &mut Search<N, W, L>,
+    search: &mut SearchScratch<N, W, L>,
 ) -> usize
     requires group_le_n { (group ≤ sheet.n) × (2 * sheet.n < length next.now) × (sheet.n < length items.old) }
-    requires room { Room sheet.n N W }
+    requires room { ScratchRoom sheet.n N W }
     requires n_in_bounds { ((sheet.n + 1) * width sheet.n ≤ length square.now) × NeedRowsFrom sheet.cells.now sheet.n group square.now }
     requires chain { Chain sheet.n next.now (get_or next.now group 0) (members sheet.cells.now sheet.n group) }
     ensures { (result ≤ length items.new) × LedMembers sheet.entry.cells.now sheet.entry.n group (take result items.new) search.new.lead }
@@ -137,7 +137,7 @@ fn open_lead<const N: usize, const W: usize>(
 )
     requires no_cycle { place16 sheet.cells.now sheet.n ≡ 0 }
     requires b_le_n { (b ≤ sheet.n) × (2 * sheet.n < length next.old) × (2 * sheet.n < length links.old) × (64 * width sheet.n ≤ length pile.old) }
-    requires room { Room sheet.n N W }
+    requires room { ScratchRoom sheet.n N W }
     requires n_in_bounds { ((sheet.n + 1) * width sheet.n ≤ length square.now) × NeedRowsFrom sheet.cells.now sheet.n group square.now }
     requires chain { Chain sheet.n links.old (get_or links.old b 0) (member_block sheet.cells.now sheet.n group b)
         × MemberChains sheet.cells.now sheet.n (member_block sheet.cells.now sheet.n group b) next.old }
@@ -174,7 +174,7 @@ fn open_blocks<const N: usize, const W: usize>(
 )
     requires no_cycle { place16 sheet.cells.now sheet.n ≡ 0 }
     requires n_in_bounds { (2 * sheet.n < length next.old) × (2 * sheet.n < length links.old) × (64 * width sheet.n ≤ length pile.old) }
-    requires room { Room sheet.n N W }
+    requires room { ScratchRoom sheet.n N W }
     requires n_in_bounds_2 { ((sheet.n + 1) * width sheet.n ≤ length square.now) × NeedRowsFrom sheet.cells.now sheet.n group square.now }
     requires led_members { LedMembers sheet.cells.now sheet.n group items.now lead.now × Linkable sheet.n items.now lead.now links.old }
     requires block_chains { BlockChains sheet.n items.now lead.now links.old × Openable sheet.cells.now sheet.n group next.old }
@@ -197,11 +197,11 @@ pub fn split_group<const N: usize, const W: usize, const L: usize>(
     group: usize,
     items: &mut [u16],
     scratch: &mut PlacingScratch<N, W>,
-    search: &mut Search<N, W, L>,
+    search: &mut SearchScratch<N, W, L>,
 ) -> usize
     requires no_cycle { place16 sheet.cells.now sheet.n ≡ 0 }
     requires n_in_bounds { (2 * sheet.n < length next.old) × (sheet.n < length items.old) }
-    requires room { Room sheet.n N W × (2 * sheet.n < L) }
+    requires room { ScratchRoom sheet.n N W × (2 * sheet.n < L) }
     requires n_in_bounds_2 { ((sheet.n + 1) * width sheet.n ≤ length square.now) × NeedRowsFrom sheet.cells.now sheet.n group square.now }
     requires openable { Openable sheet.cells.now sheet.n group next.old }
     ensures upper_bound { (result ≤ length items.new) × LedMembers sheet.entry.cells.now sheet.entry.n group (take result items.new) search.new.lead }

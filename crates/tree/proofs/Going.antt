@@ -185,7 +185,7 @@ module _ (t : List ℤ) (n : ℕ) (p : Formed t n) (w : List ℤ) (l : ℕ) (a v
         group_over = over_alike t w n r.claims.over l 3 (omega arith)
 
         other : (j : ℕ) → j < 8 → (x : ℕ) → l < x → cell (assigned l (field_a t l) 0 w) x j ≡ cell w x j
-        other j b x c = assigned_other l (field_a t l) 0 w has x j b (λ e. omega arith)
+        other j b x c = assigned_other l (field_a t l) 0 w x j b (λ e. omega arith)
 
         level : target w l + 1 ≤ l
         level = omega (arith, r.claims.low l (omega arith) g)
@@ -193,7 +193,7 @@ module _ (t : List ℤ) (n : ℕ) (p : Formed t n) (w : List ℤ) (l : ℕ) (a v
         go : (b : Bool) → is_definition t l ≡ b → Claims t n l (propagated l w)
         go true d =
             rw (propagated_definition l w (definition_over ∙ d), node_over t n w r.claims.over l, group_over)
-            (claims_so l 1 h (omega (arith, p.few)) h (assigned l (field_a t l) 0 w) (over_assigned t w n p.room r.claims.over l (field_a t l) 0 h g)
+            (claims_so l 1 h (omega (arith, p.few)) h (assigned l (field_a t l) 0 w) (over_assigned t w n p.room r.claims.over l (field_a t l) 0 g)
             (other 6 (omega arith)) (other 7 (omega arith)))
         go false d =
             let b = once_out (owner w l) (rw (definition_over ∙ d) at once) in

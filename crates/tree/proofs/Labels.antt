@@ -70,6 +70,12 @@ module _ (t : List ℤ) (l : ℕ) where
 -- ---- what is written
 
 module _ (x : ℕ) (t : List ℤ) (d v : ℕ) where
+  pub assigned_none : x ≡ 0 → assigned x d v t ≡ t
+  assigned_none e = rw e
+
+  pub assigned_some : (x ≡ 0 → ⊥) → assigned x d v t ≡ set (set t (8 * (x - 1) + 6) (pos d)) (8 * (x - 1) + 7) (pos v)
+  assigned_some e = rw (ne_eqb x 0 e)
+
   pub claimed_first : owner t x ≡ 0 → claimed (Some x) d v t ≡ assigned x d v t
   claimed_first e = rw e
 

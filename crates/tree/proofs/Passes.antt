@@ -19,7 +19,7 @@ use Rattle.cells.proofs.Table.{cell_put, cell_other}
 use Rattle.tree.specs.Tree.{parts, IsPart, user_of, owner_of, level_of}
 use Rattle.tree.specs.Treed.{Formed}
 use Rattle.std.specs.Prelude.{Option, Some, None}
-use Rattle.tree.specs.TreeSteps.{HasCells, Node, node_at, assigned, claimed, claimed_all, propagated, Placed, Inside, UsedOnce, Natural, Over, turn_of, level_left, Propagated}
+use Rattle.tree.specs.TreeSteps.{HasCells, Node, node_at, assigned, claimed, claimed_all, propagated, HasPart, Inside, UsedOnce, Natural, Over, turn_of, level_left, Propagated}
 use Rattle.tree.proofs.Codes.{expression_kind, label_low, label_high}
 use Rattle.tree.proofs.Users.{user_some}
 use Rattle.tree.proofs.Labels.{node_definition, counted, node_count, claimed_first, propagated_definition, propagated_expression}
@@ -45,9 +45,9 @@ module _ (d v : ℕ) (w : List ℤ) where
   part_length None = refl
   part_length (Some x) = assigned_length x d v w
 
-  part_other : (p : Option ℕ) → Placed w p → (y j : ℕ) → j < 8 → (p ≡ Some y → ⊥) → cell (part_assigned p d v w) y j ≡ cell w y j
+  part_other : (p : Option ℕ) → HasPart w p → (y j : ℕ) → j < 8 → (p ≡ Some y → ⊥) → cell (part_assigned p d v w) y j ≡ cell w y j
   part_other None has y j h g = refl
-  part_other (Some x) has y j h g = assigned_other x d v w has y j h (λ e. g (ap Some (sym e)))
+  part_other (Some x) has y j h g = assigned_other x d v w y j h (λ e. g (ap Some (sym e)))
 
   -- a first use
   part_first : (p : Option ℕ) → ((x : ℕ) → p ≡ Some x → owner w x ≡ 0) → claimed p d v w ≡ part_assigned p d v w
@@ -80,7 +80,7 @@ module _ (t : List ℤ) (n : ℕ) (s : Formed t n) (l : ℕ) (part : (x : ℕ) �
   node_within : Within n (node_at t l).a × Within n (node_at t l).b × Within n (node_at t l).c
   node_within = (part_within (node_at t l).a (node_a t l), part_within (node_at t l).b (node_b t l), part_within (node_at t l).c (node_c t l))
 
-  pub placed : (w : List ℤ) → length w ≡ length t → (p : Option ℕ) → Within n p → Placed w p
+  pub placed : (w : List ℤ) → length w ≡ length t → (p : Option ℕ) → Within n p → HasPart w p
   placed w e p h = within_placed n w p (omega (arith, s.room)) h
 
   pub inside : (w : List ℤ) → length w ≡ length t → Inside w (node_at t l)
@@ -100,13 +100,13 @@ module _ (t : List ℤ) (n : ℕ) (s : Formed t n) (l : ℕ) (part : (x : ℕ) �
     abbrev two_claimed : List ℤ
     two_claimed = claimed p.b d v one_claimed
 
-    has_a : Placed u p.a
+    has_a : HasPart u p.a
     has_a = (inside u o.size).a
 
-    has_b : Placed one_claimed p.b
+    has_b : HasPart one_claimed p.b
     has_b = (inside one_claimed (claimed_length d v u p.a ∙ o.size)).b
 
-    has_c : Placed two_claimed p.c
+    has_c : HasPart two_claimed p.c
     has_c = (inside two_claimed (claimed_length d v one_claimed p.b ∙ claimed_length d v u p.a ∙ o.size)).c
 
     pub parts_over : Over t n (claimed_all p d v u)
@@ -133,10 +133,10 @@ module _ (t : List ℤ) (n : ℕ) (s : Formed t n) (l : ℕ) (part : (x : ℕ) �
       abbrev two_assigned : List ℤ
       two_assigned = part_assigned p.b d v one_assigned
 
-      pub assigned_b : Placed one_assigned p.b
+      pub assigned_b : HasPart one_assigned p.b
       assigned_b = (inside one_assigned (part_length d v u p.a ∙ o.size)).b
 
-      pub assigned_c : Placed two_assigned p.c
+      pub assigned_c : HasPart two_assigned p.c
       assigned_c = (inside two_assigned (part_length d v one_assigned p.b ∙ part_length d v u p.a ∙ o.size)).c
 
       -- no label stands in two fields
@@ -170,7 +170,7 @@ left_above t n j x h = rw (lt-leb x j h)
 
 -- a label that gets its owner and level has them, and no label that had them loses them
 module _ (t : List ℤ) (n j : ℕ) where
-  assigned_right : (w : List ℤ) (p : Option ℕ) (d v y m : ℕ) → Placed w p → ((x : ℕ) → p ≡ Some x → (d ≡ owner_of t n x) × (v ≡ level_left t n j x))
+  assigned_right : (w : List ℤ) (p : Option ℕ) (d v y m : ℕ) → HasPart w p → ((x : ℕ) → p ≡ Some x → (d ≡ owner_of t n x) × (v ≡ level_left t n j x))
       → Right t n j w y ⊎ (1 ≤ counted y p + m) → Right t n j (part_assigned p d v w) y ⊎ (1 ≤ m)
   assigned_right w None d v y m has right c = ⊎_elim (λ z. inl z) (λ z. inr (omega arith)) c
   assigned_right w (Some x) d v y m has right c = go (eqb y x) refl c
@@ -180,7 +180,7 @@ module _ (t : List ℤ) (n j : ℕ) where
 
       there : (x ≡ y → ⊥) → Right t n j w y → Right t n j (assigned x d v w) y
       there e q =
-          (assigned_other x d v w has y 6 (omega arith) (λ z. e (sym z)) ∙ q.0, assigned_other x d v w has y 7 (omega arith) (λ z. e (sym z)) ∙ q.1)
+          (assigned_other x d v w y 6 (omega arith) (λ z. e (sym z)) ∙ q.0, assigned_other x d v w y 7 (omega arith) (λ z. e (sym z)) ∙ q.1)
 
       go : (b : Bool) → eqb y x ≡ b → Right t n j w y ⊎ (1 ≤ one b + m) → Right t n j (assigned x d v w) y ⊎ (1 ≤ m)
       go true e q = inl (here (sym (eqb-true y x e)))
@@ -277,8 +277,8 @@ module _ (t : List ℤ) (n : ℕ) (s : UsedOnce t n) (w : List ℤ) (l : ℕ) (h
   turn_definition : is_definition t l ≡ true → Propagated t n l (l - 1) (claimed_all (node_at t l) l 1 (assigned l (field_a t l) 0 w))
   turn_definition d =
       propagated_so l 1 (λ x q. (sym (own.body_owner t n s l x d q), sym (own.body_level t n s l x d q))) (assigned l (field_a t l) 0 w)
-      (over_assigned t w n formed.room r.over l (field_a t l) 0 h g)
-      (λ y q. assigned_other l (field_a t l) 0 w has y 6 (omega arith) (λ e. omega (arith, (s.structure.part l y q).0)))
+      (over_assigned t w n formed.room r.over l (field_a t l) 0 g)
+      (λ y q. assigned_other l (field_a t l) 0 w y 6 (omega arith) (λ e. omega (arith, (s.structure.part l y q).0)))
       settled
     where
       has : HasCells w l

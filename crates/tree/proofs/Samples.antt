@@ -1,11 +1,11 @@
 -- Small tables about rows 8 to 11, as facts that the checker computes.
-use mathlib.Core.Path.{◌≡◌, refl}
+use mathlib.Core.Path.{◌≡◌, refl, ap}
 use mathlib.Core.List.{List, [], ◌∷◌, ◌++◌, map}
 use Prim.Native.Nat.{ℕ, zero, suc}
 use Prim.Native.Char.{code}
 use lib.IntN.{ℤ, pos}
 use Rattle.kinds.specs.Kinds.{kinds, kind_at, code_of, is_kind, is_definition, is_expression, takes, clause_of}
-use Rattle.refusals.specs.Refusal.{Verdict, Fine, Refused}
+use Rattle.refusals.specs.Refusal.{Verdict, Fine, Refused, refusal_of, reply_of}
 use Rattle.refusals.specs.Rows.{structure_row, uses_row, argument_row, level_row}
 use Rattle.tree.specs.Tree.{parts, structure_bad, definition_of, owner_of, level_of, tree_bad}
 
@@ -21,6 +21,10 @@ root = row (code "G") 0 0 (pos 0) 0 0
 
 abbrev found : List ℤ → Verdict
 found t = tree_bad (root ++ t) 4
+
+-- the paper's number of what is found, 0 for nothing
+abbrev numbered : Verdict → ℕ
+numbered v = refusal_of (reply_of v 0)
 
 unfoldable tables : List (List ℤ)
 tables =
@@ -50,6 +54,10 @@ tables_found : map found tables ≡ Refused uses_row 3
 unfolding tables tree_bad structure_bad parts definition_of owner_of level_of kinds kind_at code_of is_kind is_definition is_expression takes clause_of
 tables_found = refl
 
+-- in the paper's numbers
+tables_numbered : map numbered (map found tables) ≡ 9 ∷ 8 ∷ 8 ∷ 8 ∷ 8 ∷ 10 ∷ 0 ∷ []
+tables_numbered = ap (map numbered) tables_found
+
 -- ---- a body of m calls, each the argument of the one before, and a number: level 32 passes and level 33 does not
 
 abbrev calls : ℕ → ℕ → List ℤ
@@ -66,3 +74,6 @@ level_32 = refl
 level_33 : tree_bad (deep 32) 35 ≡ Refused level_row 35
 unfolding tree_bad structure_bad parts definition_of owner_of level_of kinds kind_at code_of is_kind is_definition is_expression takes clause_of
 level_33 = refl
+
+level_33_numbered : numbered (tree_bad (deep 32) 35) ≡ 11
+level_33_numbered = ap numbered level_33

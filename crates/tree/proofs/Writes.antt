@@ -4,6 +4,7 @@ use mathlib.Core.Bool.{Bool, true, false}
 use mathlib.Core.List.{List}
 use Prim.Native.Nat.{ℕ, zero, suc, ◌+◌, ◌-◌, ◌*◌, ◌≤◌, ◌<◌}
 use native.Mathlib.Omega.{arith}
+use native.Mathlib.Decide.{ℕ_discrete}
 use borrow.Author.Tests.{eqb-true, eqb-false}
 use lib.Dec.{eqb}
 use lib.IntN.{ℤ, pos}
@@ -19,10 +20,10 @@ use Rattle.kinds.specs.declared.Kind.{Kind}
 use Rattle.cells.proofs.Stores.{int_at_put, int_at_other}
 use Rattle.cells.proofs.Table.{cell_put, cell_other}
 use Rattle.tree.specs.Treed.{Formed, Plain}
-use Rattle.tree.specs.TreeSteps.{HasCells, part_in, Node, node_at, twice, assigned, claimed, Placed, Inside, Natural, Over}
+use Rattle.tree.specs.TreeSteps.{HasCells, part_in, Node, node_at, twice, assigned, claimed, HasPart, Inside, Natural, Over}
 use Rattle.std.specs.Prelude.{Option, Some, None}
 use Rattle.tree.proofs.Parts.{Alike, alike_parts}
-use Rattle.tree.proofs.Labels.{counted, claimed_first, claimed_again}
+use Rattle.tree.proofs.Labels.{counted, assigned_none, assigned_some, claimed_first, claimed_again}
 
 -- ---- tables that agree in the fields
 
@@ -93,31 +94,48 @@ module _ (t w : List ℤ) (n : ℕ) (room : 8 * n ≤ length t) (o : Over t n w)
 -- ---- owner and level of a label
 
 module _ (x d v : ℕ) (t : List ℤ) where
+  -- label 0 has no cells
+  by_label : (P : List ℤ → Type 0) → P t → (1 ≤ x → P (set (set t (8 * (x - 1) + 6) (pos d)) (8 * (x - 1) + 7) (pos v))) → P (assigned x d v t)
+  by_label P none some = go (ℕ_discrete x 0)
+    where
+      go : Dec (x ≡ 0) → P (assigned x d v t)
+      go (yes e) = rw (assigned_none x t d v e) none
+      go (no e) = rw (assigned_some x t d v e) (some (omega arith))
+
   pub assigned_length : length (assigned x d v t) ≡ length t
-  assigned_length = length-set (set t (8 * (x - 1) + 6) (pos d)) (8 * (x - 1) + 7) (pos v) ∙ length-set t (8 * (x - 1) + 6) (pos d)
+  assigned_length =
+      by_label (λ w. length w ≡ length t) refl
+      (λ h. length-set (set t (8 * (x - 1) + 6) (pos d)) (8 * (x - 1) + 7) (pos v) ∙ length-set t (8 * (x - 1) + 6) (pos d))
+
+  -- other cells
+  assigned_kept : (y j : ℕ) → j < 8 → (y ≡ x → 6 ≤ j → ⊥) → cell (assigned x d v t) y j ≡ cell t y j
+  assigned_kept y j h g =
+      by_label (λ w. cell w y j ≡ cell t y j) refl
+      (λ l. cell_other (set t (8 * (x - 1) + 6) (pos d)) x 7 y j (pos v) l (omega arith) h (λ e f. g e (omega arith))
+      ∙ cell_other t x 6 y j (pos d) l (omega arith) h (λ e f. g e (omega arith)))
+
+  pub assigned_alike : Alike t (assigned x d v t)
+  assigned_alike l j h = assigned_kept l j (omega arith) (λ e f. omega arith)
+
+  -- another label
+  pub assigned_other : (y j : ℕ) → j < 8 → (y ≡ x → ⊥) → cell (assigned x d v t) y j ≡ cell t y j
+  assigned_other y j h g = assigned_kept y j h (λ e f. g e)
 
   module _ (has : HasCells t x) where
-    pub assigned_alike : Alike t (assigned x d v t)
-    assigned_alike l j h =
-        cell_other (set t (8 * (x - 1) + 6) (pos d)) x 7 l j (pos v) has.0 (omega arith) (omega arith) (λ e f. omega arith)
-        ∙ cell_other t x 6 l j (pos d) has.0 (omega arith) (omega arith) (λ e f. omega arith)
-
-    -- another label
-    pub assigned_other : (y j : ℕ) → j < 8 → (y ≡ x → ⊥) → cell (assigned x d v t) y j ≡ cell t y j
-    assigned_other y j h g =
-        cell_other (set t (8 * (x - 1) + 6) (pos d)) x 7 y j (pos v) has.0 (omega arith) h (λ e f. g e)
-        ∙ cell_other t x 6 y j (pos d) has.0 (omega arith) h (λ e f. g e)
-
     pub assigned_owner : owner (assigned x d v t) x ≡ d
     assigned_owner =
-        cell_other (set t (8 * (x - 1) + 6) (pos d)) x 7 x 6 (pos v) has.0 (omega arith) (omega arith) (λ e f. omega arith) ∙ cell_put t x 6 d has.0 has.1 (omega arith)
+        rw (assigned_some x t d v (λ e. omega (arith, has.0)))
+        (cell_other (set t (8 * (x - 1) + 6) (pos d)) x 7 x 6 (pos v) has.0 (omega arith) (omega arith) (λ e f. omega arith) ∙ cell_put t x 6 d has.0 has.1 (omega arith))
 
     pub assigned_level : target (assigned x d v t) x ≡ v
-    assigned_level = cell_put (set t (8 * (x - 1) + 6) (pos d)) x 7 v has.0 (omega (arith, has.1, length-set t (8 * (x - 1) + 6) (pos d))) (omega arith)
+    assigned_level =
+        rw (assigned_some x t d v (λ e. omega (arith, has.0)))
+        (cell_put (set t (8 * (x - 1) + 6) (pos d)) x 7 v has.0 (omega (arith, has.1, length-set t (8 * (x - 1) + 6) (pos d))) (omega arith))
 
-pub over_assigned : (t w : List ℤ) (n : ℕ) → 8 * n ≤ length t → Over t n w → (x d v : ℕ) → 1 ≤ x → x ≤ n → Over t n (assigned x d v w)
-over_assigned t w n room o x d v h g =
-    over_set t (set w (8 * (x - 1) + 6) (pos d)) n room (over_set t w n room o x 6 d h g (omega arith) (omega arith)) x 7 v h g (omega arith) (omega arith)
+pub over_assigned : (t w : List ℤ) (n : ℕ) → 8 * n ≤ length t → Over t n w → (x d v : ℕ) → x ≤ n → Over t n (assigned x d v w)
+over_assigned t w n room o x d v g =
+    by_label x d v w (Over t n) o
+    (λ h. over_set t (set w (8 * (x - 1) + 6) (pos d)) n room (over_set t w n room o x 6 d h g (omega arith) (omega arith)) x 7 v h g (omega arith) (omega arith))
 
 -- ---- a use
 
@@ -149,11 +167,11 @@ abbrev pub Within : ℕ → Option ℕ → Type 0
 Within n None = Unit {0}
 Within n (Some x) = (1 ≤ x) × (x ≤ n)
 
-pub within_placed : (n : ℕ) (t : List ℤ) (p : Option ℕ) → 8 * n ≤ length t → Within n p → Placed t p
+pub within_placed : (n : ℕ) (t : List ℤ) (p : Option ℕ) → 8 * n ≤ length t → Within n p → HasPart t p
 within_placed n t None room w = tt
 within_placed n t (Some x) room w = (w.0, omega (arith, w.1))
 
-pub placed_kept : (t w : List ℤ) → length w ≡ length t → (p : Option ℕ) → Placed t p → Placed w p
+pub placed_kept : (t w : List ℤ) → length w ≡ length t → (p : Option ℕ) → HasPart t p → HasPart w p
 placed_kept t w e None has = tt
 placed_kept t w e (Some x) has = (has.0, omega (arith, has.1))
 
@@ -174,22 +192,22 @@ module _ (d v : ℕ) (t : List ℤ) where
   claimed_length None = refl
   claimed_length (Some x) = by_use x d v t (λ w. length w ≡ length t) (λ e. assigned_length x d v t) (λ e. length-set t (8 * (x - 1) + 6) (pos twice))
 
-  pub claimed_alike : (p : Option ℕ) → Placed t p → Alike t (claimed p d v t)
+  pub claimed_alike : (p : Option ℕ) → HasPart t p → Alike t (claimed p d v t)
   claimed_alike None has l j h = refl
   claimed_alike (Some x) has l j h =
-      by_use x d v t (λ w. cell w l j ≡ cell t l j) (λ e. assigned_alike x d v t has l j h)
+      by_use x d v t (λ w. cell w l j ≡ cell t l j) (λ e. assigned_alike x d v t l j h)
       (λ e. cell_other t x 6 l j (pos twice) has.0 (omega arith) (omega arith) (λ q f. omega arith))
 
-  pub claimed_low : (p : Option ℕ) → Placed t p → (y m : ℕ) → target t y ≤ m → v ≤ m → target (claimed p d v t) y ≤ m
+  pub claimed_low : (p : Option ℕ) → HasPart t p → (y m : ℕ) → target t y ≤ m → v ≤ m → target (claimed p d v t) y ≤ m
   claimed_low None has y m h g = h
   claimed_low (Some x) has y m h g =
       by_use x d v t (λ w. target w y ≤ m) (λ e. go (eqb y x) refl) (λ e. omega (arith, cell_other t x 6 y 7 (pos twice) has.0 (omega arith) (omega arith) (λ q f. omega arith)))
     where
       go : (b : Bool) → eqb y x ≡ b → target (assigned x d v t) y ≤ m
       go true q = let z = eqb-true y x q in rw z (omega (arith, assigned_level x d v t has))
-      go false q = omega (arith, assigned_other x d v t has y 7 (omega arith) (eqb-false y x q))
+      go false q = omega (arith, assigned_other x d v t y 7 (omega arith) (eqb-false y x q))
 
-  pub claimed_claims : (p : Option ℕ) → Placed t p → (y u : ℕ) → 1 ≤ d → d ≤ label_limit → Claimed u (owner t y) → Claimed (u + counted y p) (owner (claimed p d v t) y)
+  pub claimed_claims : (p : Option ℕ) → HasPart t p → (y u : ℕ) → 1 ≤ d → d ≤ label_limit → Claimed u (owner t y) → Claimed (u + counted y p) (owner (claimed p d v t) y)
   claimed_claims None has y u h g c = let z : u + 0 ≡ u = omega arith in rw z c
   claimed_claims (Some x) has y u h g c = go (eqb y x) refl
     where
@@ -202,7 +220,7 @@ module _ (d v : ℕ) (t : List ℤ) where
 
       other : (y ≡ x → ⊥) → owner (claimed (Some x) d v t) y ≡ owner t y
       other q =
-          by_use x d v t (λ w. owner w y ≡ owner t y) (λ e. assigned_other x d v t has y 6 (omega arith) q)
+          by_use x d v t (λ w. owner w y ≡ owner t y) (λ e. assigned_other x d v t y 6 (omega arith) q)
           (λ e. cell_other t x 6 y 6 (pos twice) has.0 (omega arith) (omega arith) (λ z f. q z))
 
       go : (b : Bool) → eqb y x ≡ b → Claimed (u + one b) (owner (claimed (Some x) d v t) y)
@@ -214,4 +232,4 @@ module _ (d v : ℕ) (t : List ℤ) where
 pub over_claimed : (t w : List ℤ) (n : ℕ) → 8 * n ≤ length t → Over t n w → (p : Option ℕ) (d v : ℕ) → Within n p → Over t n (claimed p d v w)
 over_claimed t w n room o None d v h = o
 over_claimed t w n room o (Some x) d v h =
-    by_use x d v w (λ u. Over t n u) (λ e. over_assigned t w n room o x d v h.0 h.1) (λ e. over_set t w n room o x 6 twice h.0 h.1 (omega arith) (omega arith))
+    by_use x d v w (λ u. Over t n u) (λ e. over_assigned t w n room o x d v h.1) (λ e. over_set t w n room o x 6 twice h.0 h.1 (omega arith) (omega arith))

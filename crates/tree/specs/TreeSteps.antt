@@ -65,9 +65,9 @@ owned_once d = ltb 0 d && ltb d twice
 abbrev pub used_right : List ℤ → ℕ → Bool
 used_right t l = cond (node_at t l).definition true (owned_once (owner t l))
 
--- the table in which label x has this owner and level
+-- the table in which label x, which is no 0, has this owner and level
 abbrev pub assigned : ℕ → ℕ → ℕ → List ℤ → List ℤ
-assigned x d v t = set (set t (8 * (x - 1) + 6) (pos d)) (8 * (x - 1) + 7) (pos v)
+assigned x d v t = cond (eqb x 0) t (set (set t (8 * (x - 1) + 6) (pos d)) (8 * (x - 1) + 7) (pos v))
 
 -- the table in which a part is used once more, by a line that gives it this owner and level
 abbrev pub claimed : Option ℕ → ℕ → ℕ → List ℤ → List ℤ
@@ -85,14 +85,14 @@ propagated l t =
     (claimed_all (node_at t l) (owner t l) (target t l + 1) t)
 
 -- what these writes ask: the parts have cells in the table, and what is written fits
-abbrev pub Placed : List ℤ → Option ℕ → Type 0
-Placed t None = Unit {0}
-Placed t (Some x) = HasCells t x
+abbrev pub HasPart : List ℤ → Option ℕ → Type 0
+HasPart t None = Unit {0}
+HasPart t (Some x) = HasCells t x
 
 pub record Inside (t : List ℤ) (p : Node) : Type 0 where
-  pub a : Placed t p.a
-  pub b : Placed t p.b
-  pub c : Placed t p.c
+  pub a : HasPart t p.a
+  pub b : HasPart t p.b
+  pub c : HasPart t p.c
 
 pub record Propagable (t : List ℤ) (l : ℕ) : Type 0 where
   pub line : Known t l

@@ -13,7 +13,7 @@ ghost use Rattle.refusals.specs.Rows.{uses_row};
 ghost use Rattle.tree.specs.Tree.{part_right, parts, structure_right, structure_bad, argument_in, above_levels, tree_bad};
 ghost use Rattle.tree.specs.Treed.{Formed, Plain, Written};
 ghost use Rattle.tree.specs.TreeSteps.{HasCells, part_in, node_at, Known, OfKind, group_fits, part_fits, owned_once, used_right};
-ghost use Rattle.tree.specs.TreeSteps.{assigned, claimed, claimed_all, propagated, Placed, Inside, Propagable};
+ghost use Rattle.tree.specs.TreeSteps.{assigned, claimed, claimed_all, propagated, HasPart, Inside, Propagable};
 
 use kinds::{Form, Kind};
 use refusals::{Row, Verdict};
@@ -172,7 +172,7 @@ fn assign(table: &mut [i64], label: usize, owner: usize, level: usize)
 
 // A use of a part: the first gives it its owner and level.
 fn claim(table: &mut [i64], part: Option<usize>, owner: usize, level: usize)
-    requires { Placed table.old part × (owner ≤ label_limit) × (level ≤ label_limit + 1) }
+    requires { HasPart table.old part × (owner ≤ label_limit) × (level ≤ label_limit + 1) }
     ensures { table.new ≡ claimed part owner level table.old }
 {
     if let Some(x) = part {

@@ -142,10 +142,10 @@ fn refusals() {
 
 #[test]
 fn states() {
-    assert_eq!(header_of("STATE_"), code("evaluation", "i64"));
+    let mut named = code("evaluation", "u32");
     let limits = header();
-    let steps = code("evaluation", "u32");
-    assert_eq!(steps.get("STEPS"), Some(&limits["STEPS_MOST"]));
+    assert_eq!(named.remove("STEPS"), Some(limits["STEPS_MOST"]));
+    assert_eq!(header_of("STATE_"), named);
     let depth = code("evaluation", "u16");
     assert_eq!(depth.get("DEPTH"), Some(&limits["DEPTH_MOST"]));
 }

@@ -18,10 +18,6 @@ const SHARED: [&str; 7] = [
     "Verdict",
 ];
 
-/// What two crates say of their own matter, most of it how far each has come and what
-/// it is lent for that. No file brings in both.
-const APART: [&str; 6] = ["Chains", "Evaluation", "Placed", "Room", "Search", "State"];
-
 /// A type beside the definition that has its words with small letters: what that
 /// gives, the relation that it computes, or what is told of it.
 const PAIRED: [&str; 18] = [
@@ -58,7 +54,7 @@ pub fn twice(graph: &Graph, believed: &HashSet<usize>) -> Vec<String> {
     let same = same.filter(|nodes| nodes.len() > 1).collect();
     let cases = groups(graph, believed, letters).into_iter();
     let cases = cases.filter(|nodes| differ(graph, nodes)).collect();
-    let mut found = others(graph, same, &[&SHARED[..], &APART].concat());
+    let mut found = others(graph, same, &SHARED);
     found.extend(others(graph, cases, &PAIRED));
     found.extend(files(graph));
     found

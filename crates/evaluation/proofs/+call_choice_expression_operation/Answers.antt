@@ -40,7 +40,8 @@ call-expression-requires t c =
 
 pub call-returns : goal.call-returns
 call-returns t c =
-    call_goes _ _ _ _ _ _ _ c.expression-evaluated.result c.field-argument.ensures c.expression-evaluated.ensures c.in-Number.is c.if-rest-eq-DEPTH.false
+    c.by_field.ensures
+    ∙ call_goes _ _ _ _ _ _ _ c.expression-evaluated.result c.field-argument.ensures c.expression-evaluated.ensures c.in-Number.is c.if-rest-eq-DEPTH.false
     (number_whole _ _ _ _ _ _ _ c.expression-evaluated.result c.expression-evaluated.ensures (operand_entry c.requires.entered _ c.field-argument.ensures refl) c.in-Number.is)
     c.field-target.ensures c.field-body.ensures c.deeper.ensures.0 c.deeper.ensures.1 c.deeper.ensures.2 c.expression.ensures
 
@@ -62,7 +63,8 @@ choice-expression-requires t c = (
 
 pub choice-returns : goal.choice-returns
 choice-returns t c =
-    chooses _ _ _ _ _ _ _ c.expression-evaluated.result c.field-tested.ensures c.expression-evaluated.ensures c.in-Number.is
+    c.by_field.ensures
+    ∙ chooses _ _ _ _ _ _ _ c.expression-evaluated.result c.field-tested.ensures c.expression-evaluated.ensures c.in-Number.is
     (number_whole _ _ _ _ _ _ _ c.expression-evaluated.result c.expression-evaluated.ensures (operand_entry c.requires _ c.field-tested.ensures refl) c.in-Number.is)
     c.branch_of-branch.ensures c.with_left.ensures.0 c.with_left.ensures.1 c.with_left.ensures.2 c.expression.ensures
 

@@ -1,10 +1,8 @@
 use mathlib.Core.Path.{◌≡◌}
 use native.Mathlib.Omega.{arith}
-use lib.IntN.{nat_abs}
 use mir.Syntax.{w64}
 use mir.Val.{to_z, of_z}
 use Rattle.std.proofs.Common.{rules}
-use Rattle.evaluation.specs.Shown.{state_of}
 use Rattle.evaluation.proofs.Entries.{value_cell, value_entry}
 use Rattle.evaluation.proofs.Answers.{value_is, value_left, value_stored}
 use Rattle.evaluation.proofs.evaluate.Goals as goal
@@ -24,6 +22,5 @@ pub returns : goal.returns
 returns c =
     let o = c.expression-outcome.result in
     let number : to_z w64 (of_z w64 o.number) ≡ o.number = search rules in
-    let state : nat_abs (to_z w64 (of_z w64 c.cell.result)) ≡ state_of o.state = search rules in
-    rw (number, state)
+    rw (number, c.number.ensures)
     (value_stored _ _ _ c.args.label o (value_is _ _ _ c.args.label c.field-body.ensures c.fresh.ensures.0 c.fresh.ensures.1 c.fresh.ensures.2 c.expression-outcome.ensures))

@@ -3,7 +3,7 @@ use mathlib.Core.Path.{◌≡◌, ◌∙◌, refl}
 use mathlib.Core.List.{List}
 use Prim.Native.Nat.{ℕ}
 use lib.IntN.{ℤ}
-use Rattle.tree.specs.TreeSteps.{node_at, claimed, Placed, Inside}
+use Rattle.tree.specs.TreeSteps.{node_at, claimed, HasPart, Inside}
 use Rattle.tree.proofs.Parts.{Alike}
 use Rattle.tree.proofs.Writes.{part_a, part_b, part_c, placed_kept, claimed_length, claimed_alike}
 use Rattle.tree.proofs.claim_parts.Goals as goal
@@ -20,13 +20,13 @@ module _ (t : List ℤ) (l d v : ℕ) where
     one_alike : Alike t one
     one_alike = claimed_alike d v t (node_at t l).a i.a
 
-    has_b : Placed one (node_at t l).b
+    has_b : HasPart one (node_at t l).b
     has_b = placed_kept t one (claimed_length d v t (node_at t l).a) (node_at t l).b i.b
 
     two_alike : Alike t two
     two_alike x j h = claimed_alike d v one (node_at t l).b has_b x j h ∙ one_alike x j h
 
-    has_c : Placed two (node_at t l).c
+    has_c : HasPart two (node_at t l).c
     has_c = placed_kept t two (claimed_length d v one (node_at t l).b ∙ claimed_length d v t (node_at t l).a) (node_at t l).c i.c
 
 module _ (c : After-part_at-a) where

@@ -18,7 +18,7 @@ module _ (c : After-is_definition) where
 -- the line itself is the same when its own owner and level are written
 module _ (c : After-assign) where
   same : Alike c.args.table.now c.assign.new.table
-  same = rw c.assign.ensures (assigned_alike c.args.label c.label_cell-group.result 0 c.args.table.now c.requires.0.line.cells)
+  same = rw c.assign.ensures (assigned_alike c.args.label c.label_cell-group.result 0 c.args.table.now)
 
   size : length c.assign.new.table ≡ length c.args.table.now
   size = rw c.assign.ensures (assigned_length c.args.label c.label_cell-group.result 0 c.args.table.now)

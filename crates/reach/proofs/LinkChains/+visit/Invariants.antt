@@ -2,7 +2,7 @@ use mathlib.Core.Path.{◌≡◌}
 use Prim.Native.Nat.{◌≤◌, ◌<◌}
 use Rattle.reach.specs.Chains.{Hangs}
 use Rattle.reach.proofs.Visits.{Going, unbegun}
-use Rattle.reach.proofs.Chains.+visit.Given as goal
+use Rattle.reach.proofs.LinkChains.+visit.Given as goal
 
 abbrev pub decreases-visit : goal.decreases-visit
 decreases-visit l = unbegun l.self.now.sheet.n l.state.now

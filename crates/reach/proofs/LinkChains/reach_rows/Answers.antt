@@ -6,11 +6,11 @@ use lib.ListN.{get_or}
 use Rattle.kinds.proofs.Codes.{value_body}
 use Rattle.kinds.specs.Kinds.{value_code}
 use Rattle.cells.specs.Table.{kind}
-use Rattle.reach.specs.declared.State.TheVariants.{New}
+use Rattle.reach.specs.declared.RowState.TheVariants.{New}
 use Rattle.reach.proofs.Reading.{is_value, no_value}
 use Rattle.reach.proofs.Visits.{going_more, begun_more, rows_all}
-use Rattle.reach.proofs.Chains.reach_rows.Goals as goal
-use Rattle.reach.proofs.Chains.reach_rows.Goals.{else-eq, then-eq}
+use Rattle.reach.proofs.LinkChains.reach_rows.Goals as goal
+use Rattle.reach.proofs.LinkChains.reach_rows.Goals.{else-eq, then-eq}
 
 pub visit-requires-clause-mark_rows : goal.visit-requires-clause-mark_rows
 visit-requires-clause-mark_rows c = (c.loop-v.invariant.0.rows, rw (is_value _ _ c.kind.ensures (sym c.eq.ensures ∙ c.if-eq.true)) value_body)

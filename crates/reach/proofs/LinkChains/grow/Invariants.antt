@@ -3,7 +3,7 @@ use Prim.Native.Nat.{◌≤◌}
 use lib.ListN.{take}
 use Rattle.reach.specs.Chains.{Hangs}
 use Rattle.reach.proofs.Spread.{Growing}
-use Rattle.reach.proofs.Chains.grow.Given as goal
+use Rattle.reach.proofs.LinkChains.grow.Given as goal
 
 abbrev pub invariant-loop-x : goal.invariant-loop-x
 invariant-loop-x l =

@@ -3,9 +3,9 @@ use Prim.Native.Nat.{ℕ, ◌≤◌, ◌<◌}
 use lib.ListN.{get_or}
 use Rattle.kinds.specs.Kinds.{value_code}
 use Rattle.cells.specs.Table.{kind}
-use Rattle.reach.specs.declared.State.TheVariants.{New}
+use Rattle.reach.specs.declared.RowState.TheVariants.{New}
 use Rattle.reach.proofs.Visits.{Going}
-use Rattle.reach.proofs.Chains.reach_rows.Given as goal
+use Rattle.reach.proofs.LinkChains.reach_rows.Given as goal
 
 -- every value so far is begun
 abbrev pub invariant-loop-v : goal.invariant-loop-v

@@ -3,13 +3,13 @@ use Prim.Native.Nat.{ℕ, ◌+◌, ◌-◌, ◌≤◌, ◌<◌}
 use native.Mathlib.Omega.{arith}
 use lib.ListN.{length, get_or, set, length-set}
 use lib.Seq.{get_or-set_same}
-use Rattle.reach.specs.declared.State.TheVariants.{New, Begun, Made}
+use Rattle.reach.specs.declared.RowState.TheVariants.{New, Begun, Made}
 use Rattle.reach.specs.Chains.{Hangs, Last}
 use Rattle.reach.proofs.Links.{column_of, body_label}
 use Rattle.reach.proofs.Visits.{Going, begin, fewer, finish, going_start, going_still, going_more}
 use Rattle.reach.proofs.Spread.{shared}
-use Rattle.reach.proofs.Chains.+visit.Goals as goal
-use Rattle.reach.proofs.Chains.+visit.Goals.{At-loop-x, In-loop-x, Joined-state-e, in-New-state, in_default-state}
+use Rattle.reach.proofs.LinkChains.+visit.Goals as goal
+use Rattle.reach.proofs.LinkChains.+visit.Goals.{At-loop-x, In-loop-x, Joined-state-e, in-New-state, in_default-state}
 
 -- at the loop d is begun, and there is room
 module _ {t : ℕ} (c : At-loop-x t) where

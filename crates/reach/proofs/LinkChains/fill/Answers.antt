@@ -9,8 +9,8 @@ use Rattle.reach.specs.Turns.{Spread}
 use Rattle.std.proofs.Common.{rules}
 use Rattle.reach.proofs.Links.{column_of, body_label}
 use Rattle.reach.proofs.Spread.{popped, grown_less, rows_kept, filled}
-use Rattle.reach.proofs.Chains.fill.Goals as goal
-use Rattle.reach.proofs.Chains.fill.Goals.{At-loop-top}
+use Rattle.reach.proofs.LinkChains.fill.Goals as goal
+use Rattle.reach.proofs.LinkChains.fill.Goals.{At-loop-top}
 
 -- in the loop, other rows are as they were
 module _ (c : At-loop-top) where

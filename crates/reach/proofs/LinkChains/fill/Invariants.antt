@@ -6,7 +6,7 @@ use Rattle.marks.specs.Marks.{mark}
 use Rattle.reach.specs.Links.{Link}
 use Rattle.reach.specs.MarkRows.{width}
 use Rattle.reach.specs.Turns.{Spread, mark_count}
-use Rattle.reach.proofs.Chains.fill.Given as goal
+use Rattle.reach.proofs.LinkChains.fill.Given as goal
 
 abbrev pub invariant-loop-top : goal.invariant-loop-top
 invariant-loop-top l =

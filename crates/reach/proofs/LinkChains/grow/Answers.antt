@@ -5,14 +5,14 @@ use native.Mathlib.Omega.{arith}
 use lib.ListN.{length, get_or, take}
 use lib.Seq.{length-take-le}
 use Rattle.cells.specs.Table.{cell}
-use Rattle.reach.specs.declared.State.TheVariants.{New, Made}
+use Rattle.reach.specs.declared.RowState.TheVariants.{New, Made}
 use Rattle.reach.specs.Links.{Column, Link, Links, once, then}
 use Rattle.reach.specs.MarkRows.{MarkRow}
 use Rattle.reach.specs.Chains.{Hangs, Last}
 use Rattle.reach.proofs.Links.{column_of, body_label}
 use Rattle.reach.proofs.Spread.{growing_start, growing_turn, growing_end, row_above, rows_kept}
-use Rattle.reach.proofs.Chains.grow.Goals as goal
-use Rattle.reach.proofs.Chains.grow.Goals.{In-loop-x}
+use Rattle.reach.proofs.LinkChains.grow.Goals as goal
+use Rattle.reach.proofs.LinkChains.grow.Goals.{In-loop-x}
 
 -- in a turn: the line at hand, and where its link leads
 module _ (c : In-loop-x) where

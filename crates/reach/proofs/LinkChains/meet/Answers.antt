@@ -1,10 +1,10 @@
 use mathlib.Core.Path.{refl, sym, ◌∙◌}
 use Rattle.std.proofs.Common.{rules}
 use denote.Enum.Bare.{same_true}
-use Rattle.reach.specs.contracts.State.{the_type}
+use Rattle.reach.specs.contracts.RowState.{the_type}
 use Rattle.reach.specs.Turns.{added}
 use Rattle.reach.proofs.Raise.{added_then, row_raised}
-use Rattle.reach.proofs.Chains.meet.Goals as goal
+use Rattle.reach.proofs.LinkChains.meet.Goals as goal
 
 pub mark_around-requires-clause-raised : goal.mark_around-requires-clause-raised
 mark_around-requires-clause-raised c =

@@ -2,7 +2,7 @@ use mathlib.Core.Path.{sym, subst}
 use native.Mathlib.Omega.{arith}
 use Rattle.cells.specs.Accepted.{HasBody}
 use Rattle.reach.proofs.Links.{column_of, path_label, end_body}
-use Rattle.reach.proofs.Chains.end.Goals as goal
+use Rattle.reach.proofs.LinkChains.end.Goals as goal
 
 pub cell-requires : goal.cell-requires
 cell-requires c =
